@@ -1,0 +1,4 @@
+pub mod Blend
+pub mod Fences
+pub mod Paint
+pub mod Statuses
