@@ -10,6 +10,8 @@ mod items;
 mod memory;
 mod pixel;
 mod status;
+#[cfg(test)]
+mod tests;
 
 pub use fences::{Fence, Seen};
 pub use geometry::Rect;
