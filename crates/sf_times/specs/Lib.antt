@@ -1,0 +1,4 @@
+pub mod Points
+pub mod Rule
+pub mod Seats
+pub mod Views
