@@ -110,3 +110,22 @@ left_one r a i x long h le is = rw (get_or_append_left r r 0 i (omega (arith, lo
 
 pub small_at : (r : List ℕ) (i : ℕ) → length r ≡ 8 → i < 8 → Small r → slice_index r i ≤ 255
 small_at r i long h small = Each1-get_or (λ x. x ≤ 255) r i 0 (omega (arith, long, h)) small
+
+-- two vectors joined channel by channel
+pub joined_of : (f : ℕ → ℕ → ℕ) (r a b ea oa eb ob : List ℕ) → length ea ≡ 8 → length oa ≡ 8 → length eb ≡ 8 → length ob ≡ 8
+    → ((j : ℕ) → j < 8 → slice_index ea j ≡ slice_index a (2 * j)) → ((j : ℕ) → j < 8 → slice_index oa j ≡ slice_index a (2 * j + 1))
+    → ((j : ℕ) → j < 8 → slice_index eb j ≡ slice_index b (2 * j)) → ((j : ℕ) → j < 8 → slice_index ob j ≡ slice_index b (2 * j + 1))
+    → ((j : ℕ) → j < 8 → slice_index r (2 * j) ≡ slice_index (zip2 f ea eb) j) → ((j : ℕ) → j < 8 → slice_index r (2 * j + 1) ≡ slice_index (zip2 f oa ob) j)
+    → (k : ℕ) → k < 16 → slice_index r k ≡ f (slice_index a k) (slice_index b k)
+joined_of f r a b ea oa eb ob long_ea long_oa long_eb long_ob evens_a odds_a evens_b odds_b re ro k h =
+    let half : k / 2 < 8 = omega (arith, h) in
+    ⊎_elim
+    (λ (low : k % 2 < 1).
+    let place : 2 * (k / 2) ≡ k = omega (arith, low) in
+    subst (λ i. slice_index r i ≡ f (slice_index a i) (slice_index b i)) place
+    (rw (re (k / 2) half, get_or-zip2 f ea eb (k / 2) 0 0 0 (omega (arith, long_ea, h)) (omega (arith, long_eb, h)), evens_a (k / 2) half, evens_b (k / 2) half) refl))
+    (λ (high : 1 ≤ k % 2).
+    let place : 2 * (k / 2) + 1 ≡ k = omega (arith, high) in
+    subst (λ i. slice_index r i ≡ f (slice_index a i) (slice_index b i)) place
+    (rw (ro (k / 2) half, get_or-zip2 f oa ob (k / 2) 0 0 0 (omega (arith, long_oa, h)) (omega (arith, long_ob, h)), odds_a (k / 2) half, odds_b (k / 2) half) refl))
+    (cases_lt (k % 2) 1)

@@ -52,3 +52,20 @@ are_capped = capped_lanes
 pub map_same : (f : ℕ → ℕ) → ((x : ℕ) → f x ≡ x) → (xs : List ℕ) → map f xs ≡ xs
 map_same f h [] = refl
 map_same f h (x ∷ xs) = rw (h x, map_same f h xs) refl
+
+mixed_lanes : (add : ℕ → ℕ → ℕ) (f : ℕ → ℕ → ℕ) (s l : ℕ)
+    → ((x y : ℕ) → x ≤ 255 → y ≤ 255 → add (product x s) (product y l) ≡ f x y)
+    → (xs ys : List ℕ) → length xs ≡ length ys → Small xs → Small ys
+    → zip2 add (zip2 product xs (replicate (length xs) s)) (zip2 product ys (replicate (length xs) l)) ≡ zip2 f xs ys
+mixed_lanes add f s l is [] ys long e d = refl
+mixed_lanes add f s l is (x ∷ xs) [] long e d = absurd (omega (arith, long))
+mixed_lanes add f s l is (x ∷ xs) (y ∷ ys) long e d =
+    rw (is x y e.0 d.0, mixed_lanes add f s l is xs ys (omega (arith, long)) e.1 d.1) refl
+
+pub are_mixed : (add : ℕ → ℕ → ℕ) (f : ℕ → ℕ → ℕ) (s l : ℕ)
+    → ((x y : ℕ) → x ≤ 255 → y ≤ 255 → add (product x s) (product y l) ≡ f x y)
+    → (xs ys : List ℕ) (n : ℕ) → length xs ≡ n → length ys ≡ n → Small xs → Small ys
+    → zip2 add (zip2 product xs (replicate n s)) (zip2 product ys (replicate n l)) ≡ zip2 f xs ys
+are_mixed add f s l is xs ys n long_x long_y e d =
+    subst (λ n. zip2 add (zip2 product xs (replicate n s)) (zip2 product ys (replicate n l)) ≡ zip2 f xs ys)
+    long_x (mixed_lanes add f s l is xs ys (omega (arith, long_x, long_y)) e d)

@@ -5,7 +5,7 @@ use Rattle.sf_base.specs.Blend.{product, blended}
 use Rattle.sf_base.specs.Paint.{painted}
 use Rattle.sf_base.specs.declared.pixel.Rgba.{Rgba}
 use Rattle.sf_rows.specs.Channels.{alpha_place, row_channel, opaque_source, opaque_channel, colour_part, colour_channel, PaintedUpTo, PaintedPixels, with_pixel}
-use Rattle.sf_rows.specs.Pixels.{pixel_at, pixel, opaque}
+use Rattle.sf_rows.specs.Pixels.{pixel_at, pixel, opaque_pixel}
 use Rattle.sf_rows.proofs.RowLemmas.{painted_one}
 
 -- a byte at a place, after which the next place is known under another name
@@ -89,8 +89,8 @@ opaque_step old now src alpha at source is so room =
       (rw (so.painted.rest (at + 3) (omega arith)) (opaque_alpha old src alpha (at + 3) (omega (arith, so.whole)))))
 
 pub opaque_pixels : (old src new : List ℕ) (alpha at : ℕ) → PaintedPixels old (opaque_channel old src alpha) at new → length old ≤ at
-    → (k : ℕ) → 4 * k < length old → pixel new k ≡ painted (pixel old k) (opaque (pixel src k)) alpha
-unfolding pixel pixel_at painted opaque
+    → (k : ℕ) → 4 * k < length old → pixel new k ≡ painted (pixel old k) (opaque_pixel (pixel src k)) alpha
+unfolding pixel pixel_at painted opaque_pixel
 opaque_pixels old src new alpha at so all k h =
     let each : (j : ℕ) → j < 4 * k + 4 → slice_index new j ≡ opaque_channel old src alpha j = λ j high.
         so.painted.each j (omega (arith, so.whole, so.within, all, h, high)) in

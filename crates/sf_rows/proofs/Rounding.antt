@@ -5,7 +5,7 @@ use lib.Dec.{ltb}
 use lib.Lanes.{top, zip2}
 use lib.ListN.{replicate}
 use Rattle.sf_base.specs.Blend.{product}
-use Rattle.sf_rows.specs.Channels.{capped_sum}
+use Rattle.sf_rows.specs.Channels.{capped_sum, mix}
 
 pub rounded_by_shifts : (p : ℕ) → p ≤ 65025 → (p + 128 + (p + 128) / 256) / 256 ≡ (p + 127) / 255
 rounded_by_shifts p le = omega arith
@@ -56,3 +56,19 @@ whole_lanes (x ∷ xs) = rw (whole_right x, whole_lanes xs) refl
 
 pub by_whole : (xs : List ℕ) (n : ℕ) → length xs ≡ n → zip2 product xs (replicate n 255) ≡ xs
 by_whole xs n long = subst (λ n. zip2 product xs (replicate n 255) ≡ xs) long (whole_lanes xs)
+
+-- a share of a channel is no more than the share
+times_le : (x s : ℕ) → x ≤ 255 → x * s ≤ 255 * s
+times_le x s h = grind arith
+
+pub share_le : (x s : ℕ) → x ≤ 255 → product x s ≤ s
+unfolding product
+share_le x s h = omega (arith, times_le x s h)
+
+pub mix_small : (share x y : ℕ) → share ≤ 255 → x ≤ 255 → y ≤ 255 → mix share x y ≤ 255
+unfolding mix
+mix_small share x y hs hx hy = omega (arith, share_le x share hx, share_le y (255 - share) hy)
+
+pub mix_lane : (share x y : ℕ) → share ≤ 255 → x ≤ 255 → y ≤ 255 → (product x share + product y (255 - share)) % 65536 ≡ mix share x y
+unfolding mix
+mix_lane share x y hs hx hy = omega (arith, share_le x share hx, share_le y (255 - share) hy)

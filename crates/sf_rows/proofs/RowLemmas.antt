@@ -6,11 +6,11 @@ use lib.ListN.{replicate, set}
 use Rattle.std.proofs.lemmas.Bool.{cases_lt}
 use Rattle.std.specs.Prelude.{min}
 use Rattle.sf_rows.proofs.EachLane.{Small}
-use Rattle.sf_rows.proofs.Rounding.{whole_right, whole_left}
+use Rattle.sf_rows.proofs.Rounding.{whole_right, whole_left, share_le}
 use Rattle.std.proofs.lemmas.List.{length-set, get_or-set_same, get_or-set_other}
 use lib.Lanes.{zip2, chunk, put_chunk}
 use Rattle.sf_base.specs.Blend.{product, blended}
-use Rattle.sf_rows.specs.Channels.{capped_sum, alpha_place, row_channel, opaque_source, opaque_channel, colour_part, colour_channel, PaintedUpTo, PaintedPixels}
+use Rattle.sf_rows.specs.Channels.{capped_sum, mix, alpha_place, row_channel, opaque_source, opaque_channel, colour_part, colour_channel, PaintedUpTo, PaintedPixels}
 use Rattle.sf_base.specs.declared.pixel.Rgba.{Rgba}
 
 below_four : (P : ℕ → Type 0) → P 0 → P 1 → P 2 → P 3 → (j : ℕ) → j < 4 → P j
@@ -70,21 +70,12 @@ pub whole_of : (dst src kept left : List ℕ) → length src ≡ 16 → length k
     → (k : ℕ) → k < 16 → slice_index (zip2 capped_sum src kept) k ≡ row_channel dst src 255 k
 whole_of dst src kept left long_s long_k le ke = pixels_of dst src src kept left 255 long_s long_k (λ k h. sym (whole_right (slice_index src k))) le ke
 
-pub opaque_of : (dst src source painted kept : List ℕ) (alpha left : ℕ) → alpha ≤ 255 → left ≡ 255 - alpha → length painted ≡ 16 → length kept ≡ 16
-    → ((k : ℕ) → k < 16 → slice_index source k ≡ opaque_source src k)
-    → ((k : ℕ) → k < 16 → slice_index painted k ≡ product (slice_index source k) alpha)
-    → ((k : ℕ) → k < 16 → slice_index kept k ≡ product (slice_index dst k) left)
-    → (k : ℕ) → k < 16 → slice_index (zip2 capped_sum painted kept) k ≡ opaque_channel dst src alpha k
-unfolding opaque_channel blended capped_sum
-opaque_of dst src source painted kept alpha left small is long_p long_k so pa ke k h =
-    rw (
-      get_or-zip2 capped_sum painted kept k 0 0 0 (omega (arith, long_p)) (omega (arith, long_k)),
-      pa k h,
-      so k h,
-      ke k h,
-      is,
-      whole_left alpha small,
-    ) refl
+-- an opaque source's channel, from a mix of it with the destination's
+pub opaque_of : (dst src : List ℕ) (alpha k x d : ℕ) → alpha ≤ 255 → x ≤ 255 → d ≤ 255 → x ≡ opaque_source src k → d ≡ slice_index dst k
+    → mix alpha x d ≡ opaque_channel dst src alpha k
+unfolding mix opaque_channel blended
+opaque_of dst src alpha k x d hs hx hd is_x is_d =
+    rw (← is_x, ← is_d, whole_left alpha hs) (omega (arith, share_le x alpha hx, share_le d (255 - alpha) hd))
 
 -- a splat
 pub splat_at : (n a : ℕ) (k : ℕ) → k < n → slice_index (replicate n a) k ≡ a
@@ -201,7 +192,7 @@ covers : (d s : ℕ) → s ≤ 255 → min 255 (product s 255 + product d (255 -
 unfolding product
 covers d s h = omega arith
 
-opaque_small : (src : List ℕ) → ((k : ℕ) → k < 16 → slice_index src k ≤ 255) → (k : ℕ) → k < 16 → opaque_source src k ≤ 255
+pub opaque_small : (src : List ℕ) → ((k : ℕ) → k < 16 → slice_index src k ≤ 255) → (k : ℕ) → k < 16 → opaque_source src k ≤ 255
 unfolding opaque_source
 opaque_small src small k h = grind (arith, small k h)
 

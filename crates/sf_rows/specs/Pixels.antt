@@ -16,5 +16,5 @@ unfoldable pub pixel : List ℕ → ℕ → Rgba
 pixel row k = pixel_at row (4 * k)
 
 -- the pixel with an alpha of 255, which an opaque layer shows in its place
-unfoldable pub opaque : Rgba → Rgba
-opaque p = record { r = p.r; g = p.g; b = p.b; a = 255 }
+unfoldable pub opaque_pixel : Rgba → Rgba
+opaque_pixel p = record { r = p.r; g = p.g; b = p.b; a = 255 }

@@ -1,7 +1,7 @@
 ghost use Rattle.std.specs.Prelude.{◌≡◌, ℕ, ◌+◌, ◌-◌, ◌*◌, ◌/◌, ◌<◌, ◌≤◌, length, slice_index};
 ghost use Rattle.std.specs.Simd.Lanes.{zip2, Each1};
 ghost use Rattle.sf_base.specs.Blend.{product};
-ghost use Rattle.sf_rows.specs.Channels.{capped_sum, row_channel, opaque_source, opaque_channel, colour_part, alpha_place};
+ghost use Rattle.sf_rows.specs.Channels.{capped_sum, mix, row_channel, opaque_source, opaque_channel, colour_part, alpha_place};
 
 use sf_base::Rgba;
 use std::simd::prelude::*;
@@ -108,14 +108,30 @@ fn four_opaque(src: u8x16) -> u8x16
     capped_sums(src, u8x16::from_array(whole))
 }
 
+/// Each channel of one vector times a share of 255, plus the same of another times what the share
+/// leaves. No sum passes 255.
+#[inline(always)]
+fn mixed(a: u16x8, b: u16x8, share: u8) -> u16x8
+    requires a { Each1 (λ x. x ≤ 255) a }
+    requires b { Each1 (λ x. x ≤ 255) b }
+    ensures value { result ≡ zip2 (mix share) a b }
+    ensures small { Each1 (λ x. x ≤ 255) result }
+{
+    let left = 255 - share;
+    products(a, u16x8::splat(u16::from(share))) + products(b, u16x8::splat(u16::from(left)))
+}
+
 /// Four pixels of sources whose alphas are taken as 255 over four of destinations.
 #[inline(always)]
 pub fn four_opaque_pixels(dst: u8x16, src: u8x16, alpha: u8) -> u8x16
     ensures each { (k : ℕ) → k < 16 → slice_index result k ≡ opaque_channel dst src alpha k }
     ensures len { length result ≡ 16 }
 {
-    let painted = scaled(four_opaque(src), u16x8::splat(u16::from(alpha)));
-    capped_sums(painted, scaled(dst, u16x8::splat(u16::from(255 - alpha))))
+    let source = four_opaque(src);
+    in_turn(
+        mixed(even_channels(source), even_channels(dst), alpha),
+        mixed(odd_channels(source), odd_channels(dst), alpha),
+    )
 }
 
 /// The same with no alpha of a layer.

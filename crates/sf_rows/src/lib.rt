@@ -6,9 +6,12 @@
 //! left by the plain formula of one pixel. No call takes memory, and none refuses.
 #![tactic(auto)]
 
-mod blocks;
-mod kernels;
+mod colour;
 mod lanes;
+mod opaque;
 mod rest;
+mod row;
 
-pub use kernels::{blend_colour, blend_row, blend_row_opaque};
+pub use colour::blend_colour;
+pub use opaque::blend_row_opaque;
+pub use row::blend_row;
