@@ -2,6 +2,9 @@
  * same rows, side by side: each round times every contender once, and the best round of each
  * counts. The bytes that the contenders leave are compared first.
  *
+ * pixman runs twice, since OVER does the same to red, green and blue: with the rows told as RGBA
+ * bytes, and told as BGRA bytes, for which it has more loops of its own.
+ *
  * usage: bench [ROUNDS] [PIXELS PER TIMING] */
 #include <pixman.h>
 #include <stdint.h>
@@ -19,7 +22,7 @@ void sf_rows_c_plain_row_opaque(uint8_t *dst, size_t dst_len, const uint8_t *src
 void sf_rows_c_plain_colour(uint8_t *dst, size_t dst_len, uint8_t r, uint8_t g, uint8_t b, uint8_t a, uint8_t alpha);
 
 enum { WIDEST = 1024, ROW, OPAQUE, COLOUR };
-enum { LANES, PLAIN, PIXMAN, CONTENDERS };
+enum { LANES, PLAIN, PIXMAN_RGBA, PIXMAN_BGRA, CONTENDERS };
 
 struct kernel { const char *name; int kind; uint8_t alpha; };
 static const struct kernel kernels[] = {
@@ -51,18 +54,22 @@ static void fill(int width) {
 
 static pixman_image_t *dst_image, *src_image, *mask_image;
 
-static void open_images(const struct kernel *k, int width) {
-    pixman_color_t colour = {red * 257, green * 257, blue * 257, cover * 257};
+static void open_images(const struct kernel *k, int who, int width) {
+    if (who != PIXMAN_RGBA && who != PIXMAN_BGRA) return;
+    /* RGBA bytes are a8b8g8r8 where the least byte of a word stands first, BGRA bytes a8r8g8b8. */
+    int rgba = who == PIXMAN_RGBA;
+    pixman_color_t colour = {(rgba ? red : blue) * 257, green * 257, (rgba ? blue : red) * 257, cover * 257};
     pixman_color_t mask = {0, 0, 0, k->alpha * 257};
-    /* RGBA bytes are a8b8g8r8 where the least byte of a word stands first. */
-    pixman_format_code_t format = k->kind == OPAQUE ? PIXMAN_x8b8g8r8 : PIXMAN_a8b8g8r8;
-    dst_image = pixman_image_create_bits_no_clear(PIXMAN_a8b8g8r8, width, 1, (uint32_t *)dst, width * 4);
+    pixman_format_code_t whole = rgba ? PIXMAN_a8b8g8r8 : PIXMAN_a8r8g8b8;
+    pixman_format_code_t format = k->kind != OPAQUE ? whole : rgba ? PIXMAN_x8b8g8r8 : PIXMAN_x8r8g8b8;
+    dst_image = pixman_image_create_bits_no_clear(whole, width, 1, (uint32_t *)dst, width * 4);
     src_image = k->kind == COLOUR ? pixman_image_create_solid_fill(&colour)
                                   : pixman_image_create_bits_no_clear(format, width, 1, (uint32_t *)src, width * 4);
     mask_image = k->alpha == 255 ? NULL : pixman_image_create_solid_fill(&mask);
 }
 
-static void close_images(void) {
+static void close_images(int who) {
+    if (who != PIXMAN_RGBA && who != PIXMAN_BGRA) return;
     pixman_image_unref(dst_image);
     pixman_image_unref(src_image);
     if (mask_image) pixman_image_unref(mask_image);
@@ -70,7 +77,7 @@ static void close_images(void) {
 
 static void once(const struct kernel *k, int who, int width) {
     size_t n = 4 * (size_t)width;
-    if (who == PIXMAN) {
+    if (who == PIXMAN_RGBA || who == PIXMAN_BGRA) {
         pixman_image_composite32(PIXMAN_OP_OVER, src_image, mask_image, dst_image, 0, 0, 0, 0, 0, 0, width, 1);
     } else if (k->kind == ROW) {
         (who == LANES ? sf_rows_c_blend_row : sf_rows_c_plain_row)(dst, n, src, n, k->alpha);
@@ -88,9 +95,9 @@ static int compare(void) {
         for (int width = 1; width <= 70; width++)
             for (int who = 0; who < CONTENDERS; who++) {
                 fill(width);
-                open_images(&kernels[k], width);
+                open_images(&kernels[k], who, width);
                 once(&kernels[k], who, width);
-                close_images();
+                close_images(who);
                 if (who == 0) memcpy(first, dst, 4 * (size_t)width);
                 else if (memcmp(first, dst, 4 * (size_t)width)) wrong++;
             }
@@ -112,22 +119,26 @@ int main(int argc, char **argv) {
         for (int k = 0; k < KERNELS; k++)
             for (int w = 0; w < WIDTHS; w++) {
                 int width = widths[w];
-                fill(width);
-                open_images(&kernels[k], width);
                 for (int who = 0; who < CONTENDERS; who++) {
+                    fill(width);
+                    open_images(&kernels[k], who, width);
                     long times = pixels / width / (who == PLAIN ? 8 : 1);
                     double from = now();
                     for (long i = 0; i < times; i++) once(&kernels[k], who, width);
                     double rate = (double)times * width / (now() - from) / 1e6;
                     if (rate > best[k][w][who]) best[k][w][who] = rate;
+                    close_images(who);
                 }
-                close_images();
             }
-    printf("million pixels a second, best of %d rounds\n%-28s %6s %8s %8s %8s %14s\n", rounds, "kernel", "pixels",
-           "lanes", "plain", "pixman", "lanes/pixman");
+    printf("million pixels a second, best of %d rounds\n%-28s %6s %7s %7s %11s %11s %7s\n", rounds, "kernel", "pixels",
+           "lanes", "plain", "pixman RGBA", "pixman BGRA", "ratio");
     for (int k = 0; k < KERNELS; k++)
-        for (int w = 0; w < WIDTHS; w++)
-            printf("%-28s %6d %8.0f %8.0f %8.0f %14.2f\n", kernels[k].name, widths[w], best[k][w][LANES],
-                   best[k][w][PLAIN], best[k][w][PIXMAN], best[k][w][LANES] / best[k][w][PIXMAN]);
+        for (int w = 0; w < WIDTHS; w++) {
+            double *b = best[k][w];
+            double peer = b[PIXMAN_RGBA] > b[PIXMAN_BGRA] ? b[PIXMAN_RGBA] : b[PIXMAN_BGRA];
+            printf("%-28s %6d %7.0f %7.0f %11.0f %11.0f %7.2f\n", kernels[k].name, widths[w], b[LANES], b[PLAIN],
+                   b[PIXMAN_RGBA], b[PIXMAN_BGRA], b[LANES] / peer);
+        }
+    printf("ratio: lanes to the better of pixman's two\n");
     return 0;
 }

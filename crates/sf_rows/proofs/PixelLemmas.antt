@@ -51,18 +51,18 @@ pub row_step : (old now src : List ℕ) (alpha at : ℕ) (source : Rgba) → sou
 unfolding pixel_at painted
 row_step old now src alpha at source is so room =
     rw is (pixel_step old (row_channel old src alpha) at now _ so room
-      (rw (so.painted.rest at (omega arith)) (row_part old src alpha at at so.whole (omega arith) (omega arith)))
-      (rw (so.painted.rest (at + 1) (omega arith)) (row_part old src alpha at (at + 1) so.whole (omega arith) (omega arith)))
-      (rw (so.painted.rest (at + 2) (omega arith)) (row_part old src alpha at (at + 2) so.whole (omega arith) (omega arith)))
-      (rw (so.painted.rest (at + 3) (omega arith)) (row_part old src alpha at (at + 3) so.whole (omega arith) (omega arith))))
+    (rw (so.painted.rest at (omega arith)) (row_part old src alpha at at so.whole (omega arith) (omega arith)))
+    (rw (so.painted.rest (at + 1) (omega arith)) (row_part old src alpha at (at + 1) so.whole (omega arith) (omega arith)))
+    (rw (so.painted.rest (at + 2) (omega arith)) (row_part old src alpha at (at + 2) so.whole (omega arith) (omega arith)))
+    (rw (so.painted.rest (at + 3) (omega arith)) (row_part old src alpha at (at + 3) so.whole (omega arith) (omega arith))))
 
 pub row_pixels : (old src new : List ℕ) (alpha at : ℕ) → PaintedPixels old (row_channel old src alpha) at new → length old ≤ at
     → (k : ℕ) → 4 * k < length old → pixel new k ≡ painted (pixel old k) (pixel src k) alpha
 unfolding pixel pixel_at painted
 row_pixels old src new alpha at so all k h =
     let each : (j : ℕ) → 4 * k ≤ j → j < 4 * k + 4
-        → slice_index new j ≡ blended (slice_index old j) (slice_index src j) alpha (product (slice_index src (4 * k + 3)) alpha) = λ j low high.
-        so.painted.each j (omega (arith, so.whole, so.within, all, h, high)) ∙ sym (row_part old src alpha (4 * k) j (omega arith) low high) in
+    → slice_index new j ≡ blended (slice_index old j) (slice_index src j) alpha (product (slice_index src (4 * k + 3)) alpha) = λ j low high.
+    so.painted.each j (omega (arith, so.whole, so.within, all, h, high)) ∙ sym (row_part old src alpha (4 * k) j (omega arith) low high) in
     pixel_by new k _ (each (4 * k) (omega arith) (omega arith)) (each (4 * k + 1) (omega arith) (omega arith))
     (each (4 * k + 2) (omega arith) (omega arith)) (each (4 * k + 3) (omega arith) (omega arith))
 
@@ -83,17 +83,17 @@ pub opaque_step : (old now src : List ℕ) (alpha at : ℕ) (source : Rgba) → 
 unfolding pixel_at painted
 opaque_step old now src alpha at source is so room =
     rw is (pixel_step old (opaque_channel old src alpha) at now _ so room
-      (rw (so.painted.rest at (omega arith)) (opaque_colours old src alpha at 0 so.whole (omega arith)))
-      (rw (so.painted.rest (at + 1) (omega arith)) (opaque_colours old src alpha (at + 1) 1 (omega (arith, so.whole)) (omega arith)))
-      (rw (so.painted.rest (at + 2) (omega arith)) (opaque_colours old src alpha (at + 2) 2 (omega (arith, so.whole)) (omega arith)))
-      (rw (so.painted.rest (at + 3) (omega arith)) (opaque_alpha old src alpha (at + 3) (omega (arith, so.whole)))))
+    (rw (so.painted.rest at (omega arith)) (opaque_colours old src alpha at 0 so.whole (omega arith)))
+    (rw (so.painted.rest (at + 1) (omega arith)) (opaque_colours old src alpha (at + 1) 1 (omega (arith, so.whole)) (omega arith)))
+    (rw (so.painted.rest (at + 2) (omega arith)) (opaque_colours old src alpha (at + 2) 2 (omega (arith, so.whole)) (omega arith)))
+    (rw (so.painted.rest (at + 3) (omega arith)) (opaque_alpha old src alpha (at + 3) (omega (arith, so.whole)))))
 
 pub opaque_pixels : (old src new : List ℕ) (alpha at : ℕ) → PaintedPixels old (opaque_channel old src alpha) at new → length old ≤ at
     → (k : ℕ) → 4 * k < length old → pixel new k ≡ painted (pixel old k) (opaque_pixel (pixel src k)) alpha
 unfolding pixel pixel_at painted opaque_pixel
 opaque_pixels old src new alpha at so all k h =
     let each : (j : ℕ) → j < 4 * k + 4 → slice_index new j ≡ opaque_channel old src alpha j = λ j high.
-        so.painted.each j (omega (arith, so.whole, so.within, all, h, high)) in
+    so.painted.each j (omega (arith, so.whole, so.within, all, h, high)) in
     pixel_by new k _
     (each (4 * k) (omega arith) ∙ sym (opaque_colours old src alpha (4 * k) 0 (omega arith) (omega arith)))
     (each (4 * k + 1) (omega arith) ∙ sym (opaque_colours old src alpha (4 * k + 1) 1 (omega arith) (omega arith)))
@@ -133,7 +133,7 @@ pub colour_pixels : (old new : List ℕ) (colour : Rgba) (alpha at : ℕ) → Pa
 unfolding pixel pixel_at painted
 colour_pixels old new colour alpha at so all k h =
     let each : (j : ℕ) → j < 4 * k + 4 → slice_index new j ≡ colour_channel old colour alpha j = λ j high.
-        so.painted.each j (omega (arith, so.whole, so.within, all, h, high)) in
+    so.painted.each j (omega (arith, so.whole, so.within, all, h, high)) in
     pixel_by new k _
     (each (4 * k) (omega arith) ∙ sym (colour_r old colour alpha (4 * k) (omega arith)))
     (each (4 * k + 1) (omega arith) ∙ sym (colour_g old colour alpha (4 * k + 1) (omega arith)))

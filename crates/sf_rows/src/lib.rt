@@ -11,6 +11,8 @@ mod lanes;
 mod opaque;
 mod rest;
 mod row;
+#[cfg(test)]
+mod tests;
 
 pub use colour::blend_colour;
 pub use opaque::blend_row_opaque;

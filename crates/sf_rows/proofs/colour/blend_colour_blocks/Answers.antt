@@ -1,4 +1,4 @@
-use Rattle.std.proofs.Common.{◌+◌, ◌≤◌, length, refl, arith}
+use Rattle.std.proofs.Common.{◌+◌, ◌≤◌, length, arith}
 use Rattle.sf_rows.proofs.RowLemmas.{pixels_none, pixels_more, colour_at}
 use Rattle.sf_rows.proofs.colour.blend_colour_blocks.Goals as goal
 

@@ -1,4 +1,4 @@
-use Rattle.std.proofs.Common.{◌+◌, ◌≤◌, length, refl, arith}
+use Rattle.std.proofs.Common.{◌+◌, ◌≤◌, length, arith}
 use Rattle.sf_rows.proofs.RowLemmas.{pixels_none, pixels_more, opaque_at}
 use Rattle.sf_rows.proofs.opaque.opaque_blocks.Goals as goal
 
