@@ -1,0 +1,11 @@
+#!/bin/sh
+# Times the row kernels beside a plain loop and pixman. Wants Debian's libpixman-1-dev and a C
+# compiler. Arguments: rounds, and pixels of each timing.
+set -eu
+here=$(cd "$(dirname "$0")" && pwd)
+library="$here/../../crates/sf_rows_c"
+(cd "$library" && rt lib >/dev/null)
+program=$(mktemp)
+trap 'rm -f "$program"' EXIT
+cc -O2 -o "$program" "$here/bench.c" "$library/out/libsf_rows_c.a" $(pkg-config --cflags --libs pixman-1)
+"$program" "$@"

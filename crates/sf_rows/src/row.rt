@@ -1,0 +1,75 @@
+ghost use Rattle.std.specs.Prelude.{◌≡◌, ℕ, ◌*◌, ◌%◌, ◌<◌, length};
+ghost use Rattle.sf_base.specs.Paint.{painted};
+ghost use Rattle.sf_rows.specs.Channels.{row_channel, PaintedPixels};
+ghost use Rattle.sf_rows.specs.Pixels.{pixel};
+
+use crate::lanes::{four_pixels, four_whole_pixels};
+use crate::rest::{paint_pixel, read_pixel};
+use std::simd::prelude::*;
+
+/// Paints a row of RGBA pixels over another of the same length, pixel by pixel.
+///
+/// The sources are premultiplied, which is not checked: a channel that would pass 255 is 255.
+/// `alpha` is the layer's, 0 to 255. The rows have any number of whole pixels, none included.
+pub fn blend_row(dst: &mut [u8], src: &[u8], alpha: u8)
+    requires same { length src.now ≡ length dst.old }
+    requires whole { length dst.old % 4 ≡ 0 }
+    ensures each_pixel { (k : ℕ) → 4 * k < length dst.old → pixel dst.new k ≡ painted (pixel dst.old k) (pixel src.now k) alpha }
+    ensures len { length dst.new ≡ length dst.old }
+{
+    let mut at = blend_row_blocks(dst, src, alpha);
+    while at < dst.len() {
+        paint_pixel(dst, at, read_pixel(src, at), alpha);
+        at += 4;
+    }
+}
+
+/// Paints a row of sources as far as blocks of four pixels go, and says how many bytes are done.
+#[inline(always)]
+fn blend_row_blocks(dst: &mut [u8], src: &[u8], alpha: u8) -> usize
+    requires { length src.now ≡ length dst.old }
+    ensures { PaintedPixels dst.old (row_channel dst.old src.now alpha) result dst.new }
+{
+    if alpha == 255 {
+        row_whole_blocks(dst, src)
+    } else {
+        row_blocks(dst, src, alpha)
+    }
+}
+
+/// The same where the layer has no alpha of its own.
+#[inline(always)]
+fn row_whole_blocks(dst: &mut [u8], src: &[u8]) -> usize
+    requires { length src.now ≡ length dst.old }
+    ensures { PaintedPixels dst.old (row_channel dst.old src.now 255) result dst.new }
+{
+    let mut at = 0;
+    while dst.len() - at >= 16 {
+        let painted = four_whole_pixels(
+            u8x16::from_slice(&dst[at..]),
+            u8x16::from_slice(&src[at..]),
+        );
+        painted.copy_to_slice(&mut dst[at..]);
+        at += 16;
+    }
+    at
+}
+
+/// Paints sources over destinations, four pixels at a time, and says how many bytes are done.
+#[inline(always)]
+fn row_blocks(dst: &mut [u8], src: &[u8], alpha: u8) -> usize
+    requires { length src.now ≡ length dst.old }
+    ensures { PaintedPixels dst.old (row_channel dst.old src.now alpha) result dst.new }
+{
+    let mut at = 0;
+    while dst.len() - at >= 16 {
+        let painted = four_pixels(
+            u8x16::from_slice(&dst[at..]),
+            u8x16::from_slice(&src[at..]),
+            alpha,
+        );
+        painted.copy_to_slice(&mut dst[at..]);
+        at += 16;
+    }
+    at
+}

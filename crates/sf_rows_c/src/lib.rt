@@ -1,0 +1,88 @@
+//! The row kernels for callers in C, and beside each the plain loop of one pixel at a time: what
+//! the benchmark of `bench/rows` times against other libraries.
+#![tactic(auto)]
+
+ghost use Rattle.std.specs.Prelude.{◌≡◌, ◌%◌, ◌≤◌, ◌+◌, length};
+
+use sf_base::{Rgba, over};
+
+/// `blend_row` of the row kernels.
+#[unsafe(no_mangle)]
+pub extern "C" fn sf_rows_c_blend_row(dst: &mut [u8], src: &[u8], alpha: u8)
+    requires same { length src.now ≡ length dst.old }
+    requires whole { length dst.old % 4 ≡ 0 }
+{
+    sf_rows::blend_row(dst, src, alpha);
+}
+
+/// `blend_row_opaque` of the row kernels.
+#[unsafe(no_mangle)]
+pub extern "C" fn sf_rows_c_blend_row_opaque(dst: &mut [u8], src: &[u8], alpha: u8)
+    requires same { length src.now ≡ length dst.old }
+    requires whole { length dst.old % 4 ≡ 0 }
+{
+    sf_rows::blend_row_opaque(dst, src, alpha);
+}
+
+/// `blend_colour` of the row kernels, over a colour in four numbers.
+#[unsafe(no_mangle)]
+pub extern "C" fn sf_rows_c_blend_colour(dst: &mut [u8], r: u8, g: u8, b: u8, a: u8, alpha: u8)
+    requires { length dst.old % 4 ≡ 0 }
+{
+    sf_rows::blend_colour(dst, Rgba { r, g, b, a }, alpha);
+}
+
+/// The pixel whose bytes begin at a place.
+fn pixel_at(row: &[u8], place: usize) -> Rgba
+    requires { place + 4 ≤ length row.now }
+{
+    Rgba {
+        r: row[place],
+        g: row[place + 1],
+        b: row[place + 2],
+        a: row[place + 3],
+    }
+}
+
+/// Paints one pixel over the pixel whose bytes begin at a place.
+fn paint_at(row: &mut [u8], place: usize, source: Rgba, alpha: u8)
+    requires { place + 4 ≤ length row.old }
+{
+    let pixel = over(pixel_at(row, place), source, alpha);
+    row[place] = pixel.r;
+    row[place + 1] = pixel.g;
+    row[place + 2] = pixel.b;
+    row[place + 3] = pixel.a;
+}
+
+/// The plain loop that `blend_row` is compared with.
+#[unsafe(no_mangle)]
+pub extern "C" fn sf_rows_c_plain_row(dst: &mut [u8], src: &[u8], alpha: u8)
+    requires same { length src.now ≡ length dst.old }
+{
+    for k in 0..dst.len() / 4 {
+        paint_at(dst, 4 * k, pixel_at(src, 4 * k), alpha);
+    }
+}
+
+/// The plain loop that `blend_row_opaque` is compared with.
+#[unsafe(no_mangle)]
+pub extern "C" fn sf_rows_c_plain_row_opaque(dst: &mut [u8], src: &[u8], alpha: u8)
+    requires same { length src.now ≡ length dst.old }
+{
+    for k in 0..dst.len() / 4 {
+        let source = Rgba {
+            a: 255,
+            ..pixel_at(src, 4 * k)
+        };
+        paint_at(dst, 4 * k, source, alpha);
+    }
+}
+
+/// The plain loop that `blend_colour` is compared with.
+#[unsafe(no_mangle)]
+pub extern "C" fn sf_rows_c_plain_colour(dst: &mut [u8], r: u8, g: u8, b: u8, a: u8, alpha: u8) {
+    for k in 0..dst.len() / 4 {
+        paint_at(dst, 4 * k, Rgba { r, g, b, a }, alpha);
+    }
+}
