@@ -104,6 +104,10 @@ def vsync(body):
     return {"number": b.u32(), "expected": b.u64(), "timelines": b.rows(4, 8)}
 
 
+def listed(items):
+    return ", ".join(items) or "none"
+
+
 def line(tag, body):
     """What one record says."""
     b = Body(body)
@@ -127,7 +131,7 @@ def line(tag, body):
     if tag == "FRAM":
         return f"frame of vsync {b.u32()}, {len(b.rest()) // 4} pixels"
     if tag == "ARRV":
-        return "arrivals " + ", ".join(f"{n}: actor {a} step {s} token {t}" for n, (a, s, t) in enumerate(b.rows(4, 4, 4), 1))
+        return "arrivals " + listed(f"{n}: actor {a} step {s} token {t}" for n, (a, s, t) in enumerate(b.rows(4, 4, 4), 1))
     if tag == "HIST":
         queue = b.u32()
         calls = []
@@ -138,9 +142,9 @@ def line(tag, body):
             calls.append(f"\n    {who}: {name}{where}" + (f" frame {frame}" if frame else "") + f": {STATUSES.get(status, status)}")
         return f"history of queue {queue}" + "".join(calls)
     if tag == "HOLD":
-        return "held " + ", ".join(f"arrival {n}: {HOLDS.get(h, h)} {x} {y}" for n, h, x, y in b.rows(4, 4, 8, 8))
+        return "held " + listed(f"arrival {n}: {HOLDS.get(h, h)} {x} {y}" for n, h, x, y in b.rows(4, 4, 8, 8))
     if tag == "STUK":
-        return "stuck " + ", ".join(f"actor {a} at step {s}" for a, s in b.rows(4, 4))
+        return "stuck " + listed(f"actor {a} at step {s}" for a, s in b.rows(4, 4))
     if tag == "SUMM":
         names = ("replies", "vsyncs", "commits", "rejected", "frames", "sum of pixel bytes", "held", "stuck")
         return "summary " + ", ".join(f"{name} {b.u64()}" for name in names)
