@@ -1,0 +1,4 @@
+pub mod TextLemmas
+pub mod Sets
+pub mod BeforeLemmas
+pub mod SceneLemmas

@@ -1,0 +1,11 @@
+pub mod Text
+pub mod Numbers
+pub mod Reading
+pub mod Scene
+pub mod Before
+pub mod Fits
+pub mod Summary
+pub mod Forms
+pub mod Order
+pub mod Script
+pub mod Parse

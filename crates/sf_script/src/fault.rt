@@ -1,0 +1,80 @@
+ghost use Rattle.std.specs.Prelude.{◌≡◌};
+ghost use Rattle.sf_script.specs.declared.fault.LineFault.TheVariants.{NoMemory, Word};
+
+use std::alloc::{AllocError, AllocFailed};
+
+/// What is wrong with a word.
+#[derive(Clone, Copy)]
+pub enum Cause {
+    NotUtf8,
+    UnknownWord,
+    BadWord,
+    MissingWord,
+    ExtraWord,
+    OutOfOrder,
+    Undefined,
+    Twice,
+    Limit,
+    Unended,
+    WrongVersion,
+}
+
+/// A fault in a line, told by how many words there are from the wrong one on: none where a word is
+/// missing, and one more than the line has where the fault is of the line.
+#[derive(Clone, Copy)]
+pub struct WordFault {
+    pub left: usize,
+    pub cause: Cause,
+}
+
+/// Why a line was not read.
+#[derive(Clone, Copy)]
+pub enum LineFault {
+    Word(WordFault),
+    NoMemory,
+}
+
+impl From<WordFault> for LineFault {
+    ghost from_gives = { λ fault e. e ≡ Word fault };
+
+    fn from(fault: WordFault) -> Self {
+        LineFault::Word(fault)
+    }
+}
+
+impl From<AllocError> for LineFault {
+    ghost from_gives = { λ _ e. e ≡ NoMemory };
+
+    fn from(_: AllocError) -> Self {
+        LineFault::NoMemory
+    }
+}
+
+impl<T: Drop> From<AllocFailed<T>> for LineFault {
+    ghost from_gives = { λ _ e. e ≡ NoMemory };
+
+    fn from(_: AllocFailed<T>) -> Self {
+        LineFault::NoMemory
+    }
+}
+
+/// Where a script has a fault, and which. Until the places are told, all are 0, but a script that
+/// is too long has the cause 9.
+#[derive(Clone, Copy, Debug, PartialEq, Eq)]
+pub struct ScriptFault {
+    /// The number of the line, from 1.
+    pub line: u32,
+    /// The number of the word in its line, from 1.
+    pub word: u32,
+    /// The number of the cause.
+    pub cause: u32,
+}
+
+/// Why there is no scene.
+#[derive(Clone, Copy, Debug, PartialEq, Eq)]
+pub enum ParseFault {
+    /// The bytes are no scene.
+    Script(ScriptFault),
+    /// Want of memory.
+    NoMemory,
+}

@@ -1,0 +1,242 @@
+ghost use Rattle.std.specs.Prelude.{◌≡◌, ◌≤◌, ◌==◌, ◌∷◌, [], IfOk, length, true};
+ghost use Rattle.std.specs.Str.{is_utf8};
+ghost use Rattle.sf_script.specs.Text.{lines_of, words_of};
+ghost use Rattle.sf_script.specs.Reading.{Gives, GivesUnless};
+ghost use Rattle.sf_script.specs.Before.{has_room, last_rank};
+ghost use Rattle.sf_script.specs.Fits.{EachFits, Fits, IsHeader};
+ghost use Rattle.sf_script.specs.declared.line.Line.TheVariants as line;
+ghost use Rattle.sf_script.specs.declared.fault.ParseFault.TheVariants.{Script};
+ghost use Rattle.sf_script.specs.Script.{actors_of, form_at, is_skipped, line_at, lines_at, order_of, picks_of, scene_of, scene_with, script_of, steps_of, words_at};
+ghost use Rattle.sf_script.specs.Parse.{GivesScene, at_no_place, parsed_of};
+
+use crate::before::Before;
+use crate::fault::{Cause, LineFault, ParseFault, ScriptFault, WordFault};
+use crate::forms::{actor_line, apply_line, first_keyword, header_line, set_line, tx_line};
+use crate::line::{Header, Keyword, Line};
+use crate::order::order_line;
+use crate::reading::{count_words, demand, end, word, wrong};
+use crate::scene::{ActorScript, Pick, Scene, Step};
+use crate::text::{next_line, next_word, trim};
+use sf_base::Items;
+use std::alloc::{AllocError, Global};
+
+// The line behind its first word.
+#[tactic(auto, unfolding(crate::specs::Script::form_at))]
+fn form(alloc: Global, before: &Before, keyword: Keyword, line: &[u8]) -> Result<Line, LineFault>
+    requires { has_room before.now keyword ≡ true }
+    ensures given { GivesUnless (λ x. x) result (form_at before.now keyword (words_of line.now)) }
+    ensures fits { IfOk result (Fits before.now) }
+    ensures few { IfOk result (λ l. length (picks_of l) ≤ length line.now) }
+{
+    match keyword {
+        Keyword::Scene => Ok(Line::Scene(header_line(line)?)),
+        Keyword::Actor => Ok(Line::Actor(actor_line(before, line)?)),
+        Keyword::Tx => Ok(Line::Step(tx_line(line)?)),
+        Keyword::Set => Ok(Line::Step(set_line(line)?)),
+        Keyword::Apply => Ok(Line::Step(apply_line(before, line)?)),
+        Keyword::Order => Ok(Line::Order(Items::new(order_line(alloc, before, line)?))),
+        Keyword::End => {
+            end(line)?;
+            Ok(Line::End)
+        }
+    }
+}
+
+// The words of a line that is not skipped.
+#[tactic(auto, unfolding(crate::specs::Script::words_at))]
+fn line_words(alloc: Global, before: &Before, line: &[u8]) -> Result<Line, LineFault>
+    ensures given { GivesUnless (λ x. x) result (words_at before.now (words_of line.now)) }
+    ensures fits { IfOk result (Fits before.now) }
+    ensures few { IfOk result (λ l. length (picks_of l) ≤ length line.now) }
+{
+    let (first, rest) = word(line)?;
+    let Some(keyword) = first_keyword(first) else {
+        return Err(LineFault::Word(wrong(line, Cause::UnknownWord)));
+    };
+    demand(before.may_be_followed(keyword), line, Cause::OutOfOrder)?;
+    demand(before.leaves_room(keyword), line, Cause::Limit)?;
+    form(alloc, before, keyword, rest)
+}
+
+// Whether a line is UTF-8.
+fn is_text(line: &[u8]) -> bool
+    ensures { result ≡ is_utf8 line.now }
+{
+    matches!(std::str::from_utf8(line), Ok(_))
+}
+
+// A line that is not skipped.
+#[tactic(auto, unfolding(crate::specs::Script::line_at), using(crate::proofs::Sets::word_counts))]
+fn whole_line(alloc: Global, before: &Before, line: &[u8]) -> Result<Line, LineFault>
+    ensures given { GivesUnless (λ x. x) result (line_at before.now line.now) }
+    ensures fits { IfOk result (Fits before.now) }
+    ensures few { IfOk result (λ l. length (picks_of l) ≤ length line.now) }
+{
+    if !is_text(line) {
+        return Err(LineFault::Word(WordFault {
+            left: count_words(line) + 1,
+            cause: Cause::NotUtf8,
+        }));
+    }
+    line_words(alloc, before, line)
+}
+
+// Whether a line is empty or a comment.
+#[tactic(auto, unfolding(crate::specs::Script::is_skipped))]
+fn skips(line: &[u8]) -> bool
+    ensures { result ≡ is_skipped (words_of line.now) }
+{
+    match next_word(line) {
+        Some((word, _)) => word.first() == Some(&b'#'),
+        None => true,
+    }
+}
+
+// All lines but those that are skipped.
+#[tactic(auto, unfolding(crate::specs::Script::lines_at))]
+fn all_lines(alloc: Global, bytes: &[u8]) -> Result<Before, LineFault>
+    ensures given { GivesUnless (λ x. x) result (lines_at [] (lines_of bytes.now)) }
+    ensures few { IfOk result (λ lines. length (order_of lines) ≤ length bytes.now) }
+{
+    let mut before = Before::new(alloc);
+    let mut rest = bytes;
+    while let Some((text, after)) = next_line(rest) {
+        let line = trim(text);
+        if !skips(line) {
+            let next = whole_line(alloc, &before, line)?;
+            before.push(next)?;
+        }
+        rest = after;
+    }
+    Ok(before)
+}
+
+// The steps that stand in front.
+#[tactic(auto, unfolding(crate::specs::Script::steps_of))]
+fn steps(alloc: Global, lines: &[Line]) -> Result<Vec<Step>, AllocError>
+    ensures { IfOk result (λ v. v.items ≡ steps_of lines.now) }
+{
+    let mut steps = Vec::new(alloc);
+    let mut rest = lines;
+    while let [Line::Step(step), after @ ..] = rest {
+        steps.push(*step)?;
+        rest = after;
+    }
+    Ok(steps)
+}
+
+// The actors with their steps.
+#[tactic(auto, unfolding(crate::specs::Script::actors_of))]
+fn actors(alloc: Global, lines: &[Line]) -> Result<Vec<ActorScript>, AllocError>
+    ensures { IfOk result (λ v. v.items ≡ actors_of lines.now) }
+{
+    let mut actors = Vec::new(alloc);
+    let mut rest = lines;
+    while let [first, after @ ..] = rest {
+        if let Line::Actor(number) = first {
+            actors.push(ActorScript {
+                number: *number,
+                steps: Items::new(steps(alloc, after)?),
+            })?;
+        }
+        rest = after;
+    }
+    Ok(actors)
+}
+
+// The picks of all `order` lines.
+fn order(alloc: Global, lines: &[Line]) -> Result<Vec<Pick>, AllocError>
+    ensures { IfOk result (λ v. v.items ≡ order_of lines.now) }
+{
+    let mut order = Vec::new(alloc);
+    let mut rest = lines;
+    while let [first, after @ ..] = rest {
+        if let Line::Order(picks) = first {
+            order.extend_from_slice(picks.as_slice())?;
+        }
+        rest = after;
+    }
+    Ok(order)
+}
+
+// Whether the last line is `end`.
+fn is_ended(lines: &[Line]) -> bool
+    ensures { result ≡ (last_rank lines.now == 6) }
+{
+    matches!(lines.last(), Some(Line::End))
+}
+
+// The scene of a `scene` line and the lines behind it.
+fn scene_from(alloc: Global, header: Header, lines: &[Line]) -> Result<Scene, AllocError>
+    requires header { IsHeader header }
+    requires lines { EachFits (line.Scene header ∷ []) lines.now }
+    requires few { length (order_of lines.now) ≤ 1048576 }
+    ensures { IfOk result (λ s. s ≡ scene_with header lines.now) }
+{
+    Ok(Scene {
+        version: header.version,
+        width: header.width,
+        height: header.height,
+        period: header.period,
+        timelines: Items::new(Vec::new(alloc)),
+        queues: Items::new(Vec::new(alloc)),
+        actors: Items::new(actors(alloc, lines)?),
+        order: Items::new(order(alloc, lines)?),
+    })
+}
+
+// The scene of lines that begin with `scene` and end with `end`.
+#[tactic(auto, unfolding(crate::specs::Script::scene_of))]
+fn scene(alloc: Global, before: &Before) -> Result<Scene, LineFault>
+    requires { length (order_of before.now) ≤ 1048576 }
+    ensures { GivesUnless (λ x. x) result (scene_of before.now) }
+{
+    match before.lines().split_first() {
+        Some((Line::Scene(header), rest)) if is_ended(rest) => {
+            Ok(scene_from(alloc, *header, rest)?)
+        }
+        _ => Err(LineFault::Word(WordFault {
+            left: 0,
+            cause: Cause::Unended,
+        })),
+    }
+}
+
+#[tactic(auto, unfolding(crate::specs::Script::script_of))]
+fn whole_script(alloc: Global, bytes: &[u8]) -> Result<Scene, LineFault>
+    requires { length bytes.now ≤ 1048576 }
+    ensures { GivesUnless (λ x. x) result (script_of bytes.now) }
+{
+    let before = all_lines(alloc, bytes)?;
+    scene(alloc, &before)
+}
+
+/// The longest script, in bytes.
+pub const LONGEST_SCRIPT: usize = 1_048_576;
+
+// A fault whose place is not told.
+fn placeless(cause: u32) -> ParseFault
+    ensures { result ≡ Script (at_no_place cause) }
+{
+    ParseFault::Script(ScriptFault {
+        line: 0,
+        word: 0,
+        cause,
+    })
+}
+
+/// The scene that a script spells, or that it is none. More than 1,048,576 bytes are none, with
+/// cause 9; any other fault has cause 0 so far.
+#[tactic(auto, unfolding(crate::specs::Parse::parsed_of))]
+pub fn parse(alloc: Global, bytes: &[u8]) -> Result<Scene, ParseFault>
+    ensures { GivesScene result (parsed_of bytes.now) }
+{
+    if bytes.len() > LONGEST_SCRIPT {
+        return Err(placeless(9));
+    }
+    match whole_script(alloc, bytes) {
+        Ok(scene) => Ok(scene),
+        Err(LineFault::NoMemory) => Err(ParseFault::NoMemory),
+        Err(LineFault::Word(_)) => Err(placeless(0)),
+    }
+}
