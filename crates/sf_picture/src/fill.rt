@@ -1,0 +1,8 @@
+use sf_base::{Rect, Rgba};
+
+/// A rectangle of one colour. It may reach beyond its picture, and fills the part inside.
+#[derive(Clone, Copy, Debug, PartialEq, Eq)]
+pub struct Fill {
+    pub rect: Rect,
+    pub colour: Rgba,
+}

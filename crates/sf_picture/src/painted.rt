@@ -1,0 +1,87 @@
+ghost use Rattle.std.specs.Prelude.{◌≡◌, ◌*◌, IfOk, IfErr, length};
+ghost use Rattle.sf_picture.specs.Pixels.{HasSize, ShowsPicture};
+
+use crate::picture::Picture;
+use crate::spans::paint_fill;
+use sf_base::NoMemory;
+use std::alloc::Global;
+use std::marker::Model;
+
+/// A picture with its pixels: four bytes each, in the order red, green, blue, alpha, row by row
+/// from the top. Contracts see the picture alone, since it tells the bytes.
+#[derive(Drop)]
+pub struct Painted {
+    picture: Picture,
+    bytes: Vec<u8>,
+}
+
+impl Model for Painted {
+    ghost use Rattle.sf_picture.specs.declared.picture.Picture.{Picture};
+    ghost use Rattle.sf_picture.specs.Pixels.{IsPainted};
+
+    ghost Value = { Picture };
+
+    ghost view = { λ p. p.picture };
+
+    ghost invariant = { λ p. IsPainted p.picture p.bytes.items };
+}
+
+impl Painted {
+    /// The picture that was painted last.
+    pub fn picture(&self) -> &Picture
+        ensures same { result.now ≡ self.now }
+        ensures size { HasSize result.now }
+    {
+        &self.picture
+    }
+
+    /// The pixels, row by row.
+    pub fn bytes(&self) -> &[u8]
+        ensures { ShowsPicture self.now result.now }
+    {
+        &self.bytes
+    }
+
+    /// The same block of pixels with another picture of the same size. It takes no memory.
+    pub fn repaint(self, picture: Picture) -> Painted
+        requires size { HasSize picture }
+        requires same_width { picture.width ≡ self.width }
+        requires same_height { picture.height ≡ self.height }
+        ensures { result ≡ picture }
+    {
+        let Painted {
+            picture: _,
+            mut bytes,
+        } = self;
+        paint_all(&mut bytes, &picture);
+        Painted { picture, bytes }
+    }
+}
+
+/// Paints every pixel anew.
+fn paint_all(bytes: &mut [u8], picture: &Picture)
+    requires size { HasSize picture.now }
+    requires room { length bytes.old ≡ 4 * (picture.now.width * picture.now.height) }
+    ensures { ShowsPicture picture.now bytes.new }
+{
+    bytes.fill(0);
+    for fill in picture.fills.as_slice() {
+        paint_fill(bytes, picture.width, picture.height, fill);
+    }
+}
+
+/// A picture's pixels. Where there is no memory for them, the picture comes back.
+pub fn paint(alloc: Global, picture: Picture) -> Result<Painted, (NoMemory, Picture)>
+    requires size { HasSize picture }
+    ensures ok { IfOk result (λ painted. painted ≡ picture) }
+    ensures err { IfErr result (λ back. back.1 ≡ picture) }
+{
+    let count = 4 * picture.width as usize * picture.height as usize;
+    match vec![in alloc; 0u8; count] {
+        Ok(mut bytes) => {
+            paint_all(&mut bytes, &picture);
+            Ok(Painted { picture, bytes })
+        }
+        Err(_) => Err((NoMemory, picture)),
+    }
+}
