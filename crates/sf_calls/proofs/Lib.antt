@@ -1,0 +1,5 @@
+pub mod Seats
+pub mod Histories
+pub mod Keeps
+pub mod Calling
+pub mod Taken

@@ -1,0 +1,7 @@
+pub mod Calling
+pub mod Counter
+pub mod Histories
+pub mod Outcomes
+pub mod Passes
+pub mod Rule
+pub mod Views

@@ -1,0 +1,19 @@
+//! A lock over an object whose callers know one legal history of its calls. The queues and the
+//! arrivals of transactions are such objects: threads call them while a frame is made, and what
+//! each thread is told of the others' calls stands in one history that a single thread could have
+//! made. A call waits for its ticket, applies itself to the object, and passes the lock on.
+#![tactic(auto)]
+
+mod fault;
+mod lock;
+mod object;
+mod pass;
+mod protocol;
+mod steps;
+#[cfg(test)]
+mod tests;
+
+pub use fault::CallFault;
+pub use lock::CallLock;
+pub use object::{Answer, Entry, Object, Outcome};
+pub use pass::Pass;

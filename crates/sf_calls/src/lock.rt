@@ -1,0 +1,110 @@
+ghost use Rattle.std.specs.Prelude.{◌≡◌, ℕ, List, [], ◌∷◌, true, Some, IsOk, IfOk, IfErr, Contains};
+ghost use Rattle.sf_calls.specs.declared.object.Entry.{Entry};
+ghost use Rattle.sf_calls.specs.Histories.{IsLegal, Begins, calls_by};
+ghost use Rattle.sf_calls.specs.Passes.{first_pass, HasMark, TookAll};
+
+use crate::object::Object;
+use crate::pass::Pass;
+use crate::protocol::{Knows, LockRule};
+use atomic_table::Table;
+use sf_base::NoMemory;
+use std::alloc::Global;
+use std::marker::Model;
+use std::snapshot::Snapshot;
+
+/// An object that threads call under a lock, each with a `Pass`. Contracts see which table it
+/// lies in.
+#[derive(Drop)]
+pub struct CallLock<O: Object> {
+    pub(crate) table: Table<
+        Option<O>,
+        Knows<O::PlainCall, O::PlainReply, O::Mark>,
+        (Snapshot<O>, u32),
+        LockRule<O>,
+        Global,
+    >,
+}
+
+impl<O: Object> Model for CallLock<O> {
+    ghost use Rattle.std.specs.Prelude.{◌≡◌};
+    ghost use Rattle.atomic_table.specs.Seated.{TableId, table_id_coded};
+
+    ghost Value = { TableId };
+
+    ghost coded = { table_id_coded };
+
+    ghost view = { λ l. l.table.shared.table_id };
+
+    ghost invariant = { λ l. (l.table.shared.table_id.words ≡ 3) × (l.table.shared.table_id.slots ≡ 1) };
+}
+
+impl<O: Object> CallLock<O> {
+    /// The object under a lock, and the first pass, for the caller `by`, which knows the object's
+    /// history. Want of memory hands the object back.
+    pub fn open(alloc: Global, object: O, by: u32) -> Result<(CallLock<O>, Pass<O>), (NoMemory, O)>
+        requires legal { IsLegal (O.answers (O.mark object)) (O.history object) }
+        ensures ok { IfOk result (λ opened. opened.1 ≡ first_pass opened.0 by (O.mark object) (O.history object)) }
+        ensures err { IfErr result (λ refused. refused.1 ≡ object) }
+    {
+        let about = (Snapshot::of(&object), by);
+        let mut slots = Vec::new(alloc);
+        if let Err(failed) = slots.push(Some(object)) {
+            slots.destroy_empty();
+            return Err((NoMemory, held(failed.value)));
+        }
+        match Table::new(alloc, &[0; 3], slots, &about) {
+            Ok((table, seat)) => Ok((CallLock { table }, Pass { seat, by })),
+            Err(refused) => Err((NoMemory, first_held(refused.slots))),
+        }
+    }
+
+    /// The object out of the lock, by the first pass once it took in every pass that it gave.
+    /// Its history is what that pass knows. `Err` is want of memory and hands both back; this
+    /// lock needs none here, so it never comes.
+    pub fn close(self, last: Pass<O>) -> Result<O, (NoMemory, CallLock<O>, Pass<O>)>
+        requires own { last.table ≡ self }
+        requires first { last.is_first ≡ true }
+        requires took_all { TookAll last.gave last.took }
+        ensures ok { IsOk result }
+        ensures history { IfOk result (λ object. O.history object ≡ last.seen) }
+        ensures mark { IfOk result (λ object. HasMark last (O.mark object)) }
+        ensures legal { IfOk result (λ object. IsLegal (O.answers (O.mark object)) (O.history object)) }
+
+        // Of each pass that was taken in the history has just the calls that that pass knew, and
+        // since `open` none of a caller that is neither the first nor one that it gave a pass to.
+        ensures taken { IfOk result (λ object. (p : ℕ × List (Entry O.PlainCall O.PlainReply)) → Contains last.took p → calls_by p.0 (O.history object) ≡ calls_by p.0 p.1) }
+        ensures since { IfOk result (λ object. Begins last.start (O.history object)) }
+        ensures callers { IfOk result (λ object. (b : ℕ) → (Contains (last.by ∷ last.gave) b → ⊥) → calls_by b (O.history object) ≡ calls_by b last.start) }
+    {
+        let CallLock { table } = self;
+        let Pass { seat, by: _ } = last;
+        let mut closed = table.close_with(seat);
+        let slot = closed.take(0);
+        closed.free();
+        Ok(held(slot))
+    }
+}
+
+/// What the slot holds, where it is not empty.
+pub(crate) fn held<O>(slot: Option<O>) -> O
+    requires { (o : O) × (slot ≡ Some o) }
+    ensures { slot ≡ Some result }
+{
+    match slot {
+        Some(o) => o,
+        None => unreachable!(),
+    }
+}
+
+fn first_held<O>(slots: Vec<Option<O>, Global>) -> O
+    requires { (o : O) × (slots.items ≡ Some o ∷ []) }
+    ensures { slots.items ≡ Some result ∷ [] }
+{
+    let mut slots = slots;
+    let slot = match slots.pop() {
+        Some(slot) => slot,
+        None => unreachable!(),
+    };
+    slots.destroy_empty();
+    held(slot)
+}

@@ -1,0 +1,72 @@
+ghost use Rattle.std.specs.Prelude.{◌≡◌, ℕ, List, [], ◌∷◌, ◌++◌};
+ghost use Rattle.sf_calls.specs.declared.object.Answer.{Answer};
+ghost use Rattle.sf_calls.specs.declared.object.Entry.{Entry};
+ghost use Rattle.sf_calls.specs.Histories.{entry, replies, waits};
+ghost use Rattle.sf_calls.specs.Outcomes.{IfDone, IfNotYet, IfNoMemory};
+
+/// A call in an object's history: its caller's number, and what the history keeps of the call
+/// and of its reply.
+#[derive(Clone, Copy, Debug, Drop)]
+pub struct Entry<C, R> {
+    pub by: u32,
+    pub call: C,
+    pub reply: R,
+}
+
+/// What the object of one thread answers to a call. It exists in proofs alone: no value of it is
+/// made.
+pub enum Answer<R> {
+    /// It is done, with this reply.
+    Replies(R),
+    /// It is not time for the call yet.
+    Waits,
+}
+
+/// What a call did to the object.
+#[derive(Debug, Drop)]
+pub enum Outcome<C, R> {
+    /// It is done: the history has one more entry.
+    Done(R),
+    /// It is not time for the call yet. Nothing changed, and the call comes back.
+    NotYet(C),
+    /// Want of memory. Nothing changed, and the call comes back.
+    NoMemory(C),
+}
+
+/// What lies under a lock: a state with the history of the calls that made it. The types and
+/// meanings here are what the lock's promises speak of, for any object.
+pub trait Object: Sized {
+    type Call;
+
+    type Reply;
+    /// What the history keeps of a call.
+    type PlainCall;
+    /// What the history keeps of a reply.
+    type PlainReply;
+    /// What `new` fixed for good, and which tokens a call may bring.
+    type Mark;
+
+    ghost history: { Self → List (Entry Self.PlainCall Self.PlainReply) };
+
+    ghost mark: { Self → Self.Mark };
+
+    ghost plain_call: { Self.Call → Self.PlainCall };
+
+    ghost plain_reply: { Self.Reply → Self.PlainReply };
+
+    // The tokens that a call brings, and those that a reply brings, are ones of the mark.
+    ghost call_fits: { Self.Mark → Self.Call → Type 0 };
+
+    ghost reply_fits: { Self.Mark → Self.Reply → Type 0 };
+
+    // What the object of one thread answers to a caller's call after a history.
+    ghost answers: { Self.Mark → List (Entry Self.PlainCall Self.PlainReply) → ℕ → Self.PlainCall → Answer Self.PlainReply → Type 0 };
+
+    /// Applies a caller's call, as the only thread that has the object.
+    fn apply(&mut self, by: u32, call: Self::Call) -> Outcome<Self::Call, Self::Reply>
+        requires { call_fits (mark self.old) call }
+        ensures mark { mark self.new ≡ mark self.old }
+        ensures done { IfDone result (λ r. (history self.new ≡ history self.old ++ entry by (plain_call call) (plain_reply r) ∷ []) × answers (mark self.old) (history self.old) by (plain_call call) (replies (plain_reply r)) × reply_fits (mark self.old) r) }
+        ensures not_yet { IfNotYet result (λ back. (history self.new ≡ history self.old) × (back ≡ call) × answers (mark self.old) (history self.old) by (plain_call call) waits) }
+        ensures no_memory { IfNoMemory result (λ back. (history self.new ≡ history self.old) × (back ≡ call)) };
+}

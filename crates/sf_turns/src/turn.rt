@@ -1,0 +1,196 @@
+ghost use Rattle.std.specs.Arc.{arc_value};
+ghost use Rattle.std.specs.Prelude.{◌≡◌, ℕ, ◌+◌, ◌-◌, ◌<◌, ◌≤◌, ◌^◌, ◌↔◌, ◌⊎◌, false, [], Some, None, IfOk, IfErr, IsTrue, MatchResult};
+ghost use Rattle.sf_turns.specs.declared.protocol.Stage.TheVariants as stage;
+ghost use Rattle.sf_turns.specs.Rule.{IsAside};
+ghost use Rattle.sf_turns.specs.Views.{Observes, issued_with, heir_expecting, IsExactAlone};
+
+use crate::inside::Inside;
+use crate::owed::Owed;
+use crate::seat::TurnSeat;
+use crate::stamped::Stamped;
+use crate::turn_table::{TableSeat, TurnTable};
+use sf_base::NoMemory;
+use std::marker::Model;
+use std::sync::Arc;
+
+/// The last turn of a buffer's chain: the right to touch the pixels once, after all turns before
+/// it have left. Where it is dropped after they have left, the pixels are dropped with it.
+pub struct Turn<P: Stamped> {
+    pub(crate) table: Arc<TurnTable<P>>,
+    pub(crate) seat: TableSeat<P>,
+    pub(crate) buffer: u32,
+    pub(crate) number: u64,
+    pub(crate) expects: P::Stamp,
+    pub(crate) loads: u64,
+    pub(crate) shown: bool,
+}
+
+impl<P: Stamped> Model for Turn<P> {
+    ghost use Rattle.std.specs.Arc.{arc_value};
+    ghost use Rattle.std.specs.Prelude.{◌≡◌, ◌<◌, false, [], Some, None};
+    ghost use Rattle.sf_turns.specs.declared.protocol.Stage.TheVariants.{Away};
+    ghost use Rattle.sf_turns.specs.Rule.{IsAside};
+    ghost use Rattle.sf_turns.specs.Views.{TurnView};
+
+    ghost Value = { TurnView P.Stamp };
+
+    ghost view = { λ s. record { table = s.seat.table_id; buffer = s.buffer; number = s.number; expects = s.expects; loads = s.loads; shown = s.shown } };
+
+    ghost invariant = { λ s. (arc_value s.table ≡ s.seat.table_id) × IsAside s.seat.me × (s.seat.me.0.token ≡ Some record { buffer = s.buffer; number = s.number; stage = Away; expects = s.expects; promise = None }) × (s.seat.me.0.opens ≡ false) × (s.seat.me.0.stock ≡ []) × (s.seat.me.1 ≡ []) × (s.buffer < s.seat.table_id.slots) };
+}
+
+impl<P: Stamped> Turn<P> {
+    /// The number of its buffer.
+    pub fn buffer(&self) -> u32
+        ensures { result ≡ self.now.buffer }
+    {
+        self.buffer
+    }
+
+    /// Its number in the chain of its buffer, from 0.
+    pub fn number(&self) -> u64
+        ensures { result ≡ self.now.number }
+    {
+        self.number
+    }
+
+    /// The stamp that it will find.
+    pub fn expects(&self) -> &P::Stamp
+        ensures { result.now ≡ self.now.expects }
+    {
+        &self.expects
+    }
+
+    /// Whether all turns before it have left, as one load through the seat shows it. Once it is
+    /// true, `enter` through this seat succeeds. The turn counts these loads, up to the greatest
+    /// number, and keeps what the last one showed.
+    pub fn ready(&mut self, seat: &mut TurnSeat<P>) -> bool
+        requires { self.old.table ≡ seat.old.table }
+        ensures observed { (n : ℕ) × Observes seat.old self.old.buffer n seat.new × (IsTrue result ↔ (self.old.number ≤ n)) }
+        ensures turn { self.new ≡ record self.old { loads = self.new.loads; shown = result } }
+        ensures counted { (self.old.loads ≤ self.new.loads) × ((self.new.loads ≡ self.old.loads + 1) ⊎ (self.new.loads ≡ 2 ^ 64 - 1)) }
+        ensures exact { IsExactAlone seat.new }
+    {
+        let count = seat.load_leaves(self.buffer);
+        let ready = self.number <= count;
+        self.loads = self.loads.saturating_add(1);
+        self.shown = ready;
+        ready
+    }
+
+    /// Enters, and takes the pixels, which have the stamp that was expected. The turn comes back
+    /// exactly where the load of this call showed that fewer turns have left than its number.
+    pub fn enter(self, seat: &mut TurnSeat<P>) -> Result<(Inside<P>, P), Turn<P>>
+        requires { self.table ≡ seat.old.table }
+        ensures observed { (n : ℕ) × Observes seat.old self.buffer n seat.new × MatchResult result (λ _. self.number ≤ n) (λ _. n < self.number) }
+        ensures entered { IfOk result (λ r. (r.0 ≡ self) × (P.stamp_of r.1 ≡ self.expects)) }
+        ensures back { IfErr result (λ t. t ≡ self) }
+        ensures exact { IsExactAlone seat.new }
+    {
+        if seat.load_leaves(self.buffer) < self.number {
+            return Err(self);
+        }
+        let note = seat.note();
+        let Turn {
+            table,
+            seat: mut own,
+            buffer,
+            number,
+            expects,
+            loads,
+            shown,
+        } = self;
+        let p = table.enter(&mut own, note, buffer);
+        let inside = Inside {
+            table,
+            seat: own,
+            buffer,
+            number,
+            expects,
+            loads,
+            shown,
+        };
+        Ok((inside, p))
+    }
+
+    /// Issues the next turn, which expects what this one promises to leave. This one is then owed.
+    /// Want of memory hands both back.
+    pub fn issue(
+        self,
+        leaves: P::Stamp,
+    ) -> Result<(Owed<P>, Turn<P>), (NoMemory, Turn<P>, P::Stamp)>
+        ensures owed { IfOk result (λ r. r.0 ≡ issued_with self leaves) }
+        ensures heir { IfOk result (λ r. r.1 ≡ heir_expecting self leaves) }
+        ensures back { IfErr result (λ e. (e.1 ≡ self) × (e.2 ≡ leaves)) }
+    {
+        if self.number == u64::MAX {
+            return Err((NoMemory, self, leaves));
+        }
+        let Ok(promises) = P::copy_stamp(self.table.alloc, &leaves) else {
+            return Err((NoMemory, self, leaves));
+        };
+        let Ok(again) = Arc::try_clone(&self.table) else {
+            return Err((NoMemory, self, leaves));
+        };
+        let Turn {
+            table,
+            mut seat,
+            buffer,
+            number,
+            expects,
+            loads: _,
+            shown: _,
+        } = self;
+        let (heir, leaves) = table.issue(&mut seat, leaves);
+        let owed = Owed {
+            table,
+            seat,
+            buffer,
+            number,
+            expects,
+            promises,
+        };
+        Ok((owed, Turn::heir(again, heir, buffer, number + 1, leaves)))
+    }
+
+    /// The turn that was issued with this seat, and that no load was made for.
+    pub(crate) fn heir(
+        table: Arc<TurnTable<P>>,
+        seat: TableSeat<P>,
+        buffer: u32,
+        number: u64,
+        expects: P::Stamp,
+    ) -> Turn<P>
+        requires table { arc_value table ≡ seat.table_id }
+        requires aside { IsAside seat.me }
+        requires token { seat.me.0.token ≡ Some record { buffer = buffer; number = number; stage = stage.Away; expects = expects; promise = None } }
+        requires bare { (seat.me.0.opens ≡ false) × (seat.me.0.stock ≡ []) × (seat.me.1 ≡ []) }
+        requires range { buffer < seat.table_id.slots }
+        ensures { result ≡ record { table = seat.table_id; buffer = buffer; number = number; expects = expects; loads = 0; shown = false } }
+    {
+        Turn {
+            table,
+            seat,
+            buffer,
+            number,
+            expects,
+            loads: 0,
+            shown: false,
+        }
+    }
+}
+
+impl<P: Stamped> Drop for Turn<P> {
+    fn drop(self) {
+        let Turn {
+            table,
+            seat,
+            buffer,
+            number,
+            expects: _,
+            loads: _,
+            shown: _,
+        } = self;
+        table.let_go(seat, buffer, number);
+    }
+}
