@@ -1,0 +1,6 @@
+pub mod BandLemmas
+pub mod MovedLemmas
+pub mod PointLemmas
+pub mod RowLemmas
+pub mod SameLemmas
+pub mod SpanLemmas
