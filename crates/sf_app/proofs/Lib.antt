@@ -1,0 +1,15 @@
+pub mod MapLemmas
+pub mod ImageLemmas
+pub mod WriteLemmas
+pub mod HeldLemmas
+pub mod CommitLemmas
+pub mod VsyncLemmas
+pub mod RunLemmas
+pub mod RoundLemmas
+pub mod PlayLemmas
+pub mod StatusLemmas
+pub mod TraceLemmas
+pub mod ArrivalLemmas
+pub mod PlayedLemmas
+pub mod MeaningLemmas
+pub mod UniqueLemmas

@@ -1,0 +1,9 @@
+ghost use Rattle.std.specs.Prelude.{◌≡◌, List};
+ghost use Rattle.sf_script.specs.Scene.{SceneValue};
+ghost use Rattle.sf_app.specs.declared.record.Record.{Record};
+ghost use Rattle.sf_app.specs.Play.{IsPlay};
+
+/// The law that a scene has one play: its records are determined by the scene alone.
+pub fn one_play()
+    ensures { (scene : SceneValue) (first second : List Record) → IsPlay scene first → IsPlay scene second → first ≡ second }
+{}
