@@ -14,7 +14,8 @@ use std::simd::prelude::*;
 /// `alpha` is the layer's, 0 to 255. The row has any number of whole pixels, none included.
 pub fn blend_colour(dst: &mut [u8], colour: Rgba, alpha: u8)
     requires { length dst.old % 4 ≡ 0 }
-    ensures each_pixel { (k : ℕ) → 4 * k < length dst.old → pixel dst.new k ≡ painted (pixel dst.old k) colour alpha }
+    ensures each_pixel { (k : ℕ) → 4 * k < length dst.old
+        → pixel dst.new k ≡ painted (pixel dst.old k) colour alpha }
     ensures len { length dst.new ≡ length dst.old }
 {
     let mut at = blend_colour_blocks(dst, colour, alpha);

@@ -1,7 +1,8 @@
 ghost use Rattle.std.specs.Prelude.{◌≡◌, ℕ, ◌+◌, ◌-◌, ◌*◌, ◌/◌, ◌<◌, ◌≤◌, length, slice_index};
 ghost use Rattle.std.specs.Simd.Lanes.{zip2, Each1};
 ghost use Rattle.sf_base.specs.Blend.{product};
-ghost use Rattle.sf_rows.specs.Channels.{capped_sum, mix, row_channel, opaque_source, opaque_channel, colour_part, alpha_place};
+ghost use Rattle.sf_rows.specs.Channels.{capped_sum, mix, row_channel, alpha_place};
+ghost use Rattle.sf_rows.specs.Channels.{opaque_source, opaque_channel, colour_part};
 
 use sf_base::Rgba;
 use std::simd::prelude::*;
@@ -53,7 +54,8 @@ fn products(a: u16x8, b: u16x8) -> u16x8
 #[inline(always)]
 fn scaled(a: u8x16, factors: u16x8) -> u8x16
     requires { Each1 (λ x. x ≤ 255) factors }
-    ensures each { (k : ℕ) → k < 16 → slice_index result k ≡ product (slice_index a k) (slice_index factors (k / 2)) }
+    ensures each { (k : ℕ) → k < 16
+        → slice_index result k ≡ product (slice_index a k) (slice_index factors (k / 2)) }
     ensures len { length result ≡ 16 }
 {
     in_turn(

@@ -16,7 +16,8 @@ use std::simd::prelude::*;
 pub fn blend_row_opaque(dst: &mut [u8], src: &[u8], alpha: u8)
     requires same { length src.now ≡ length dst.old }
     requires whole { length dst.old % 4 ≡ 0 }
-    ensures each_pixel { (k : ℕ) → 4 * k < length dst.old → pixel dst.new k ≡ painted (pixel dst.old k) (opaque_pixel (pixel src.now k)) alpha }
+    ensures each_pixel { (k : ℕ) → 4 * k < length dst.old
+        → pixel dst.new k ≡ painted (pixel dst.old k) (opaque_pixel (pixel src.now k)) alpha }
     ensures len { length dst.new ≡ length dst.old }
 {
     let mut at = blend_opaque_blocks(dst, src, alpha);
