@@ -62,14 +62,14 @@ replies_to actor events = filter (λ r. r.actor == actor) (replies_in events)
 abbrev pub done_steps : ActorScript → List Event → List Step
 done_steps script events = take (length (replies_to script.number events)) script.steps
 
-abbrev pub hothersactor : SceneValue → ℕ → Bool
-hothersactor scene actor = list_any (λ script. script.number == actor) scene.actors
+abbrev pub has_actor : SceneValue → ℕ → Bool
+has_actor scene actor = list_any (λ script. script.number == actor) scene.actors
 
 -- Replies. Each actor's replies are those to its first steps, in order and each once, with the status that the
 -- step has after the steps before it; and nobody else has a reply.
 pub record AnswersSteps (scene : SceneValue) (events : List Event) : Type 0 where
   pub of_each : All (λ script. replies_to script.number events ≡ replies_from script.number [] (done_steps script events)) scene.actors
-  pub of_none_else : All (λ r. hothersactor scene r.actor ≡ true) (replies_in events)
+  pub of_none_else : All (λ r. has_actor scene r.actor ≡ true) (replies_in events)
 
 -- the arrivals of one actor
 abbrev pub arrivals_of : ℕ → List ArrivalEntry → List ArrivalEntry
@@ -79,7 +79,7 @@ arrivals_of actor arrivals = filter (λ a. a.actor == actor) arrivals
 -- their tokens; and nobody else has an arrival.
 pub record ArriveAsSent (scene : SceneValue) (events : List Event) (arrivals : List ArrivalEntry) : Type 0 where
   pub of_each : All (λ script. arrivals_of script.number arrivals ≡ map entry_of (sent_from script.number [] (done_steps script events))) scene.actors
-  pub of_none_else : All (λ a. hothersactor scene a.actor ≡ true) arrivals
+  pub of_none_else : All (λ a. has_actor scene a.actor ≡ true) arrivals
 
 -- Stuck actors. An actor has done all its steps, or it is stuck at the next one; and no step built so far waits.
 pub record AreStuck (scene : SceneValue) (events : List Event) (stuck : List StuckEntry) : Type 0 where
