@@ -164,7 +164,7 @@ play_means scene records limits h =
         };
         results = commits ∙ ap (λ (l : List Arrival). commits_by l [] (range_with_len 1 (length end.arrivals))) (sym known) ∙ ap (commits_by (transactions_of scene entries) []) (sym numbers);
       };
-      vsyncs = record { rise = m.rise; expected = m.expected; commit = m.commit };
+      vsyncs = record { rise = m.rise; expected = m.expected; commit = m.commit; seen = m.seen };
       frames = subst (λ (l : List Arrival). ShowImages scene l [] vs) (append-nil end.arrivals ∙ sym known) (m.frames []);
       held = record {
         exactly = sym (ap (uncommitted entries) numbers ∙ none_uncommitted entries (length end.arrivals) (length-entries end.arrivals));

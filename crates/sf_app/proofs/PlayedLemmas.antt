@@ -35,6 +35,7 @@ pub record Meets (scene : SceneValue) (events : List Event) (state : RunState) :
   pub highest : All (λ (v : VsyncReport). v.number ≤ state.vsyncs) (vsyncs_in events)
   pub expected : All (λ (v : VsyncReport). v.expected ≡ v.number * scene.period) (vsyncs_in events)
   pub commit : All (λ (v : VsyncReport). v.commits ≢ []) (vsyncs_in events)
+  pub seen : All (λ (v : VsyncReport). v.timelines ≡ []) (vsyncs_in events)
   pub frames : (later : List Arrival) → ShowImages scene (state.arrivals ++ later) [] (vsyncs_in events)
 
 pub meets_start : (scene : SceneValue) → Meets scene [] start
@@ -50,6 +51,7 @@ meets_start scene = record {
   highest = λ i d lt. absurd (omega arith);
   expected = λ i d lt. absurd (omega arith);
   commit = λ i d lt. absurd (omega arith);
+  seen = λ i d lt. absurd (omega arith);
   frames = λ later. tt;
 }
 
@@ -113,6 +115,7 @@ meets_performed scene es state s is h =
       highest = subst (λ (l : List VsyncReport). All (λ (v : VsyncReport). v.number ≤ state.vsyncs) l) vs h.highest;
       expected = subst (λ (l : List VsyncReport). All (λ (v : VsyncReport). v.expected ≡ v.number * scene.period) l) vs h.expected;
       commit = subst (λ (l : List VsyncReport). All (λ (v : VsyncReport). v.commits ≢ []) l) vs h.commit;
+      seen = subst (λ (l : List VsyncReport). All (λ (v : VsyncReport). v.timelines ≡ []) l) vs h.seen;
       frames = λ later. subst (λ (l : List VsyncReport). ShowImages scene ((state.arrivals ++ more) ++ later) [] l) vs
           (subst (λ (l : List Arrival). ShowImages scene l [] (vsyncs_in es)) (sym (apart later)) (h.frames (more ++ later)));
     }
@@ -156,10 +159,10 @@ some_commits arrivals layers a n k e = λ h. let first = ap (λ (m : ℕ). commi
 
 -- a vsync that commits something keeps it
 meets_shown : (scene : SceneValue) (es : List Event) (state : RunState) (v : VsyncReport) → (state.committed ≡ length state.arrivals → ⊥) → Meets scene es state
-    → v.number ≡ state.vsyncs + 1 → v.expected ≡ v.number * scene.period → v.commits ≡ commits_by state.arrivals state.layers (pending state)
+    → v.number ≡ state.vsyncs + 1 → v.expected ≡ v.number * scene.period → v.timelines ≡ [] → v.commits ≡ commits_by state.arrivals state.layers (pending state)
     → v.frame ≡ frame_due scene v.commits (layers_by state.arrivals state.layers (pending state))
     → Meets scene (es ++ event.Vsync v ∷ []) (record state { committed = length state.arrivals; layers = layers_by state.arrivals state.layers (pending state); vsyncs = state.vsyncs + 1 })
-meets_shown scene es state v apart h number expected commits frame =
+meets_shown scene es state v apart h number expected seen commits frame =
     let w = h.within in
     let vs = more_vsyncs es v in
     let all = range-all state.committed (length state.arrivals) w in
@@ -191,6 +194,7 @@ meets_shown scene es state v apart h number expected commits frame =
       expected = subst (λ (l : List VsyncReport). All (λ (x : VsyncReport). x.expected ≡ x.number * scene.period) l) vs (All-push (λ (x : VsyncReport). x.expected ≡ x.number * scene.period) (vsyncs_in es) v h.expected expected);
       commit = subst (λ (l : List VsyncReport). All (λ (x : VsyncReport). x.commits ≢ []) l) vs
           (All-push (λ (x : VsyncReport). x.commits ≢ []) (vsyncs_in es) v h.commit (λ none. some_commits state.arrivals state.layers (state.committed + 1) _ _ left (sym commits ∙ none)));
+      seen = subst (λ (l : List VsyncReport). All (λ (x : VsyncReport). x.timelines ≡ []) l) vs (All-push (λ (x : VsyncReport). x.timelines ≡ []) (vsyncs_in es) v h.seen seen);
       frames = λ later. subst (λ (l : List VsyncReport). ShowImages scene (state.arrivals ++ later) [] l) vs
           (show_more scene (state.arrivals ++ later) [] (vsyncs_in es) v (h.frames later)
           (frame ∙ ap (frame_due scene v.commits)
@@ -216,6 +220,7 @@ meets_empty scene es state e h =
       highest = λ i d lt. let le = h.highest i d lt in omega (arith, le);
       expected = h.expected;
       commit = h.commit;
+      seen = h.seen;
       frames = h.frames;
     } in
     meets_nothing scene es _ (rw (kept, ← e) same)
@@ -228,7 +233,7 @@ vsync_by scene es state (inr n) h =
     let commits = commits_by state.arrivals state.layers (pending state) in
     let layers = layers_by state.arrivals state.layers (pending state) in
     let v : VsyncReport = record { number = state.vsyncs + 1; expected = (state.vsyncs + 1) * scene.period; timelines = []; commits = commits; frame = frame_due scene commits layers } in
-    rw (ne_eqb state.committed (length state.arrivals) n) (meets_shown scene es state v n h refl refl refl refl)
+    rw (ne_eqb state.committed (length state.arrivals) n) (meets_shown scene es state v n h refl refl refl refl refl)
 
 meets_vsync : (scene : SceneValue) (es : List Event) (state : RunState) → Meets scene es state → Meets scene (es ++ (vsync_of scene state).events) (vsync_of scene state).state
 meets_vsync scene es state h = vsync_by scene es state (cases_eq state.committed (length state.arrivals)) h

@@ -133,11 +133,13 @@ RiseFrom low (n ∷ ns) = (low < n) × RiseFrom n ns
 abbrev pub number_of_vsync : VsyncReport → ℕ
 number_of_vsync report = report.number
 
--- Vsyncs. Their numbers rise from 1 on, each is expected at its number of periods, and each that is shown commits something.
+-- Vsyncs. Their numbers rise from 1 on, each is expected at its number of periods, and each that is shown commits something;
+-- and none shows a timeline, since no scene built so far declares one.
 pub record AreTimely (scene : SceneValue) (vsyncs : List VsyncReport) : Type 0 where
   pub rise : RiseFrom 0 (map number_of_vsync vsyncs)
   pub expected : All (λ v. v.expected ≡ v.number * scene.period) vsyncs
   pub commit : All (λ v. v.commits ≢ []) vsyncs
+  pub seen : All (λ v. v.timelines ≡ []) vsyncs
 
 -- Frames. A vsync shows a frame exactly where one of its commits was not rejected, and its pixels are the image of the
 -- tree after all commits up to it.
