@@ -1,0 +1,40 @@
+-- The ranges of positions and crops.
+use Rattle.std.specs.Prelude.{ℕ, ◌<◌, ◌≤◌, ℤ, pos, negsuc, ◌≤ℤ◌, ◌+ℤ◌, Option, Some, None}
+use Rattle.sf_base.specs.declared.geometry.Rect.{Rect}
+use Rattle.sf_base.specs.declared.ids.LayerId.{LayerId}
+use Rattle.sf_layer.specs.declared.op.Op.{Op}
+use Rattle.sf_layer.specs.declared.op.Op.TheVariants as op
+use Rattle.sf_layer.specs.declared.shown.Shown.{Shown}
+
+-- a position or a crop's corner is -16,384 to 16,384
+pub record IsCoordinate (at : ℤ) : Type 0 where
+  pub low : negsuc 16383 ≤ℤ at
+  pub high : at ≤ℤ pos 16384
+
+-- a layer's crop
+pub record IsCrop (crop : Rect) : Type 0 where
+  pub left : IsCoordinate crop.x
+  pub top : IsCoordinate crop.y
+  pub width : crop.width ≤ 16384
+  pub height : crop.height ≤ 16384
+
+-- so many pixels from there on lie within 512 pixels
+pub record IsInside (from : ℤ) (size : ℕ) : Type 0 where
+  pub low : pos 0 ≤ℤ from
+  pub high : (from +ℤ pos size) ≤ℤ pos 512
+
+-- the crop of a shown buffer lies within the greatest buffer, 512 x 512
+pub record IsInsideBuffer (crop : Rect) : Type 0 where
+  pub across : IsInside crop.x crop.width
+  pub down : IsInside crop.y crop.height
+
+-- the positions and crops that an operation brings are in their ranges
+abbrev pub IsInRange : Op → Type 0
+IsInRange (op.Position x y) = IsCoordinate x × IsCoordinate y
+IsInRange (op.Crop (Some crop)) = IsCrop crop
+IsInRange (op.Show shown) = IsInsideBuffer shown.crop
+IsInRange _ = Unit {0}
+
+-- an operation on a layer of a number, which is 1 or more
+abbrev pub IsOperation : LayerId × Op → Type 0
+IsOperation operation = (0 < operation.0.0) × IsInRange operation.1

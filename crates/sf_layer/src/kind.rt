@@ -1,0 +1,10 @@
+/// What a layer can show. A layer keeps its kind for life.
+#[derive(Clone, Copy, Debug, PartialEq, Eq)]
+pub enum Kind {
+    /// Nothing of its own: it groups the layers below it.
+    Container,
+    /// One colour, wherever its crops let it.
+    Colour,
+    /// A buffer of a BufferQueue.
+    Buffer,
+}

@@ -1,0 +1,12 @@
+use sf_base::LayerId;
+
+/// What a layer hangs from.
+#[derive(Clone, Copy, Debug, PartialEq, Eq)]
+pub enum Parent {
+    /// The display itself.
+    Root,
+    /// Another layer of the tree.
+    Layer(LayerId),
+    /// Nothing: the layer and all below it are not drawn.
+    Nothing,
+}

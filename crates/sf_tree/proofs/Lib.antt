@@ -1,0 +1,15 @@
+pub mod Places
+pub mod Lookups
+pub mod Edits
+pub mod JournalLemmas
+pub mod Reaching
+pub mod Searching
+pub mod Exploring
+pub mod Ranks
+pub mod Keeping
+pub mod Moving
+pub mod KeepingMoves
+pub mod KeepingAll
+pub mod ShowLemmas
+pub mod ZOrder
+pub mod BelowLemmas

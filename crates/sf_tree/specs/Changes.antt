@@ -1,0 +1,134 @@
+-- What operations make of a tree, or why one is rejected.
+use Rattle.std.specs.Prelude.{ℕ, ◌+◌, ◌==◌, nat_le, Bool, true, false, not, ◌&&◌, if◌then◌else◌, List, [], ◌∷◌, ◌++◌, length, map, filter, Option, Some, None, Result, Ok, Err, ℤ, pos}
+use Rattle.sf_base.specs.declared.ids.LayerId.{LayerId}
+use Rattle.sf_layer.specs.declared.kind.Kind.{Kind}
+use Rattle.sf_layer.specs.declared.kind.Kind.TheVariants as kind
+use Rattle.sf_layer.specs.declared.layer.Layer.{Layer}
+use Rattle.sf_layer.specs.declared.op.Op.{Op}
+use Rattle.sf_layer.specs.declared.op.Op.TheVariants as op
+use Rattle.sf_layer.specs.declared.parent.Parent.{Parent}
+use Rattle.sf_layer.specs.declared.parent.Parent.TheVariants as parent
+use Rattle.sf_tree.specs.declared.cause.TheConstants.{UNKNOWN_LAYER, LAYER_EXISTS, PARENT_CYCLE, DRAW_CYCLE, TOO_MANY_LAYERS, WRONG_KIND, MOST_LAYERS}
+use Rattle.sf_tree.specs.Layers.{is_numbered, layer_of, has_layer, has_parent}
+use Rattle.sf_tree.specs.Steps.{parent_steps, all_steps, reaches_itself}
+
+-- a layer as it is made
+abbrev pub new_layer : LayerId → Kind → Parent → Layer
+new_layer id kind parent =
+    record {
+      number = id;
+      kind = kind;
+      parent = parent;
+      relative = None;
+      z = pos 0;
+      position = (pos 0, pos 0);
+      crop = None;
+      alpha = 255;
+      hidden = false;
+      opaque = false;
+      backpressure = false;
+      colour = record { r = 0; g = 0; b = 0; a = 255 };
+      shown = None;
+    }
+
+-- the tree with an edit of the layer of this number
+abbrev pub with_layer : LayerId → (Layer → Layer) → List Layer → List Layer
+with_layer id edit tree = map (λ layer. if is_numbered id layer then edit layer else layer) tree
+
+abbrev pub parent_without : LayerId → Parent → Parent
+parent_without id parent.Root = parent.Root
+parent_without id (parent.Layer other) = if other.0 == id.0 then parent.Nothing else parent.Layer other
+parent_without id parent.Nothing = parent.Nothing
+
+abbrev pub relative_without : LayerId → Option LayerId → Option LayerId
+relative_without id None = None
+relative_without id (Some other) = if other.0 == id.0 then None else Some other
+
+-- a layer that hung from the destroyed one has no parent; one that was relative to it is relative to none
+abbrev pub without_steps_to : LayerId → Layer → Layer
+without_steps_to id layer =
+    record layer { parent = parent_without id layer.parent; relative = relative_without id layer.relative }
+
+-- the tree without the layer of this number
+abbrev pub without : LayerId → List Layer → List Layer
+without id tree = map (without_steps_to id) (filter (λ layer. not (is_numbered id layer)) tree)
+
+-- what an operation that moves and removes nothing makes of its layer
+abbrev pub edited : Op → Layer → Layer
+edited (op.Z z) layer = record layer { z = z; relative = None }
+edited (op.Position x y) layer = record layer { position = (x, y) }
+edited (op.Crop crop) layer = record layer { crop = crop }
+edited (op.Alpha alpha) layer = record layer { alpha = alpha }
+edited (op.Hidden hidden) layer = record layer { hidden = hidden }
+edited (op.Opaque opaque) layer = record layer { opaque = opaque }
+edited (op.Colour colour) layer = record layer { colour = colour }
+edited (op.Backpressure backpressure) layer = record layer { backpressure = backpressure }
+edited (op.Show shown) layer = record layer { shown = Some shown }
+edited _ layer = layer
+
+-- a colour is for colour layers, a buffer for buffer layers
+abbrev pub fits_kind : Op → Kind → Bool
+fits_kind (op.Colour _) kind.Colour = true
+fits_kind (op.Colour _) _ = false
+fits_kind (op.Show _) kind.Buffer = true
+fits_kind (op.Show _) _ = false
+fits_kind _ _ = true
+
+-- `create`: the new layer is the last
+unfoldable pub created : List Layer → LayerId → Kind → Parent → Result (List Layer) ℕ
+created tree id kind parent =
+    if not (has_parent tree parent) then Err UNKNOWN_LAYER else
+    if has_layer tree id then Err LAYER_EXISTS else
+    if nat_le MOST_LAYERS (length tree) then Err TOO_MANY_LAYERS else
+    Ok (tree ++ new_layer id kind parent ∷ [])
+
+-- `destroy`
+unfoldable pub destroyed : List Layer → LayerId → Result (List Layer) ℕ
+destroyed tree id = if has_layer tree id then Ok (without id tree) else Err UNKNOWN_LAYER
+
+-- `reparent`: what the layer is relative to stays
+unfoldable pub reparented : List Layer → LayerId → Parent → Result (List Layer) ℕ
+reparented tree id parent =
+    let next = with_layer id (λ layer. record layer { parent = parent }) tree in
+    if not (has_layer tree id && has_parent tree parent) then Err UNKNOWN_LAYER else
+    if reaches_itself parent_steps next id then Err PARENT_CYCLE else
+    if reaches_itself all_steps next id then Err DRAW_CYCLE else Ok next
+
+-- `relative`
+unfoldable pub made_relative : List Layer → LayerId → LayerId → ℤ → Result (List Layer) ℕ
+made_relative tree id other z =
+    let next = with_layer id (λ layer. record layer { relative = Some other; z = z }) tree in
+    if not (has_layer tree id && has_layer tree other) then Err UNKNOWN_LAYER else
+    if reaches_itself all_steps next id then Err DRAW_CYCLE else Ok next
+
+abbrev pub edited_layer : List Layer → LayerId → Op → Option Layer → Result (List Layer) ℕ
+edited_layer tree id operation None = Err UNKNOWN_LAYER
+edited_layer tree id operation (Some layer) =
+    if fits_kind operation layer.kind then Ok (with_layer id (edited operation) tree) else Err WRONG_KIND
+
+-- the tree after an operation on the layer of this number, or the first cause, by number, to reject it
+abbrev pub changed : List Layer → LayerId → Op → Result (List Layer) ℕ
+changed tree id (op.Create kind parent) = created tree id kind parent
+changed tree id op.Destroy = destroyed tree id
+changed tree id (op.Reparent parent) = reparented tree id parent
+changed tree id (op.Relative other z) = made_relative tree id other z
+changed tree id operation = edited_layer tree id operation (layer_of tree id)
+
+-- which operation was rejected, from 1, and why
+pub record Rejection : Type 0 where
+  pub cause : ℕ
+  pub op : ℕ
+
+abbrev pub then_after : ℕ → Result (List Layer) ℕ → (List Layer → Result (List Layer) Rejection) → Result (List Layer) Rejection
+then_after number (Ok tree) rest = rest tree
+then_after number (Err cause) rest = Err (record { cause = cause; op = number })
+
+-- the tree after operations in order of which the first has this number, or the first that is rejected
+abbrev pub after_from : ℕ → List Layer → List (LayerId × Op) → Result (List Layer) Rejection
+after_from number tree [] = Ok tree
+after_from number tree (operation ∷ operations) =
+    then_after number (changed tree operation.0 operation.1) (λ next. after_from (number + 1) next operations)
+
+-- the tree after all operations, in order, or the first that is rejected
+abbrev pub after : List Layer → List (LayerId × Op) → Result (List Layer) Rejection
+after tree operations = after_from 1 tree operations

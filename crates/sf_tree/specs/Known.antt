@@ -1,0 +1,57 @@
+-- What is found out of layers on the way to a draw order.
+use Rattle.std.specs.Prelude.{◌≡◌, ℕ, ◌<◌, ◌≤◌, Bool, List, length, Option, Some, None, slice_index_or, slice_get, [], filter, true, false, not, ℤ}
+use Rattle.std.specs.List.{All, AllZip}
+use Rattle.sf_base.specs.declared.ids.LayerId.{LayerId}
+use Rattle.sf_layer.specs.declared.layer.Layer.{Layer}
+use Rattle.sf_layer.specs.declared.parent.Parent.TheVariants as parent
+use Rattle.sf_tree.specs.DrawOrder.{drawn_with, in_z_order, is_behind}
+use Rattle.sf_tree.specs.Kept.{IsRanked}
+use Rattle.sf_tree.specs.Layers.{layer_of}
+use Rattle.sf_tree.specs.Showing.{shows}
+
+-- a ranking of a tree in which ranks of its layers stay below the number of layers
+pub record IsBounded (tree : List Layer) (rank : ℕ → ℕ) : Type 0 where
+  pub ranked : All (IsRanked rank) tree
+  pub bounded : (id : LayerId) (layer : Layer) → layer_of tree id ≡ Some layer → rank id.0 < length tree
+  pub most : (n : ℕ) → rank n ≤ length tree
+
+-- the layer is of the tree, and in some ranking its rank is below a number of steps
+pub record Outranks (tree : List Layer) (layer : Layer) (steps : ℕ) : Type 0 where
+  pub rank : ℕ → ℕ
+  pub bounded : IsBounded tree rank
+  pub found : layer_of tree layer.number ≡ Some layer
+  pub low : rank layer.number.0 < steps
+
+-- what is known of layers by place is whether they show
+pub record IsKnown (tree : List Layer) (known : List (Option Bool)) : Type 0 where
+  pub size : length known ≡ length tree
+  pub right : (place : ℕ) (d : Layer) (shown : Bool) → place < length tree → slice_index_or known place None ≡ Some shown → shown ≡ shows tree (slice_index_or tree place d)
+
+-- the layers at these places
+abbrev pub AtPlaces : List Layer → List ℕ → List Layer → Type 0
+AtPlaces tree places layers = AllZip (λ place layer. slice_get tree place ≡ Some layer) places layers
+
+-- a key of the map that sorts layers by z is that of a layer, which is none of the first ones
+pub record IsEntry (tree : List Layer) (from : ℕ) (entry : (ℤ × ℕ) × Unit {0}) (layer : Layer) : Type 0 where
+  pub at : slice_get tree entry.0.1 ≡ Some layer
+  pub z : entry.0.0 ≡ layer.z
+  pub later : from ≤ entry.0.1
+
+-- the layers that show, by z
+unfoldable pub showing : List Layer → List Layer
+showing tree = in_z_order (filter (shows tree) tree)
+
+-- the layers that are drawn with each layer, by place, as far as these layers go
+pub record IsBelow (tree layers : List Layer) (below : List (List ℕ)) : Type 0 where
+  pub size : length below ≡ length tree
+  pub lists : (place : ℕ) (layer : Layer) → slice_get tree place ≡ Some layer → AtPlaces tree (slice_index_or below place []) (drawn_with (parent.Layer layer.number) layers)
+
+-- the places of these layers, by what they are drawn with
+pub record IsSortedBelow (tree layers : List Layer) (roots : List ℕ) (below : List (List ℕ)) : Type 0 where
+  pub hang : AtPlaces tree roots (drawn_with parent.Root layers)
+  pub lists : IsBelow tree layers below
+
+-- of layers those that lie behind the one that they are drawn with, or the others
+abbrev pub is_on_side : Bool → Layer → Bool
+is_on_side true layer = is_behind layer
+is_on_side false layer = not (is_behind layer)

@@ -1,0 +1,240 @@
+ghost use Rattle.std.specs.Prelude.{◌≡◌, ◌<◌, IfOk, length, slice_index_or};
+ghost use Rattle.sf_tree.specs.Changes.{changed, created, destroyed, edited, edited_layer, fits_kind, made_relative, new_layer, reparented};
+ghost use Rattle.sf_tree.specs.Layers.{layer_of};
+ghost use Rattle.sf_tree.specs.ChangeAnswers.{draw_cause, IsChange, parent_cause, Settles};
+
+use crate::cause::{
+    DRAW_CYCLE, LAYER_EXISTS, MOST_LAYERS, PARENT_CYCLE, TOO_MANY_LAYERS, UNKNOWN_LAYER, WRONG_KIND,
+};
+use crate::cycles::{Along, reaches_itself};
+use crate::journal::Undo;
+use crate::layers::Layers;
+use sf_base::{LayerId, NoMemory, Rgba};
+use sf_layer::{Kind, Layer, Op, Parent};
+use std::alloc::Global;
+
+// Why a change was not made.
+#[derive(Clone, Copy, Debug, PartialEq, Eq)]
+pub enum ChangeFault {
+    Rejected(u32),
+    NoMemory,
+}
+
+fn new_layer(number: LayerId, kind: Kind, parent: Parent) -> Layer
+    ensures { result ≡ new_layer number kind parent }
+{
+    Layer {
+        number,
+        kind,
+        parent,
+        relative: None,
+        z: 0,
+        position: (0, 0),
+        crop: None,
+        alpha: 255,
+        hidden: false,
+        opaque: false,
+        backpressure: false,
+        colour: Rgba {
+            r: 0,
+            g: 0,
+            b: 0,
+            a: 255,
+        },
+        shown: None,
+    }
+}
+
+#[tactic(auto, using(crate::proofs::Lookups::lookups), unfolding(crate::specs::Changes::created))]
+fn create(layers: &mut Layers, id: LayerId, kind: Kind, parent: Parent) -> Result<Undo, ChangeFault>
+    ensures { IsChange result layers.old layers.new (created layers.old id kind parent) }
+{
+    if !layers.has_parent(parent) {
+        return Err(ChangeFault::Rejected(UNKNOWN_LAYER));
+    }
+    if layers.has(id) {
+        return Err(ChangeFault::Rejected(LAYER_EXISTS));
+    }
+    if layers.len() >= MOST_LAYERS {
+        return Err(ChangeFault::Rejected(TOO_MANY_LAYERS));
+    }
+    match layers.push(new_layer(id, kind, parent)) {
+        Ok(()) => Ok(Undo::Created),
+        Err(_) => Err(ChangeFault::NoMemory),
+    }
+}
+
+#[tactic(auto, unfolding(crate::specs::Changes::destroyed))]
+fn destroy(alloc: Global, layers: &mut Layers, id: LayerId) -> Result<Undo, ChangeFault>
+    ensures { IsChange result layers.old layers.new (destroyed layers.old id) }
+{
+    if !layers.has(id) {
+        return Err(ChangeFault::Rejected(UNKNOWN_LAYER));
+    }
+    match layers.without(alloc, id) {
+        Ok(rest) => Ok(Undo::Destroyed(std::mem::replace(layers, rest))),
+        Err(_) => Err(ChangeFault::NoMemory),
+    }
+}
+
+fn fits_kind(op: &Op, kind: Kind) -> bool
+    ensures { result ≡ fits_kind op.now kind }
+{
+    match (op, kind) {
+        (Op::Colour(..), Kind::Colour) | (Op::Show(..), Kind::Buffer) => true,
+        (Op::Colour(..) | Op::Show(..), _) => false,
+        _ => true,
+    }
+}
+
+fn edited(op: &Op, layer: Layer) -> Layer
+    ensures { result ≡ edited op.now layer }
+{
+    let mut layer = layer;
+    match *op {
+        Op::Z(z) => {
+            layer.z = z;
+            layer.relative = None;
+        }
+        Op::Position(x, y) => layer.position = (x, y),
+        Op::Crop(crop) => layer.crop = crop,
+        Op::Alpha(alpha) => layer.alpha = alpha,
+        Op::Hidden(hidden) => layer.hidden = hidden,
+        Op::Opaque(opaque) => layer.opaque = opaque,
+        Op::Colour(colour) => layer.colour = colour,
+        Op::Backpressure(backpressure) => layer.backpressure = backpressure,
+        Op::Show(shown) => layer.shown = Some(shown),
+        Op::Create(..) | Op::Destroy | Op::Reparent(..) | Op::Relative(..) => {}
+    }
+    layer
+}
+
+#[tactic(auto, using(crate::proofs::Lookups::lookups))]
+fn edit(layers: &mut Layers, id: LayerId, op: &Op) -> Result<Undo, ChangeFault>
+    ensures { IsChange result layers.old layers.new (edited_layer layers.old id op.now (layer_of layers.old id)) }
+{
+    let Some(place) = layers.place_of(id) else {
+        return Err(ChangeFault::Rejected(UNKNOWN_LAYER));
+    };
+    let layer = layers.at(place);
+    if !fits_kind(op, layer.kind) {
+        return Err(ChangeFault::Rejected(WRONG_KIND));
+    }
+    layers.set(place, edited(op, layer));
+    Ok(Undo::Edited(place, layer))
+}
+
+// Why a layer cannot hang where it hangs now, if it cannot.
+fn parent_fault(alloc: Global, layers: &Layers, id: LayerId) -> Result<Option<u32>, NoMemory>
+    ensures { IfOk result (λ cause. cause ≡ parent_cause layers.now id) }
+{
+    if reaches_itself(alloc, layers, id, Along::Parents)? {
+        return Ok(Some(PARENT_CYCLE));
+    }
+    draw_fault(alloc, layers, id)
+}
+
+// Why a layer cannot be drawn with what it is drawn with now, if it cannot.
+fn draw_fault(alloc: Global, layers: &Layers, id: LayerId) -> Result<Option<u32>, NoMemory>
+    ensures { IfOk result (λ cause. cause ≡ draw_cause layers.now id) }
+{
+    if reaches_itself(alloc, layers, id, Along::All)? {
+        return Ok(Some(DRAW_CYCLE));
+    }
+    Ok(None)
+}
+
+// Leaves a layer as it is now, or puts it back as it was before where a cause was found.
+fn settle(
+    layers: &mut Layers,
+    place: usize,
+    before: Layer,
+    fault: Result<Option<u32>, NoMemory>,
+) -> Result<Undo, ChangeFault>
+    requires inside { place < length layers.old }
+    requires same { (slice_index_or layers.old place before).number ≡ before.number }
+    ensures { Settles fault result layers.old layers.new place before }
+{
+    match fault {
+        Ok(None) => Ok(Undo::Edited(place, before)),
+        Ok(Some(cause)) => {
+            layers.set(place, before);
+            Err(ChangeFault::Rejected(cause))
+        }
+        Err(NoMemory) => {
+            layers.set(place, before);
+            Err(ChangeFault::NoMemory)
+        }
+    }
+}
+
+fn with_parent(layer: Layer, parent: Parent) -> Layer
+    ensures { result ≡ record layer { parent = parent } }
+{
+    let mut layer = layer;
+    layer.parent = parent;
+    layer
+}
+
+fn with_relative(layer: Layer, other: LayerId, z: i32) -> Layer
+    ensures { result ≡ record layer { relative = Some other; z = z } }
+{
+    let mut layer = layer;
+    layer.relative = Some(other);
+    layer.z = z;
+    layer
+}
+
+fn reparent(
+    alloc: Global,
+    layers: &mut Layers,
+    id: LayerId,
+    parent: Parent,
+) -> Result<Undo, ChangeFault>
+    ensures { IsChange result layers.old layers.new (reparented layers.old id parent) }
+{
+    let Some(place) = layers.place_of(id) else {
+        return Err(ChangeFault::Rejected(UNKNOWN_LAYER));
+    };
+    if !layers.has_parent(parent) {
+        return Err(ChangeFault::Rejected(UNKNOWN_LAYER));
+    }
+    let before = layers.at(place);
+    layers.set(place, with_parent(before, parent));
+    let fault = parent_fault(alloc, layers, id);
+    settle(layers, place, before, fault)
+}
+
+fn relate(
+    alloc: Global,
+    layers: &mut Layers,
+    id: LayerId,
+    other: LayerId,
+    z: i32,
+) -> Result<Undo, ChangeFault>
+    ensures { IsChange result layers.old layers.new (made_relative layers.old id other z) }
+{
+    let Some(place) = layers.place_of(id) else {
+        return Err(ChangeFault::Rejected(UNKNOWN_LAYER));
+    };
+    if !layers.has(other) {
+        return Err(ChangeFault::Rejected(UNKNOWN_LAYER));
+    }
+    let before = layers.at(place);
+    layers.set(place, with_relative(before, other, z));
+    let fault = draw_fault(alloc, layers, id);
+    settle(layers, place, before, fault)
+}
+
+// Does one operation in place, and tells how it is taken back.
+pub fn change(alloc: Global, layers: &mut Layers, id: LayerId, op: &Op) -> Result<Undo, ChangeFault>
+    ensures { IsChange result layers.old layers.new (changed layers.old id op.now) }
+{
+    match *op {
+        Op::Create(kind, parent) => create(layers, id, kind, parent),
+        Op::Destroy => destroy(alloc, layers, id),
+        Op::Reparent(parent) => reparent(alloc, layers, id, parent),
+        Op::Relative(other, z) => relate(alloc, layers, id, other, z),
+        _ => edit(layers, id, op),
+    }
+}

@@ -1,0 +1,147 @@
+ghost use Rattle.std.specs.Prelude.{◌≡◌, ℕ, ◌+◌, ◌<◌, ◌∷◌, [], List, length, true, false, IfOk, IfSome, IsSomeAnd, option_to_list, slice_index_or};
+ghost use Rattle.sf_base.specs.declared.ids.LayerId.{LayerId as LayerIdValue};
+ghost use Rattle.sf_layer.specs.declared.layer.Layer.{Layer as LayerValue};
+ghost use Rattle.sf_tree.specs.Layers.{place_of};
+ghost use Rattle.sf_tree.specs.Steps.{reaches, reaches_itself, to_parent};
+ghost use Rattle.sf_tree.specs.Search.{GoesOn, Grows, IsExplored, IsSearch, relative_along, steps_along};
+
+use crate::layers::Layers;
+use sf_base::{LayerId, NoMemory};
+use sf_layer::{Layer, Parent};
+use std::alloc::Global;
+
+// Which steps from a layer count.
+#[derive(Clone, Copy)]
+pub enum Along {
+    // To its parent.
+    Parents,
+    // To its parent and to the layer that it is relative to.
+    All,
+}
+
+fn parent_step(layer: &Layer) -> Option<LayerId>
+    ensures { option_to_list result ≡ to_parent layer.now.parent }
+{
+    match layer.parent {
+        Parent::Layer(id) => Some(id),
+        Parent::Root | Parent::Nothing => None,
+    }
+}
+
+fn relative_step(layer: &Layer, along: Along) -> Option<LayerId>
+    ensures { result ≡ relative_along along layer.now }
+{
+    match along {
+        Along::Parents => None,
+        Along::All => layer.relative,
+    }
+}
+
+// What a search along steps from a layer has found.
+#[derive(Drop)]
+struct Search {
+    // The layers that were reached, in the order in which they were.
+    found: Vec<LayerId>,
+    // Whether the layer at a place was reached.
+    marks: Vec<bool>,
+}
+
+impl Search {
+    // A search that has reached the first layer alone.
+    fn from(
+        alloc: Global,
+        layers: &Layers,
+        first: LayerId,
+        place: usize,
+    ) -> Result<Search, NoMemory>
+        requires { place_of layers.now first ≡ Some place }
+        ensures search { IfOk result (λ search. (steps : LayerValue → List LayerIdValue) → IsSearch steps layers.now first search.found.items search.marks.items) }
+        ensures first { IfOk result (λ search. search.found.items ≡ first ∷ []) }
+    {
+        let mut marks = vec![in alloc; false; layers.len()]?;
+        marks[place] = true;
+        let mut found = Vec::new(alloc);
+        found.push(first)?;
+        Ok(Search { found, marks })
+    }
+
+    // Follows a step: whether it leads to the first layer.
+    fn follow(
+        &mut self,
+        layers: &Layers,
+        first: LayerId,
+        next: Option<LayerId>,
+    ) -> Result<bool, NoMemory>
+        requires { length self.old.marks.items ≡ length layers.now }
+        ensures back { result ≡ Ok true → IsSomeAnd next (λ id. id.0 ≡ first.0) }
+        ensures grows { result ≡ Ok false → Grows self.old.found.items self.new.found.items }
+        ensures on { result ≡ Ok false → (steps : LayerValue → List LayerIdValue) (k : ℕ) → IfSome next (λ id. reaches steps layers.now (k + 1) first id ≡ true) → k < length self.old.found.items → IsSearch steps layers.now first self.old.found.items self.old.marks.items → GoesOn steps layers.now first self.new.found.items self.new.marks.items next }
+    {
+        let Some(next) = next else {
+            return Ok(false);
+        };
+        if next.0 == first.0 {
+            return Ok(true);
+        }
+        let Some(place) = layers.place_of(next) else {
+            return Ok(false);
+        };
+        if self.marks[place] {
+            return Ok(false);
+        }
+        self.found.push(next)?;
+        self.marks[place] = true;
+        Ok(false)
+    }
+
+    // Follows the steps from the layer that was found at an index: whether one leads to the first
+    // layer.
+    fn explore(
+        &mut self,
+        layers: &Layers,
+        first: LayerId,
+        along: Along,
+        index: usize,
+    ) -> Result<bool, NoMemory>
+        requires inside { index < length self.old.found.items }
+        requires search { IsSearch (steps_along along) layers.now first self.old.found.items self.old.marks.items }
+        ensures back { result ≡ Ok true → reaches (steps_along along) layers.now (index + 1) first first ≡ true }
+        ensures grows { result ≡ Ok false → Grows self.old.found.items self.new.found.items }
+        ensures search { result ≡ Ok false → IsSearch (steps_along along) layers.now first self.new.found.items self.new.marks.items }
+        ensures explored { result ≡ Ok false → (d : LayerIdValue) → IsExplored (steps_along along) layers.now first self.new.found.items (slice_index_or self.old.found.items index d) }
+    {
+        let from = self.found[index];
+        let Some(place) = layers.place_of(from) else {
+            return Ok(false);
+        };
+        let layer = layers.at(place);
+        if self.follow(layers, first, parent_step(&layer))? {
+            return Ok(true);
+        }
+        self.follow(layers, first, relative_step(&layer, along))
+    }
+}
+
+// Whether a layer reaches itself by one step or more.
+#[tactic(auto, unfolding(crate::specs::Steps::reaches_itself))]
+pub fn reaches_itself(
+    alloc: Global,
+    layers: &Layers,
+    id: LayerId,
+    along: Along,
+) -> Result<bool, NoMemory>
+    ensures { IfOk result (λ back. back ≡ reaches_itself (steps_along along) layers.now id) }
+{
+    let Some(place) = layers.place_of(id) else {
+        return Ok(false);
+    };
+    let mut search = Search::from(alloc, layers, id, place)?;
+    let mut index = 0;
+    while index < search.found.len() {
+        if search.explore(layers, id, along, index)? {
+            return Ok(true);
+        }
+        index += 1;
+    }
+    Ok(false)
+}

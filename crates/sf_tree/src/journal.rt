@@ -1,0 +1,92 @@
+ghost use Rattle.std.specs.Prelude.{◌≡◌, List, OnOk, OnErr, IfErr, unwrap_or};
+ghost use Rattle.sf_layer.specs.declared.layer.Layer.{Layer as LayerValue};
+ghost use Rattle.sf_tree.specs.Journal.{back, CanGoBack, CanUndo, GoesBack, undone};
+
+use crate::layers::Layers;
+use sf_layer::Layer;
+use std::alloc::Global;
+
+// How a change is taken back.
+#[derive(Drop)]
+pub enum Undo {
+    // The newest layer goes.
+    Created,
+    // The layer at a place is as it was.
+    Edited(usize, Layer),
+    // All layers are as they were.
+    Destroyed(Layers),
+}
+
+// Takes one change back.
+pub fn take_back(layers: &mut Layers, undo: Undo)
+    requires { CanUndo undo layers.old }
+    ensures { layers.new ≡ undone undo layers.old }
+{
+    match undo {
+        Undo::Created => layers.pop(),
+        Undo::Edited(place, layer) => layers.set(place, layer),
+        Undo::Destroyed(before) => *layers = before,
+    }
+}
+
+// Takes changes back, the last one first.
+fn take_all_back(layers: &mut Layers, mut changes: Vec<Undo>)
+    requires { CanGoBack changes.items layers.old }
+    ensures { layers.new ≡ back changes.items layers.old }
+{
+    while let Some(undo) = changes.pop() {
+        take_back(layers, undo);
+    }
+}
+
+// How the changes of one transaction are taken back: all layers as they were before the first
+// layer was destroyed, if one was, and the changes before that, the last one first.
+#[derive(Drop)]
+pub struct Journal {
+    pub changes: Vec<Undo>,
+    pub before: Option<Layers>,
+}
+
+impl Journal {
+    pub fn new(alloc: Global) -> Journal
+        ensures { (layers : List LayerValue) → GoesBack result layers layers }
+    {
+        Journal {
+            changes: Vec::new(alloc),
+            before: None,
+        }
+    }
+
+    // Notes how the last change is taken back, or hands it back for want of memory.
+    pub fn remember(&mut self, undo: Undo) -> Result<(), Undo>
+        ensures ok { OnOk result ((layers first : List LayerValue) → CanUndo undo layers → GoesBack self.old (undone undo layers) first → GoesBack self.new layers first) }
+        ensures same { IfErr result (λ given. given ≡ undo) }
+        ensures err { OnErr result ((layers first : List LayerValue) → GoesBack self.old layers first → GoesBack self.new layers first) }
+    {
+        if self.before.is_some() {
+            return Ok(());
+        }
+        match undo {
+            Undo::Destroyed(before) => {
+                self.before = Some(before);
+                Ok(())
+            }
+            change => match self.changes.push(change) {
+                Ok(()) => Ok(()),
+                Err(refused) => Err(refused.value),
+            },
+        }
+    }
+
+    // Takes all changes back.
+    pub fn go_back(self, layers: &mut Layers)
+        requires { CanGoBack self.changes.items (unwrap_or self.before layers.old) }
+        ensures { layers.new ≡ back self.changes.items (unwrap_or self.before layers.old) }
+    {
+        let Journal { changes, before } = self;
+        if let Some(before) = before {
+            *layers = before;
+        }
+        take_all_back(layers, changes);
+    }
+}
