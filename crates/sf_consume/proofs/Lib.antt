@@ -1,0 +1,2 @@
+pub mod AcquireLemmas
+pub mod HistoryLemmas

@@ -1,0 +1,47 @@
+-- The lease that a consumer means by a slot and a frame's number.
+use Rattle.std.specs.Prelude.{◌≡◌, ◌<◌, ℕ, Bool, true, false, Option, Some, None, unwrap_or, is_some, Result, Ok, Err}
+use Rattle.sf_base.specs.Fences.{no_points}
+use Rattle.sf_base.specs.declared.ids.SlotId.{SlotId}
+use Rattle.sf_base.specs.declared.geometry.Rect.{Rect}
+use Rattle.sf_base.specs.declared.status.QStatus.{QStatus}
+use Rattle.sf_slots.specs.declared.calls.PlainReply.{PlainReply}
+use Rattle.sf_slots.specs.declared.calls.PlainReply.TheVariants as reply
+use Rattle.sf_slots.specs.declared.calls.ReadToken.{ReadToken}
+use Rattle.sf_slots.specs.declared.slot.Held.{Held}
+use Rattle.sf_slots.specs.declared.slot.SlotState.TheVariants.{Acquired}
+use Rattle.sf_slots.specs.Told.{Told, slot_at}
+use Rattle.std.specs.Prelude.{pos}
+
+abbrev pub no_buffer : Held
+no_buffer = record { number = 0; width = 0; height = 0 }
+
+-- a buffer of this size
+abbrev pub sized : ℕ → ℕ → Held
+sized width height = record { number = 0; width = width; height = height }
+
+-- the lease of the slot's own buffer, for a frame
+abbrev pub lease_of : Told → SlotId → ℕ → ReadToken
+lease_of told slot frame = record {
+  slot = slot;
+  frame = frame;
+  held = unwrap_or (slot_at told slot.0).held no_buffer;
+  picture = 0;
+  crop = record { x = pos 0; y = pos 0; width = 0; height = 0 };
+  fence = no_points;
+}
+
+-- a lease says the slot, the frame and the slot's own buffer
+pub record IsLeaseOf (told : Told) (place : SlotId) (number : ℕ) (lease : ReadToken) : Type 0 where
+  pub slot : lease.slot ≡ place
+  pub frame : lease.frame ≡ number
+  pub held : lease.held ≡ unwrap_or (slot_at told place.0).held no_buffer
+
+-- the reply to an attach
+abbrev pub attach_reply : Result (SlotId × Held) QStatus → PlainReply
+attach_reply (Err refused) = reply.Refused refused
+attach_reply (Ok given) = reply.Attached given.0 given.1
+
+-- the slot is with the consumer
+pub record IsTakenThere (told : Told) (slot : SlotId) : Type 0 where
+  pub below : slot.0 < 64
+  pub taken : (slot_at told slot.0).state ≡ Acquired

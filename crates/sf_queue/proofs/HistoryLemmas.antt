@@ -1,0 +1,108 @@
+-- A history that tells of a queue goes on with the producer's calls.
+use Rattle.std.proofs.Common.{◌≡◌, ℕ, ◌+◌, Bool, true, false, not, ◌&&◌, ap, ap₂, ◌∙◌, sym, refl, subst, Option, Some, None}
+use Rattle.std.specs.Prelude.{is_none, unwrap_or}
+use Rattle.sf_base.specs.Fences.{no_points}
+use Rattle.sf_base.specs.declared.fences.Fence.{Fence}
+use Rattle.sf_base.specs.declared.ids.ActorId.{ActorId}
+use Rattle.sf_base.specs.declared.ids.SlotId.{SlotId}
+use Rattle.sf_slots.specs.declared.calls.PlainCall.{PlainCall}
+use Rattle.sf_slots.specs.declared.calls.PlainCall.TheVariants as call
+use Rattle.sf_slots.specs.declared.calls.PlainReply.{PlainReply}
+use Rattle.sf_slots.specs.declared.calls.PlainReply.TheVariants as reply
+use Rattle.sf_slots.specs.declared.calls.WriteToken.{WriteToken}
+use Rattle.sf_slots.specs.declared.slot.Held.{Held}
+use Rattle.sf_slots.specs.declared.slot.SlotState.TheVariants.{Free}
+use Rattle.sf_slots.specs.Queue.{Queue, IsSound, told_of, slot_in, marked, returned, cleared, lent, seated, next_held, enqueued, configured}
+use Rattle.sf_slots.specs.Effects.{disconnected, nobody}
+use Rattle.sf_slots.specs.Replies.{refusal_of, size_asked, has_size}
+use Rattle.sf_slots.specs.Tells.{Continues}
+use Rattle.sf_slots.specs.Told.{Told, slot_at, slot_for}
+use Rattle.sf_slots.proofs.GoingLeases.{Continues-Request, Continues-Cancel, Continues-Detach, Continues-Dequeue, Continues-Dequeue_new, Continues-Attach}
+use Rattle.sf_slots.proofs.GoingItems.{Continues-Queue}
+use Rattle.sf_slots.proofs.GoingSettings.{Continues-Disconnect, Continues-MaxDequeued, Continues-Async}
+use Rattle.sf_queue.specs.declared.queueing.QueueOrder.{QueueOrder}
+use Rattle.sf_queue.specs.Leases.{lease_of, IsLeaseOf}
+use Rattle.sf_queue.specs.Lending.{takes_fresh}
+use Rattle.sf_queue.specs.Orders.{queue_call, call_of, item_of}
+
+-- the queue after a call, under another name
+pub go_to : {R : Type 0} {by : ActorId} {asked : PlainCall} {given : PlainReply} (q after left : Queue R) → Continues q left by asked given → after ≡ left → Continues q after by asked given
+go_to {R} {by} {asked} {given} q after left going same = subst (λ (p : Queue R). Continues q p by asked given) (sym same) going
+
+-- a lease that says the slot and the buffer is refused as they are
+cancel_same : (told : Told) (by : ActorId) (slot : SlotId) (buffer : ℕ) (fence : Fence) (lease : WriteToken) → IsLeaseOf told slot buffer lease → refusal_of told by (call.Cancel lease fence) ≡ refusal_of told by (call.Cancel (lease_of told slot buffer) no_points)
+cancel_same told by slot buffer fence lease is_lease = ap₂ (λ (s : SlotId) (h : Held). refusal_of told by (call.Cancel (record { slot = s; held = h; requested = false; fence = no_points; drawn = false }) fence)) is_lease.slot is_lease.held
+
+request_same : (told : Told) (by : ActorId) (slot : SlotId) (buffer : ℕ) (lease : WriteToken) → IsLeaseOf told slot buffer lease → refusal_of told by (call.Request lease) ≡ refusal_of told by (call.Cancel (lease_of told slot buffer) no_points)
+request_same told by slot buffer lease is_lease = ap₂ (λ (s : SlotId) (h : Held). refusal_of told by (call.Request (record { slot = s; held = h; requested = false; fence = no_points; drawn = false }))) is_lease.slot is_lease.held
+
+detach_same : (told : Told) (by : ActorId) (slot : SlotId) (buffer : ℕ) (lease : WriteToken) → IsLeaseOf told slot buffer lease → refusal_of told by (call.Detach lease) ≡ refusal_of told by (call.Detach (lease_of told slot buffer))
+detach_same told by slot buffer lease is_lease = ap₂ (λ (s : SlotId) (h : Held). refusal_of told by (call.Detach (record { slot = s; held = h; requested = false; fence = no_points; drawn = false }))) is_lease.slot is_lease.held
+
+queue_same : {R : Type 0} (told : Told) (by : ActorId) (order : QueueOrder R) (lease : WriteToken) → IsLeaseOf told order.slot order.buffer lease → refusal_of told by (call_of order lease) ≡ refusal_of told by (queue_call (lease_of told order.slot order.buffer) order.width order.height order.crop)
+queue_same told by order lease is_lease = ap₂ (λ (s : SlotId) (h : Held). refusal_of told by (call_of order (record { slot = s; held = h; requested = false; fence = no_points; drawn = false }))) is_lease.slot is_lease.held
+
+pub request_done : {R : Type 0} (q after : Queue R) (by : ActorId) (slot : SlotId) (buffer : ℕ) → None ≡ refusal_of (told_of q) by (call.Cancel (lease_of (told_of q) slot buffer) no_points) → after ≡ marked q slot.0 → (lease : WriteToken) → IsLeaseOf (told_of q) slot buffer lease → Continues q after by (call.Request lease) (reply.Requested lease.held)
+request_done q after by slot buffer none left lease is_lease =
+    go_to q after (marked q lease.slot.0) (Continues-Request q by lease (request_same (told_of q) by slot buffer lease is_lease ∙ sym none)) (left ∙ ap (λ (s : SlotId). marked q s.0) (sym is_lease.slot))
+
+pub cancel_done : {R : Type 0} (q after : Queue R) (by : ActorId) (slot : SlotId) (buffer : ℕ) (right : R) (fence : Fence) → IsSound q → None ≡ refusal_of (told_of q) by (call.Cancel (lease_of (told_of q) slot buffer) no_points) → after ≡ returned q slot.0 right fence → (lease : WriteToken) → IsLeaseOf (told_of q) slot buffer lease → Continues q after by (call.Cancel lease fence) reply.Done
+cancel_done q after by slot buffer right fence sound none left lease is_lease =
+    go_to q after (returned q lease.slot.0 right fence) (Continues-Cancel q by lease right fence sound (cancel_same (told_of q) by slot buffer fence lease is_lease ∙ sym none)) (left ∙ ap (λ (s : SlotId). returned q s.0 right fence) (sym is_lease.slot))
+
+pub detach_done : {R : Type 0} (q after : Queue R) (by : ActorId) (slot : SlotId) (buffer : ℕ) → IsSound q → None ≡ refusal_of (told_of q) by (call.Detach (lease_of (told_of q) slot buffer)) → after ≡ cleared q slot.0 → (lease : WriteToken) → IsLeaseOf (told_of q) slot buffer lease → Continues q after by (call.Detach lease) reply.Done
+detach_done q after by slot buffer sound none left lease is_lease =
+    go_to q after (cleared q lease.slot.0) (Continues-Detach q by lease sound (detach_same (told_of q) by slot buffer lease is_lease ∙ sym none)) (left ∙ ap (λ (s : SlotId). cleared q s.0) (sym is_lease.slot))
+
+pub queue_done : {R : Type 0} (q after : Queue R) (by : ActorId) (order : QueueOrder R) → IsSound q → None ≡ refusal_of (told_of q) by (queue_call (lease_of (told_of q) order.slot order.buffer) order.width order.height order.crop) → after ≡ enqueued q (item_of q order) → (lease : WriteToken) → IsLeaseOf (told_of q) order.slot order.buffer lease → Continues q after by (call_of order lease) (reply.Queued (q.settings.frames + 1))
+queue_done q after by order sound none left lease is_lease =
+    go_to q after (enqueued q (item_of q order)) (Continues-Queue q by lease order.width order.height (item_of q order) sound (queue_same (told_of q) by order lease is_lease ∙ sym none) (sym is_lease.slot) (sym is_lease.held) refl refl) left
+
+pub disconnect_done : {R : Type 0} (q after : Queue R) (by : ActorId) → IsSound q → None ≡ refusal_of (told_of q) by call.Disconnect → after ≡ disconnected q → Continues q after by call.Disconnect reply.Done
+disconnect_done q after by sound none left = go_to q after (disconnected q) (Continues-Disconnect q by sound (sym none)) left
+
+pub max_dequeued_done : {R : Type 0} (q after : Queue R) (n : ℕ) → IsSound q → None ≡ refusal_of (told_of q) nobody (call.MaxDequeued n) → after ≡ configured q (record q.settings { max_dequeued = n }) → (by : ActorId) → Continues q after by (call.MaxDequeued n) reply.Done
+max_dequeued_done q after n sound none left by = go_to q after (configured q (record q.settings { max_dequeued = n })) (Continues-MaxDequeued q by n sound (sym none)) left
+
+pub async_done : {R : Type 0} (q after : Queue R) (on : Bool) → IsSound q → None ≡ refusal_of (told_of q) nobody (call.Async on) → after ≡ configured q (record q.settings { asynchronous = on }) → (by : ActorId) → Continues q after by (call.Async on) reply.Done
+async_done q after on sound none left by = go_to q after (configured q (record q.settings { asynchronous = on })) (Continues-Async q by on sound (sym none)) left
+
+pub attach_done : {R : Type 0} (q after : Queue R) (by : ActorId) (width height : ℕ) (slot : SlotId) (held : Held) → IsSound q → None ≡ refusal_of (told_of q) by (call.Attach (record { number = 0; width = width; height = height })) → slot_for false (told_of q) ≡ Some slot.0 → (slot_in q slot.0).state ≡ Free → held ≡ next_held q width height → after ≡ seated (lent q slot.0) slot.0 width height true → (number : ℕ) → Continues q after by (call.Attach (record { number = number; width = width; height = height })) (reply.Attached slot held)
+attach_done {R} q after by width height slot held sound none chosen free new left number =
+    let asked : PlainCall = call.Attach (record { number = number; width = width; height = height }) in
+    let going = Continues-Attach q by (record { number = number; width = width; height = height }) slot sound (sym none) chosen free in
+    go_to q after (seated (lent q slot.0) slot.0 width height true) (subst (λ (h : Held). Continues q (seated (lent q slot.0) slot.0 width height true) by asked (reply.Attached slot h)) (sym new) going) left
+
+right_of_both : (a b : Bool) → true ≡ (a && not b) → b ≡ false
+right_of_both true true both = absurd (cc (both))
+right_of_both true false both = refl
+right_of_both false b both = absurd (cc (both))
+
+right_of_none : (a b : Bool) → a ≡ true → false ≡ (a && not b) → b ≡ true
+right_of_none true true left none = refl
+right_of_none true false left none = absurd (cc (none))
+right_of_none false b left none = absurd (cc (left))
+
+-- the size of the slot's buffer, where a new one is wanted, and where none is
+pub wants_new : {R : Type 0} (q : Queue R) (by : ActorId) (width height : ℕ) (slot : SlotId) → slot_for true (told_of q) ≡ Some slot.0 → true ≡ takes_fresh (told_of q) by width height → has_size (slot_in q slot.0).held (size_asked q.settings width height) ≡ false
+wants_new q by width height slot chosen wanted =
+    ap (λ found. has_size (slot_at (told_of q) (unwrap_or found 0)).held (size_asked q.settings width height)) (sym chosen)
+    ∙ right_of_both (is_none (refusal_of (told_of q) by (call.Dequeue width height false))) (has_size (slot_at (told_of q) (unwrap_or (slot_for true (told_of q)) 0)).held (size_asked q.settings width height)) wanted
+
+pub wants_none : {R : Type 0} (q : Queue R) (by : ActorId) (width height : ℕ) (slot : SlotId) (held : Held) → None ≡ refusal_of (told_of q) by (call.Dequeue width height false) → slot_for true (told_of q) ≡ Some slot.0 → (slot_in q slot.0).held ≡ Some held → false ≡ takes_fresh (told_of q) by width height → has_size (Some held) (size_asked q.settings width height) ≡ true
+wants_none q by width height slot held none chosen here wanted =
+    ap (λ found. has_size found (size_asked q.settings width height)) (sym here)
+    ∙ ap (λ found. has_size (slot_at (told_of q) (unwrap_or found 0)).held (size_asked q.settings width height)) (sym chosen)
+    ∙ right_of_none (is_none (refusal_of (told_of q) by (call.Dequeue width height false))) (has_size (slot_at (told_of q) (unwrap_or (slot_for true (told_of q)) 0)).held (size_asked q.settings width height)) (ap is_none (sym none)) wanted
+
+pub dequeue_reused : {R : Type 0} (q after : Queue R) (by : ActorId) (width height : ℕ) (slot : SlotId) (held : Held) (fence : Fence) → IsSound q → None ≡ refusal_of (told_of q) by (call.Dequeue width height false) → slot_for true (told_of q) ≡ Some slot.0 → (slot_in q slot.0).state ≡ Free → (slot_in q slot.0).held ≡ Some held → has_size (Some held) (size_asked q.settings width height) ≡ true → fence ≡ (slot_in q slot.0).fence → after ≡ lent q slot.0 → (wait : Bool) → Continues q after by (call.Dequeue width height wait) (reply.Dequeued slot held (slot_in q slot.0).requested false fence)
+dequeue_reused {R} q after by width height slot held fence sound none chosen free here sized kept left wait =
+    let going = Continues-Dequeue q by width height wait slot held sound (sym none) chosen free here sized in
+    go_to q after (lent q slot.0) (subst (λ (f : Fence). Continues q (lent q slot.0) by (call.Dequeue width height wait) (reply.Dequeued slot held (slot_in q slot.0).requested false f)) (sym kept) going) left
+
+pub dequeue_renewed : {R : Type 0} (q after : Queue R) (by : ActorId) (width height : ℕ) (slot : SlotId) (held : Held) (fence : Fence) → IsSound q → None ≡ refusal_of (told_of q) by (call.Dequeue width height false) → slot_for true (told_of q) ≡ Some slot.0 → (slot_in q slot.0).state ≡ Free → has_size (slot_in q slot.0).held (size_asked q.settings width height) ≡ false → fence ≡ no_points → held ≡ next_held q (size_asked q.settings width height).0 (size_asked q.settings width height).1 → after ≡ seated (lent q slot.0) slot.0 (size_asked q.settings width height).0 (size_asked q.settings width height).1 false → (wait : Bool) → Continues q after by (call.Dequeue width height wait) (reply.Dequeued slot held false true fence)
+dequeue_renewed {R} q after by width height slot held fence sound none chosen free other bare new left wait =
+    let size : ℕ × ℕ = size_asked q.settings width height in
+    let renewed : Queue R = seated (lent q slot.0) slot.0 size.0 size.1 false in
+    let going = Continues-Dequeue_new q by width height wait slot sound (sym none) chosen free other in
+    go_to q after renewed (subst (λ (f : Fence). Continues q renewed by (call.Dequeue width height wait) (reply.Dequeued slot held false true f)) (sym bare) (subst (λ (h : Held). Continues q renewed by (call.Dequeue width height wait) (reply.Dequeued slot h false true no_points)) (sym new) going)) left

@@ -1,0 +1,13 @@
+use Rattle.std.proofs.Common.{rules, ◌≡◌, None}
+use Rattle.sf_slots.specs.declared.calls.PlainCall.TheVariants as call
+use Rattle.sf_slots.specs.Effects.{nobody}
+use Rattle.sf_slots.specs.Queue.{told_of, configured}
+use Rattle.sf_slots.specs.Replies.{refusal_of}
+use Rattle.sf_queue.proofs.HistoryLemmas.{max_dequeued_done}
+use Rattle.sf_queue.proofs.limits.set_max_dequeued.Goals as goal
+
+pub returns-clause-history : goal.returns-clause-history
+returns-clause-history g c =
+    let none : None ≡ refusal_of (told_of c.args.q.now) nobody (call.MaxDequeued c.args.n) = search rules in
+    let left : c.configure.new.self ≡ configured c.args.q.now (record c.args.q.now.settings { max_dequeued = c.args.n }) = search rules in
+    max_dequeued_done c.args.q.now c.configure.new.self c.args.n c.settings-settings.ensures.sound none left

@@ -1,0 +1,18 @@
+//! The producer's calls on a BufferQueue: connecting, dequeueing, requesting, queueing, cancelling,
+//! detaching and attaching buffers, and the producer's limits. A refused call changes nothing and
+//! hands back what came with it. No call takes memory.
+#![tactic(auto)]
+
+mod connection;
+mod leases;
+mod lending;
+mod limits;
+mod queueing;
+#[cfg(test)]
+mod tests;
+
+pub use connection::{connect, disconnect};
+pub use leases::{cancel, detach, lent_refusal, request};
+pub use lending::{Dequeued, attach, dequeue, dequeue_needs};
+pub use limits::{set_async, set_max_dequeued};
+pub use queueing::{QueueOrder, queue, queue_refusal};

@@ -1,0 +1,14 @@
+pub mod Lists
+pub mod Sound
+pub mod Places
+pub mod Lasts
+pub mod Tells
+pub mod TellsGone
+pub mod TellsItems
+pub mod TellsGivenUp
+pub mod Going
+pub mod GoingLeases
+pub mod GoingSettings
+pub mod GoingItems
+pub mod RefusalTable
+pub mod Chains

@@ -1,0 +1,5 @@
+use Rattle.sf_slots.proofs.Chains.{told_through}
+use Rattle.sf_slots.proofs.laws.calls_are_told_by_their_history.Goals as goal
+
+pub returns : goal.returns
+returns g c = told_through

@@ -1,0 +1,20 @@
+use Rattle.std.proofs.Common.{arith}
+use Rattle.sf_slots.proofs.Sound.{IsSound-returned}
+use Rattle.sf_slots.proofs.Lists.{has_room, absent_from}
+use Rattle.sf_slots.proofs.slots.Slots.free.Goals as goal
+
+pub push-requires : goal.push-requires
+push-requires g c =
+    let out = rw (← c.self.view_is) at c.requires.out in
+    let sound = c.self.invariant.sound in
+    let room = has_room sound.freed c.args.slot.0 (rw sound.sized c.requires.below) (absent_from sound.freed c.args.slot.0 out.not_free) in
+    omega (arith, room, sound.sized, c.self.invariant.for_freed)
+
+pub invariant_of-self : goal.invariant_of-self
+invariant_of-self g c =
+    let out = rw (← c.self.view_is) at c.requires.out in
+    record {
+      for_freed = rw c.push.ensures c.self.invariant.for_freed;
+      for_items = c.self.invariant.for_items;
+      sound = rw (c.put_right.ensures, c.push.ensures, c.slot_of-was.ensures, c.deref.ensures.value) (IsSound-returned c.self.invariant.sound c.args.slot.0 c.args.right c.args.fence c.requires.below out);
+    }

@@ -1,0 +1,32 @@
+ghost use Rattle.std.specs.Prelude.{◌≡◌, ℕ, List, [], Some};
+ghost use Rattle.std.specs.List.{Contains};
+ghost use Rattle.sf_base.specs.declared.ids.ActorId.{ActorId};
+ghost use Rattle.sf_base.specs.declared.ids.QueueId.{QueueId};
+ghost use Rattle.sf_base.specs.declared.status.QStatus.{QStatus};
+ghost use Rattle.sf_slots.specs.declared.calls.Entry.{Entry};
+ghost use Rattle.sf_slots.specs.declared.calls.PlainCall.{PlainCall};
+ghost use Rattle.sf_slots.specs.Told.{Told};
+ghost use Rattle.sf_slots.specs.Queue.{Queue, empty_queue};
+ghost use Rattle.sf_slots.specs.Refusals.{refusals_of};
+ghost use Rattle.sf_slots.specs.Replies.{refusal_of};
+ghost use Rattle.sf_slots.specs.Tells.{IsToldBy, CameBy, AreReplies};
+
+/// A new queue is what a history without calls tells of it.
+pub fn no_calls_tell_of_a_new_queue<R>()
+    ensures { (number : QueueId) (width height : ℕ) →
+        IsToldBy (empty_queue {R = R} number width height) width height [] }
+{}
+
+/// A call is refused only for a cause that the table of its refusals has.
+pub fn refusals_are_listed()
+    ensures { (told : Told) (caller : ActorId) (asked : PlainCall) (cause : QStatus) →
+        refusal_of told caller asked ≡ Some cause → Contains (refusals_of asked) cause }
+{}
+
+/// After every list of calls that a new queue came by, its history tells of it, and each reply was
+/// what the history before it says.
+pub fn calls_are_told_by_their_history<R>()
+    ensures { (number : QueueId) (width height : ℕ) (history : List Entry) (after : Queue R) →
+        CameBy (empty_queue number width height) history after →
+        (IsToldBy after width height history) × (AreReplies width height history) }
+{}

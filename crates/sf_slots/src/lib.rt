@@ -1,0 +1,24 @@
+//! The slots of a BufferQueue: their states and buffers, the items that wait for the consumer, the
+//! list of freed buffers and the queue's settings, with the moves between them. The calls of
+//! producers and consumers, in the crates above, are made of these moves. The definitions of what a
+//! history of calls tells of a queue, and of the reply to each call, stand here too.
+#![tactic(auto)]
+
+mod calls;
+mod item;
+mod laws;
+mod limits;
+mod queueing;
+mod rings;
+mod settings;
+mod slot;
+mod slots;
+
+pub use calls::{Entry, PlainCall, PlainReply, ReadToken, WriteToken};
+pub use item::{Item, PlainItem};
+pub use laws::{
+    calls_are_told_by_their_history, no_calls_tell_of_a_new_queue, refusals_are_listed,
+};
+pub use settings::Settings;
+pub use slot::{Held, Slot, SlotState};
+pub use slots::Slots;

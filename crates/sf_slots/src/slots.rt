@@ -1,0 +1,253 @@
+ghost use Rattle.std.specs.Prelude.{◌≡◌, ◌<◌, ◌≤◌, ◌+◌, [], ◌∷◌, ◌++◌, IfOk, IfSome, IfNone, length, map, replicate, slice_index_or, true, false, ◌-◌, ◌^◌, count_by};
+ghost use Rattle.sf_slots.specs.declared.slot.SlotState.TheVariants as state;
+ghost use Rattle.sf_slots.specs.Told.{unused, usable, count_in, is_in};
+ghost use Rattle.sf_slots.specs.Queue.{Queue, IsSound, slot_in, right_in, told_of, empty_queue, lent, taken, seated, next_held, marked, returned, cleared, emptied, IsOut};
+
+use crate::item::Item;
+use crate::rings::{push, put_right, remove, slot_of, take_right};
+use crate::settings::Settings;
+use crate::slot::{Held, Slot, SlotState};
+use circular_buffer::HeapCircularBuffer;
+use sf_base::{Fence, NoMemory, QueueId, SlotId};
+use std::alloc::Global;
+use std::marker::Model;
+
+/// A BufferQueue: 64 slots, the items that wait for the consumer, the freed buffers and the
+/// settings. A free or queued slot with a buffer holds the right `R` to its pixels, and the moves
+/// hand rights in and out. Only `new` takes memory.
+#[derive(Drop)]
+pub struct Slots<R> {
+    pub(crate) number: QueueId,
+    pub(crate) slots: Vec<Slot>,
+    pub(crate) rights: Vec<Option<R>>,
+    pub(crate) freed: HeapCircularBuffer<u32>,
+    pub(crate) items: HeapCircularBuffer<Item<R>>,
+    pub(crate) settings: Settings,
+}
+
+impl<R> Model for Slots<R> {
+    ghost use Rattle.std.specs.Prelude.{◌≡◌};
+    ghost use Rattle.sf_slots.specs.Queue.{Queue, IsSound, HasRoom};
+
+    ghost Value = { Queue R };
+
+    ghost view = { λ q. record { number = q.number; slots = q.slots.items; rights = q.rights.items; freed = q.freed.items; items = q.items.items; settings = q.settings } };
+
+    ghost invariant = { λ q. HasRoom q.freed.capacity q.items.capacity (record { number = q.number; slots = q.slots.items; rights = q.rights.items; freed = q.freed.items; items = q.items.items; settings = q.settings }) };
+}
+
+/// How many slots are in a state.
+fn count_slots(slots: &[Slot], state: SlotState) -> usize
+    ensures { result ≡ count_by (is_in state) slots.now }
+{
+    slots.iter().filter(|slot| slot.is_in(state)).count()
+}
+
+/// A slot without its buffer.
+pub(crate) fn empty(slot: Slot) -> Slot
+    ensures { result ≡ emptied slot }
+{
+    Slot {
+        state: SlotState::Free,
+        held: None,
+        requested: false,
+        fence: Fence::none(),
+        ..slot
+    }
+}
+
+/// No rights yet.
+fn no_rights<R: Drop>(alloc: Global) -> Result<Vec<Option<R>>, NoMemory>
+    ensures { IfOk result (λ rights. rights.items ≡ replicate 64 None) }
+{
+    let mut rights = Vec::with_capacity(alloc, 64)?;
+    for _ in 0..64u32 {
+        rights.push(None)?;
+    }
+    Ok(rights)
+}
+
+impl<R: Drop> Slots<R> {
+    /// A queue whose slots are free and without buffers. It lets the consumer and the producer hold
+    /// one buffer each, is not asynchronous and has no producer. Width and height are its default
+    /// size, in pixels.
+    pub fn new(alloc: Global, queue: QueueId, width: u32, height: u32) -> Result<Slots<R>, NoMemory>
+        requires wide { 1 ≤ width }
+        requires narrow { width ≤ 512 }
+        requires high { 1 ≤ height }
+        requires low { height ≤ 512 }
+        ensures { IfOk result (λ q. q ≡ empty_queue queue width height) }
+    {
+        let unused = Slot {
+            state: SlotState::Free,
+            held: None,
+            requested: false,
+            frame: 0,
+            fence: Fence::none(),
+        };
+        Ok(Slots {
+            number: queue,
+            slots: vec![in alloc; unused; 64]?,
+            rights: no_rights(alloc)?,
+            freed: HeapCircularBuffer::with_capacity(alloc, 64)?,
+            items: HeapCircularBuffer::with_capacity(alloc, 64)?,
+            settings: Settings {
+                width,
+                height,
+                max_acquired: 1,
+                max_dequeued: 1,
+                asynchronous: false,
+                connected: None,
+                abandoned: false,
+                queued: false,
+                frames: 0,
+                buffers: 0,
+            },
+        })
+    }
+
+    /// The settings and the counters.
+    pub fn settings(&self) -> Settings
+        ensures same { result ≡ self.now.settings }
+        ensures sound { IsSound self.now }
+    {
+        self.settings
+    }
+
+    /// All that is known of a slot, apart from its right.
+    pub fn slot(&self, slot: SlotId) -> Slot
+        requires { slot.0 < 64 }
+        ensures { result ≡ slot_in self.now slot.0 }
+    {
+        slot_of(&self.slots, slot.0)
+    }
+
+    /// How many slots are in a state.
+    pub fn count(&self, state: SlotState) -> u32
+        ensures { result ≡ count_in state (told_of self.now) }
+    {
+        count_slots(&self.slots, state) as u32
+    }
+
+    /// How many slots may be used, those with the lowest numbers.
+    pub fn usable(&self) -> u32
+        ensures value { result ≡ usable self.now.settings }
+        ensures within { result ≤ 64 }
+    {
+        self.settings.usable()
+    }
+
+    /// How many items wait.
+    pub fn len(&self) -> u32
+        ensures { result ≡ length self.now.items }
+    {
+        self.items.len() as u32
+    }
+
+    /// Lends a free slot to the producer. Its right, where it has a buffer, and its stored fence come
+    /// out.
+    pub fn lend(&mut self, slot: SlotId) -> (Option<R>, Fence)
+        requires below { slot.0 < 64 }
+        requires free { (slot_in self.old slot.0).state ≡ state.Free }
+        ensures right { result.0 ≡ right_in self.old slot.0 }
+        ensures fence { result.1 ≡ (slot_in self.old slot.0).fence }
+        ensures after { self.new ≡ lent self.old slot.0 }
+    {
+        let was = slot_of(&self.slots, slot.0);
+        let right = take_right(&mut self.rights, slot.0);
+        self.slots[slot.0 as usize] = Slot {
+            state: SlotState::Dequeued,
+            fence: Fence::none(),
+            ..was
+        };
+        remove(&mut self.freed, slot.0);
+        (right, was.fence)
+    }
+
+    /// Gives a free slot to the consumer, with frame number 0 and no fence. Its right, where it has a
+    /// buffer, comes out.
+    pub fn hold(&mut self, slot: SlotId) -> Option<R>
+        requires below { slot.0 < 64 }
+        requires free { (slot_in self.old slot.0).state ≡ state.Free }
+        ensures right { result ≡ right_in self.old slot.0 }
+        ensures after { self.new ≡ taken self.old slot.0 }
+    {
+        let was = slot_of(&self.slots, slot.0);
+        let right = take_right(&mut self.rights, slot.0);
+        self.slots[slot.0 as usize] = Slot {
+            state: SlotState::Acquired,
+            frame: 0,
+            fence: Fence::none(),
+            ..was
+        };
+        remove(&mut self.freed, slot.0);
+        right
+    }
+
+    /// Puts the queue's next buffer, of this size in pixels, into a slot that is out.
+    pub fn seat(&mut self, slot: SlotId, width: u32, height: u32, requested: bool) -> Held
+        requires below { slot.0 < 64 }
+        requires numbered { self.old.settings.buffers < 2 ^ 64 - 1 }
+        requires out { IsOut (slot_in self.old slot.0).state }
+        ensures held { result ≡ next_held self.old width height }
+        ensures after { self.new ≡ seated self.old slot.0 width height requested }
+    {
+        let was = slot_of(&self.slots, slot.0);
+        self.settings.buffers += 1;
+        let held = Held {
+            number: self.settings.buffers,
+            width,
+            height,
+        };
+        self.slots[slot.0 as usize] = Slot {
+            held: Some(held),
+            requested,
+            ..was
+        };
+        held
+    }
+
+    /// Notes that the producer requested the buffer of a slot that is out.
+    pub fn mark_requested(&mut self, slot: SlotId)
+        requires { slot.0 < 64 }
+        ensures { self.new ≡ marked self.old slot.0 }
+    {
+        let was = slot_of(&self.slots, slot.0);
+        self.slots[slot.0 as usize] = Slot {
+            requested: true,
+            ..was
+        };
+    }
+
+    /// Takes back the buffer of a slot that is out: the slot is free, holds the right and the fence,
+    /// and stands last in the freed list.
+    pub fn free(&mut self, slot: SlotId, right: R, fence: Fence)
+        requires below { slot.0 < 64 }
+        requires out { IsOut (slot_in self.old slot.0).state }
+        ensures { self.new ≡ returned self.old slot.0 right fence }
+    {
+        let was = slot_of(&self.slots, slot.0);
+        self.slots[slot.0 as usize] = Slot {
+            state: SlotState::Free,
+            fence,
+            ..was
+        };
+        put_right(&mut self.rights, slot.0, right);
+        push(&mut self.freed, slot.0);
+    }
+
+    /// Takes the buffer out of a slot that is not queued: the slot is free, without a buffer and a
+    /// stored fence. The right that lay in it comes out.
+    pub fn clear(&mut self, slot: SlotId) -> Option<R>
+        requires below { slot.0 < 64 }
+        requires other { (slot_in self.old slot.0).state ≡ state.Queued → ⊥ }
+        ensures right { result ≡ right_in self.old slot.0 }
+        ensures after { self.new ≡ cleared self.old slot.0 }
+    {
+        let was = slot_of(&self.slots, slot.0);
+        let right = take_right(&mut self.rights, slot.0);
+        self.slots[slot.0 as usize] = empty(was);
+        remove(&mut self.freed, slot.0);
+        right
+    }
+}
