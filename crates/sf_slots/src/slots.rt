@@ -122,6 +122,38 @@ impl<R: Drop> Slots<R> {
         slot_of(&self.slots, slot.0)
     }
 
+    /// The state of a slot.
+    pub fn state(&self, slot: SlotId) -> SlotState
+        requires { slot.0 < 64 }
+        ensures { result ≡ (slot_in self.now slot.0).state }
+    {
+        self.slot(slot).state
+    }
+
+    /// The buffer of a slot, if it has one.
+    pub fn held(&self, slot: SlotId) -> Option<Held>
+        requires { slot.0 < 64 }
+        ensures { result ≡ (slot_in self.now slot.0).held }
+    {
+        self.slot(slot).held
+    }
+
+    /// Whether a slot's buffer counts as requested.
+    pub fn requested(&self, slot: SlotId) -> bool
+        requires { slot.0 < 64 }
+        ensures { result ≡ (slot_in self.now slot.0).requested }
+    {
+        self.slot(slot).requested
+    }
+
+    /// The frame number of a slot, 0 before its first frame.
+    pub fn frame(&self, slot: SlotId) -> u64
+        requires { slot.0 < 64 }
+        ensures { result ≡ (slot_in self.now slot.0).frame }
+    {
+        self.slot(slot).frame
+    }
+
     /// How many slots are in a state.
     pub fn count(&self, state: SlotState) -> u32
         ensures { result ≡ count_in state (told_of self.now) }
