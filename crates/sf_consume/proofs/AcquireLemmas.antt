@@ -1,10 +1,10 @@
 -- Which items an acquire drops.
-use Rattle.std.proofs.Common.{◌≡◌, ◌<◌, ◌≤◌, ◌+◌, ℕ, zero, suc, Bool, true, false, not, ◌||◌, ◌&&◌, ◌==◌, nat_le, List, [], ◌∷◌, length, map, drop, Option, Some, None, is_some, is_none, slice_get, inl, inr, arith, refl, add-one, ap, ◌∙◌, sym}
+use Rattle.std.proofs.Common.{◌≡◌, ◌<◌, ◌+◌, ℕ, Bool, true, false, not, ◌||◌, ◌&&◌, ◌==◌, nat_le, List, [], ◌∷◌, length, map, drop, Some, is_some, is_none, slice_get, inl, inr, arith, refl, add-one, sym}
 use Rattle.std.proofs.lemmas.Bool.{cases_Bool}
 use Rattle.std.proofs.lemmas.Bool.Decides.{nat_tests}
 use Rattle.sf_slots.specs.declared.item.Item.{Item}
 use Rattle.sf_slots.specs.declared.item.PlainItem.{PlainItem}
-use Rattle.sf_slots.specs.Queue.{Queue, plain_item, dropping}
+use Rattle.sf_slots.specs.Queue.{plain_item}
 use Rattle.sf_slots.specs.Replies.{time_of, has_just_come, dropped_with, dropped_count, is_due, is_due_if_there}
 use Rattle.sf_consume.specs.Acquiring.{second_time, goes_first, is_front_due}
 

@@ -1,5 +1,5 @@
 -- A history that tells of a queue goes on with the producer's calls.
-use Rattle.std.proofs.Common.{◌≡◌, ℕ, ◌+◌, Bool, true, false, not, ◌&&◌, ap, ap₂, ◌∙◌, sym, refl, subst, Option, Some, None}
+use Rattle.std.proofs.Common.{◌≡◌, ℕ, ◌+◌, Bool, true, false, not, ◌&&◌, ap, ap₂, ◌∙◌, sym, refl, subst, Some, None}
 use Rattle.std.specs.Prelude.{is_none, unwrap_or}
 use Rattle.sf_base.specs.Fences.{no_points}
 use Rattle.sf_base.specs.declared.fences.Fence.{Fence}

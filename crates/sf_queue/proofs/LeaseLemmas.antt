@@ -1,9 +1,9 @@
 -- The buffer that a number means.
-use Rattle.std.proofs.Common.{◌≡◌, ℕ, Bool, true, false, ◌==◌, ◌&&◌, inl, inr, arith, refl, ◌≤◌, length, Option, Some, None}
+use Rattle.std.proofs.Common.{◌≡◌, ℕ, true, false, ◌==◌, inl, inr, arith, refl, ◌≤◌, length, Some}
 use Rattle.std.proofs.lemmas.Bool.{cases_Bool}
 use Rattle.std.proofs.lemmas.Bool.Decides.{nat_tests}
 use Rattle.sf_slots.specs.declared.slot.Held.{Held}
-use Rattle.sf_slots.specs.Replies.{is_buffer, same_buffer, is_lent}
+use Rattle.sf_slots.specs.Replies.{is_buffer, is_lent}
 use Rattle.sf_slots.specs.Told.{Told, slot_at, unused}
 use Rattle.sf_base.specs.declared.ids.SlotId.{SlotId}
 use Rattle.std.proofs.Math.ListN.{get_or-eq_default}

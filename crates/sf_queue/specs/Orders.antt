@@ -1,5 +1,5 @@
 -- The call and the item that an order means.
-use Rattle.std.specs.Prelude.{ℕ, ◌+◌, Option, Some, None}
+use Rattle.std.specs.Prelude.{ℕ, ◌+◌, None}
 use Rattle.sf_base.specs.Fences.{no_points}
 use Rattle.sf_base.specs.declared.geometry.Rect.{Rect}
 use Rattle.sf_slots.specs.declared.calls.PlainCall.{PlainCall}

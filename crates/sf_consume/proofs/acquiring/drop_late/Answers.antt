@@ -1,5 +1,5 @@
-use Rattle.std.proofs.Common.{◌≡◌, ◌<◌, true, false, List, length, map, drop, slice_get, arith, refl, sym, ◌∙◌, add-one, length-drop}
-use Rattle.sf_slots.specs.Queue.{plain_item, dropping}
+use Rattle.std.proofs.Common.{◌≡◌, true, false, slice_get, arith, sym, ◌∙◌, add-one, length-drop}
+use Rattle.sf_slots.specs.Queue.{dropping}
 use Rattle.sf_consume.specs.Acquiring.{goes_first, second_time}
 use Rattle.sf_consume.proofs.AcquireLemmas.{has_two, count-goes, count-stays}
 use Rattle.sf_consume.proofs.acquiring.drop_late.Goals as goal

@@ -1,4 +1,4 @@
-use Rattle.std.proofs.Common.{◌≡◌, ap, ◌∙◌, not}
+use Rattle.std.proofs.Common.{ap, not}
 use Rattle.sf_consume.proofs.AcquireLemmas.{due_is}
 use Rattle.sf_consume.proofs.acquiring.is_early.Goals as goal
 

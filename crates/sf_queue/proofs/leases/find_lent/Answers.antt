@@ -1,4 +1,4 @@
-use Rattle.std.proofs.Common.{◌≡◌, arith}
+use Rattle.std.proofs.Common.{arith}
 use Rattle.sf_slots.specs.Queue.{told_of}
 use Rattle.sf_queue.proofs.LeaseLemmas.{not_lent_beyond}
 use Rattle.sf_queue.proofs.leases.find_lent.Goals as goal

@@ -2,7 +2,7 @@ use Rattle.std.proofs.Common.{◌≡◌, ℕ, ap, ap₂, ◌∙◌, sym, false}
 use Rattle.std.specs.Prelude.{is_some}
 use Rattle.sf_slots.specs.declared.settings.Settings.{Settings}
 use Rattle.sf_slots.specs.declared.slot.Slot.{Slot}
-use Rattle.sf_slots.specs.Queue.{slot_in, next_held, seated}
+use Rattle.sf_slots.specs.Queue.{next_held, seated}
 use Rattle.sf_slots.specs.Replies.{size_asked}
 use Rattle.sf_queue.proofs.HistoryLemmas.{dequeue_reused, dequeue_renewed, wants_new, wants_none}
 use Rattle.sf_queue.proofs.lending.dequeue.Goals as goal
