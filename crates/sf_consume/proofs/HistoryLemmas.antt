@@ -23,17 +23,56 @@ use Rattle.sf_slots.proofs.GoingLeases.{Continues-Release, Continues-DetachRead,
 use Rattle.sf_slots.proofs.GoingItems.{Continues-Acquire}
 use Rattle.sf_slots.proofs.GoingSettings.{Continues-MaxAcquired, Continues-Abandon}
 use Rattle.sf_consume.specs.Reads.{lease_of, IsLeaseOf}
+use Rattle.std.proofs.Common.{Bool, Option, List, [], ◌∷◌, inl, inr, arith, refl, ◌==◌, ◌&&◌, not, nat_le, ap₂, unwrap_or}
+use Rattle.std.proofs.lemmas.Bool.{cases_Bool}
+use Rattle.std.proofs.lemmas.Bool.Decides.{nat_tests}
+use Rattle.sf_base.specs.declared.status.QStatus.TheVariants.{NoInit, BadValue, Stale}
+use Rattle.sf_slots.specs.declared.slot.SlotState.{SlotState}
+use Rattle.sf_slots.specs.declared.slot.SlotState.TheVariants.{Dequeued, Queued, Acquired}
+use Rattle.sf_slots.specs.Replies.{Refusal, first_met, is_buffer, is_taken}
+use Rattle.sf_slots.specs.Told.{slot_at, same_state}
+use Rattle.sf_consume.specs.Reads.{no_buffer}
 
 -- the queue after a call, under another name
 pub go_to : {R : Type 0} {by : ActorId} {asked : PlainCall} {given : PlainReply} (q after left : Queue R) → Continues q left by asked given → after ≡ left → Continues q after by asked given
 go_to {R} {by} {asked} {given} q after left going same = subst (λ (p : Queue R). Continues q p by asked given) (sym same) going
 
--- a lease that says the slot, the frame and the slot's buffer is refused as they are
+taken_with : (state : SlotState) (found : Option Held) (held : Held) → ((h : Held) → state ≡ Acquired → found ≡ Some h → held ≡ h) → (same_state state Acquired && is_buffer found held) ≡ (same_state state Acquired && is_buffer found (unwrap_or found no_buffer))
+taken_with state None held whole = refl
+taken_with Free (Some h) held whole = refl
+taken_with Dequeued (Some h) held whole = refl
+taken_with Queued (Some h) held whole = refl
+taken_with Acquired (Some h) held whole = ap (λ (b : Held). is_buffer (Some h) b) (whole h refl refl)
+
+-- the tests of giving a buffer back
+tests : Told → ℕ → Bool → Bool → List Refusal
+tests told slot same taken = (told.settings.abandoned, NoInit) ∷ (false, NoInit) ∷ (nat_le 64 slot, BadValue) ∷ (not same, Stale) ∷ (not taken, BadValue) ∷ []
+
+stale_same : (told : Told) (slot : ℕ) (same a b : Bool) → same ≡ false → first_met (tests told slot same a) ≡ first_met (tests told slot same b)
+unfolding tests
+stale_same told slot same a b stale = rw stale refl
+
+-- where the frame is the slot's, the lease's buffer counts as the slot's own
+buffer_same : (told : Told) (slot : SlotId) (frame : ℕ) (lease : ReadToken) → IsLeaseOf told slot frame lease → first_met (tests told slot.0 ((slot_at told slot.0).frame == frame) (is_taken told slot lease.held)) ≡ first_met (tests told slot.0 ((slot_at told slot.0).frame == frame) (is_taken told slot (unwrap_or (slot_at told slot.0).held no_buffer)))
+buffer_same told slot frame lease is_lease = elim (cases_Bool ((slot_at told slot.0).frame == frame)) [
+  | inl met ↦
+      let same : (slot_at told slot.0).frame ≡ frame = grind (arith, nat_tests, met) in
+      ap (λ taken. first_met (tests told slot.0 ((slot_at told slot.0).frame == frame) taken)) (taken_with (slot_at told slot.0).state (slot_at told slot.0).held lease.held (λ h taken here. is_lease.whole h taken here same))
+  | inr unmet ↦ stale_same told slot.0 ((slot_at told slot.0).frame == frame) (is_taken told slot lease.held) (is_taken told slot (unwrap_or (slot_at told slot.0).held no_buffer)) unmet
+]
+
+-- a lease is refused as the slot and the frame that it means
 release_same : (told : Told) (by : ActorId) (slot : SlotId) (frame : ℕ) (fence : Fence) (lease : ReadToken) → IsLeaseOf told slot frame lease → refusal_of told by (call.Release lease fence) ≡ refusal_of told nobody (call.DetachRead (lease_of told slot frame))
-release_same told by slot frame fence lease is_lease = λ i. refusal_of told by (call.Release (record { slot = is_lease.slot i; frame = is_lease.frame i; held = is_lease.held i; picture = lease.picture; crop = lease.crop; fence = no_points }) fence)
+unfolding tests
+release_same told by slot frame fence lease is_lease =
+    ap₂ (λ (s : SlotId) (n : ℕ). refusal_of told by (call.Release (record { slot = s; frame = n; held = lease.held; picture = lease.picture; crop = lease.crop; fence = no_points }) fence)) is_lease.slot is_lease.frame
+    ∙ buffer_same told slot frame lease is_lease
 
 detach_same : (told : Told) (by : ActorId) (slot : SlotId) (frame : ℕ) (lease : ReadToken) → IsLeaseOf told slot frame lease → refusal_of told by (call.DetachRead lease) ≡ refusal_of told nobody (call.DetachRead (lease_of told slot frame))
-detach_same told by slot frame lease is_lease = λ i. refusal_of told by (call.DetachRead (record { slot = is_lease.slot i; frame = is_lease.frame i; held = is_lease.held i; picture = lease.picture; crop = lease.crop; fence = no_points }))
+unfolding tests
+detach_same told by slot frame lease is_lease =
+    ap₂ (λ (s : SlotId) (n : ℕ). refusal_of told by (call.DetachRead (record { slot = s; frame = n; held = lease.held; picture = lease.picture; crop = lease.crop; fence = no_points }))) is_lease.slot is_lease.frame
+    ∙ buffer_same told slot frame lease is_lease
 
 pub release_refused : {R : Type 0} (q : Queue R) (slot : SlotId) (frame : ℕ) (fence : Fence) (cause : QStatus) → Some cause ≡ refusal_of (told_of q) nobody (call.DetachRead (lease_of (told_of q) slot frame)) → (by : ActorId) (lease : ReadToken) → IsLeaseOf (told_of q) slot frame lease → Continues q q by (call.Release lease fence) (reply.Refused cause)
 release_refused q slot frame fence cause met by lease is_lease = Continues-refused q by (call.Release lease fence) cause (release_same (told_of q) by slot frame fence lease is_lease ∙ sym met)

@@ -1,5 +1,5 @@
 -- The lease that a consumer means by a slot and a frame's number.
-use Rattle.std.specs.Prelude.{◌≡◌, ◌<◌, ℕ, unwrap_or, Result, Ok, Err}
+use Rattle.std.specs.Prelude.{Some, ◌≡◌, ◌<◌, ℕ, unwrap_or, Result, Ok, Err}
 use Rattle.sf_base.specs.Fences.{no_points}
 use Rattle.sf_base.specs.declared.ids.SlotId.{SlotId}
 use Rattle.sf_base.specs.declared.status.QStatus.{QStatus}
@@ -29,11 +29,12 @@ lease_of told slot frame = record {
   fence = no_points;
 }
 
--- a lease says the slot, the frame and the slot's own buffer
+-- a lease says the slot and the frame that are meant: where the slot is with the consumer for this
+-- frame, its buffer is the lease's
 pub record IsLeaseOf (told : Told) (place : SlotId) (number : ℕ) (lease : ReadToken) : Type 0 where
   pub slot : lease.slot ≡ place
   pub frame : lease.frame ≡ number
-  pub held : lease.held ≡ unwrap_or (slot_at told place.0).held no_buffer
+  pub whole : (held : Held) → (slot_at told place.0).state ≡ Acquired → (slot_at told place.0).held ≡ Some held → (slot_at told place.0).frame ≡ number → lease.held ≡ held
 
 -- the reply to an attach
 abbrev pub attach_reply : Result (SlotId × Held) QStatus → PlainReply

@@ -24,23 +24,106 @@ use Rattle.sf_queue.specs.declared.queueing.QueueOrder.{QueueOrder}
 use Rattle.sf_queue.specs.Leases.{lease_of, IsLeaseOf}
 use Rattle.sf_queue.specs.Lending.{takes_fresh}
 use Rattle.sf_queue.specs.Orders.{queue_call, call_of, item_of}
+use Rattle.std.proofs.Common.{Option, List, [], ◌∷◌, ◌⊎◌, inl, inr, arith, ◌==◌}
+use Rattle.std.proofs.lemmas.Bool.{cases_Bool}
+use Rattle.std.proofs.lemmas.Bool.Decides.{nat_tests}
+use Rattle.sf_base.specs.declared.status.QStatus.{QStatus}
+use Rattle.sf_base.specs.declared.status.QStatus.TheVariants.{NoInit, BadValue}
+use Rattle.sf_slots.specs.declared.slot.SlotState.TheVariants.{Dequeued}
+use Rattle.sf_slots.specs.Replies.{Refusal, first_met, is_producer, is_lent, is_buffer, is_crop_of}
+use Rattle.sf_slots.specs.Told.{is_in}
+use Rattle.sf_slots.proofs.Going.{Continues-refused, unmet, own_unmet}
+use Rattle.sf_queue.specs.Leases.{meant, numbered}
+use Rattle.sf_queue.proofs.LeaseLemmas.{numbered-met, is_buffer-numbered}
 
 -- the queue after a call, under another name
 pub go_to : {R : Type 0} {by : ActorId} {asked : PlainCall} {given : PlainReply} (q after left : Queue R) → Continues q left by asked given → after ≡ left → Continues q after by asked given
 go_to {R} {by} {asked} {given} q after left going same = subst (λ (p : Queue R). Continues q p by asked given) (sym same) going
 
--- a lease that says the slot and the buffer is refused as they are
+not_buffer : (found : Option Held) (number : ℕ) (held : Held) → held.number ≡ number → ((h : Held) → found ≡ Some h → h.number ≡ number → held ≡ h) → (held ≡ numbered found number) ⊎ ((is_buffer found held ≡ false) × (is_buffer found (numbered found number) ≡ false))
+not_buffer None number held same whole = inr (refl, refl)
+not_buffer (Some h) number held same whole = elim (cases_Bool (h.number == number)) [
+  | inl met ↦
+      let alike : h.number ≡ number = grind (arith, nat_tests, met) in
+      inl (whole h refl alike ∙ numbered-met h number met)
+  | inr unmet ↦
+      let other : (h.number == held.number) ≡ false = ap (λ n. h.number == n) same ∙ unmet in
+      let apart : is_buffer (Some h) held ≡ false = rw other refl in
+      inr (apart, is_buffer-numbered h number ∙ unmet)
+]
+
+neither : (a b : Bool) → b ≡ false → (a && b) ≡ false
+neither true b none = none
+neither false b none = refl
+
+-- a lease's buffer is the one that is meant, or the slot is lent with neither
+lease_cases : (told : Told) (slot : SlotId) (number : ℕ) (lease : WriteToken) → IsLeaseOf told slot number lease → (lease.held ≡ meant told slot number) ⊎ ((is_lent told lease.slot lease.held ≡ false) × (is_lent told slot (meant told slot number) ≡ false))
+lease_cases told slot number lease is_lease = elim (not_buffer (slot_at told slot.0).held number lease.held is_lease.numbered is_lease.whole) [
+  | inl same ↦ inl same
+  | inr none ↦ inr (
+    ap (λ (s : SlotId). is_lent told s lease.held) is_lease.slot ∙ neither (is_in Dequeued (slot_at told slot.0)) (is_buffer (slot_at told slot.0).held lease.held) none.0,
+    neither (is_in Dequeued (slot_at told slot.0)) (is_buffer (slot_at told slot.0).held (meant told slot number)) none.1,
+  )
+]
+
+-- calls on a slot that is not lent with their buffer are refused alike
+unlent_same : (told : Told) (by : ActorId) (a b : Bool) (more rest : List Refusal) → a ≡ false → b ≡ false → first_met ((told.settings.abandoned, NoInit) ∷ (not (is_producer told.settings.connected by), NoInit) ∷ (not a, BadValue) ∷ more) ≡ first_met ((told.settings.abandoned, NoInit) ∷ (not (is_producer told.settings.connected by), NoInit) ∷ (not b, BadValue) ∷ rest)
+unlent_same told by a b more rest unlent neither = rw (unlent, neither) refl
+
+-- a lease is refused as the slot and the buffer that it means
 cancel_same : (told : Told) (by : ActorId) (slot : SlotId) (buffer : ℕ) (fence : Fence) (lease : WriteToken) → IsLeaseOf told slot buffer lease → refusal_of told by (call.Cancel lease fence) ≡ refusal_of told by (call.Cancel (lease_of told slot buffer) no_points)
-cancel_same told by slot buffer fence lease is_lease = ap₂ (λ (s : SlotId) (h : Held). refusal_of told by (call.Cancel (record { slot = s; held = h; requested = false; fence = no_points; drawn = false }) fence)) is_lease.slot is_lease.held
+cancel_same told by slot buffer fence lease is_lease = elim (lease_cases told slot buffer lease is_lease) [
+  | inl same ↦ ap₂ (λ (s : SlotId) (h : Held). refusal_of told by (call.Cancel (record { slot = s; held = h; requested = false; fence = no_points; drawn = false }) fence)) is_lease.slot same
+  | inr none ↦ unlent_same told by (is_lent told lease.slot lease.held) (is_lent told slot (meant told slot buffer)) [] [] none.0 none.1
+]
 
 request_same : (told : Told) (by : ActorId) (slot : SlotId) (buffer : ℕ) (lease : WriteToken) → IsLeaseOf told slot buffer lease → refusal_of told by (call.Request lease) ≡ refusal_of told by (call.Cancel (lease_of told slot buffer) no_points)
-request_same told by slot buffer lease is_lease = ap₂ (λ (s : SlotId) (h : Held). refusal_of told by (call.Request (record { slot = s; held = h; requested = false; fence = no_points; drawn = false }))) is_lease.slot is_lease.held
+request_same told by slot buffer lease is_lease = elim (lease_cases told slot buffer lease is_lease) [
+  | inl same ↦ ap₂ (λ (s : SlotId) (h : Held). refusal_of told by (call.Request (record { slot = s; held = h; requested = false; fence = no_points; drawn = false }))) is_lease.slot same
+  | inr none ↦ unlent_same told by (is_lent told lease.slot lease.held) (is_lent told slot (meant told slot buffer)) [] [] none.0 none.1
+]
 
 detach_same : (told : Told) (by : ActorId) (slot : SlotId) (buffer : ℕ) (lease : WriteToken) → IsLeaseOf told slot buffer lease → refusal_of told by (call.Detach lease) ≡ refusal_of told by (call.Detach (lease_of told slot buffer))
-detach_same told by slot buffer lease is_lease = ap₂ (λ (s : SlotId) (h : Held). refusal_of told by (call.Detach (record { slot = s; held = h; requested = false; fence = no_points; drawn = false }))) is_lease.slot is_lease.held
+detach_same told by slot buffer lease is_lease = elim (lease_cases told slot buffer lease is_lease) [
+  | inl same ↦ ap₂ (λ (s : SlotId) (h : Held). refusal_of told by (call.Detach (record { slot = s; held = h; requested = false; fence = no_points; drawn = false }))) is_lease.slot same
+  | inr none ↦ unlent_same told by (is_lent told lease.slot lease.held) (is_lent told slot (meant told slot buffer))
+      ((not (slot_at told lease.slot.0).requested, BadValue) ∷ []) ((not (slot_at told slot.0).requested, BadValue) ∷ []) none.0 none.1
+]
+
+-- the tests of a queue call behind that of its lease
+later_tests : {R : Type 0} → Told → QueueOrder R → SlotId → Held → List Refusal
+later_tests told order slot held =
+    (not (slot_at told slot.0).requested, BadValue) ∷ (not ((order.width == held.width) && (order.height == held.height)), BadValue) ∷ (not (is_crop_of held order.crop), BadValue) ∷ []
 
 queue_same : {R : Type 0} (told : Told) (by : ActorId) (order : QueueOrder R) (lease : WriteToken) → IsLeaseOf told order.slot order.buffer lease → refusal_of told by (call_of order lease) ≡ refusal_of told by (queue_call (lease_of told order.slot order.buffer) order.width order.height order.crop)
-queue_same told by order lease is_lease = ap₂ (λ (s : SlotId) (h : Held). refusal_of told by (call_of order (record { slot = s; held = h; requested = false; fence = no_points; drawn = false }))) is_lease.slot is_lease.held
+unfolding later_tests
+queue_same told by order lease is_lease = elim (lease_cases told order.slot order.buffer lease is_lease) [
+  | inl same ↦ ap₂ (λ (s : SlotId) (h : Held). refusal_of told by (call_of order (record { slot = s; held = h; requested = false; fence = no_points; drawn = false }))) is_lease.slot same
+  | inr none ↦ unlent_same told by (is_lent told lease.slot lease.held) (is_lent told order.slot (meant told order.slot order.buffer))
+      (later_tests told order lease.slot lease.held) (later_tests told order order.slot (meant told order.slot order.buffer)) none.0 none.1
+]
+
+-- a lease that queues has the buffer that is meant
+queued_buffer : {R : Type 0} (told : Told) (by : ActorId) (order : QueueOrder R) (lease : WriteToken) → IsLeaseOf told order.slot order.buffer lease → refusal_of told by (queue_call (lease_of told order.slot order.buffer) order.width order.height order.crop) ≡ None → meant told order.slot order.buffer ≡ lease.held
+unfolding later_tests
+queued_buffer told by order lease is_lease none = elim (lease_cases told order.slot order.buffer lease is_lease) [
+  | inl same ↦ sym same
+  | inr neither ↦
+      let lent = unmet (not (is_lent told order.slot (meant told order.slot order.buffer))) BadValue (later_tests told order order.slot (meant told order.slot order.buffer)) (own_unmet told by (queue_call (lease_of told order.slot order.buffer) order.width order.height order.crop) none) in
+      absurd (cc (lent.0, ap not neither.1))
+]
+
+pub request_refused : {R : Type 0} (q : Queue R) (by : ActorId) (slot : SlotId) (buffer : ℕ) (cause : QStatus) → Some cause ≡ refusal_of (told_of q) by (call.Cancel (lease_of (told_of q) slot buffer) no_points) → (lease : WriteToken) → IsLeaseOf (told_of q) slot buffer lease → Continues q q by (call.Request lease) (reply.Refused cause)
+request_refused q by slot buffer cause met lease is_lease = Continues-refused q by (call.Request lease) cause (request_same (told_of q) by slot buffer lease is_lease ∙ sym met)
+
+pub cancel_refused : {R : Type 0} (q : Queue R) (by : ActorId) (slot : SlotId) (buffer : ℕ) (fence : Fence) (cause : QStatus) → Some cause ≡ refusal_of (told_of q) by (call.Cancel (lease_of (told_of q) slot buffer) no_points) → (lease : WriteToken) → IsLeaseOf (told_of q) slot buffer lease → Continues q q by (call.Cancel lease fence) (reply.Refused cause)
+cancel_refused q by slot buffer fence cause met lease is_lease = Continues-refused q by (call.Cancel lease fence) cause (cancel_same (told_of q) by slot buffer fence lease is_lease ∙ sym met)
+
+pub detach_refused : {R : Type 0} (q : Queue R) (by : ActorId) (slot : SlotId) (buffer : ℕ) (cause : QStatus) → Some cause ≡ refusal_of (told_of q) by (call.Detach (lease_of (told_of q) slot buffer)) → (lease : WriteToken) → IsLeaseOf (told_of q) slot buffer lease → Continues q q by (call.Detach lease) (reply.Refused cause)
+detach_refused q by slot buffer cause met lease is_lease = Continues-refused q by (call.Detach lease) cause (detach_same (told_of q) by slot buffer lease is_lease ∙ sym met)
+
+pub queue_refused : {R : Type 0} (q : Queue R) (by : ActorId) (order : QueueOrder R) (cause : QStatus) → Some cause ≡ refusal_of (told_of q) by (queue_call (lease_of (told_of q) order.slot order.buffer) order.width order.height order.crop) → (lease : WriteToken) → IsLeaseOf (told_of q) order.slot order.buffer lease → Continues q q by (call_of order lease) (reply.Refused cause)
+queue_refused q by order cause met lease is_lease = Continues-refused q by (call_of order lease) cause (queue_same (told_of q) by order lease is_lease ∙ sym met)
 
 pub request_done : {R : Type 0} (q after : Queue R) (by : ActorId) (slot : SlotId) (buffer : ℕ) → None ≡ refusal_of (told_of q) by (call.Cancel (lease_of (told_of q) slot buffer) no_points) → after ≡ marked q slot.0 → (lease : WriteToken) → IsLeaseOf (told_of q) slot buffer lease → Continues q after by (call.Request lease) (reply.Requested lease.held)
 request_done q after by slot buffer none left lease is_lease =
@@ -56,7 +139,7 @@ detach_done q after by slot buffer sound none left lease is_lease =
 
 pub queue_done : {R : Type 0} (q after : Queue R) (by : ActorId) (order : QueueOrder R) → IsSound q → None ≡ refusal_of (told_of q) by (queue_call (lease_of (told_of q) order.slot order.buffer) order.width order.height order.crop) → after ≡ enqueued q (item_of q order) → (lease : WriteToken) → IsLeaseOf (told_of q) order.slot order.buffer lease → Continues q after by (call_of order lease) (reply.Queued (q.settings.frames + 1))
 queue_done q after by order sound none left lease is_lease =
-    go_to q after (enqueued q (item_of q order)) (Continues-Queue q by lease order.width order.height (item_of q order) sound (queue_same (told_of q) by order lease is_lease ∙ sym none) (sym is_lease.slot) (sym is_lease.held) refl refl) left
+    go_to q after (enqueued q (item_of q order)) (Continues-Queue q by lease order.width order.height (item_of q order) sound (queue_same (told_of q) by order lease is_lease ∙ sym none) (sym is_lease.slot) (queued_buffer (told_of q) by order lease is_lease (sym none)) refl refl) left
 
 pub disconnect_done : {R : Type 0} (q after : Queue R) (by : ActorId) → IsSound q → None ≡ refusal_of (told_of q) by call.Disconnect → after ≡ disconnected q → Continues q after by call.Disconnect reply.Done
 disconnect_done q after by sound none left = go_to q after (disconnected q) (Continues-Disconnect q by sound (sym none)) left

@@ -26,10 +26,12 @@ meant told slot number = numbered (slot_at told slot.0).held number
 abbrev pub lease_of : Told → SlotId → ℕ → WriteToken
 lease_of told slot number = record { slot = slot; held = meant told slot number; requested = false; fence = no_points; drawn = false }
 
--- a lease says the slot and the buffer that are meant
+-- a lease says the slot and the buffer that are meant: where the slot's buffer has the number, it is
+-- the lease's
 pub record IsLeaseOf (told : Told) (place : SlotId) (number : ℕ) (lease : WriteToken) : Type 0 where
   pub slot : lease.slot ≡ place
-  pub held : lease.held ≡ meant told place number
+  pub numbered : lease.held.number ≡ number
+  pub whole : (held : Held) → (slot_at told place.0).held ≡ Some held → held.number ≡ number → lease.held ≡ held
 
 -- cancelling, or detaching, which needs a requested buffer
 abbrev pub lent_call : Bool → WriteToken → PlainCall
