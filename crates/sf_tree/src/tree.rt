@@ -58,8 +58,7 @@ impl Tree {
     /// The layer of a number, if it is in the tree.
     #[tactic(auto, using(crate::proofs::Lookups::lookups))]
     pub fn layer(&self, id: LayerId) -> Option<Layer>
-        ensures value { result ≡ layer_of self.now id }
-        ensures kept { IsTree self.now }
+        ensures { result ≡ layer_of self.now id }
     {
         match self.layers.place_of(id) {
             Some(place) => Some(self.layers.at(place)),
