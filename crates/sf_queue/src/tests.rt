@@ -131,3 +131,21 @@ fn after_a_disconnect_nothing_is_lent(rt: HostRuntime) -> Result<(), Fail> {
     assert_eq!(rt; q.count(SlotState::Free), 64);
     Ok(())
 }
+
+#[test]
+fn a_replaced_frame_frees_its_slot_with_its_right(rt: HostRuntime) -> Result<(), Fail> {
+    let mut q: Slots<u32> = Slots::new(rt.alloc(), QueueId(1), 1, 1)
+        .ok()
+        .ok_or("memory")?;
+    assert_eq!(rt; connect(&mut q, ONE), Ok(()));
+    assert_eq!(rt; set_async(&mut q, true), Ok(()));
+    assert_eq!(rt; told(lend(&mut q, 70)), Ok((0, 1, 70, true)));
+    assert_eq!(rt; request(&mut q, ONE, SlotId(0), 1).is_ok(), true);
+    assert_eq!(rt; show(&mut q, 0, 1, 70), Ok(1));
+    assert_eq!(rt; told(lend(&mut q, 71)), Ok((1, 2, 71, true)));
+    assert_eq!(rt; request(&mut q, ONE, SlotId(1), 2).is_ok(), true);
+    assert_eq!(rt; show(&mut q, 1, 2, 71), Ok(2));
+    assert_eq!(rt; (q.len(), q.count(SlotState::Queued)), (1, 1));
+    assert_eq!(rt; told(lend(&mut q, 72)), Ok((0, 1, 70, false)));
+    Ok(())
+}
