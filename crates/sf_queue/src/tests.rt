@@ -45,11 +45,65 @@ fn show(q: &mut Slots<u32>, slot: u32, buffer: u64, right: u32) -> Result<u64, Q
     queue(q, ONE, order).map_err(|refused| refused.0)
 }
 
-/// The slot, number, right and reallocation of a buffer that was lent, or the refusal.
-fn told(lent: Result<Dequeued<u32>, QStatus>) -> Result<(u32, u64, u32, bool), QStatus> {
-    match lent {
-        Ok(lent) => Ok((lent.slot.0, lent.held.number, lent.right, lent.reallocated)),
-        Err(refused) => Err(refused),
+/// A call of the producer with number 1. Rights are numbers here.
+#[derive(Clone, Copy, Debug)]
+enum Call {
+    Connect,
+    Disconnect,
+    Limit(u32),
+    Async(bool),
+    /// A dequeue, with the right to a new buffer where one is needed.
+    Lend(u32),
+    Request(u32, u64),
+    /// A queue of a slot, with its buffer and its right.
+    Show(u32, u64, u32),
+    Detach(u32, u64),
+}
+
+/// What a call that is done tells: slot, buffer number and right of a buffer that was lent, and
+/// whether it is a new one; the frame number of a queue; else nothing.
+#[derive(Clone, Copy, Debug, PartialEq, Eq)]
+enum Told {
+    Nothing,
+    Lent(u32, u64, u32, bool),
+    Frame(u64),
+}
+
+/// What the call tells, or its refusal.
+fn act(q: &mut Slots<u32>, call: Call) -> Result<Told, QStatus> {
+    match call {
+        Call::Connect => match connect(q, ONE) {
+            Ok(()) => Ok(Told::Nothing),
+            Err(refused) => Err(refused),
+        },
+        Call::Disconnect => match disconnect(q, ONE) {
+            Ok(()) => Ok(Told::Nothing),
+            Err(refused) => Err(refused),
+        },
+        Call::Limit(n) => match set_max_dequeued(q, n) {
+            Ok(()) => Ok(Told::Nothing),
+            Err(refused) => Err(refused),
+        },
+        Call::Async(on) => match set_async(q, on) {
+            Ok(()) => Ok(Told::Nothing),
+            Err(refused) => Err(refused),
+        },
+        Call::Lend(right) => match lend(q, right) {
+            Ok(lent) => Ok(Told::Lent(lent.slot.0, lent.held.number, lent.right, lent.reallocated)),
+            Err(refused) => Err(refused),
+        },
+        Call::Request(slot, buffer) => match request(q, ONE, SlotId(slot), buffer) {
+            Ok(_) => Ok(Told::Nothing),
+            Err(refused) => Err(refused),
+        },
+        Call::Show(slot, buffer, right) => match show(q, slot, buffer, right) {
+            Ok(frame) => Ok(Told::Frame(frame)),
+            Err(refused) => Err(refused),
+        },
+        Call::Detach(slot, buffer) => match detach(q, ONE, SlotId(slot), buffer) {
+            Ok(()) => Ok(Told::Nothing),
+            Err(refused) => Err(refused),
+        },
     }
 }
 
@@ -58,15 +112,20 @@ fn a_producer_may_hold_more_before_its_first_frame_than_after(rt: HostRuntime) -
     let mut q: Slots<u32> = Slots::new(rt.alloc(), QueueId(1), 1, 1)
         .ok()
         .ok_or("memory")?;
-    assert_eq!(rt; connect(&mut q, ONE), Ok(()));
-    assert_eq!(rt; set_max_dequeued(&mut q, 2), Ok(()));
-    assert_eq!(rt; told(lend(&mut q, 70)), Ok((0, 1, 70, true)));
-    assert_eq!(rt; told(lend(&mut q, 71)), Ok((1, 2, 71, true)));
-    assert_eq!(rt; told(lend(&mut q, 72)), Ok((2, 3, 72, true)));
-    assert_eq!(rt; told(lend(&mut q, 73)), Err(QStatus::WouldBlock));
-    assert_eq!(rt; request(&mut q, ONE, SlotId(0), 1).is_ok(), true);
-    assert_eq!(rt; show(&mut q, 0, 1, 70), Ok(1));
-    assert_eq!(rt; told(lend(&mut q, 73)), Err(QStatus::InvalidOperation));
+    let calls = [
+        (Call::Connect, Ok(Told::Nothing)),
+        (Call::Limit(2), Ok(Told::Nothing)),
+        (Call::Lend(70), Ok(Told::Lent(0, 1, 70, true))),
+        (Call::Lend(71), Ok(Told::Lent(1, 2, 71, true))),
+        (Call::Lend(72), Ok(Told::Lent(2, 3, 72, true))),
+        (Call::Lend(73), Err(QStatus::WouldBlock)),
+        (Call::Request(0, 1), Ok(Told::Nothing)),
+        (Call::Show(0, 1, 70), Ok(Told::Frame(1))),
+        (Call::Lend(73), Err(QStatus::InvalidOperation)),
+    ];
+    for (call, expected) in calls {
+        assert_eq!(rt; act(&mut q, call), expected, "{call:?}");
+    }
     Ok(())
 }
 
@@ -75,29 +134,32 @@ fn limits_and_requests(rt: HostRuntime) -> Result<(), Fail> {
     let mut q: Slots<u32> = Slots::new(rt.alloc(), QueueId(1), 1, 1)
         .ok()
         .ok_or("memory")?;
-    assert_eq!(rt; set_max_dequeued(&mut q, 63), Ok(()));
-    assert_eq!(rt; set_max_dequeued(&mut q, 64), Err(QStatus::BadValue));
-    assert_eq!(rt; set_async(&mut q, true), Err(QStatus::BadValue));
-    assert_eq!(rt; connect(&mut q, ONE), Ok(()));
-    assert_eq!(rt; connect(&mut q, ActorId(2)), Err(QStatus::BadValue));
-    assert_eq!(rt; told(lend(&mut q, 7)), Ok((0, 1, 7, true)));
-    assert_eq!(rt;
-        show(&mut q, 0, 1, 7),
-        Err(QStatus::BadValue),
-        "not requested"
-    );
-    assert_eq!(rt;
-        lent_refusal(&q, ONE, SlotId(0), 1, true),
-        Some(QStatus::BadValue)
-    );
-    assert_eq!(rt; lent_refusal(&q, ONE, SlotId(0), 1, false), None);
-    assert_eq!(rt;
-        lent_refusal(&q, ONE, SlotId(64), 1, false),
-        Some(QStatus::BadValue)
-    );
+    let calls = [
+        (Call::Limit(63), Ok(Told::Nothing)),
+        (Call::Limit(64), Err(QStatus::BadValue)),
+        (Call::Async(true), Err(QStatus::BadValue)),
+        (Call::Connect, Ok(Told::Nothing)),
+        (Call::Connect, Err(QStatus::BadValue)),
+        (Call::Lend(7), Ok(Told::Lent(0, 1, 7, true))),
+        (Call::Show(0, 1, 7), Err(QStatus::BadValue)),
+    ];
+    for (call, expected) in calls {
+        assert_eq!(rt; act(&mut q, call), expected, "{call:?}");
+    }
+    for (slot, requested, refusal) in [
+        (0, true, Some(QStatus::BadValue)),
+        (0, false, None),
+        (64, false, Some(QStatus::BadValue)),
+    ] {
+        assert_eq!(rt; lent_refusal(&q, ONE, SlotId(slot), 1, requested), refusal);
+    }
     assert_eq!(rt; q.count(SlotState::Dequeued), 1);
-    assert_eq!(rt; request(&mut q, ONE, SlotId(0), 1).is_ok(), true);
-    assert_eq!(rt; show(&mut q, 0, 1, 7), Ok(1));
+    for (call, expected) in [
+        (Call::Request(0, 1), Ok(Told::Nothing)),
+        (Call::Show(0, 1, 7), Ok(Told::Frame(1))),
+    ] {
+        assert_eq!(rt; act(&mut q, call), expected, "{call:?}");
+    }
     Ok(())
 }
 
@@ -106,15 +168,20 @@ fn a_detached_buffer_is_attached_with_a_new_number(rt: HostRuntime) -> Result<()
     let mut q: Slots<u32> = Slots::new(rt.alloc(), QueueId(1), 1, 1)
         .ok()
         .ok_or("memory")?;
-    assert_eq!(rt; connect(&mut q, ONE), Ok(()));
-    assert_eq!(rt; told(lend(&mut q, 7)), Ok((0, 1, 7, true)));
-    assert_eq!(rt; request(&mut q, ONE, SlotId(0), 1).is_ok(), true);
-    assert_eq!(rt; detach(&mut q, ONE, SlotId(0), 1), Ok(()));
+    let calls = [
+        (Call::Connect, Ok(Told::Nothing)),
+        (Call::Lend(7), Ok(Told::Lent(0, 1, 7, true))),
+        (Call::Request(0, 1), Ok(Told::Nothing)),
+        (Call::Detach(0, 1), Ok(Told::Nothing)),
+    ];
+    for (call, expected) in calls {
+        assert_eq!(rt; act(&mut q, call), expected, "{call:?}");
+    }
     if q.settings().buffers < u64::MAX {
         let (slot, held) = attach(&mut q, ONE, 1, 1).ok().ok_or("refused")?;
         assert_eq!(rt; (slot.0, held.number), (0, 2));
     }
-    assert_eq!(rt; show(&mut q, 0, 2, 7), Ok(1));
+    assert_eq!(rt; act(&mut q, Call::Show(0, 2, 7)), Ok(Told::Frame(1)));
     Ok(())
 }
 
@@ -123,11 +190,16 @@ fn after_a_disconnect_nothing_is_lent(rt: HostRuntime) -> Result<(), Fail> {
     let mut q: Slots<u32> = Slots::new(rt.alloc(), QueueId(1), 1, 1)
         .ok()
         .ok_or("memory")?;
-    assert_eq!(rt; connect(&mut q, ONE), Ok(()));
-    assert_eq!(rt; told(lend(&mut q, 7)), Ok((0, 1, 7, true)));
-    assert_eq!(rt; disconnect(&mut q, ONE), Ok(()));
-    assert_eq!(rt; request(&mut q, ONE, SlotId(0), 1).is_ok(), false);
-    assert_eq!(rt; told(lend(&mut q, 8)), Err(QStatus::NoInit));
+    let calls = [
+        (Call::Connect, Ok(Told::Nothing)),
+        (Call::Lend(7), Ok(Told::Lent(0, 1, 7, true))),
+        (Call::Disconnect, Ok(Told::Nothing)),
+        (Call::Request(0, 1), Err(QStatus::NoInit)),
+        (Call::Lend(8), Err(QStatus::NoInit)),
+    ];
+    for (call, expected) in calls {
+        assert_eq!(rt; act(&mut q, call), expected, "{call:?}");
+    }
     assert_eq!(rt; q.count(SlotState::Free), 64);
     Ok(())
 }
@@ -137,15 +209,20 @@ fn a_replaced_frame_frees_its_slot_with_its_right(rt: HostRuntime) -> Result<(),
     let mut q: Slots<u32> = Slots::new(rt.alloc(), QueueId(1), 1, 1)
         .ok()
         .ok_or("memory")?;
-    assert_eq!(rt; connect(&mut q, ONE), Ok(()));
-    assert_eq!(rt; set_async(&mut q, true), Ok(()));
-    assert_eq!(rt; told(lend(&mut q, 70)), Ok((0, 1, 70, true)));
-    assert_eq!(rt; request(&mut q, ONE, SlotId(0), 1).is_ok(), true);
-    assert_eq!(rt; show(&mut q, 0, 1, 70), Ok(1));
-    assert_eq!(rt; told(lend(&mut q, 71)), Ok((1, 2, 71, true)));
-    assert_eq!(rt; request(&mut q, ONE, SlotId(1), 2).is_ok(), true);
-    assert_eq!(rt; show(&mut q, 1, 2, 71), Ok(2));
+    let calls = [
+        (Call::Connect, Ok(Told::Nothing)),
+        (Call::Async(true), Ok(Told::Nothing)),
+        (Call::Lend(70), Ok(Told::Lent(0, 1, 70, true))),
+        (Call::Request(0, 1), Ok(Told::Nothing)),
+        (Call::Show(0, 1, 70), Ok(Told::Frame(1))),
+        (Call::Lend(71), Ok(Told::Lent(1, 2, 71, true))),
+        (Call::Request(1, 2), Ok(Told::Nothing)),
+        (Call::Show(1, 2, 71), Ok(Told::Frame(2))),
+        (Call::Lend(72), Ok(Told::Lent(0, 1, 70, false))),
+    ];
+    for (call, expected) in calls {
+        assert_eq!(rt; act(&mut q, call), expected, "{call:?}");
+    }
     assert_eq!(rt; (q.len(), q.count(SlotState::Queued)), (1, 1));
-    assert_eq!(rt; told(lend(&mut q, 72)), Ok((0, 1, 70, false)));
     Ok(())
 }
