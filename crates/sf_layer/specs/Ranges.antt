@@ -1,10 +1,9 @@
 -- The ranges of positions and crops.
-use Rattle.std.specs.Prelude.{ℕ, ◌<◌, ◌≤◌, ℤ, pos, negsuc, ◌≤ℤ◌, ◌+ℤ◌, Option, Some, None}
+use Rattle.std.specs.Prelude.{ℕ, ◌<◌, ◌≤◌, ℤ, pos, negsuc, ◌≤ℤ◌, ◌+ℤ◌, Some}
 use Rattle.sf_base.specs.declared.geometry.Rect.{Rect}
 use Rattle.sf_base.specs.declared.ids.LayerId.{LayerId}
 use Rattle.sf_layer.specs.declared.op.Op.{Op}
 use Rattle.sf_layer.specs.declared.op.Op.TheVariants as op
-use Rattle.sf_layer.specs.declared.shown.Shown.{Shown}
 
 -- a position or a crop's corner is -16,384 to 16,384
 pub record IsCoordinate (at : ℤ) : Type 0 where

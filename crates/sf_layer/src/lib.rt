@@ -8,6 +8,8 @@ mod layer;
 mod op;
 mod parent;
 mod shown;
+#[cfg(test)]
+mod tests;
 
 pub use kind::Kind;
 pub use layer::Layer;

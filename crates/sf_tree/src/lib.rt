@@ -10,6 +10,8 @@ mod journal;
 mod layers;
 mod order;
 mod showing;
+#[cfg(test)]
+mod tests;
 mod tree;
 
 pub use apply::ApplyFault;

@@ -58,7 +58,8 @@ impl Tree {
     /// The layer of a number, if it is in the tree.
     #[tactic(auto, using(crate::proofs::Lookups::lookups))]
     pub fn layer(&self, id: LayerId) -> Option<Layer>
-        ensures { result ≡ layer_of self.now id }
+        ensures value { result ≡ layer_of self.now id }
+        ensures kept { IsTree self.now }
     {
         match self.layers.place_of(id) {
             Some(place) => Some(self.layers.at(place)),
