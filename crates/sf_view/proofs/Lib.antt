@@ -1,0 +1,5 @@
+pub mod SpanLemmas
+pub mod AncestryLemmas
+pub mod PlacementLemmas
+pub mod ViewLemmas
+pub mod ImageLemmas

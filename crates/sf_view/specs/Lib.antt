@@ -1,0 +1,11 @@
+pub mod Ancestry
+pub mod Contents
+pub mod Image
+pub mod Views
+pub mod Stacks
+pub mod Spans
+pub mod Clips
+pub mod Placements
+pub use Rattle.sf_tree.specs.Layers
+pub use Rattle.sf_tree.specs.DrawOrder
+pub use Rattle.sf_picture.specs.Pixels

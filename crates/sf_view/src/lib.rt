@@ -1,0 +1,19 @@
+//! What a display shows of a layer tree: the layers that are drawn, from the back, each with its
+//! place, its alpha, and the part of the display to which crops and contents cut it. A frame's
+//! image is painted from it.
+#![tactic(auto)]
+
+mod ancestry;
+mod content;
+mod drawn;
+mod laws;
+mod placement;
+mod span;
+#[cfg(test)]
+mod tests;
+mod view;
+
+pub use content::Content;
+pub use drawn::Drawn;
+pub use laws::a_view_has_the_image_of_its_tree;
+pub use view::{View, view_of};
