@@ -1,0 +1,22 @@
+ghost use Rattle.std.specs.Prelude.{◌≡◌};
+ghost use Rattle.sf_picture.specs.declared.picture.Picture.{Picture as PictureValue};
+
+use sf_picture::Painted;
+
+/// What has pixels to show: a painted picture, or what holds one.
+pub trait Pixels {
+    /// The picture in its pixels.
+    ghost picture: { Self → PictureValue };
+
+    /// Its pixels.
+    fn pixels(&self) -> &Painted
+        ensures { result.now ≡ picture self.now };
+}
+
+impl Pixels for Painted {
+    ghost picture = { λ painted. painted };
+
+    fn pixels(&self) -> &Painted {
+        self
+    }
+}
