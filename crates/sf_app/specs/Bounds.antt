@@ -1,22 +1,22 @@
 -- The bounds within which a run stays, so that its counts fit their types.
 use Rattle.std.specs.Prelude.{ℕ, ◌+◌, ◌≤◌, length}
 use Rattle.sf_script.specs.Scene.{SceneValue}
-use Rattle.sf_app.specs.declared.state.RunState.{RunState}
 use Rattle.sf_app.specs.Play.{script_in}
+use Rattle.sf_app.specs.Worlds.{World}
 
 -- no more is committed than arrived, no more arrived than steps are done, and no more steps are done than there are
-pub record IsSound (scene : SceneValue) (state : RunState) : Type 0 where
-  pub committed : state.committed ≤ length state.arrivals
-  pub arrived : length state.arrivals ≤ length state.trace
-  pub done : length state.trace ≤ length (script_in scene.actors).steps
+pub record IsSound (scene : SceneValue) (world : World) : Type 0 where
+  pub committed : world.committed ≤ length world.arrivals
+  pub arrived : length world.arrivals ≤ length world.done
+  pub done : length world.done ≤ length (script_in scene.actors).steps
 
--- a sound state of a scene whose period and steps are within their limits
-pub record IsReady (scene : SceneValue) (state : RunState) : Type 0 where
+-- a sound world of a scene whose period and steps are within their limits
+pub record IsReady (scene : SceneValue) (world : World) : Type 0 where
   pub period : scene.period ≤ 1000000000
   pub steps : length (script_in scene.actors).steps ≤ 4096
-  pub sound : IsSound scene state
+  pub sound : IsSound scene world
 
--- a state that is ready after so many turns, with at most so many more vsyncs
-pub record Stays (scene : SceneValue) (before now : RunState) (turns : ℕ) : Type 0 where
+-- a world that is ready after so many turns, with at most so many more vsyncs
+pub record Stays (scene : SceneValue) (before now : World) (turns : ℕ) : Type 0 where
   pub ready : IsReady scene now
   pub vsyncs : now.vsyncs ≤ before.vsyncs + turns

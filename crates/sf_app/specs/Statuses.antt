@@ -5,10 +5,10 @@ use Rattle.sf_script.specs.Scene.{SceneValue}
 use Rattle.sf_script.specs.declared.fault.ScriptFault.{ScriptFault}
 use Rattle.sf_script.specs.Parse.{at_no_place, parsed_of}
 use Rattle.sf_io.specs.Streams.{Took, TookPrefix}
-use Rattle.sf_app.specs.declared.record.Record.TheVariants as rec
-use Rattle.sf_app.specs.declared.record.Record.{Record}
+use Rattle.sf_record.specs.declared.record.Record.TheVariants as rec
+use Rattle.sf_record.specs.declared.record.Record.{Record}
 use Rattle.sf_app.specs.Played.{Played}
-use Rattle.sf_app.specs.Records.{bytes_of, record_bytes}
+use Rattle.sf_record.specs.Records.{bytes_of, record_bytes}
 use Rattle.sf_app.specs.Runs.{CutRun, WroteRun}
 
 -- status 0: a script was read to its end, it spells a scene, and the records of the scene's play were written

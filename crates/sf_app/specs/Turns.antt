@@ -1,18 +1,17 @@
--- What the functions on the state of a run answer, and the bounds within which it stays.
-use Rattle.std.specs.Prelude.{◌≡◌, ℕ, ◌+◌, ◌-◌, List, [], ◌∷◌, Option, None, Some, length}
+-- What the functions on the state of a run answer.
+use Rattle.std.specs.Prelude.{◌≡◌, List, [], ◌∷◌, Option, None, Some, ℕ, ◌+◌, ◌-◌, length}
 use Rattle.sf_script.specs.declared.scene.ActorScript.{ActorScript}
-use Rattle.sf_app.specs.declared.event.Event.{Event}
-use Rattle.sf_app.specs.declared.state.RunState.{RunState}
-use Rattle.sf_app.specs.State.{Turn}
+use Rattle.sf_record.specs.declared.event.Event.{Event}
+use Rattle.sf_app.specs.Worlds.{Turn, World}
 
 abbrev pub shown : Option Event → List Event
 shown None = []
 shown (Some event) = event ∷ []
 
--- a call showed these events and left this state, and so does the turn
-abbrev pub IsTurn : List Event → RunState → Turn → Type 0
-IsTurn events state turn = turn ≡ record { events = events; state = state }
+-- a call showed these events and left this world, and so does the turn
+abbrev pub IsTurn : List Event → World → Turn → Type 0
+IsTurn events world turn = turn ≡ record { events = events; world = world }
 
 -- steps that are not done, and arrivals that are not committed
-abbrev pub work_left : ActorScript → RunState → ℕ
-work_left script state = (length script.steps - length state.trace) + (length state.arrivals - state.committed)
+abbrev pub work_left : ActorScript → World → ℕ
+work_left script world = (length script.steps - length world.done) + (length world.arrivals - world.committed)

@@ -1,6 +1,6 @@
 ghost use Rattle.std.specs.Prelude.{◌≡◌, List};
 ghost use Rattle.sf_script.specs.Scene.{SceneValue};
-ghost use Rattle.sf_app.specs.declared.record.Record.{Record};
+ghost use Rattle.sf_record.specs.declared.record.Record.{Record};
 ghost use Rattle.sf_app.specs.Play.{IsPlay};
 
 /// The law that a scene has one play: its records are determined by the scene alone.

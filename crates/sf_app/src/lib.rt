@@ -1,28 +1,22 @@
 //! The compositor as one call: [`run`] reads a script, plays it and writes the records of the run.
 //!
-//! This is the whole way of a frame so far, from bytes to bytes: `sf_script` spells a scene, an
-//! actor's steps send transactions, a vsync commits them to the tree of layers and paints it, and
-//! the records are encoded and handed to a sink of `sf_io`. Each module is to move whole into a
-//! crate of its own as its part of the compositor grows: layers and trees, transactions, the
-//! image, an actor's trace, vsyncs, records, the play.
+//! This is the whole way of a frame so far, from bytes to bytes: `sf_script` spells a scene; an
+//! actor's steps (`sf_actor`) lend, draw, queue and acquire buffers and send transactions; a vsync
+//! commits them to the layers (`sf_commit`), paints the display and releases the frames that go;
+//! and the records (`sf_record`) are handed to a sink of `sf_io`.
 #![tactic(auto)]
 
-mod encode;
-mod event;
-mod held;
-mod image;
+mod history;
 mod laws;
-mod layer;
+#[cfg(test)]
+mod picture_tests;
 mod play;
-mod record;
+mod queues;
 mod session;
 mod state;
 mod step;
 #[cfg(test)]
 mod tests;
-mod trace;
-mod transaction;
-mod tree;
 mod vsync;
 
 pub use laws::one_play;

@@ -2,36 +2,30 @@ ghost use Rattle.std.specs.Prelude.{◌≡◌, ◌==◌, ◌&&◌, ◌<◌, ◌�
 ghost use Rattle.std.specs.Io.KnownBytes.{Appends};
 ghost use Rattle.sf_io.specs.Causes.{Rose};
 ghost use Rattle.sf_io.specs.Streams.{TookPrefix};
-ghost use Rattle.sf_app.specs.State.{step_of, vsync_of, idle};
-ghost use Rattle.sf_app.specs.Events.{closing, opening};
-ghost use Rattle.sf_app.specs.Records.{bytes_of, record_bytes};
-ghost use Rattle.sf_app.specs.Bounds.{IsReady, Stays};
-ghost use Rattle.sf_app.specs.Turns.{IsTurn, shown};
-ghost use Rattle.sf_app.specs.Play.{entry_of, is_busy, picks_in, repeated, round_of, script_in, turn_of, turns_of};
+ghost use Rattle.sf_actor.specs.Plain.{past_of};
+ghost use Rattle.sf_record.specs.Events.{closing, opening};
+ghost use Rattle.sf_record.specs.Records.{bytes_of, record_bytes};
+ghost use Rattle.sf_app.specs.Bounds.{Stays};
+ghost use Rattle.sf_app.specs.Histories.{shown_past};
+ghost use Rattle.sf_app.specs.Play.{picks_in, repeated, round_of, script_in, stepped, turn_of, turns_of};
 ghost use Rattle.sf_app.specs.Runs.{CutRounds, CutRun, Wrote, WroteRounds, WroteRun, shown_bytes};
+ghost use Rattle.sf_app.specs.States.{IsRunning, world_of};
+ghost use Rattle.sf_app.specs.Turns.{shown};
+ghost use Rattle.sf_app.specs.Worlds.{idle, vsync_of};
 
-use crate::encode::{RunFault, write_all, write_record};
-use crate::event::{Event, records};
-use crate::record::{Arrival, ArrivalEntry, Record, SceneHeader};
+use crate::history::history;
 use crate::state::RunState;
 use crate::step::next_step;
 use crate::vsync::vsync;
 use sf_base::{Items, NoMemory};
 use sf_io::Sink;
+use sf_record::{
+    ArrivalEntry, Event, QueueHistory, Record, RunFault, SceneHeader, records, write_all,
+    write_record,
+};
 use sf_script::{Pick, Scene};
-use std::alloc::{AllocError, Global};
-
-// The next step of the one actor.
-#[tactic(auto, unfolding(crate::specs::Play::script_in, crate::specs::State::step_of))]
-fn actor_turn(alloc: Global, scene: &Scene, state: &mut RunState) -> Result<Option<Event>, NoMemory>
-    requires { IsReady scene.now state.old }
-    ensures { IfOk result (λ event. IsTurn (shown event) state.new (step_of (script_in scene.now.actors) state.old)) }
-{
-    match scene.actors.as_slice() {
-        [script, ..] => next_step(alloc, script, state),
-        [] => Ok(None),
-    }
-}
+use sf_surface::QueueObject;
+use std::alloc::Global;
 
 // Writes the records of an event, if there is one.
 fn write_event<K: Sink>(alloc: Global, sink: &mut K, event: Option<Event>) -> Result<(), RunFault>
@@ -57,13 +51,14 @@ fn play_step<K: Sink>(
     state: &mut RunState,
     sink: &mut K,
 ) -> Result<(), RunFault>
-    requires ready { IsReady scene.now state.old }
-    ensures ok { OnOk result (Wrote (K.taken sink.old) (K.taken sink.new) state.new (step_of (script_in scene.now.actors) state.old)) }
-    ensures err { OnErr result (TookPrefix (K.taken sink.old) (K.taken sink.new) (shown_bytes (step_of (script_in scene.now.actors) state.old).events)) }
+    requires running { IsRunning scene.now state.old }
+    ensures ok { OnOk result (Wrote (K.taken sink.old) (K.taken sink.new) (world_of state.new) (stepped scene.now (world_of state.old))) }
+    ensures err { OnErr result (TookPrefix (K.taken sink.old) (K.taken sink.new) (shown_bytes (stepped scene.now (world_of state.old)).events)) }
+    ensures running { OnOk result (IsRunning scene.now state.new) }
     ensures later { K.faults sink.old ≤ K.faults sink.new }
     ensures failed { IsErrOf result RunFault.WriteFault → Rose (K.faults sink.old) (K.faults sink.new) }
 {
-    match actor_turn(alloc, scene, state) {
+    match next_step(alloc, scene, state) {
         Ok(event) => write_event(alloc, sink, event),
         Err(_) => Err(RunFault::NoMemory),
     }
@@ -76,10 +71,11 @@ fn play_vsync<K: Sink>(
     state: &mut RunState,
     sink: &mut K,
 ) -> Result<(), RunFault>
-    requires ready { IsReady scene.now state.old }
+    requires running { IsRunning scene.now state.old }
     requires early { state.old.vsyncs < 2 ^ 32 - 1 }
-    ensures ok { OnOk result (Wrote (K.taken sink.old) (K.taken sink.new) state.new (vsync_of scene.now state.old)) }
-    ensures err { OnErr result (TookPrefix (K.taken sink.old) (K.taken sink.new) (shown_bytes (vsync_of scene.now state.old).events)) }
+    ensures ok { OnOk result (Wrote (K.taken sink.old) (K.taken sink.new) (world_of state.new) (vsync_of scene.now (world_of state.old))) }
+    ensures err { OnErr result (TookPrefix (K.taken sink.old) (K.taken sink.new) (shown_bytes (vsync_of scene.now (world_of state.old)).events)) }
+    ensures running { OnOk result (IsRunning scene.now state.new) }
     ensures later { K.faults sink.old ≤ K.faults sink.new }
     ensures failed { IsErrOf result RunFault.WriteFault → Rose (K.faults sink.old) (K.faults sink.new) }
 {
@@ -108,10 +104,11 @@ fn play_turn<K: Sink>(
     pick: u32,
     sink: &mut K,
 ) -> Result<(), RunFault>
-    requires ready { IsReady scene.now state.old }
+    requires running { IsRunning scene.now state.old }
     requires early { state.old.vsyncs < 2 ^ 32 - 1 }
-    ensures ok { OnOk result (Wrote (K.taken sink.old) (K.taken sink.new) state.new (turn_of scene.now pick state.old)) }
-    ensures err { OnErr result (TookPrefix (K.taken sink.old) (K.taken sink.new) (shown_bytes (turn_of scene.now pick state.old).events)) }
+    ensures ok { OnOk result (Wrote (K.taken sink.old) (K.taken sink.new) (world_of state.new) (turn_of scene.now pick (world_of state.old))) }
+    ensures err { OnErr result (TookPrefix (K.taken sink.old) (K.taken sink.new) (shown_bytes (turn_of scene.now pick (world_of state.old)).events)) }
+    ensures running { OnOk result (IsRunning scene.now state.new) }
     ensures later { K.faults sink.old ≤ K.faults sink.new }
     ensures failed { IsErrOf result RunFault.WriteFault → Rose (K.faults sink.old) (K.faults sink.new) }
 {
@@ -132,11 +129,12 @@ fn play_pick<K: Sink>(
     pick: Pick,
     sink: &mut K,
 ) -> Result<(), RunFault>
-    requires ready { IsReady scene.now state.old }
+    requires running { IsRunning scene.now state.old }
     requires early { state.old.vsyncs + pick.times < 2 ^ 32 - 1 }
-    ensures ok { OnOk result (Wrote (K.taken sink.old) (K.taken sink.new) state.new (turns_of scene.now (idle state.old) (repeated pick))) }
-    ensures err { OnErr result (TookPrefix (K.taken sink.old) (K.taken sink.new) (shown_bytes (turns_of scene.now (idle state.old) (repeated pick)).events)) }
-    ensures stays { OnOk result (Stays scene.now state.old state.new pick.times) }
+    ensures ok { OnOk result (Wrote (K.taken sink.old) (K.taken sink.new) (world_of state.new) (turns_of scene.now (idle (world_of state.old)) (repeated pick))) }
+    ensures err { OnErr result (TookPrefix (K.taken sink.old) (K.taken sink.new) (shown_bytes (turns_of scene.now (idle (world_of state.old)) (repeated pick)).events)) }
+    ensures stays { OnOk result (Stays scene.now (world_of state.old) (world_of state.new) pick.times) }
+    ensures running { OnOk result (IsRunning scene.now state.new) }
     ensures later { K.faults sink.old ≤ K.faults sink.new }
     ensures failed { IsErrOf result RunFault.WriteFault → Rose (K.faults sink.old) (K.faults sink.new) }
 {
@@ -157,13 +155,14 @@ fn play_order<K: Sink>(
     order: &[Pick],
     sink: &mut K,
 ) -> Result<(), RunFault>
-    requires ready { IsReady scene.now state.old }
+    requires running { IsRunning scene.now state.old }
     requires early { state.old.vsyncs ≡ 0 }
     requires few { length order.now ≤ 1048576 }
     requires picks { All (λ p. p.times ≤ 256) order.now }
-    ensures ok { OnOk result (Wrote (K.taken sink.old) (K.taken sink.new) state.new (turns_of scene.now (idle state.old) (picks_in order.now))) }
-    ensures err { OnErr result (TookPrefix (K.taken sink.old) (K.taken sink.new) (shown_bytes (turns_of scene.now (idle state.old) (picks_in order.now)).events)) }
-    ensures stays { OnOk result (Stays scene.now state.old state.new (256 * length order.now)) }
+    ensures ok { OnOk result (Wrote (K.taken sink.old) (K.taken sink.new) (world_of state.new) (turns_of scene.now (idle (world_of state.old)) (picks_in order.now))) }
+    ensures err { OnErr result (TookPrefix (K.taken sink.old) (K.taken sink.new) (shown_bytes (turns_of scene.now (idle (world_of state.old)) (picks_in order.now)).events)) }
+    ensures stays { OnOk result (Stays scene.now (world_of state.old) (world_of state.new) (256 * length order.now)) }
+    ensures running { OnOk result (IsRunning scene.now state.new) }
     ensures later { K.faults sink.old ≤ K.faults sink.new }
     ensures failed { IsErrOf result RunFault.WriteFault → Rose (K.faults sink.old) (K.faults sink.new) }
 {
@@ -183,10 +182,11 @@ fn play_round<K: Sink>(
     state: &mut RunState,
     sink: &mut K,
 ) -> Result<(), RunFault>
-    requires ready { IsReady scene.now state.old }
+    requires running { IsRunning scene.now state.old }
     requires early { state.old.vsyncs < 2 ^ 32 - 1 }
-    ensures ok { OnOk result (Wrote (K.taken sink.old) (K.taken sink.new) state.new (round_of scene.now state.old)) }
-    ensures err { OnErr result (TookPrefix (K.taken sink.old) (K.taken sink.new) (shown_bytes (round_of scene.now state.old).events)) }
+    ensures ok { OnOk result (Wrote (K.taken sink.old) (K.taken sink.new) (world_of state.new) (round_of scene.now (world_of state.old))) }
+    ensures err { OnErr result (TookPrefix (K.taken sink.old) (K.taken sink.new) (shown_bytes (round_of scene.now (world_of state.old)).events)) }
+    ensures running { OnOk result (IsRunning scene.now state.new) }
     ensures later { K.faults sink.old ≤ K.faults sink.new }
     ensures failed { IsErrOf result RunFault.WriteFault → Rose (K.faults sink.old) (K.faults sink.new) }
 {
@@ -202,9 +202,9 @@ fn play_round<K: Sink>(
 
 // Whether the counts stand as they were.
 fn is_idle(state: &RunState, done: usize, committed: usize) -> bool
-    ensures { result ≡ (length state.now.trace == done && state.now.committed == committed) }
+    ensures { result ≡ (length state.now.actor.done == done && state.now.committed == committed) }
 {
-    state.trace.len() == done && state.committed == committed
+    state.actor.done.len() == done && state.committed == committed
 }
 
 // Plays rounds, up to the first in which nothing is done.
@@ -214,15 +214,16 @@ fn play_rounds<K: Sink>(
     state: &mut RunState,
     sink: &mut K,
 ) -> Result<(), RunFault>
-    requires ready { IsReady scene.now state.old }
+    requires running { IsRunning scene.now state.old }
     requires early { state.old.vsyncs ≤ 2 ^ 28 }
-    ensures ok { OnOk result (WroteRounds scene.now (K.taken sink.old) (K.taken sink.new) state.old state.new) }
-    ensures err { OnErr result (CutRounds scene.now (K.taken sink.old) (K.taken sink.new) state.old) }
+    ensures ok { OnOk result (WroteRounds scene.now (K.taken sink.old) (K.taken sink.new) (world_of state.old) (world_of state.new)) }
+    ensures err { OnErr result (CutRounds scene.now (K.taken sink.old) (K.taken sink.new) (world_of state.old)) }
+    ensures running { OnOk result (IsRunning scene.now state.new) }
     ensures later { K.faults sink.old ≤ K.faults sink.new }
     ensures failed { IsErrOf result RunFault.WriteFault → Rose (K.faults sink.old) (K.faults sink.new) }
 {
     'rounds: loop {
-        let done = state.trace.len();
+        let done = state.actor.done.len();
         let committed = state.committed;
         match play_round(alloc, scene, state, sink) {
             Ok(()) => {}
@@ -234,37 +235,47 @@ fn play_rounds<K: Sink>(
     }
 }
 
-fn entries(alloc: Global, arrivals: &[Arrival]) -> Result<Vec<ArrivalEntry>, AllocError>
-    ensures { IfOk result (λ v. v.items ≡ map entry_of arrivals.now) }
+// The histories of the queues.
+fn histories(alloc: Global, queues: &[QueueObject]) -> Result<Vec<QueueHistory>, NoMemory>
+    ensures { IfOk result (λ v. v.items ≡ map shown_past (map past_of queues.now)) }
 {
-    arrivals
-        .iter()
-        .map(|a| ArrivalEntry {
-            actor: a.actor,
-            step: a.step,
-            token: a.token,
-        })
-        .collect(alloc)
+    let mut histories = Vec::new(alloc);
+    for queue in queues {
+        histories.push(history(alloc, queue)?)?;
+    }
+    Ok(histories)
+}
+
+// The records that end a run.
+fn closing_records(
+    alloc: Global,
+    arrivals: Items<ArrivalEntry>,
+    queues: &[QueueObject],
+) -> Result<Vec<Record>, NoMemory>
+    ensures { IfOk result (λ v. v.items ≡ closing arrivals (map shown_past (map past_of queues.now)) [] []) }
+{
+    let histories = histories(alloc, queues)?;
+    let mut records = Vec::new(alloc);
+    records.push(Record::Arrv(arrivals))?;
+    let mut shown: Vec<Record> = histories.into_iter().map(Record::Hist).collect(alloc)?;
+    records.append(&mut shown)?;
+    records.push(Record::Hold(Items::new(Vec::new(alloc))))?;
+    records.push(Record::Stuk(Items::new(Vec::new(alloc))))?;
+    records.push(Record::Done)?;
+    Ok(records)
 }
 
 // Writes the records that end a run.
-fn write_closing<K: Sink>(alloc: Global, sink: &mut K, arrivals: &[Arrival]) -> Result<(), RunFault>
-    ensures ok { OnOk result (Appends (K.taken sink.old) (K.taken sink.new) (bytes_of (closing (map entry_of arrivals.now) [] []))) }
-    ensures err { OnErr result (TookPrefix (K.taken sink.old) (K.taken sink.new) (bytes_of (closing (map entry_of arrivals.now) [] []))) }
+fn write_closing<K: Sink>(alloc: Global, sink: &mut K, state: RunState) -> Result<(), RunFault>
+    ensures ok { OnOk result (Appends (K.taken sink.old) (K.taken sink.new) (bytes_of (closing state.arrivals (map shown_past (map past_of state.desk)) [] []))) }
+    ensures err { OnErr result (TookPrefix (K.taken sink.old) (K.taken sink.new) (bytes_of (closing state.arrivals (map shown_past (map past_of state.desk)) [] []))) }
     ensures later { K.faults sink.old ≤ K.faults sink.new }
     ensures failed { IsErrOf result RunFault.WriteFault → Rose (K.faults sink.old) (K.faults sink.new) }
 {
-    let entries = match entries(alloc, arrivals) {
-        Ok(entries) => entries,
-        Err(_) => return Err(RunFault::NoMemory),
-    };
-    let last = [
-        Record::Arrv(Items::new(entries)),
-        Record::Hold(Items::new(Vec::new(alloc))),
-        Record::Stuk(Items::new(Vec::new(alloc))),
-        Record::Done,
-    ];
-    write_all(alloc, sink, &last)
+    match closing_records(alloc, state.arrivals, state.desk.queues()) {
+        Ok(records) => write_all(alloc, sink, &records),
+        Err(_) => Err(RunFault::NoMemory),
+    }
 }
 
 fn header(scene: &Scene) -> Record
@@ -297,7 +308,10 @@ pub fn play<K: Sink>(alloc: Global, scene: &Scene, sink: &mut K) -> Result<(), R
     ensures failed { IsErrOf result RunFault.WriteFault → Rose (K.faults sink.old) (K.faults sink.new) }
 {
     let _pixels = scene.pixels();
-    let mut state = RunState::new(alloc);
+    let mut state = match RunState::new(alloc, scene) {
+        Ok(state) => state,
+        Err(_) => return Err(RunFault::NoMemory),
+    };
     match write_opening(alloc, sink, scene) {
         Ok(()) => {}
         Err(fault) => return Err(fault),
@@ -310,7 +324,7 @@ pub fn play<K: Sink>(alloc: Global, scene: &Scene, sink: &mut K) -> Result<(), R
         Ok(()) => {}
         Err(fault) => return Err(fault),
     }
-    match write_closing(alloc, sink, state.arrivals.as_slice()) {
+    match write_closing(alloc, sink, state) {
         Ok(()) => Ok(()),
         Err(fault) => Err(fault),
     }

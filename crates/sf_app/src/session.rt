@@ -7,10 +7,9 @@ ghost use Rattle.sf_script.specs.Scene.{SceneValue};
 ghost use Rattle.sf_script.specs.declared.fault.ScriptFault.{ScriptFault};
 ghost use Rattle.sf_app.specs.Statuses.{MeansScript, PlayedScript, RefusedScript, WritesPrefix, fault_bytes};
 
-use crate::encode::{RunFault, write_record};
 use crate::play::play;
-use crate::record::Record;
 use sf_io::{Gate, ReadFault, Sink, Source, read_all};
+use sf_record::{Record, RunFault, write_record};
 use sf_script::{LONGEST_SCRIPT, ParseFault, ScriptFault, parse};
 use std::alloc::Global;
 use std::sync::Wait;

@@ -28,7 +28,7 @@ ARRV\0\0\0\x10\0\0\0\x01\0\0\0\x01\0\0\0\x04\0\0\0\x01\
 HOLD\0\0\0\x04\0\0\0\0STUK\0\0\0\x04\0\0\0\0DONE\0\0\0\0";
 
 // A run of a script, of which the read and the write of these numbers fail.
-fn run_of<R: Threads + Wait + Sync>(
+pub fn run_of<R: Threads + Wait + Sync>(
     rt: &R,
     alloc: Global,
     script: &[u8],

@@ -1,80 +1,102 @@
-ghost use Rattle.std.specs.Prelude.{◌≡◌, ◌<◌, ◌≤◌, ◌+◌, ◌-◌, ◌^◌, [], length, IfOk, List};
-ghost use Rattle.std.specs.List.{list_any, range_with_len};
-ghost use Rattle.sf_app.specs.Commits.{commit_by, frame_due, is_done, with_commit, with_commits};
-ghost use Rattle.sf_app.specs.State.{vsync_of};
-ghost use Rattle.sf_app.specs.Bounds.{IsReady};
+ghost use Rattle.std.specs.Prelude.{◌≡◌, ◌<◌, ◌≤◌, ◌+◌, ◌-◌, ◌^◌, ◌++◌, ◌∷◌, [], length, map, IfOk, OnOk, ℕ, List};
+ghost use Rattle.std.specs.List.{All, list_any};
+ghost use Rattle.sf_surface.specs.Calls.{LeaseShows};
+ghost use Rattle.sf_surface.specs.Leases.{ReadLeaseOf};
+ghost use Rattle.sf_actor.specs.Desks.{ObjectShows};
+ghost use Rattle.sf_actor.specs.Keeps.{KeepsFrame};
+ghost use Rattle.sf_actor.specs.Plain.{past_of};
+ghost use Rattle.sf_actor.specs.Scripts.{picture_at};
+ghost use Rattle.sf_commit.specs.Commits.{ShowsWith, frame_of, stage_of};
+ghost use Rattle.sf_picture.specs.declared.picture.Picture.{Picture};
+ghost use Rattle.sf_app.specs.Commits.{frame_due, is_done};
+ghost use Rattle.sf_app.specs.Committing.{AreCommitted, GoesOn};
+ghost use Rattle.sf_app.specs.States.{HasQueueOf, IsRunning, IsSendable, Releases, world_of};
 ghost use Rattle.sf_app.specs.Turns.{IsTurn, shown};
+ghost use Rattle.sf_app.specs.Worlds.{vsync_of};
+ghost use Rattle.sf_view.specs.Views.{IsDisplay};
 
-use crate::event::{Event, VsyncReport};
-use crate::image::frame;
-use crate::layer::Layer;
-use crate::record::{Arrival, Commit};
-use crate::state::RunState;
-use crate::tree::{ApplyFault, apply};
-use sf_base::{Items, NoMemory, Rgba};
+use crate::state::{RunState, Sent};
+use sf_actor::Desk;
+use sf_base::{ActorId, Fence, Items, NoMemory};
+use sf_commit::Stage;
+use sf_record::{Commit, Event, VsyncReport};
 use sf_script::Scene;
+use sf_surface::{Call, ReadLease};
 use std::alloc::Global;
+use std::mem;
 
-/// Commits, in order, and the layers of the tree after them.
+/// What the commits of a vsync answered, and the frames to release.
 #[derive(Drop)]
-pub struct Committed {
-    pub commits: Items<Commit>,
-    pub layers: Items<Layer>,
+pub struct Outcome {
+    pub commits: Vec<Commit>,
+    pub releases: Vec<ReadLease>,
 }
 
-// Commits a transaction, or rejects it, and then it changes nothing.
+// Commits a transaction, or rejects it.
 fn commit_one(
     alloc: Global,
-    done: Committed,
+    stage: &mut Stage,
     number: u32,
-    arrival: &Arrival,
-) -> Result<Committed, NoMemory>
-    ensures { IfOk result (λ c. c ≡ with_commit number arrival.now done) }
+    sent: Sent,
+    outcome: &mut Outcome,
+) -> Result<(), NoMemory>
+    requires { IsSendable sent }
+    ensures { OnOk result (GoesOn number sent stage.old stage.new outcome.old outcome.new) }
 {
-    let mut done = done;
-    let (result, operation) = match apply(
-        alloc,
-        done.layers.as_slice(),
-        arrival.operations.as_slice(),
-    ) {
-        Ok(next) => {
-            done.layers = Items::new(next);
-            (0, 0)
-        }
-        Err(ApplyFault::Rejected(reject)) => (reject.cause, reject.operation),
-        Err(ApplyFault::NoMemory) => return Err(NoMemory),
-    };
-    done.commits.push(Commit {
-        token: arrival.token,
+    let Sent { token, edits } = sent;
+    let done = stage.commit(alloc, edits)?;
+    outcome.commits.push(Commit {
+        token,
         arrival: number,
-        result,
-        operation,
-        buffers: Items::new(Vec::new(alloc)),
+        result: done.result,
+        operation: done.operation,
+        buffers: done.buffers,
     })?;
-    Ok(done)
+    let mut releases = done.releases.into_vec();
+    outcome.releases.append(&mut releases)?;
+    Ok(())
 }
 
-// Commits the arrivals after the first `committed` ones, in order.
+// Commits the transactions that wait, in the order of arrival, the first of which has this number.
 fn commit_all(
     alloc: Global,
-    arrivals: &[Arrival],
-    committed: usize,
-    layers: &[Layer],
-) -> Result<Committed, NoMemory>
-    requires few { length arrivals.now < 2 ^ 32 - 1 }
-    requires within { committed ≤ length arrivals.now }
-    ensures { IfOk result (λ c. c ≡ with_commits (record { commits = []; layers = layers.now }) arrivals.now (range_with_len (committed + 1) (length arrivals.now - committed))) }
+    stage: &mut Stage,
+    first: u32,
+    pending: Vec<Sent>,
+) -> Result<Outcome, NoMemory>
+    requires sendable { All IsSendable pending.items }
+    requires few { first + length pending.items < 2 ^ 32 }
+    ensures { IfOk result (AreCommitted first pending.items stage.old stage.new) }
 {
-    let mut done = Committed {
-        commits: Items::new(Vec::new(alloc)),
-        layers: Items::new(layers.to_vec(alloc)?),
+    let mut outcome = Outcome {
+        commits: Vec::new(alloc),
+        releases: Vec::new(alloc),
     };
-    let mut place = committed;
-    'pending: while place < arrivals.len() {
-        done = commit_one(alloc, done, place as u32 + 1, &arrivals[place])?;
-        place += 1;
+    let mut number = first;
+    for sent in pending {
+        commit_one(alloc, stage, number, sent, &mut outcome)?;
+        number += 1;
     }
-    Ok(done)
+    Ok(outcome)
+}
+
+// Releases frames, one after another, for the vsync of this number. A frame that its queue refuses
+// is dropped.
+fn release_all(
+    alloc: Global,
+    desk: &mut Desk,
+    number: u32,
+    releases: Vec<ReadLease>,
+) -> Result<(), NoMemory>
+    requires { All (HasQueueOf desk.old) releases.items }
+    ensures { OnOk result (Releases number releases.items desk.old desk.new) }
+{
+    for lease in releases {
+        let queue = lease.queue;
+        let call = Call::Release(lease, Fence::none());
+        let _answer = desk.call(alloc, ActorId(0), queue, number, call)?;
+    }
+    Ok(())
 }
 
 fn has_done(commits: &[Commit]) -> bool
@@ -88,48 +110,50 @@ fn due(
     alloc: Global,
     scene: &Scene,
     commits: &[Commit],
-    layers: &[Layer],
-) -> Result<Option<Items<Rgba>>, NoMemory>
-    ensures { IfOk result (λ pixels. pixels ≡ frame_due scene.now commits.now layers.now) }
+    stage: &Stage,
+) -> Result<Option<Items<u8>>, NoMemory>
+    requires { All (ShowsWith (LeaseShows (picture_at scene.now.pictures))) stage.now.shown }
+    ensures { IfOk result (λ pixels. pixels ≡ frame_due scene.now commits.now (stage_of stage.now)) }
 {
+    let _pixels = scene.pixels();
     if has_done(commits) {
-        let pixels = frame(alloc, layers, scene.width, scene.height)?;
+        let pixels = stage.frame(alloc, scene.width, scene.height)?;
         Ok(Some(Items::new(pixels)))
     } else {
         Ok(None)
     }
 }
 
-/// Does a vsync: commits all that is pending, and answers what it committed and the frame that it
-/// shows. Where nothing is pending it answers nothing.
-#[tactic(auto, unfolding(crate::specs::State::vsync_of))]
+/// Does a vsync: commits all that is pending, releases the frames that go, and answers what it
+/// committed and the frame that it shows. Where nothing is pending it answers nothing.
+#[tactic(auto, unfolding(crate::specs::Worlds::vsync_of))]
 pub fn vsync(alloc: Global, scene: &Scene, state: &mut RunState) -> Result<Option<Event>, NoMemory>
-    requires ready { IsReady scene.now state.old }
+    requires running { IsRunning scene.now state.old }
     requires early { state.old.vsyncs < 2 ^ 32 - 1 }
-    ensures { IfOk result (λ event. IsTurn (shown event) state.new (vsync_of scene.now state.old)) }
+    ensures turn { IfOk result (λ event. IsTurn (shown event) (world_of state.new) (vsync_of scene.now (world_of state.old))) }
+    ensures running { OnOk result (IsRunning scene.now state.new) }
 {
     let number = state.vsyncs + 1;
+    state.vsyncs = number;
     if state.committed == state.arrivals.len() {
-        state.vsyncs = number;
         return Ok(None);
     }
-    let done = commit_all(
+    let pending = mem::replace(&mut state.pending, Items::new(Vec::new(alloc)));
+    let first = state.committed as u32 + 1;
+    let Outcome { commits, releases } = commit_all(
         alloc,
-        state.arrivals.as_slice(),
-        state.committed,
-        state.layers.as_slice(),
+        &mut state.stage,
+        first,
+        pending.into_vec(),
     )?;
-    let shown = done.layers.as_slice();
-    let frame = due(alloc, scene, done.commits.as_slice(), shown)?;
-    let Committed { commits, layers } = done;
-    state.vsyncs = number;
     state.committed = state.arrivals.len();
-    state.layers = layers;
+    let frame = due(alloc, scene, &commits, &state.stage)?;
+    release_all(alloc, &mut state.desk, number, releases)?;
     Ok(Some(Event::Vsync(VsyncReport {
         number,
         expected: u64::from(number) * scene.period,
         timelines: Items::new(Vec::new(alloc)),
-        commits,
+        commits: Items::new(commits),
         frame,
     })))
 }

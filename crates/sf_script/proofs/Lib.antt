@@ -1,4 +1,2 @@
-pub mod TextLemmas
-pub mod Sets
 pub mod BeforeLemmas
 pub mod SceneLemmas

@@ -2,12 +2,12 @@
 use Rattle.std.specs.Prelude.{ℕ, ◌==◌, not, ◌||◌, if◌then◌else◌, List, [], ◌∷◌, ◌++◌, length, take, drop, Option, None, Some, Result, Ok, codes}
 use Rattle.std.specs.Str.{bytes_eq}
 use Rattle.std.specs.List.{prefix_len}
-use Rattle.sf_script.specs.Text.{Text}
-use Rattle.sf_script.specs.Numbers.{decimal_of}
-use Rattle.sf_script.specs.Reading.{◌>>=◌, demand, good, in_range, word_at}
-use Rattle.sf_script.specs.Before.{has_this_actor}
-use Rattle.sf_script.specs.declared.fault.Cause.TheVariants.{Undefined}
-use Rattle.sf_script.specs.declared.fault.WordFault.{WordFault}
+use Rattle.sf_words.specs.Text.{Text}
+use Rattle.sf_words.specs.Numbers.{decimal_of}
+use Rattle.sf_words.specs.Reading.{◌>>=◌, demand, good, in_range, word_at}
+use Rattle.sf_words.specs.declared.fault.Cause.TheVariants.{Undefined}
+use Rattle.sf_words.specs.declared.fault.WordFault.{WordFault}
+use Rattle.sf_script.specs.Before.{actor_of, declares}
 use Rattle.sf_script.specs.declared.line.Line.{Line}
 use Rattle.sf_script.specs.declared.scene.Pick.{Pick}
 
@@ -20,6 +20,7 @@ unfoldable pub times_of : Text → Option ℕ
 times_of [] = Some 1
 times_of (star ∷ times) = in_range 1 256 (decimal_of times)
 
+-- a pick of whom and how often, if both are given
 abbrev pub pick_from : Option ℕ → Option ℕ → Option Pick
 pick_from (Some actor) (Some times) = Some (record { actor = actor; times = times })
 pick_from _ _ = None
@@ -34,7 +35,7 @@ pick_of word =
 unfoldable pub pick_at : List Line → ℕ → Text → Result Pick WordFault
 pick_at before left word = do
   pick ← good left (pick_of word)
-  _ ← demand (pick.actor == 0 || has_this_actor pick.actor before) left Undefined
+  _ ← demand (pick.actor == 0 || declares actor_of pick.actor before) left Undefined
   Ok pick
 
 -- the picks so far, and those of the words that are left

@@ -1,13 +1,14 @@
 -- What `parse` answers.
 use Rattle.std.specs.Prelude.{◌≡◌, ℕ, nat_lt, if◌then◌else◌, length, Result, Ok, Err}
-use Rattle.sf_script.specs.Text.{Text}
+use Rattle.sf_words.specs.Text.{Text}
+use Rattle.sf_words.specs.declared.fault.WordFault.{WordFault}
 use Rattle.sf_script.specs.Scene.{SceneValue}
 use Rattle.sf_script.specs.Script.{script_of}
-use Rattle.sf_script.specs.declared.fault.WordFault.{WordFault}
 use Rattle.sf_script.specs.declared.fault.ScriptFault.{ScriptFault}
 use Rattle.sf_script.specs.declared.fault.ParseFault.{ParseFault}
 use Rattle.sf_script.specs.declared.fault.ParseFault.TheVariants.{Script, NoMemory}
 
+-- a fault of this cause, whose place is not told
 abbrev pub at_no_place : ℕ → ScriptFault
 at_no_place cause = record { line = 0; word = 0; cause = cause }
 

@@ -1,15 +1,18 @@
 -- A whole script: its lines in order, and the scene that they spell.
-use Rattle.std.specs.Prelude.{ℕ, ◌+◌, ◌==◌, Bool, true, if◌then◌else◌, List, [], ◌∷◌, ◌++◌, length, slice_index, Option, None, Some, Result, Ok}
+use Rattle.std.specs.Prelude.{◌+◌, ◌==◌, Bool, true, if◌then◌else◌, List, [], ◌∷◌, ◌++◌, length, slice_index, flat_map, Result, Ok}
 use Rattle.std.specs.Str.{is_utf8}
-use Rattle.std.specs.List.{flat_map}
-use Rattle.sf_script.specs.Text.{Text, lines_of, trimmed, words_of}
-use Rattle.sf_script.specs.Reading.{◌>>=◌, demand, end_at, word_at, wrong}
-use Rattle.sf_script.specs.Before.{has_room, last_rank, may_follow}
-use Rattle.sf_script.specs.Forms.{actor_at, apply_at, header_at, keyword_of, set_at, tx_at}
+use Rattle.sf_picture.specs.declared.fill.Fill.{Fill}
+use Rattle.sf_picture.specs.declared.picture.Picture.{Picture}
+use Rattle.sf_words.specs.Text.{Text, lines_of, trimmed, words_of}
+use Rattle.sf_words.specs.Reading.{◌>>=◌, demand, end_at, some_or, word_at, wrong}
+use Rattle.sf_words.specs.declared.fault.Cause.TheVariants.{Limit, NotUtf8, OutOfOrder, Unended, UnknownWord}
+use Rattle.sf_words.specs.declared.fault.WordFault.{WordFault}
+use Rattle.sf_script.specs.Before.{actor_of, declares_any, has_room, last_rank, may_follow}
+use Rattle.sf_script.specs.Declarations.{actor_at, fill_at, header_at, new_picture_at, new_queue_at}
+use Rattle.sf_script.specs.Keywords.{keyword_of}
 use Rattle.sf_script.specs.Order.{order_at}
 use Rattle.sf_script.specs.Scene.{SceneValue}
-use Rattle.sf_script.specs.declared.fault.Cause.TheVariants.{Limit, NotUtf8, OutOfOrder, Unended, UnknownWord}
-use Rattle.sf_script.specs.declared.fault.WordFault.{WordFault}
+use Rattle.sf_script.specs.Steps.{step_at}
 use Rattle.sf_script.specs.declared.line.Header.{Header}
 use Rattle.sf_script.specs.declared.line.Keyword.{Keyword}
 use Rattle.sf_script.specs.declared.line.Keyword.TheVariants as key
@@ -17,6 +20,7 @@ use Rattle.sf_script.specs.declared.line.Line.{Line}
 use Rattle.sf_script.specs.declared.line.Line.TheVariants as line
 use Rattle.sf_script.specs.declared.scene.ActorScript.{ActorScript}
 use Rattle.sf_script.specs.declared.scene.Pick.{Pick}
+use Rattle.sf_script.specs.declared.scene.QueueDecl.{QueueDecl}
 use Rattle.sf_script.specs.declared.scene.Step.{Step}
 
 -- the line behind its first word
@@ -24,17 +28,20 @@ unfoldable pub form_at : List Line → Keyword → List Text → Result Line Wor
 form_at before key.Scene words = do
   header ← header_at words
   Ok (line.Scene header)
+form_at before key.Queue words = do
+  queue ← new_queue_at before words
+  Ok (line.Queue queue)
+form_at before key.Picture words = do
+  picture ← new_picture_at before words
+  Ok (line.Picture picture)
+form_at before key.Fill words = do
+  fill ← fill_at words
+  Ok (line.Fill fill)
 form_at before key.Actor words = do
   number ← actor_at before words
   Ok (line.Actor number)
-form_at before key.Tx words = do
-  step ← tx_at words
-  Ok (line.Step step)
-form_at before key.Set words = do
-  step ← set_at words
-  Ok (line.Step step)
-form_at before key.Apply words = do
-  step ← apply_at before words
+form_at before (key.Step form) words = do
+  step ← step_at before form words
   Ok (line.Step step)
 form_at before key.Order words = do
   picks ← order_at before words
@@ -43,16 +50,11 @@ form_at before key.End words = do
   _ ← end_at words
   Ok line.End
 
--- the form that a first word begins, or an unknown word
-abbrev pub known : ℕ → Option Keyword → Result Keyword WordFault
-known left None = wrong left UnknownWord
-known left (Some keyword) = Ok keyword
-
 -- the words of a line that is not skipped, after the lines before it
 unfoldable pub words_at : List Line → List Text → Result Line WordFault
 words_at before words = do
   word ← word_at words
-  keyword ← known (length words) (keyword_of word.0)
+  keyword ← some_or (length words) UnknownWord (keyword_of (declares_any actor_of before) word.0)
   _ ← demand (may_follow before keyword) (length words) OutOfOrder
   _ ← demand (has_room before keyword) (length words) Limit
   form_at before keyword word.1
@@ -74,9 +76,20 @@ lines_at before [] = Ok before
 lines_at before (text ∷ texts) =
     if is_skipped (words_of (trimmed text)) then lines_at before texts else line_at before (trimmed text) >>= λ l. lines_at (before ++ l ∷ []) texts
 
+-- the fills that stand in front
+unfoldable pub fills_of : List Line → List Fill
+fills_of (line.Fill fill ∷ lines) = fill ∷ fills_of lines
+fills_of _ = []
+
+-- each picture has the fills that stand behind its line
+unfoldable pub pictures_of : List Line → List Picture
+pictures_of [] = []
+pictures_of (line.Picture p ∷ lines) = record { number = p.number; width = p.width; height = p.height; fills = fills_of lines } ∷ pictures_of lines
+pictures_of (_ ∷ lines) = pictures_of lines
+
 -- the steps that stand in front
 unfoldable pub steps_of : List Line → List Step
-steps_of (line.Step step ∷ lines) = step ∷ steps_of lines
+steps_of (line.Step s ∷ lines) = s.step ∷ steps_of lines
 steps_of _ = []
 
 -- each actor has the steps that stand behind its line
@@ -85,6 +98,16 @@ actors_of [] = []
 actors_of (line.Actor number ∷ lines) = record { number = number; steps = steps_of lines } ∷ actors_of lines
 actors_of (_ ∷ lines) = actors_of lines
 
+-- the queue that a line declares, as a list of one
+abbrev pub queue_in : Line → List QueueDecl
+queue_in (line.Queue queue) = queue ∷ []
+queue_in _ = []
+
+-- the queues of all `queue` lines that declare one
+abbrev pub queues_of : List Line → List QueueDecl
+queues_of lines = flat_map queue_in lines
+
+-- the picks of an `order` line
 abbrev pub picks_of : Line → List Pick
 picks_of (line.Order picks) = picks
 picks_of _ = []
@@ -102,7 +125,8 @@ scene_with header lines =
       height = header.height;
       period = header.period;
       timelines = [];
-      queues = [];
+      queues = queues_of lines;
+      pictures = pictures_of lines;
       actors = actors_of lines;
       order = order_of lines;
     }

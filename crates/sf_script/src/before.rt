@@ -1,117 +1,81 @@
-ghost use Rattle.std.specs.Prelude.{◌≡◌, ◌<◌, ◌++◌, ◌∷◌, [], OnOk, OnErr};
-ghost use Rattle.sf_script.specs.declared.line.Line.TheVariants as line;
-ghost use Rattle.sf_script.specs.Before.{allows_token, first_token, has_actor, has_room, has_this_actor, is_step_keyword, may_follow, rank_of_keyword, rank_of_line, token_after};
+ghost use Rattle.std.specs.Prelude.{◌≡◌, ◌<◌, ◌++◌, ◌∷◌, [], IfOk, IfSome, None, Some, if◌then◌else◌, length, nat_lt};
+ghost use Rattle.sf_script.specs.Before.{actor_of, allows_token, declares, declares_any, first_token, has_room, is_led, may_follow, names_after, names_so_far, picture_of, place_of, queue_of, rank_of_keyword};
 ghost use Rattle.sf_script.specs.Fits.{EachFits, Fits};
 
 use crate::line::{Keyword, Line};
-use crate::scene::Step;
-use std::alloc::{AllocError, AllocFailed, Global};
+use crate::summary::Summary;
+use sf_base::Items;
+use std::alloc::{AllocError, Global};
 use std::marker::Model;
+
+const MOST_FILLS: u32 = 1024;
 
 const MOST_STEPS: u32 = 4096;
 
+const MOST_NAMES: usize = 32;
+
 const END_RANK: u32 = 6;
 
-/// What the lines so far tell of the next one.
-#[derive(Clone, Copy)]
-pub struct Summary {
-    rank: u32,
-    declared: [bool; 17],
-    has_one: bool,
-    steps: u32,
-    token: Option<u32>,
-}
-
-/// The lines that were read so far, which contracts see as their list, beside their summary.
+/// The lines that were read so far, which contracts see as their list, beside their summary and
+/// the names of the last actor.
 #[derive(Drop)]
 pub struct Before {
     lines: Vec<Line>,
     summary: Summary,
+    names: Vec<Items<u8>>,
 }
 
 impl Model for Before {
     ghost use Rattle.std.specs.Prelude.{List};
-    ghost use Rattle.sf_script.specs.Summary.{IsSummary};
+    ghost use Rattle.sf_script.specs.Summary.{AreNames, IsSummary};
     ghost use Rattle.sf_script.specs.declared.line.Line.{Line};
 
     ghost Value = { List Line };
 
     ghost view = { λ s. s.lines.items };
 
-    ghost invariant = { λ s. IsSummary s.lines.items s.summary };
+    ghost invariant = { λ s. IsSummary s.lines.items s.summary × AreNames s.lines.items s.names.items };
 }
 
-fn rank_of_first(keyword: Keyword) -> u32
+fn rank(keyword: Keyword) -> u32
     ensures { result ≡ rank_of_keyword keyword }
 {
     match keyword {
         Keyword::Scene => 0,
-        Keyword::Actor | Keyword::Tx | Keyword::Set | Keyword::Apply => 4,
+        Keyword::Queue => 2,
+        Keyword::Picture | Keyword::Fill => 3,
+        Keyword::Actor | Keyword::Step(_) => 4,
         Keyword::Order => 5,
         Keyword::End => 6,
     }
 }
 
-fn rank(line: &Line) -> u32
-    ensures { result ≡ rank_of_line line.now }
+// The place of a name among these.
+fn place_among(names: &[Items<u8>], name: &[u8]) -> Option<usize>
+    ensures place { result ≡ place_of name.now names.now }
+    ensures range { IfSome result (λ place. place < length names.now) }
+{
+    names.iter().position(|n| n.as_slice() == name)
+}
+
+// The names of the last actor after one more line.
+fn names_with(
+    alloc: Global,
+    mut names: Vec<Items<u8>>,
+    line: &Line,
+) -> Result<Vec<Items<u8>>, AllocError>
+    ensures { IfOk result (λ v. v.items ≡ names_after names.items line.now) }
 {
     match line {
-        Line::Scene(_) => 0,
-        Line::Actor(_) | Line::Step(_) => 4,
-        Line::Order(_) => 5,
-        Line::End => 6,
-    }
-}
-
-fn is_step(keyword: Keyword) -> bool
-    ensures { result ≡ is_step_keyword keyword }
-{
-    matches!(keyword, Keyword::Tx | Keyword::Set | Keyword::Apply)
-}
-
-// The first token that was named, with one more step.
-fn token_with(token: Option<u32>, step: Step) -> Option<u32>
-    ensures { result ≡ token_after token (line.Step step) }
-{
-    match (token, step) {
-        (Some(first), _) => Some(first),
-        (None, Step::Apply(_, first)) => Some(first),
-        (None, _) => None,
-    }
-}
-
-impl Summary {
-    ghost use Rattle.sf_script.specs.Summary.{HasRoom, summary_after};
-
-    const EMPTY: Summary = Summary {
-        rank: 0,
-        declared: [false; 17],
-        has_one: false,
-        steps: 0,
-        token: None,
-    };
-
-    // The summary after one more line.
-    fn after(self, line: &Line) -> Summary
-        requires { HasRoom self line.now }
-        ensures { result ≡ summary_after self line.now }
-    {
-        let mut next = self;
-        next.rank = rank(line);
-        match line {
-            Line::Actor(number) => {
-                next.declared[*number as usize] = true;
-                next.has_one = true;
-                next.steps = 0;
+        Line::Actor(_) => names.clear(),
+        Line::Step(named) => {
+            if let Some(name) = &named.new_name {
+                names.push(Items::new(Vec::from_slice(alloc, name.as_slice())?))?;
             }
-            Line::Step(step) => {
-                next.steps += 1;
-                next.token = token_with(self.token, *step);
-            }
-            Line::Scene(_) | Line::Order(_) | Line::End => {}
         }
-        next
+        _ => {}
     }
+    Ok(names)
 }
 
 impl Before {
@@ -121,7 +85,8 @@ impl Before {
     {
         Before {
             lines: Vec::new(alloc),
-            summary: Summary::EMPTY,
+            summary: Summary::empty(),
+            names: Vec::new(alloc),
         }
     }
 
@@ -131,6 +96,17 @@ impl Before {
         ensures fits { EachFits [] self.now }
     {
         &self.lines
+    }
+
+    // Whether a step has an actor before it, and a fill a picture.
+    fn leads(&self, keyword: Keyword) -> bool
+        ensures { result ≡ is_led self.now keyword }
+    {
+        match keyword {
+            Keyword::Step(_) => self.summary.has_actor,
+            Keyword::Fill => self.summary.has_picture,
+            _ => true,
+        }
     }
 
     /// Whether a line with this first word may follow.
@@ -143,31 +119,72 @@ impl Before {
             return is_scene;
         }
         !is_scene
-            && self.summary.rank <= rank_of_first(keyword)
+            && self.summary.rank <= rank(keyword)
             && self.summary.rank != END_RANK
-            && (!is_step(keyword) || self.summary.has_one)
+            && self.leads(keyword)
     }
 
-    /// Whether the current actor may have one more step, if this first word begins one.
+    /// Whether the current actor may have one more step, if this first word begins one, or the
+    /// last picture one more fill.
     pub fn leaves_room(&self, keyword: Keyword) -> bool
         ensures { result ≡ has_room self.now keyword }
     {
-        !is_step(keyword) || self.summary.steps < MOST_STEPS
+        match keyword {
+            Keyword::Step(_) => self.summary.steps < MOST_STEPS,
+            Keyword::Fill => self.summary.fills < MOST_FILLS,
+            _ => true,
+        }
     }
 
-    /// Whether some actor was declared.
-    pub fn declares_one(&self) -> bool
-        ensures { result ≡ has_actor self.now }
+    /// Whether the queue with this number was declared.
+    pub fn declares_queue(&self, number: u32) -> bool
+        requires { number < 17 }
+        ensures { result ≡ declares queue_of number self.now }
     {
-        self.summary.has_one
+        self.summary.queues[number as usize]
+    }
+
+    /// Whether the picture with this number was declared.
+    pub fn declares_picture(&self, number: u32) -> bool
+        requires { number < 257 }
+        ensures { result ≡ declares picture_of number self.now }
+    {
+        self.summary.pictures[number as usize]
     }
 
     /// Whether the actor with this number was declared.
-    pub fn declares(&self, number: u32) -> bool
+    pub fn declares_actor(&self, number: u32) -> bool
         requires { number < 17 }
-        ensures { result ≡ has_this_actor number self.now }
+        ensures { result ≡ declares actor_of number self.now }
     {
-        self.summary.declared[number as usize]
+        self.summary.actors[number as usize]
+    }
+
+    /// Whether some actor was declared.
+    pub fn has_actor(&self) -> bool
+        ensures { result ≡ declares_any actor_of self.now }
+    {
+        self.summary.has_actor
+    }
+
+    /// The place of a name among those of the last actor.
+    pub fn place(&self, name: &[u8]) -> Option<u32>
+        ensures place { result ≡ place_of name.now (names_so_far self.now) }
+        ensures range { IfSome result (λ place. place < 32) }
+    {
+        let place = place_among(&self.names, name)?;
+        Some(place as u32)
+    }
+
+    /// The place of the next new name of the last actor, if it may have one more.
+    pub fn next_place(&self) -> Option<u32>
+        ensures { result ≡ (if nat_lt (length (names_so_far self.now)) 32 then Some (length (names_so_far self.now)) else None) }
+    {
+        if self.names.len() < MOST_NAMES {
+            Some(self.names.len() as u32)
+        } else {
+            None
+        }
     }
 
     /// Whether no other token was named.
@@ -180,15 +197,23 @@ impl Before {
         }
     }
 
-    /// Adds a line.
-    pub fn push(&mut self, line: Line) -> Result<(), AllocFailed<Line>>
-        requires { Fits self.old line }
-        ensures ok { OnOk result (self.new ≡ self.old ++ line ∷ []) }
-        ensures err { OnErr result (self.new ≡ self.old) }
+    /// The lines with one more behind them.
+    pub fn with(self, alloc: Global, line: Line) -> Result<Before, AllocError>
+        requires { Fits self line }
+        ensures { IfOk result (λ b. b ≡ self ++ line ∷ []) }
     {
-        let summary = self.summary.after(&line);
-        self.lines.push(line)?;
-        self.summary = summary;
-        Ok(())
+        let Before {
+            mut lines,
+            summary,
+            names,
+        } = self;
+        let summary = summary.after(&line);
+        let names = names_with(alloc, names, &line)?;
+        lines.push(line)?;
+        Ok(Before {
+            lines,
+            summary,
+            names,
+        })
     }
 }

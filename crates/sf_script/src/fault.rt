@@ -1,31 +1,8 @@
 ghost use Rattle.std.specs.Prelude.{◌≡◌};
 ghost use Rattle.sf_script.specs.declared.fault.LineFault.TheVariants.{NoMemory, Word};
 
+use sf_words::WordFault;
 use std::alloc::{AllocError, AllocFailed};
-
-/// What is wrong with a word.
-#[derive(Clone, Copy)]
-pub enum Cause {
-    NotUtf8,
-    UnknownWord,
-    BadWord,
-    MissingWord,
-    ExtraWord,
-    OutOfOrder,
-    Undefined,
-    Twice,
-    Limit,
-    Unended,
-    WrongVersion,
-}
-
-/// A fault in a line, told by how many words there are from the wrong one on: none where a word is
-/// missing, and one more than the line has where the fault is of the line.
-#[derive(Clone, Copy)]
-pub struct WordFault {
-    pub left: usize,
-    pub cause: Cause,
-}
 
 /// Why a line was not read.
 #[derive(Clone, Copy)]

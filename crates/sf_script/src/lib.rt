@@ -4,15 +4,16 @@
 #![tactic(auto)]
 
 mod before;
+mod declarations;
 mod fault;
-mod forms;
+mod keywords;
 mod line;
-mod numbers;
+mod mentions;
 mod order;
-mod reading;
 mod scene;
 mod script;
-mod text;
+mod steps;
+mod summary;
 
 pub use fault::{ParseFault, ScriptFault};
 pub use scene::{ActorScript, Change, Pick, QueueDecl, Scene, Step};

@@ -1,15 +1,15 @@
 ghost use Rattle.std.specs.Prelude.{◌≡◌, ◌==◌, ◌≤◌, [], length, not, All, IfOk, IfSome};
 ghost use Rattle.std.specs.List.{prefix_len};
-ghost use Rattle.sf_script.specs.Text.{words_of};
-ghost use Rattle.sf_script.specs.Reading.{Gives, GivesUnless};
+ghost use Rattle.sf_words.specs.Text.{words_of};
+ghost use Rattle.sf_words.specs.Reading.{Gives};
+ghost use Rattle.sf_script.specs.Memory.{GivesUnless};
 ghost use Rattle.sf_script.specs.Fits.{FitsPick};
 ghost use Rattle.sf_script.specs.Order.{order_at, pick_at, pick_of, picked_of, picks_at, times_of};
 
 use crate::before::Before;
-use crate::fault::{Cause, LineFault, WordFault};
-use crate::reading::{is, number_within, word, wrong};
+use crate::fault::LineFault;
 use crate::scene::Pick;
-use crate::text::next_word;
+use sf_words::{Cause, WordFault, is, next_word, number_within, word, wrong};
 use std::alloc::Global;
 
 // Who is picked.
@@ -69,7 +69,7 @@ fn declared_pick(before: &Before, line: &[u8], word: &[u8]) -> Result<Pick, Word
     let Some(pick) = pick(word) else {
         return Err(wrong(line, Cause::BadWord));
     };
-    if pick.actor == 0 || before.declares(pick.actor) {
+    if pick.actor == 0 || before.declares_actor(pick.actor) {
         Ok(pick)
     } else {
         Err(wrong(line, Cause::Undefined))
@@ -87,7 +87,7 @@ pub fn order_line(alloc: Global, before: &Before, line: &[u8]) -> Result<Vec<Pic
     picks(alloc, before, line)
 }
 
-#[tactic(auto, unfolding(crate::specs::Order::picks_at), using(crate::proofs::Sets::word_counts))]
+#[tactic(auto, unfolding(crate::specs::Order::picks_at), using(sf_words::proofs::Sets::word_counts))]
 fn picks(alloc: Global, before: &Before, line: &[u8]) -> Result<Vec<Pick>, LineFault>
     ensures given { GivesUnless (λ x. x.items) result (picks_at before.now [] (words_of line.now)) }
     ensures fits { IfOk result (λ v. All (FitsPick before.now) v.items) }

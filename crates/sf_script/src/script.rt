@@ -1,23 +1,27 @@
 ghost use Rattle.std.specs.Prelude.{◌≡◌, ◌≤◌, ◌==◌, ◌∷◌, [], IfOk, length, true};
 ghost use Rattle.std.specs.Str.{is_utf8};
-ghost use Rattle.sf_script.specs.Text.{lines_of, words_of};
-ghost use Rattle.sf_script.specs.Reading.{Gives, GivesUnless};
+ghost use Rattle.sf_words.specs.Text.{lines_of, words_of};
 ghost use Rattle.sf_script.specs.Before.{has_room, last_rank};
 ghost use Rattle.sf_script.specs.Fits.{EachFits, Fits, IsHeader};
+ghost use Rattle.sf_script.specs.Memory.{GivesUnless};
 ghost use Rattle.sf_script.specs.declared.line.Line.TheVariants as line;
 ghost use Rattle.sf_script.specs.declared.fault.ParseFault.TheVariants.{Script};
-ghost use Rattle.sf_script.specs.Script.{actors_of, form_at, is_skipped, line_at, lines_at, order_of, picks_of, scene_of, scene_with, script_of, steps_of, words_at};
+ghost use Rattle.sf_script.specs.Script.{actors_of, fills_of, form_at, is_skipped, line_at, lines_at, order_of, picks_of, pictures_of, queues_of, scene_of, scene_with, script_of, steps_of, words_at};
 ghost use Rattle.sf_script.specs.Parse.{GivesScene, at_no_place, parsed_of};
 
 use crate::before::Before;
-use crate::fault::{Cause, LineFault, ParseFault, ScriptFault, WordFault};
-use crate::forms::{actor_line, apply_line, first_keyword, header_line, set_line, tx_line};
+use crate::declarations::{actor_line, fill_line, header_line, picture_line, queue_line};
+use crate::fault::{LineFault, ParseFault, ScriptFault};
+use crate::keywords::first_keyword;
 use crate::line::{Header, Keyword, Line};
 use crate::order::order_line;
-use crate::reading::{count_words, demand, end, word, wrong};
-use crate::scene::{ActorScript, Pick, Scene, Step};
-use crate::text::{next_line, next_word, trim};
+use crate::scene::{ActorScript, Pick, QueueDecl, Scene, Step};
+use crate::steps::step_line;
 use sf_base::Items;
+use sf_picture::{Fill, Picture};
+use sf_words::{
+    Cause, WordFault, count_words, demand, end, next_line, next_word, trim, word, wrong,
+};
 use std::alloc::{AllocError, Global};
 
 // The line behind its first word.
@@ -30,10 +34,11 @@ fn form(alloc: Global, before: &Before, keyword: Keyword, line: &[u8]) -> Result
 {
     match keyword {
         Keyword::Scene => Ok(Line::Scene(header_line(line)?)),
+        Keyword::Queue => Ok(Line::Queue(queue_line(before, line)?)),
+        Keyword::Picture => Ok(Line::Picture(picture_line(before, line)?)),
+        Keyword::Fill => Ok(Line::Fill(fill_line(line)?)),
         Keyword::Actor => Ok(Line::Actor(actor_line(before, line)?)),
-        Keyword::Tx => Ok(Line::Step(tx_line(line)?)),
-        Keyword::Set => Ok(Line::Step(set_line(line)?)),
-        Keyword::Apply => Ok(Line::Step(apply_line(before, line)?)),
+        Keyword::Step(form) => Ok(Line::Step(step_line(alloc, before, form, line)?)),
         Keyword::Order => Ok(Line::Order(Items::new(order_line(alloc, before, line)?))),
         Keyword::End => {
             end(line)?;
@@ -50,7 +55,7 @@ fn line_words(alloc: Global, before: &Before, line: &[u8]) -> Result<Line, LineF
     ensures few { IfOk result (λ l. length (picks_of l) ≤ length line.now) }
 {
     let (first, rest) = word(line)?;
-    let Some(keyword) = first_keyword(first) else {
+    let Some(keyword) = first_keyword(before.has_actor(), first) else {
         return Err(LineFault::Word(wrong(line, Cause::UnknownWord)));
     };
     demand(before.may_be_followed(keyword), line, Cause::OutOfOrder)?;
@@ -66,7 +71,7 @@ fn is_text(line: &[u8]) -> bool
 }
 
 // A line that is not skipped.
-#[tactic(auto, unfolding(crate::specs::Script::line_at), using(crate::proofs::Sets::word_counts))]
+#[tactic(auto, unfolding(crate::specs::Script::line_at), using(sf_words::proofs::Sets::word_counts))]
 fn whole_line(alloc: Global, before: &Before, line: &[u8]) -> Result<Line, LineFault>
     ensures given { GivesUnless (λ x. x) result (line_at before.now line.now) }
     ensures fits { IfOk result (Fits before.now) }
@@ -92,9 +97,9 @@ fn skips(line: &[u8]) -> bool
     }
 }
 
-// All lines but those that are skipped.
+/// All lines but those that are skipped.
 #[tactic(auto, unfolding(crate::specs::Script::lines_at))]
-fn all_lines(alloc: Global, bytes: &[u8]) -> Result<Before, LineFault>
+pub fn all_lines(alloc: Global, bytes: &[u8]) -> Result<Before, LineFault>
     ensures given { GivesUnless (λ x. x) result (lines_at [] (lines_of bytes.now)) }
     ensures few { IfOk result (λ lines. length (order_of lines) ≤ length bytes.now) }
 {
@@ -104,11 +109,61 @@ fn all_lines(alloc: Global, bytes: &[u8]) -> Result<Before, LineFault>
         let line = trim(text);
         if !skips(line) {
             let next = whole_line(alloc, &before, line)?;
-            before.push(next)?;
+            before = before.with(alloc, next)?;
         }
         rest = after;
     }
     Ok(before)
+}
+
+// The fills that stand in front.
+#[tactic(auto, unfolding(crate::specs::Script::fills_of))]
+fn fills(alloc: Global, lines: &[Line]) -> Result<Vec<Fill>, AllocError>
+    ensures { IfOk result (λ v. v.items ≡ fills_of lines.now) }
+{
+    let mut fills = Vec::new(alloc);
+    let mut rest = lines;
+    while let [Line::Fill(fill), after @ ..] = rest {
+        fills.push(*fill)?;
+        rest = after;
+    }
+    Ok(fills)
+}
+
+// The pictures with their fills.
+#[tactic(auto, unfolding(crate::specs::Script::pictures_of))]
+fn pictures(alloc: Global, lines: &[Line]) -> Result<Vec<Picture>, AllocError>
+    ensures { IfOk result (λ v. v.items ≡ pictures_of lines.now) }
+{
+    let mut pictures = Vec::new(alloc);
+    let mut rest = lines;
+    while let [first, after @ ..] = rest {
+        if let Line::Picture(picture) = first {
+            pictures.push(Picture {
+                number: picture.number,
+                width: picture.width,
+                height: picture.height,
+                fills: Items::new(fills(alloc, after)?),
+            })?;
+        }
+        rest = after;
+    }
+    Ok(pictures)
+}
+
+// The queues that lines declare.
+fn queues(alloc: Global, lines: &[Line]) -> Result<Vec<QueueDecl>, AllocError>
+    ensures { IfOk result (λ v. v.items ≡ queues_of lines.now) }
+{
+    let mut queues = Vec::new(alloc);
+    let mut rest = lines;
+    while let [first, after @ ..] = rest {
+        if let Line::Queue(queue) = first {
+            queues.push(*queue)?;
+        }
+        rest = after;
+    }
+    Ok(queues)
 }
 
 // The steps that stand in front.
@@ -118,8 +173,8 @@ fn steps(alloc: Global, lines: &[Line]) -> Result<Vec<Step>, AllocError>
 {
     let mut steps = Vec::new(alloc);
     let mut rest = lines;
-    while let [Line::Step(step), after @ ..] = rest {
-        steps.push(*step)?;
+    while let [Line::Step(named), after @ ..] = rest {
+        steps.push(named.step)?;
         rest = after;
     }
     Ok(steps)
@@ -179,7 +234,8 @@ fn scene_from(alloc: Global, header: Header, lines: &[Line]) -> Result<Scene, Al
         height: header.height,
         period: header.period,
         timelines: Items::new(Vec::new(alloc)),
-        queues: Items::new(Vec::new(alloc)),
+        queues: Items::new(queues(alloc, lines)?),
+        pictures: Items::new(pictures(alloc, lines)?),
         actors: Items::new(actors(alloc, lines)?),
         order: Items::new(order(alloc, lines)?),
     })

@@ -6,12 +6,13 @@ use Rattle.sf_app.proofs.RoundLemmas.{stays_more, stays_start}
 use Rattle.sf_app.proofs.play.play_order.Goals as goal
 
 pub loop-pick-init : goal.loop-pick-init
-loop-pick-init g c = record { going = Going-start _ _ _ _; later = omega arith; stays = stays_start _ _ _ (omega arith) c.requires.ready }
+loop-pick-init g c = record { going = Going-start _ _ _ _; later = omega arith; running = c.requires.running; stays = stays_start _ _ _ (omega arith) c.requires.running.ready }
 
 pub loop-pick-preserved : goal.loop-pick-preserved
 loop-pick-preserved g c = record {
   going = Going-many _ _ _ _ _ _ _ _ _ _ c.loop-pick.invariant.going (picks_in-next c.args.order.now c.loop-pick.pick-index _ c.loop-pick-test.true) c.in-Ok.ensures.ok;
   later = omega arith;
+  running = c.in-Ok.ensures.running;
   stays =
       let few = All-get_or (λ (p : Pick). p.times ≤ 256) c.args.order.now c.loop-pick.pick-index (record { actor = 0; times = 0 }) c.loop-pick-test.true c.requires.picks in
       stays_more _ _ _ _ _ _ _ c.loop-pick.invariant.stays c.in-Ok.ensures.stays (omega (arith, few));
@@ -19,7 +20,7 @@ loop-pick-preserved g c = record {
 
 pub play_pick-requires : goal.play_pick-requires
 play_pick-requires g c = record {
-  ready = c.loop-pick.invariant.stays.ready;
+  running = c.loop-pick.invariant.running;
   early =
       let few = All-get_or (λ (p : Pick). p.times ≤ 256) c.args.order.now c.loop-pick.pick-index (record { actor = 0; times = 0 }) c.loop-pick-test.true c.requires.picks in
       let v = c.loop-pick.invariant.stays.vsyncs in

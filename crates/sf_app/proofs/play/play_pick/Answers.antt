@@ -4,12 +4,13 @@ use Rattle.sf_app.proofs.RoundLemmas.{stays_start, turn_stays}
 use Rattle.sf_app.proofs.play.play_pick.Goals as goal
 
 pub loop-count-init : goal.loop-count-init
-loop-count-init g c = record { going = Going-times _ _ _ _ _; later = omega arith; stays = stays_start _ _ 0 refl c.requires.ready }
+loop-count-init g c = record { going = Going-times _ _ _ _ _; later = omega arith; running = c.requires.running; stays = stays_start _ _ 0 refl c.requires.running.ready }
 
 pub loop-count-preserved : goal.loop-count-preserved
 loop-count-preserved g c = record {
   going = Going-one _ _ _ _ _ _ _ _ _ _ c.loop-count.invariant.going c.loop-count-test.true c.in-Ok.ensures.ok;
   later = omega arith;
+  running = c.in-Ok.ensures.running;
   stays = turn_stays _ _ _ _ _ _ _ c.loop-count.invariant.stays c.in-Ok.ensures.ok.1 refl;
 }
 

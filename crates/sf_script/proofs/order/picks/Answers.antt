@@ -1,7 +1,7 @@
 use Rattle.std.proofs.Common.{arith, length, length-append, ap, List}
 use Rattle.std.proofs.lemmas.Grind.{common_steps}
 use Rattle.std.proofs.lemmas.List.Elements.{All-push}
-use Rattle.sf_script.specs.Text.{Text}
+use Rattle.sf_words.specs.Text.{Text}
 use Rattle.sf_script.specs.Fits.{FitsPick}
 use Rattle.sf_script.specs.Order.{picks_at}
 use Rattle.sf_script.specs.declared.scene.Pick.{Pick}

@@ -1,5 +1,5 @@
 use Rattle.std.proofs.Common.{◌≡◌, ◌+◌, ◌≤◌, [], length}
-use Rattle.sf_script.specs.Text.{lines_of}
+use Rattle.sf_words.specs.Text.{lines_of}
 use Rattle.sf_script.specs.Script.{lines_at, order_of}
 use Rattle.sf_script.proofs.script.all_lines.Given as goal
 

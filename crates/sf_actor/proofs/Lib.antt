@@ -1,0 +1,12 @@
+pub mod Tables
+pub mod Queues
+pub mod DeskLemmas
+pub mod PictureLemmas
+pub mod TransactionLemmas
+pub mod HoldingLemmas
+pub mod RefusalLemmas
+pub mod AskingLemmas
+pub mod ShowingLemmas
+pub mod StepLemmas
+pub mod NewLemmas
+pub mod FillingLemmas

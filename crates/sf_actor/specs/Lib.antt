@@ -1,0 +1,11 @@
+pub mod Books
+pub mod Pasts
+pub mod Steps
+pub mod Statuses
+pub mod Plain
+pub mod Desks
+pub mod Scripts
+pub mod Keeps
+pub mod Actors
+pub mod Transactions
+pub mod Moves

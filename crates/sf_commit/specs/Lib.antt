@@ -1,0 +1,5 @@
+pub mod Stages
+pub mod Leases
+pub mod Commits
+pub mod Sources
+pub mod Frames

@@ -1,0 +1,75 @@
+-- The bytes of records. All numbers are written with their highest byte first.
+use Rattle.std.specs.Prelude.{ℕ, List, [], ◌∷◌, ◌++◌, length, codes}
+use Rattle.std.specs.List.{flat_map}
+use Rattle.byteorder.specs.Endian.{big_bytes}
+use Rattle.sf_io.specs.Streams.{framed}
+use Rattle.sf_record.specs.declared.record.ArrivalEntry.{ArrivalEntry}
+use Rattle.sf_record.specs.declared.record.CommittedBuffer.{CommittedBuffer}
+use Rattle.sf_record.specs.declared.record.HeldEntry.{HeldEntry}
+use Rattle.sf_record.specs.declared.record.HistoryEntry.{HistoryEntry}
+use Rattle.sf_record.specs.declared.record.Record.{Record}
+use Rattle.sf_record.specs.declared.record.Record.TheVariants as rec
+use Rattle.sf_record.specs.declared.record.StuckEntry.{StuckEntry}
+use Rattle.sf_record.specs.declared.record.TimelineValue.{TimelineValue}
+
+unfoldable pub u32_bytes : ℕ → List ℕ
+u32_bytes n = big_bytes 4 n
+
+unfoldable pub u64_bytes : ℕ → List ℕ
+u64_bytes n = big_bytes 8 n
+
+-- the bytes of a list: how many items it has, and the bytes of each
+unfoldable pub list_bytes : {X : Type 0} → (X → List ℕ) → List X → List ℕ
+list_bytes item_bytes items = u32_bytes (length items) ++ flat_map item_bytes items
+
+abbrev pub timeline_bytes : TimelineValue → List ℕ
+timeline_bytes t = u32_bytes t.timeline ++ u64_bytes t.value
+
+abbrev pub buffer_bytes : CommittedBuffer → List ℕ
+buffer_bytes b =
+    u32_bytes b.layer ++ u32_bytes b.queue ++ u64_bytes b.frame ++ u32_bytes b.picture ++ u32_bytes b.x ++ u32_bytes b.y ++ u32_bytes b.width ++ u32_bytes b.height
+
+abbrev pub arrival_bytes : ArrivalEntry → List ℕ
+arrival_bytes a = u32_bytes a.actor ++ u32_bytes a.step ++ u32_bytes a.token
+
+abbrev pub history_entry_bytes : HistoryEntry → List ℕ
+history_entry_bytes e = u32_bytes e.caller ++ u32_bytes e.step ++ u32_bytes e.kind ++ u32_bytes e.status ++ u32_bytes e.slot ++ u64_bytes e.frame
+
+abbrev pub held_bytes : HeldEntry → List ℕ
+held_bytes h = u32_bytes h.arrival ++ u32_bytes h.hold ++ u64_bytes h.a ++ u64_bytes h.b
+
+abbrev pub stuck_bytes : StuckEntry → List ℕ
+stuck_bytes s = u32_bytes s.actor ++ u32_bytes s.step
+
+abbrev pub tag_of : Record → List ℕ
+tag_of (rec.Scen _) = codes "SCEN"
+tag_of (rec.Repl _) = codes "REPL"
+tag_of (rec.Vsyn _) = codes "VSYN"
+tag_of (rec.Comm _) = codes "COMM"
+tag_of (rec.Fram _) = codes "FRAM"
+tag_of (rec.Arrv _) = codes "ARRV"
+tag_of (rec.Hist _) = codes "HIST"
+tag_of (rec.Hold _) = codes "HOLD"
+tag_of (rec.Stuk _) = codes "STUK"
+tag_of rec.Done = codes "DONE"
+tag_of (rec.Sflt _) = codes "SFLT"
+
+unfoldable pub body_of : Record → List ℕ
+body_of (rec.Scen s) = u32_bytes s.version ++ u32_bytes s.width ++ u32_bytes s.height ++ u64_bytes s.period
+body_of (rec.Repl r) = u32_bytes r.actor ++ u32_bytes r.step ++ u32_bytes r.status ++ list_bytes u64_bytes r.values
+body_of (rec.Vsyn v) = u32_bytes v.number ++ u64_bytes v.expected ++ list_bytes timeline_bytes v.timelines
+body_of (rec.Comm c) = u32_bytes c.token ++ u32_bytes c.arrival ++ u32_bytes c.result ++ u32_bytes c.operation ++ list_bytes buffer_bytes c.buffers
+body_of (rec.Fram f) = u32_bytes f.number ++ f.pixels
+body_of (rec.Arrv arrivals) = list_bytes arrival_bytes arrivals
+body_of (rec.Hist history) = u32_bytes history.queue ++ list_bytes history_entry_bytes history.entries
+body_of (rec.Hold held) = list_bytes held_bytes held
+body_of (rec.Stuk stuck) = list_bytes stuck_bytes stuck
+body_of rec.Done = []
+body_of (rec.Sflt f) = u32_bytes f.line ++ u32_bytes f.word ++ u32_bytes f.cause
+
+-- the bytes of a record: its tag, the length of its body, and the body
+unfoldable pub record_bytes : Record → List ℕ
+record_bytes r = framed (tag_of r) (body_of r)
+
+unfoldable pub bytes_of : List Record → List ℕ
+bytes_of records = flat_map record_bytes records

@@ -1,0 +1,286 @@
+ghost use Rattle.std.specs.Prelude.{◌≡◌, ◌<◌, ◌≤◌, ◌^◌, ◌++◌, ◌∷◌, [], List, ℕ, length, OnOk, OnErr, IfOk, IsErrOf};
+ghost use Rattle.std.specs.Io.KnownBytes.{Appends};
+ghost use Rattle.std.specs.List.{flat_map};
+ghost use Rattle.sf_io.specs.Causes.{Rose};
+ghost use Rattle.sf_io.specs.Streams.{TookPrefix};
+ghost use Rattle.sf_record.specs.Records.{arrival_bytes, body_of, buffer_bytes, bytes_of, held_bytes, history_entry_bytes, list_bytes, record_bytes, stuck_bytes, tag_of, timeline_bytes, u32_bytes, u64_bytes};
+
+use crate::record::{
+    ArrivalEntry, Commit, CommittedBuffer, HeldEntry, HistoryEntry, QueueHistory, Record, Reply,
+    SceneHeader, StuckEntry, TimelineValue, VsyncHeader,
+};
+use byteorder::{BigEndian, ByteOrder};
+use sf_base::NoMemory;
+use sf_io::{Sink, put};
+use std::alloc::Global;
+
+#[tactic(auto, unfolding(crate::specs::Records::u32_bytes))]
+fn push_u32(out: &mut Vec<u8>, n: u32) -> Result<(), NoMemory>
+    ensures { OnOk result (out.new.items ≡ out.old.items ++ u32_bytes n) }
+{
+    let mut buf = [0u8; 4];
+    BigEndian::write_u32(&mut buf, n);
+    out.extend_from_slice(&buf)?;
+    Ok(())
+}
+
+#[tactic(auto, unfolding(crate::specs::Records::u64_bytes))]
+fn push_u64(out: &mut Vec<u8>, n: u64) -> Result<(), NoMemory>
+    ensures { OnOk result (out.new.items ≡ out.old.items ++ u64_bytes n) }
+{
+    let mut buf = [0u8; 8];
+    BigEndian::write_u64(&mut buf, n);
+    out.extend_from_slice(&buf)?;
+    Ok(())
+}
+
+/// An item of a list in a record.
+trait Encode {
+    /// The bytes of the item.
+    ghost bytes: { Self → List ℕ };
+
+    /// Appends the item's bytes.
+    fn push(&self, out: &mut Vec<u8>) -> Result<(), NoMemory>
+        ensures { OnOk result (out.new.items ≡ out.old.items ++ bytes self.now) };
+}
+
+impl Encode for u64 {
+    ghost bytes = { u64_bytes };
+
+    fn push(&self, out: &mut Vec<u8>) -> Result<(), NoMemory> {
+        push_u64(out, *self)
+    }
+}
+
+impl Encode for TimelineValue {
+    ghost bytes = { timeline_bytes };
+
+    fn push(&self, out: &mut Vec<u8>) -> Result<(), NoMemory> {
+        push_u32(out, self.timeline)?;
+        push_u64(out, self.value)
+    }
+}
+
+impl Encode for CommittedBuffer {
+    ghost bytes = { buffer_bytes };
+
+    fn push(&self, out: &mut Vec<u8>) -> Result<(), NoMemory> {
+        push_u32(out, self.layer)?;
+        push_u32(out, self.queue)?;
+        push_u64(out, self.frame)?;
+        push_u32(out, self.picture)?;
+        push_u32(out, self.x)?;
+        push_u32(out, self.y)?;
+        push_u32(out, self.width)?;
+        push_u32(out, self.height)
+    }
+}
+
+impl Encode for ArrivalEntry {
+    ghost bytes = { arrival_bytes };
+
+    fn push(&self, out: &mut Vec<u8>) -> Result<(), NoMemory> {
+        push_u32(out, self.actor)?;
+        push_u32(out, self.step)?;
+        push_u32(out, self.token)
+    }
+}
+
+impl Encode for HistoryEntry {
+    ghost bytes = { history_entry_bytes };
+
+    fn push(&self, out: &mut Vec<u8>) -> Result<(), NoMemory> {
+        push_u32(out, self.caller)?;
+        push_u32(out, self.step)?;
+        push_u32(out, self.kind)?;
+        push_u32(out, self.status)?;
+        push_u32(out, self.slot)?;
+        push_u64(out, self.frame)
+    }
+}
+
+impl Encode for HeldEntry {
+    ghost bytes = { held_bytes };
+
+    fn push(&self, out: &mut Vec<u8>) -> Result<(), NoMemory> {
+        push_u32(out, self.arrival)?;
+        push_u32(out, self.hold)?;
+        push_u64(out, self.a)?;
+        push_u64(out, self.b)
+    }
+}
+
+impl Encode for StuckEntry {
+    ghost bytes = { stuck_bytes };
+
+    fn push(&self, out: &mut Vec<u8>) -> Result<(), NoMemory> {
+        push_u32(out, self.actor)?;
+        push_u32(out, self.step)
+    }
+}
+
+// The items, one after another.
+fn push_all<T: Encode>(out: &mut Vec<u8>, items: &[T]) -> Result<(), NoMemory>
+    ensures { OnOk result (out.new.items ≡ out.old.items ++ flat_map T.bytes items.now) }
+{
+    let mut rest = items;
+    while let [item, after @ ..] = rest {
+        item.push(out)?;
+        rest = after;
+    }
+    Ok(())
+}
+
+// A list: how many items it has, and the items.
+#[tactic(auto, unfolding(crate::specs::Records::list_bytes))]
+fn push_list<T: Encode>(out: &mut Vec<u8>, items: &[T]) -> Result<(), NoMemory>
+    ensures { OnOk result (out.new.items ≡ out.old.items ++ list_bytes T.bytes items.now) }
+{
+    match u32::try_from(items.len()) {
+        Ok(count) => {
+            push_u32(out, count)?;
+            push_all(out, items)
+        }
+        Err(_) => Err(NoMemory),
+    }
+}
+
+fn tag(shown: &Record) -> [u8; 4]
+    ensures { result ≡ tag_of shown.now }
+{
+    match shown {
+        Record::Scen(_) => *b"SCEN",
+        Record::Repl(_) => *b"REPL",
+        Record::Vsyn(_) => *b"VSYN",
+        Record::Comm(_) => *b"COMM",
+        Record::Fram(_) => *b"FRAM",
+        Record::Arrv(_) => *b"ARRV",
+        Record::Hist(_) => *b"HIST",
+        Record::Hold(_) => *b"HOLD",
+        Record::Stuk(_) => *b"STUK",
+        Record::Done => *b"DONE",
+        Record::Sflt(_) => *b"SFLT",
+    }
+}
+
+fn push_scene(out: &mut Vec<u8>, scene: &SceneHeader) -> Result<(), NoMemory>
+    ensures { OnOk result (out.new.items ≡ out.old.items ++ (u32_bytes scene.now.version ++ u32_bytes scene.now.width ++ u32_bytes scene.now.height ++ u64_bytes scene.now.period)) }
+{
+    push_u32(out, scene.version)?;
+    push_u32(out, scene.width)?;
+    push_u32(out, scene.height)?;
+    push_u64(out, scene.period)
+}
+
+fn push_reply(out: &mut Vec<u8>, reply: &Reply) -> Result<(), NoMemory>
+    ensures { OnOk result (out.new.items ≡ out.old.items ++ (u32_bytes reply.now.actor ++ u32_bytes reply.now.step ++ u32_bytes reply.now.status ++ list_bytes u64_bytes reply.now.values)) }
+{
+    push_u32(out, reply.actor)?;
+    push_u32(out, reply.step)?;
+    push_u32(out, reply.status)?;
+    push_list(out, reply.values.as_slice())
+}
+
+fn push_vsync(out: &mut Vec<u8>, vsync: &VsyncHeader) -> Result<(), NoMemory>
+    ensures { OnOk result (out.new.items ≡ out.old.items ++ (u32_bytes vsync.now.number ++ u64_bytes vsync.now.expected ++ list_bytes timeline_bytes vsync.now.timelines)) }
+{
+    push_u32(out, vsync.number)?;
+    push_u64(out, vsync.expected)?;
+    push_list(out, vsync.timelines.as_slice())
+}
+
+fn push_commit(out: &mut Vec<u8>, commit: &Commit) -> Result<(), NoMemory>
+    ensures { OnOk result (out.new.items ≡ out.old.items ++ (u32_bytes commit.now.token ++ u32_bytes commit.now.arrival ++ u32_bytes commit.now.result ++ u32_bytes commit.now.operation ++ list_bytes buffer_bytes commit.now.buffers)) }
+{
+    push_u32(out, commit.token)?;
+    push_u32(out, commit.arrival)?;
+    push_u32(out, commit.result)?;
+    push_u32(out, commit.operation)?;
+    push_list(out, commit.buffers.as_slice())
+}
+
+fn push_history(out: &mut Vec<u8>, history: &QueueHistory) -> Result<(), NoMemory>
+    ensures { OnOk result (out.new.items ≡ out.old.items ++ (u32_bytes history.now.queue ++ list_bytes history_entry_bytes history.now.entries)) }
+{
+    push_u32(out, history.queue)?;
+    push_list(out, history.entries.as_slice())
+}
+
+// The body of a record.
+#[tactic(auto, unfolding(crate::specs::Records::body_of))]
+fn body(alloc: Global, shown: &Record) -> Result<Vec<u8>, NoMemory>
+    ensures { IfOk result (λ v. v.items ≡ body_of shown.now) }
+{
+    let mut out = Vec::new(alloc);
+    match shown {
+        Record::Scen(scene) => push_scene(&mut out, scene)?,
+        Record::Repl(reply) => push_reply(&mut out, reply)?,
+        Record::Vsyn(vsync) => push_vsync(&mut out, vsync)?,
+        Record::Comm(commit) => push_commit(&mut out, commit)?,
+        Record::Fram(frame) => {
+            push_u32(&mut out, frame.number)?;
+            out.extend_from_slice(frame.pixels.as_slice())?;
+        }
+        Record::Arrv(arrivals) => push_list(&mut out, arrivals.as_slice())?,
+        Record::Hist(history) => push_history(&mut out, history)?,
+        Record::Hold(held) => push_list(&mut out, held.as_slice())?,
+        Record::Stuk(stuck) => push_list(&mut out, stuck.as_slice())?,
+        Record::Done => {}
+        Record::Sflt(fault) => {
+            push_u32(&mut out, fault.line)?;
+            push_u32(&mut out, fault.word)?;
+            push_u32(&mut out, fault.cause)?;
+        }
+    }
+    Ok(out)
+}
+
+/// Why a run ended early.
+#[derive(Clone, Copy, Debug, PartialEq, Eq)]
+pub enum RunFault {
+    /// The sink failed.
+    WriteFault,
+    /// Want of memory; or a record has a list of more than 2^32 - 1 items or a body of more bytes,
+    /// whose length its bytes could not tell.
+    NoMemory,
+}
+
+/// Writes a record. After a fault the sink has a prefix of it. A record with a list of more than
+/// 2^32 - 1 items, or with a body of more bytes, is answered as want of memory.
+#[tactic(auto, unfolding(crate::specs::Records::record_bytes))]
+pub fn write_record<K: Sink>(alloc: Global, sink: &mut K, shown: &Record) -> Result<(), RunFault>
+    ensures ok { OnOk result (Appends (K.taken sink.old) (K.taken sink.new) (record_bytes shown.now)) }
+    ensures err { OnErr result (TookPrefix (K.taken sink.old) (K.taken sink.new) (record_bytes shown.now)) }
+    ensures later { K.faults sink.old ≤ K.faults sink.new }
+    ensures failed { IsErrOf result RunFault.WriteFault → Rose (K.faults sink.old) (K.faults sink.new) }
+{
+    let body = match body(alloc, shown) {
+        Ok(body) => body,
+        Err(_) => return Err(RunFault::NoMemory),
+    };
+    if body.len() > u32::MAX as usize {
+        return Err(RunFault::NoMemory);
+    }
+    match put(sink, tag(shown), &body) {
+        Ok(()) => Ok(()),
+        Err(_) => Err(RunFault::WriteFault),
+    }
+}
+
+/// Writes records in order. After a fault the sink has a prefix of their bytes. A record that is
+/// too long, as in [`write_record`], is answered as want of memory.
+#[tactic(auto, unfolding(crate::specs::Records::bytes_of))]
+pub fn write_all<K: Sink>(alloc: Global, sink: &mut K, records: &[Record]) -> Result<(), RunFault>
+    ensures ok { OnOk result (Appends (K.taken sink.old) (K.taken sink.new) (bytes_of records.now)) }
+    ensures err { OnErr result (TookPrefix (K.taken sink.old) (K.taken sink.new) (bytes_of records.now)) }
+    ensures later { K.faults sink.old ≤ K.faults sink.new }
+    ensures failed { IsErrOf result RunFault.WriteFault → Rose (K.faults sink.old) (K.faults sink.new) }
+{
+    for record in records {
+        match write_record(alloc, sink, record) {
+            Ok(()) => {}
+            Err(fault) => return Err(fault),
+        }
+    }
+    Ok(())
+}

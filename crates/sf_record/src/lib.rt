@@ -1,0 +1,16 @@
+//! What a run shows: its records, the events that they come from, and their bytes. A record is a
+//! tag of four bytes, the length of its body and the body; all numbers are big-endian.
+#![tactic(auto)]
+
+mod encode;
+mod event;
+mod record;
+#[cfg(test)]
+mod tests;
+
+pub use encode::{RunFault, write_all, write_record};
+pub use event::{Event, VsyncReport, records};
+pub use record::{
+    ArrivalEntry, Commit, CommittedBuffer, Frame, HeldEntry, HistoryEntry, QueueHistory, Record,
+    Reply, SceneHeader, StuckEntry, TimelineValue, VsyncHeader,
+};

@@ -1,0 +1,4 @@
+mod FitLemmas
+mod DoesLemmas
+mod CountLemmas
+mod ObjectLemmas

@@ -1,0 +1,4 @@
+pub mod Leases
+pub mod Calls
+pub mod Inside
+pub mod Objects
