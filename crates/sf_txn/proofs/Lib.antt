@@ -1,0 +1,4 @@
+pub mod Firsts
+pub mod Apart
+pub mod Showing
+pub mod Keeping

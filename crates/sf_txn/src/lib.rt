@@ -1,0 +1,18 @@
+//! Transactions: lists of operations on layers, with the buffers that they show, which a client
+//! fills, merges and applies as a whole. The compositor takes what was applied, and reads each
+//! buffer by its lease.
+#![tactic(auto)]
+
+mod buffer;
+mod lease;
+mod lists;
+mod merge;
+#[cfg(test)]
+mod page;
+#[cfg(test)]
+mod tests;
+mod transaction;
+
+pub use buffer::BufferOp;
+pub use lease::Lease;
+pub use transaction::{Parts, Transaction};
