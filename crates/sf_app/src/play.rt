@@ -307,6 +307,7 @@ pub fn play<K: Sink>(alloc: Global, scene: &Scene, sink: &mut K) -> Result<(), R
     ensures later { K.faults sink.old ≤ K.faults sink.new }
     ensures failed { IsErrOf result RunFault.WriteFault → Rose (K.faults sink.old) (K.faults sink.new) }
 {
+    // Read for the limits that a scene keeps, which what follows rests on.
     let _pixels = scene.pixels();
     let mut state = match RunState::new(alloc, scene) {
         Ok(state) => state,

@@ -55,6 +55,7 @@ fn open_rising(alloc: Global, queues: &[QueueDecl]) -> Result<Desk, NoMemory>
 pub fn open_queues(alloc: Global, scene: &Scene) -> Result<Desk, NoMemory>
     ensures { IfOk result (AreNew (rising scene.now.queues) []) }
 {
+    // Read for the limits that a scene keeps, which what follows rests on.
     let _pixels = scene.pixels();
     open_rising(alloc, scene.queues.as_slice())
 }

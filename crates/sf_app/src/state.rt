@@ -57,6 +57,7 @@ impl RunState {
         ensures start { IfOk result (λ state. world_of state ≡ start scene.now) }
         ensures running { IfOk result (IsRunning scene.now) }
     {
+        // Read for the limits that a scene keeps, which what follows rests on.
         let _pixels = scene.pixels();
         Ok(RunState {
             actor: Actor::new(alloc, actor_number(scene))?,

@@ -115,6 +115,7 @@ fn due(
     requires { All (ShowsWith (LeaseShows (picture_at scene.now.pictures))) stage.now.shown }
     ensures { IfOk result (λ pixels. pixels ≡ frame_due scene.now commits.now (stage_of stage.now)) }
 {
+    // Read for the limits that a scene keeps, which what follows rests on.
     let _pixels = scene.pixels();
     if has_done(commits) {
         let pixels = stage.frame(alloc, scene.width, scene.height)?;

@@ -1,5 +1,5 @@
 -- The layers with the frames that they show, and what a transaction does to them.
-use Rattle.std.specs.Prelude.{ℕ, ◌==◌, Bool, if◌then◌else◌, List, [], ◌∷◌, ◌++◌, map, Option, None, Some, ℤ, pos, negsuc, Result, Ok, Err}
+use Rattle.std.specs.Prelude.{ℕ, ◌==◌, Bool, if◌then◌else◌, List, [], ◌∷◌, ◌++◌, map, Option, None, Some, Result, Ok, Err}
 use Rattle.std.specs.List.{find}
 use Rattle.sf_base.specs.declared.ids.LayerId.{LayerId}
 use Rattle.sf_base.specs.declared.ids.QueueId.{QueueId}
@@ -9,6 +9,7 @@ use Rattle.sf_layer.specs.declared.op.Op.TheVariants as op
 use Rattle.sf_slots.specs.declared.calls.ReadToken.{ReadToken}
 use Rattle.sf_tree.specs.Changes.{Rejection, after}
 use Rattle.sf_actor.specs.Books.{LayerEdit, PlainEdit, Sets, Shows, op_of}
+use Rattle.sf_view.specs.Contents.{unsigned}
 use Rattle.sf_record.specs.declared.record.CommittedBuffer.{CommittedBuffer}
 
 -- a frame that a layer shows
@@ -83,11 +84,6 @@ own_frame (Sets op) = []
 abbrev pub frames_in : List LayerEdit → List FrameOf
 frames_in [] = []
 frames_in (edit ∷ edits) = own_frame edit.edit ++ frames_in edits
-
--- a number that is not below 0
-abbrev pub unsigned : ℤ → ℕ
-unsigned (pos n) = n
-unsigned (negsuc n) = 0
 
 abbrev pub buffer_of : LayerId → PlainEdit → List CommittedBuffer
 buffer_of layer (Shows queue token) =

@@ -33,6 +33,7 @@ fn source(shown: &[ShownLease], drawn: &Drawn) -> u32
     match place_of(shown, drawn.layer) {
         Some(place) => {
             let lease = &shown[place].lease;
+            // Read for what a lease keeps: the crop lies in its pixels.
             let _crop = lease.token.crop;
             place as u32
         }
@@ -62,6 +63,7 @@ impl Stage {
         ensures { (pictures : ℕ → Picture) → All (ShowsWith (LeaseShows pictures)) self.now.shown →
             IfOk result (λ bytes. bytes.items ≡ frame_of_layers pictures self.now.layers width height) }
     {
+        // Read for what a tree keeps: there are at most 256 layers.
         let _layers = self.tree.layers();
         let view = view_of(alloc, &self.tree, width, height)?;
         let sources = sources(alloc, &self.shown, view.drawn.as_slice())?;
