@@ -6,6 +6,9 @@ pub struct QueueId(pub u32);
 #[derive(Clone, Copy, Debug, PartialEq, Eq, PartialOrd, Ord)]
 pub struct SlotId(pub u32);
 
+/// The number that stands for no slot, in calls that name none and in records.
+pub const NO_SLOT: SlotId = SlotId(4_294_967_295);
+
 /// The number of an actor, that is, of a client of queues and transactions, from 1. The
 /// compositor itself is 0 where it calls a queue.
 #[derive(Clone, Copy, Debug, PartialEq, Eq, PartialOrd, Ord)]
