@@ -1,15 +1,26 @@
-"""Tests of records.py: `python3 -m unittest discover tools`."""
+"""Tests of records.py: `python3 -B -m unittest discover -s tools`."""
 
-import io
 import contextlib
+import io
 import json
 import os
 import struct
+import subprocess
+import sys
 import tempfile
 import unittest
 import zlib
 
 import records
+
+TOOL = os.path.join(os.path.dirname(os.path.abspath(__file__)), "records.py")
+
+
+def record(tag, *numbers, rest=b""):
+    """A record of numbers of 32 bits, or of 64 where they stand in a tuple."""
+    body = b"".join(struct.pack(">Q", n[0]) if isinstance(n, tuple) else struct.pack(">I", n) for n in numbers) + rest
+    return tag.encode() + struct.pack(">I", len(body)) + body
+
 
 # The records of one red layer on a display of 2 x 1, as bytes.
 RED = bytes.fromhex(
@@ -21,6 +32,32 @@ RED = bytes.fromhex(
     "4152525600000010" "00000001000000010000000400000001"
     "484f4c440000000400000000" "5354554b0000000400000000" "444f4e4500000000"
 )
+SCEN = record("SCEN", 1, 2, 1, (1000000,))
+DONE = record("DONE")
+NO_SLOT = 4294967295
+
+# A run of two actors: a buffer that is lent, queued and released, a refused call, a reject, what is held and who is stuck.
+LONG = b"".join([
+    SCEN,
+    record("REPL", 1, 1, 0, 0),
+    record("REPL", 2, 1, 13, 0),
+    record("REPL", 1, 2, 0, 2, (5,), (18446744073709551615,)),
+    record("VSYN", 1, (1000000,), 2, 1, (7,), 2, (9,)),
+    record("COMM", 4294967295, 1, 0, 0, 1, 8, 3, (1,), 2, 0, 0, 2, 1),
+    record("COMM", 2, 2, 6, 3, 0),
+    record("FRAM", 1, 0xff0000ff, 0xff0000ff),
+    record("REPL", 1, 3, 0, 0),
+    record("VSYN", 3, (3000000,), 0),
+    record("COMM", 2, 3, 0, 0, 0),
+    record("FRAM", 3, 0x00000080, 0xffffffff),
+    record("ARRV", 3, 1, 2, 4294967295, 2, 1, 2, 1, 3, 2),
+    record("HIST", 3, 5,
+           1, 1, 1, 0, NO_SLOT, (0,), 1, 2, 5, 0, 4, (0,), 2, 1, 5, 13, NO_SLOT, (0,),
+           1, 3, 7, 0, 4, (1,), 0, 3, 14, 0, 4, (1,)),
+    record("HOLD", 1, 4, 2, (5000,), (0,)),
+    record("STUK", 1, 2, 2),
+    DONE,
+])
 
 
 def run(*words):
@@ -30,60 +67,339 @@ def run(*words):
     return status, out.getvalue(), err.getvalue()
 
 
-class Records(unittest.TestCase):
+class Case(unittest.TestCase):
     def setUp(self):
         folder = tempfile.TemporaryDirectory()
         self.addCleanup(folder.cleanup)
         self.folder = folder.name
 
-    def file(self, data):
-        path = os.path.join(self.folder, "records")
-        with open(path, "wb") as file:
-            file.write(data)
-        return path
+    def path(self, name):
+        return os.path.join(self.folder, name)
 
-    def test_a_dump_tells_each_record(self):
-        status, out, _ = run("dump", self.file(RED))
-        self.assertEqual(status, 0)
+    def file(self, data):
+        with open(self.path("records"), "wb") as file:
+            file.write(data)
+        return self.path("records")
+
+
+class Dump(Case):
+    def test_each_record_is_told(self):
+        status, out, err = run("dump", self.file(RED))
+        self.assertEqual((status, err), (0, ""))
         lines = out.splitlines()
         self.assertEqual([line[:4] for line in lines], ["SCEN", "REPL", "VSYN", "COMM", "FRAM", "ARRV", "HOLD", "STUK", "DONE"])
         self.assertIn("2 x 1, period 16666667 ns", lines[0])
         self.assertIn("token 1, arrival 1: committed", lines[3])
         self.assertIn("1: actor 1 step 4 token 1", lines[5])
 
-    def test_a_cut_stream_is_told_up_to_the_cut(self):
-        status, out, err = run("dump", self.file(RED[:60]))
-        self.assertEqual(status, 1)
-        self.assertEqual(len(out.splitlines()), 2)
-        self.assertIn("ends inside a record", err)
+    def test_values_stand_in_brackets_and_no_values_have_none(self):
+        _, out, _ = run("dump", self.file(LONG))
+        lines = out.splitlines()
+        self.assertEqual(lines[1], "REPL reply of actor 1, step 1: Ok")
+        self.assertEqual(lines[3], "REPL reply of actor 1, step 2: Ok (5 18446744073709551615)")
 
-    def test_a_frame_becomes_a_png_of_its_pixels(self):
-        status, _, _ = run("png", os.path.join(self.folder, "out"), self.file(RED))
+    def test_calls_rejects_holds_and_timelines_are_named(self):
+        _, out, _ = run("dump", self.file(LONG))
+        for text in (
+            "VSYN vsync 1, expected 1000000 ns, timelines 1 at 7, 2 at 9",
+            "arrival 1: committed, layer 8 shows queue 3 frame 1 picture 2 crop 0 0 2 1",
+            "COMM token 2, arrival 2: rejected, wrong kind at operation 3",
+            "HIST history of queue 3\n    actor 1 step 1: connect: Ok\n    actor 1 step 2: dequeue slot 4: Ok\n"
+            "    actor 2 step 1: dequeue: WouldBlock\n",
+            "    compositor vsync 3: release slot 4 frame 1: Ok\n",
+            "HOLD held arrival 4: Time 5000 0",
+            "STUK stuck actor 2 at step 2",
+        ):
+            self.assertIn(text, out)
+
+    def test_each_status_has_its_name(self):
+        for status, name in ((11, "BadValue"), (15, "Empty"), (16, "Occupied"), (17, "Unbuilt"), (99, "number 99")):
+            _, out, _ = run("dump", self.file(SCEN + record("REPL", 1, 1, status, 0) + DONE))
+            self.assertIn(f"step 1: {name}\n", out)
+
+    def test_a_script_fault_is_told_with_and_without_its_place(self):
+        status, out, err = run("dump", self.file(record("SFLT", 3, 4, 4)))
+        self.assertEqual((status, out, err), (0, "SFLT script fault at line 3, word 4: missing word\n", ""))
+        self.assertEqual(run("dump", self.file(record("SFLT", 0, 0, 9)))[1], "SFLT script fault: limit\n")
+
+
+class Lines(Case):
+    def lines(self, data):
+        status, out, _ = run("lines", self.file(data))
+        return status, out.splitlines()
+
+    def test_the_plain_form_of_each_record(self):
+        status, lines = self.lines(LONG)
         self.assertEqual(status, 0)
-        with open(os.path.join(self.folder, "out", "frame-1.png"), "rb") as file:
+        self.assertEqual(lines, [
+            "SCEN 1 2 1 1000000",
+            "REPL 1 1 0",
+            "REPL 2 1 13",
+            "REPL 1 2 0 5 18446744073709551615",
+            "VSYN 1 1000000 1=7 2=9",
+            "COMM 4294967295 1 0 0 | 8 3 1 2 0 0 2 1",
+            "COMM 2 2 6 3",
+            "FRAM 1 2*ff0000ff",
+            "REPL 1 3 0",
+            "VSYN 3 3000000",
+            "COMM 2 3 0 0",
+            "FRAM 3 1*00000080 1*ffffffff",
+            "ARRV | 1 2 4294967295 | 2 1 2 | 1 3 2",
+            "HIST 3 | 1 1 1 0 4294967295 0 | 1 2 5 0 4 0 | 2 1 5 13 4294967295 0 | 1 3 7 0 4 1 | 0 3 14 0 4 1",
+            "HOLD | 4 2 5000 0",
+            "STUK | 2 2",
+            "DONE",
+        ])
+
+    def test_empty_lists_a_summary_and_a_fault(self):
+        empty = SCEN + record("ARRV", 0) + record("HIST", 1, 0) + record("HOLD", 0) + record("STUK", 0) + DONE
+        self.assertEqual(self.lines(empty), (0, ["SCEN 1 2 1 1000000", "ARRV", "HIST 1", "HOLD", "STUK", "DONE"]))
+        summary = record("SUMM", (983,), (61,), (123,), (0,), (61,), (7324508160,), (0,), (1,))
+        self.assertEqual(self.lines(summary), (0, ["SUMM 983 61 123 0 61 7324508160 0 1"]))
+        self.assertEqual(self.lines(record("SFLT", 0, 0, 9)), (0, ["SFLT 0 0 9"]))
+
+    def test_a_run_of_pixels_goes_over_the_ends_of_rows(self):
+        data = record("SCEN", 1, 3, 2, (1000000,)) + record("FRAM", 1, 1, 2, 2, 2, 2, 1) + DONE
+        self.assertEqual(self.lines(data)[1][1], "FRAM 1 1*00000001 4*00000002 1*00000001")
+
+    def test_what_is_left_of_a_cut_record_is_its_bytes(self):
+        self.assertEqual(self.lines(SCEN + b"REPL\0\0\0\x10\0\0"), (1, ["SCEN 1 2 1 1000000", "CUT 5245504c000000100000"]))
+        self.assertEqual(self.lines(SCEN + b"RE"), (1, ["SCEN 1 2 1 1000000", "CUT 5245"]))
+
+    def test_a_record_that_is_not_read_is_its_bytes(self):
+        self.assertEqual(self.lines(SCEN + b"WHAT\0\0\0\x01\xff" + DONE), (1, ["SCEN 1 2 1 1000000", "BAD 5748415400000001ff", "DONE"]))
+
+
+class Wrong(Case):
+    """What is wrong with a stream is told, and the rest of it too; the status is 1."""
+
+    def wrong(self, data, *texts):
+        for command in ("dump", "lines", "trace"):
+            status, out, err = run(command, self.file(data))
+            self.assertEqual(status, 1, command)
+            for text in texts:
+                self.assertIn(text, err, command)
+        return run("dump", self.file(data))[1].splitlines()
+
+    def test_a_stream_that_ends_inside_a_body_or_a_head(self):
+        out = self.wrong(RED[:60], "record 3 (VSYN, at byte 52): the stream ends inside it, after 8 bytes")
+        self.assertEqual(out[2], "VSYN unread, 8 bytes")
+        self.wrong(RED[:54], "record 3 (VS, at byte 52): the stream ends inside it, after 2 bytes")
+
+    def test_a_stream_without_its_end(self):
+        self.wrong(RED[:-8], "the stream ends without DONE")
+        self.wrong(b"", "the stream is empty")
+
+    def test_a_body_that_is_shorter_than_its_form(self):
+        for body in (record("REPL", 1, 1), record("REPL", 1, 1, 0, 3, (1,)), record("COMM", 1, 1, 0, 0, 4294967295), record("FRAM")):
+            out = self.wrong(SCEN + body + DONE, "record 2", "bytes is shorter than")
+            self.assertEqual(len(out), 3)
+
+    def test_bytes_behind_the_form_of_a_body(self):
+        self.wrong(SCEN + record("REPL", 1, 1, 0, 0, rest=b"abc") + DONE, "record 2 (REPL, at byte 28): 3 bytes behind the end of its form")
+        self.wrong(SCEN + record("DONE", 1), "record 2 (DONE, at byte 28): 4 bytes behind the end of its form")
+
+    def test_bytes_and_records_behind_the_end(self):
+        self.wrong(RED + b"\0\0", "the stream ends inside it, after 2 bytes", "it stands behind the end of the run")
+        self.wrong(RED + record("STUK", 0), "it stands behind the end of the run")
+
+    def test_an_unknown_tag(self):
+        self.assertEqual(self.wrong(SCEN + record("WHAT", 7) + DONE, "record 2 (WHAT, at byte 28): unknown tag WHAT")[1], "WHAT unread, 12 bytes")
+        self.wrong(SCEN + b"\xff\0\n \0\0\0\0" + DONE, "unknown tag \\xff\\x00\\x0a\\x20")
+
+    def test_a_frame_of_another_size_is_told_and_no_picture(self):
+        for frame in (record("FRAM", 1, 1), record("FRAM", 1, 1, 2, 3), record("FRAM", 1, 1, rest=b"abc")):
+            self.wrong(SCEN + frame + DONE, "record 2 (FRAM, at byte 28)", "where the display of 2 x 1 has 8")
+            status, out, err = run("png", self.path("out"), self.file(SCEN + frame + DONE))
+            self.assertEqual((status, out, os.listdir(self.path("out"))), (1, "", []))
+            self.assertIn("where the display of 2 x 1 has 8", err)
+        self.wrong(record("FRAM", 1, 1) + DONE, "a frame without SCEN before it")
+
+
+class Pictures(Case):
+    def test_a_frame_becomes_a_png_of_its_pixels(self):
+        status, out, err = run("png", self.path("out"), self.file(RED))
+        self.assertEqual((status, out.splitlines(), err), (0, [self.path("out/frame-1.png")], ""))
+        with open(self.path("out/frame-1.png"), "rb") as file:
             data = file.read()
         self.assertEqual(struct.unpack_from(">II", data, 16), (2, 1))
         start = data.index(b"IDAT") + 4
         (length,) = struct.unpack_from(">I", data, start - 8)
         self.assertEqual(zlib.decompress(data[start:start + length]), b"\0" + b"\xff\0\0\xff" * 2)
 
-    def test_a_trace_has_the_vsync_its_commit_and_its_frame(self):
-        status, out, _ = run("trace", self.file(RED))
-        self.assertEqual(status, 0)
-        events = json.loads(out)["traceEvents"]
-        self.assertEqual([event["ph"] for event in events], ["X", "i", "i"])
-        self.assertEqual(events[0]["ts"], 16666.667)
+    def test_frames_are_named_for_their_vsyncs(self):
+        run("png", self.path("out"), self.file(LONG))
+        self.assertEqual(sorted(os.listdir(self.path("out"))), ["frame-1.png", "frame-3.png"])
 
-    def test_a_histories_calls_and_a_fault_are_named(self):
-        history = struct.pack(">II", 1, 1) + struct.pack(">IIIIIQ", 0, 7, 14, 0, 2, 9)
-        self.assertEqual(records.line("HIST", history), "history of queue 1\n    compositor vsync 7: release slot 2 frame 9: Ok")
-        self.assertEqual(records.line("SFLT", struct.pack(">III", 3, 4, 4)), "script fault at line 3, word 4: missing word")
 
+class CommandLine(Case):
     def test_wrong_words_are_told_how_to_call_it(self):
-        for words in ([], ["show"], ["png"], ["dump", "a", "b"]):
-            status, _, err = run(*words)
-            self.assertEqual(status, 2)
+        for words in ([], ["show"], ["png"], ["dump", "a", "b"], ["--help", "dump"], ["png", "a", "b", "c"]):
+            status, out, err = run(*words)
+            self.assertEqual((status, out), (2, ""))
             self.assertIn("records.py dump", err)
+
+    def test_help_is_on_standard_output(self):
+        for word in ("--help", "-h"):
+            status, out, err = run(word)
+            self.assertEqual((status, err), (0, ""))
+            self.assertIn("records.py lines [FILE]", out)
+
+    def test_a_file_that_is_missing_or_a_folder_is_told(self):
+        for name in (self.path("missing"), self.folder):
+            status, out, err = run("dump", name)
+            self.assertEqual((status, out), (2, ""))
+            self.assertIn(name, err)
+
+    def test_a_folder_that_is_a_file_is_told(self):
+        file = self.file(RED)
+        for folder in (file, os.path.join(file, "below")):
+            status, out, err = run("png", folder, file)
+            self.assertEqual((status, out), (2, ""))
+            self.assertIn(folder, err)
+
+    def tool(self, *words, **more):
+        return subprocess.Popen([sys.executable, "-B", TOOL, *words], stderr=subprocess.PIPE, **more)
+
+    def test_a_reader_that_goes_away_ends_it_quietly(self):
+        data = SCEN + record("REPL", 1, 1, 0, 0) * 20000 + DONE
+        for command in ("dump", "lines", "trace"):
+            tool = self.tool(command, self.file(data), stdout=subprocess.PIPE)
+            tool.stdout.close()
+            self.assertEqual((tool.stderr.read(), tool.wait()), (b"", 1))
+            tool.stderr.close()
+
+    def test_closed_standard_streams_are_told(self):
+        for closed, text in (("<&-", b"standard input is closed"), ("</dev/null >&-", b"standard output is closed")):
+            ended = subprocess.run(["sh", "-c", f"exec '{sys.executable}' -B '{TOOL}' dump {closed}"], capture_output=True)
+            self.assertEqual(ended.returncode, 2)
+            self.assertEqual(ended.stderr, b"records.py: " + text + b"\n")
+
+    def test_standard_input_is_read_where_no_file_is_named(self):
+        ended = subprocess.run([sys.executable, "-B", TOOL, "lines"], input=RED, capture_output=True)
+        self.assertEqual((ended.returncode, ended.stdout.splitlines()[0]), (0, b"SCEN 1 2 1 16666667"))
+
+
+class Trace(Case):
+    """Each event is compared whole: these are the fields that the trace event format gives each kind."""
+
+    def setUp(self):
+        super().setUp()
+        status, out, _ = run("trace", self.file(LONG))
+        self.assertEqual(status, 0)
+        self.trace = json.loads(out)
+        self.events = self.trace["traceEvents"]
+
+    def of(self, kind, category=None):
+        return [event for event in self.events if event["ph"] == kind and event.get("cat") == category]
+
+    def test_the_object(self):
+        self.assertEqual(sorted(self.trace), ["displayTimeUnit", "traceEvents"])
+        self.assertEqual(self.trace["displayTimeUnit"], "ms")
+
+    def test_every_event_has_the_fields_of_its_kind(self):
+        fields = {
+            "X": {"name": str, "cat": str, "ph": str, "ts": float, "dur": float, "pid": int, "tid": int, "args": dict},
+            "i": {"name": str, "cat": str, "ph": str, "s": str, "ts": float, "pid": int, "tid": int, "args": dict},
+            "C": {"name": str, "cat": str, "ph": str, "ts": float, "pid": int, "args": dict},
+        }
+        for event in self.events:
+            if event["ph"] != "M":
+                self.assertEqual({name: type(value) for name, value in event.items()}, fields[event["ph"]], event)
+
+    def test_the_tracks_are_named(self):
+        names = [event for event in self.events if event["ph"] == "M"]
+        self.assertIn({"name": "process_name", "ph": "M", "pid": 1, "args": {"name": "compositor, display 2 x 1"}}, names)
+        self.assertIn({"name": "process_sort_index", "ph": "M", "pid": 1, "args": {"sort_index": 1}}, names)
+        self.assertIn({"name": "thread_name", "ph": "M", "pid": 1, "tid": 1, "args": {"name": "vsyncs"}}, names)
+        self.assertIn({"name": "thread_sort_index", "ph": "M", "pid": 1, "tid": 1, "args": {"sort_index": 1}}, names)
+        threads = {(event["pid"], event["tid"]): event["args"]["name"] for event in names if event["name"] == "thread_name"}
+        self.assertEqual(threads, {
+            (1, 1): "vsyncs", (1, 2): "frames", (1, 3): "rejects", (1, 4): "held",
+            (1, 10): "commits of token 2", (1, 11): "commits of token 4294967295",
+            (2, 1): "actor 1", (2, 2): "actor 2",
+            (103, 0): "calls without a slot", (103, 5): "slot 4",
+        })
+
+    def test_every_event_is_on_a_named_track(self):
+        named = {(event["pid"], event.get("tid")) for event in self.events if event["name"] == "thread_name"}
+        for event in self.events:
+            if event["ph"] in "Xi":
+                self.assertIn((event["pid"], event["tid"]), named)
+
+    def test_the_slices_of_a_track_do_not_overlap(self):
+        ends = {}
+        for event in sorted(self.of("X", "vsync") + self.of("X", "frame") + self.of("X", "reply") + self.of("X", "queue"), key=lambda e: e["ts"]):
+            track = event["pid"], event["tid"]
+            self.assertLessEqual(ends.get(track, 0), event["ts"], event)
+            ends[track] = event["ts"] + event["dur"]
+
+    def test_vsyncs_frames_and_timelines(self):
+        self.assertEqual(self.of("X", "vsync"), [
+            {"name": "vsync 1", "cat": "vsync", "ph": "X", "ts": 1000.0, "dur": 1000.0, "pid": 1, "tid": 1, "args": {"number": 1}},
+            {"name": "vsync 3", "cat": "vsync", "ph": "X", "ts": 3000.0, "dur": 1000.0, "pid": 1, "tid": 1, "args": {"number": 3}},
+        ])
+        self.assertEqual(self.of("X", "frame"), [
+            {"name": "frame 1", "cat": "frame", "ph": "X", "ts": 1000.0, "dur": 2000.0, "pid": 1, "tid": 2, "args": {"number": 1, "pixels": 2}},
+            {"name": "frame 3", "cat": "frame", "ph": "X", "ts": 3000.0, "dur": 1000.0, "pid": 1, "tid": 2, "args": {"number": 3, "pixels": 2}},
+        ])
+        self.assertEqual(self.of("C", "timeline"), [
+            {"name": "timeline 1", "cat": "timeline", "ph": "C", "ts": 1000.0, "pid": 1, "args": {"value": 7}},
+            {"name": "timeline 2", "cat": "timeline", "ph": "C", "ts": 1000.0, "pid": 1, "args": {"value": 9}},
+        ])
+
+    def test_replies_are_spread_over_the_time_before_their_vsync(self):
+        self.assertEqual(self.of("X", "reply"), [
+            {"name": f"step {step}: {name}", "cat": "reply", "ph": "X", "ts": ts, "dur": dur, "pid": 2, "tid": actor,
+             "args": {"actor": actor, "step": step, "status": status, "values": values}}
+            for actor, step, status, name, ts, dur, values in (
+                (1, 1, 0, "Ok", 250.0, 250.0, []),
+                (2, 1, 13, "WouldBlock", 500.0, 250.0, []),
+                (1, 2, 0, "Ok", 750.0, 250.0, [5, 18446744073709551615]),
+                (1, 3, 0, "Ok", 2000.0, 1000.0, []),
+            )
+        ])
+
+    def test_commits_and_rejects(self):
+        self.assertEqual(self.of("i", "commit"), [
+            {"name": "arrival 1 committed", "cat": "commit", "ph": "i", "s": "t", "ts": 1000.0, "pid": 1, "tid": 11,
+             "args": {"token": 4294967295, "arrival": 1, "result": 0, "operation": 0, "buffers": [
+                 {"layer": 8, "queue": 3, "frame": 1, "picture": 2, "x": 0, "y": 0, "width": 2, "height": 1}]}},
+            {"name": "arrival 3 committed", "cat": "commit", "ph": "i", "s": "t", "ts": 3000.0, "pid": 1, "tid": 10,
+             "args": {"token": 2, "arrival": 3, "result": 0, "operation": 0, "buffers": []}},
+        ])
+        self.assertEqual(self.of("i", "reject"), [
+            {"name": "arrival 2 rejected: wrong kind at operation 3", "cat": "reject", "ph": "i", "s": "t", "ts": 1000.0, "pid": 1, "tid": 3,
+             "args": {"token": 2, "arrival": 2, "result": 6, "operation": 3, "buffers": []}},
+        ])
+
+    def test_queue_calls_stand_by_queue_and_slot(self):
+        def details(caller, kind, slot, frame, status="Ok"):
+            return {"caller": caller, "kind": kind, "status": status, "slot": slot, "frame": frame}
+        self.assertEqual(self.of("X", "queue"), [
+            {"name": "dequeue", "cat": "queue", "ph": "X", "ts": 750.0, "dur": 1250.0, "pid": 103, "tid": 5,
+             "args": details("actor 1 step 2", "dequeue", 4, 0)},
+            {"name": "queue frame 1", "cat": "queue", "ph": "X", "ts": 2000.0, "dur": 1000.0, "pid": 103, "tid": 5,
+             "args": details("actor 1 step 3", "queue", 4, 1)},
+        ])
+        self.assertEqual(self.of("i", "queue"), [
+            {"name": "release frame 1", "cat": "queue", "ph": "i", "s": "t", "ts": 3000.0, "pid": 103, "tid": 5,
+             "args": details("compositor vsync 3", "release", 4, 1)},
+            {"name": "connect", "cat": "queue", "ph": "i", "s": "t", "ts": 250.0, "pid": 103, "tid": 0,
+             "args": details("actor 1 step 1", "connect", None, 0)},
+            {"name": "dequeue: WouldBlock", "cat": "queue", "ph": "i", "s": "t", "ts": 500.0, "pid": 103, "tid": 0,
+             "args": details("actor 2 step 1", "dequeue", None, 0, "WouldBlock")},
+        ])
+
+    def test_what_is_held_and_who_is_stuck(self):
+        self.assertEqual(self.of("i", "held"), [
+            {"name": "arrival 4 held: Time 5000 0", "cat": "held", "ph": "i", "s": "t", "ts": 4000.0, "pid": 1, "tid": 4,
+             "args": {"arrival": 4, "hold": 2, "a": 5000, "b": 0}},
+        ])
+        self.assertEqual(self.of("i", "stuck"), [
+            {"name": "stuck at step 2", "cat": "stuck", "ph": "i", "s": "t", "ts": 4000.0, "pid": 2, "tid": 2,
+             "args": {"actor": 2, "step": 2}},
+        ])
 
 
 if __name__ == "__main__":
