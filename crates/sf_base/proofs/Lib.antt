@@ -1,1 +1,3 @@
 pub mod FenceLemmas
+pub mod Lists
+pub mod PointLemmas

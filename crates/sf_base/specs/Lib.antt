@@ -4,5 +4,6 @@ pub mod Fences
 pub mod Formats
 pub mod Geometry
 pub mod Paint
+pub mod Points
 pub mod Slots
 pub mod Statuses
