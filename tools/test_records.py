@@ -318,7 +318,7 @@ class Trace(Case):
             (1, 1): "vsyncs", (1, 2): "frames", (1, 3): "rejects", (1, 4): "held",
             (1, 10): "commits of token 2", (1, 11): "commits of token 4294967295",
             (2, 1): "actor 1", (2, 2): "actor 2",
-            (103, 0): "calls without a slot", (103, 5): "slot 4",
+            (103, 1): "calls without a slot", (103, 6): "slot 4",
         })
 
     def test_every_event_is_on_a_named_track(self):
@@ -377,17 +377,17 @@ class Trace(Case):
         def details(caller, kind, slot, frame, status="Ok"):
             return {"caller": caller, "kind": kind, "status": status, "slot": slot, "frame": frame}
         self.assertEqual(self.of("X", "queue"), [
-            {"name": "dequeue", "cat": "queue", "ph": "X", "ts": 750.0, "dur": 1250.0, "pid": 103, "tid": 5,
+            {"name": "dequeue", "cat": "queue", "ph": "X", "ts": 750.0, "dur": 1250.0, "pid": 103, "tid": 6,
              "args": details("actor 1 step 2", "dequeue", 4, 0)},
-            {"name": "queue frame 1", "cat": "queue", "ph": "X", "ts": 2000.0, "dur": 1000.0, "pid": 103, "tid": 5,
+            {"name": "queue frame 1", "cat": "queue", "ph": "X", "ts": 2000.0, "dur": 1000.0, "pid": 103, "tid": 6,
              "args": details("actor 1 step 3", "queue", 4, 1)},
         ])
         self.assertEqual(self.of("i", "queue"), [
-            {"name": "release frame 1", "cat": "queue", "ph": "i", "s": "t", "ts": 3000.0, "pid": 103, "tid": 5,
+            {"name": "release frame 1", "cat": "queue", "ph": "i", "s": "t", "ts": 3000.0, "pid": 103, "tid": 6,
              "args": details("compositor vsync 3", "release", 4, 1)},
-            {"name": "connect", "cat": "queue", "ph": "i", "s": "t", "ts": 250.0, "pid": 103, "tid": 0,
+            {"name": "connect", "cat": "queue", "ph": "i", "s": "t", "ts": 250.0, "pid": 103, "tid": 1,
              "args": details("actor 1 step 1", "connect", None, 0)},
-            {"name": "dequeue: WouldBlock", "cat": "queue", "ph": "i", "s": "t", "ts": 500.0, "pid": 103, "tid": 0,
+            {"name": "dequeue: WouldBlock", "cat": "queue", "ph": "i", "s": "t", "ts": 500.0, "pid": 103, "tid": 1,
              "args": details("actor 2 step 1", "dequeue", None, 0, "WouldBlock")},
         ])
 

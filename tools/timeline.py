@@ -15,6 +15,11 @@ VSYNCS, FRAMES, REJECTED, HELD, TOKENS = 1, 2, 3, 4, 10
 ENDING = (8, 9, 14, 15)
 
 
+def slot_track(slot):
+    """The track of a slot's calls in its queue, or of the calls without a slot. Viewers keep track 0 for themselves."""
+    return (1, "calls without a slot") if slot == NO_SLOT else (slot + 2, f"slot {slot}")
+
+
 def microseconds(nanoseconds):
     return nanoseconds / 1000
 
@@ -109,7 +114,7 @@ def frame_events(frames, clock):
 
 def slot_events(queue, slot, calls, clock):
     """The calls of a slot: one that was done lasts until the next one, if it leaves the slot with somebody."""
-    thread = 0 if slot == NO_SLOT else slot + 1
+    thread, _ = slot_track(slot)
     times = [clock.of_caller(caller, step) for caller, step, *_ in calls]
     done = [time for time, call in zip(times, calls) if call[3] == 0] + [clock.end]
     for time, (caller, step, kind, status, _, frame) in zip(times, calls):
@@ -132,7 +137,7 @@ def history_events(fields, clock):
         by_slot[call[4]].append(call)
     yield from process_name(QUEUES + queue, f"queue {queue}")
     for slot in sorted(by_slot):
-        yield from track_name(QUEUES + queue, *((0, "calls without a slot") if slot == NO_SLOT else (slot + 1, f"slot {slot}")))
+        yield from track_name(QUEUES + queue, *slot_track(slot))
         yield from slot_events(queue, slot, by_slot[slot], clock)
 
 

@@ -3,6 +3,7 @@ use Rattle.std.specs.Prelude.{◌≡◌, ℕ, ◌≤◌, ◌==◌, Bool, true, i
 use Rattle.std.specs.List.{list_any}
 use Rattle.sf_picture.specs.declared.picture.Picture.{Picture}
 use Rattle.sf_script.specs.declared.scene.Step.{Step}
+use Rattle.sf_base.specs.declared.format.Format.TheVariants as format
 use Rattle.sf_script.specs.declared.scene.Step.TheVariants as step
 use Rattle.sf_surface.specs.Objects.{ObjectOf}
 use Rattle.sf_actor.specs.Pasts.{has_queue}
@@ -10,7 +11,7 @@ use Rattle.sf_actor.specs.Plain.{past_of}
 
 -- no picture
 abbrev pub no_picture : Picture
-no_picture = record { number = 0; width = 0; height = 0; fills = [] }
+no_picture = record { number = 0; width = 0; height = 0; fills = []; format = format.Rgba }
 
 -- the picture of a number
 unfoldable pub picture_at : List Picture → ℕ → Picture

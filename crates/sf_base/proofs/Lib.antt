@@ -1,3 +1,4 @@
+pub mod Deciding
 pub mod FenceLemmas
 pub mod Lists
 pub mod PointLemmas

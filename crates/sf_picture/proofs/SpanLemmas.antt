@@ -1,14 +1,18 @@
 -- Filling a row after the rows above it, and a fill after the fills before it.
-use Rattle.std.proofs.Common.{◌≡◌, ℕ, ◌+◌, ◌*◌, ◌<◌, ◌≤◌, inl, inr, List, [], ◌∷◌, arith, true, false, if◌then◌else◌, suc, Bool, ap, refl, find, reverse, take, length, get_or, replicate, Option, Some}
+use Rattle.std.proofs.Common.{◌≡◌, ℕ, ◌+◌, ◌*◌, ◌<◌, ◌≤◌, pos, ◌∙◌, inl, inr, List, [], ◌∷◌, arith, true, false, if◌then◌else◌, nat_le, nat_lt, ◌&&◌, suc, Bool, ap, refl, find, reverse, take, length, get_or, Option, Some}
 use Rattle.std.proofs.Math.Nat.{mul-le-mul_right}
 use Rattle.std.proofs.lemmas.Bool.{cases_lt}
 use Rattle.std.proofs.lemmas.Bool.Decides.{nat_tests}
+use Rattle.sf_base.specs.declared.geometry.Rect.{Rect}
 use Rattle.sf_base.specs.declared.pixel.Rgba.{Rgba}
-use Rattle.sf_picture.specs.Pixels.{pixel_in, colour_at, colour_of, covers}
+use Rattle.sf_base.specs.Bytes.{FillsSpan, pixel_in}
+use Rattle.sf_base.specs.Formats.{seen_as}
+use Rattle.sf_base.specs.Geometry.{covers, is_within}
+use Rattle.sf_base.specs.declared.format.Format.{Format}
+use Rattle.sf_picture.specs.Pixels.{colour_at, colour_of, transparent}
 use Rattle.sf_picture.specs.declared.fill.Fill.{Fill}
-use Rattle.std.proofs.lemmas.List.{take_more, reverse-append, get_or-replicate, length-replicate}
-use Rattle.std.proofs.Math.ListN.{get_or-eq_default}
-use Rattle.sf_picture.specs.Spans.{FillsSpan, PaintsRows, PaintsFill, ShowsFills}
+use Rattle.std.proofs.lemmas.List.{take_more, reverse-append}
+use Rattle.sf_picture.specs.Spans.{PaintsRows, PaintsFill, ShowsFills}
 
 -- a row's pixels come before those of each later row
 row_before : (w x y z : ℕ) → x < w → y < z → y * w + x < z * w
@@ -53,30 +57,45 @@ PaintsRows-more {old} {mid} {new} {w} {h} {left} {right} {top} {y} {colour} rows
       ];
 }
 
+-- the rows that a rectangle covers, each between its sides, are what it covers
+pub PaintsFill-rows : {old new : List ℕ} {w h left right top bottom y : ℕ} {colour : Rgba} (rect : Rect) → PaintsRows old new w h left right top y colour → y ≡ bottom → ((x : ℕ) → x < w → is_within rect.x rect.width (pos x) ≡ (nat_le left x && nat_lt x right)) → ((z : ℕ) → z < h → is_within rect.y rect.height (pos z) ≡ (nat_le top z && nat_lt z bottom)) → PaintsFill old new w h rect colour
+unfolding covers
+PaintsFill-rows {old} {new} {w} {h} {left} {right} {top} {bottom} {y} {colour} rect rows ended across down = record {
+  pixels = λ x z in_row in_column.
+      rw (across x in_row, down z in_column, ← ended) (rows.pixels x z in_row in_column);
+}
+
 -- the colour of a choice is the choice of the colour
 colour_of-if : (b : Bool) (fill : Fill) (rest : Option Fill) → colour_of (if b then Some fill else rest) ≡ (if b then fill.colour else colour_of rest)
 colour_of-if true fill rest = refl
 colour_of-if false fill rest = refl
 
 -- one fill more covers what it covers
-colour_at-more : (fills : List Fill) (i : ℕ) (d : Fill) (x y : ℕ) → i < length fills → colour_at (take (i + 1) fills) x y ≡ (if covers (get_or fills i d) x y then (get_or fills i d).colour else colour_at (take i fills) x y)
+colour_at-more : (fills : List Fill) (i : ℕ) (d : Fill) (x y : ℕ) → i < length fills → colour_at (take (i + 1) fills) x y ≡ (if covers (get_or fills i d).rect (pos x) (pos y) then (get_or fills i d).colour else colour_at (take i fills) x y)
 colour_at-more fills i d x y h =
     let e : reverse (take (i + 1) fills) ≡ get_or fills i d ∷ reverse (take i fills) = rw (take_more fills i d h, reverse-append) refl in
-    rw e (colour_of-if (covers (get_or fills i d) x y) (get_or fills i d) (find (λ fill. covers fill x y) (reverse (take i fills))))
+    rw e (colour_of-if (covers (get_or fills i d).rect (pos x) (pos y)) (get_or fills i d) (find (λ fill. covers fill.rect (pos x) (pos y)) (reverse (take i fills))))
 
-pub ShowsFills-more : (fills : List Fill) (i : ℕ) (d : Fill) {w h : ℕ} {mid new : List ℕ} → ShowsFills (take i fills) w h mid → i < length fills → PaintsFill mid new w h (get_or fills i d) → ShowsFills (take (i + 1) fills) w h new
-ShowsFills-more fills i d {w} {h} {mid} {new} shows more paints = record {
+-- what is seen of a choice is the choice of what is seen
+seen-if : (format : Format) (b : Bool) (one other : Rgba) → seen_as format (if b then one else other) ≡ (if b then seen_as format one else seen_as format other)
+seen-if format true one other = refl
+seen-if format false one other = refl
+
+pub ShowsFills-more : (format : Format) (fills : List Fill) (i : ℕ) (d : Fill) {w h : ℕ} {mid new : List ℕ} → ShowsFills format (take i fills) w h mid → i < length fills → PaintsFill mid new w h (get_or fills i d).rect (seen_as format (get_or fills i d).colour) → ShowsFills format (take (i + 1) fills) w h new
+ShowsFills-more format fills i d {w} {h} {mid} {new} shows more paints = record {
   pixels = λ x y in_row in_column.
       let was = shows.pixels x y in_row in_column in
       let now = paints.pixels x y in_row in_column in
-      let e = colour_at-more fills i d x y more in
+      let e = ap (seen_as format) (colour_at-more fills i d x y more) ∙ seen-if format (covers (get_or fills i d).rect (pos x) (pos y)) (get_or fills i d).colour (colour_at (take i fills) x y) in
       grind (arith, was, now, e);
 }
 
--- a zero, at every place
-get_or-zeros : (n i z : ℕ) → get_or (replicate n z) i z ≡ z
-get_or-zeros n i z = elim (cases_lt i n) [ inl h ↦ get_or-replicate n i z z h | inr h ↦ get_or-eq_default (replicate n z) z (rw length-replicate h) ]
-
--- cleared bytes are the pixels of a picture without fills
-pub ShowsFills-none : (n w h : ℕ) → ShowsFills [] w h (replicate n 0)
-ShowsFills-none n w h = record { pixels = λ x y in_row in_column. simp get_or-zeros }
+-- filled bytes are the pixels of a picture without fills
+pub ShowsFills-none : (format : Format) (w h : ℕ) (old new : List ℕ) → FillsSpan old new 0 (w * h) (seen_as format transparent) → ShowsFills format [] w h new
+ShowsFills-none format w h old new filled = record {
+  pixels = λ x y in_row in_column.
+      let last : suc y * w ≤ h * w = mul-le-mul_right w in_column in
+      let e : suc y * w ≡ y * w + w = omega arith in
+      let turned : h * w ≡ w * h = omega arith in
+      filled.inside (y * w + x) (omega arith) (omega (arith, last, e, turned));
+}

@@ -1,16 +1,11 @@
 -- What a picture shows at each point, and the bytes of a painted picture.
-use Rattle.std.specs.Prelude.{◌≡◌, ℕ, ◌+◌, ◌*◌, ◌<◌, ◌≤◌, ℤ, pos, ◌+ℤ◌, int_le, int_lt, Bool, ◌&&◌, List, length, find, reverse, slice_index, Option, Some, None}
+use Rattle.std.specs.Prelude.{◌≡◌, ℕ, ◌+◌, ◌*◌, ◌<◌, ◌≤◌, pos, List, length, find, reverse, Option, Some, None}
+use Rattle.sf_base.specs.Bytes.{pixel_in}
+use Rattle.sf_base.specs.Formats.{seen_as}
+use Rattle.sf_base.specs.Geometry.{covers}
 use Rattle.sf_base.specs.declared.pixel.Rgba.{Rgba}
 use Rattle.sf_picture.specs.declared.fill.Fill.{Fill}
 use Rattle.sf_picture.specs.declared.picture.Picture.{Picture}
-
--- a coordinate lies in a span that starts here and is so long
-abbrev pub is_within : ℤ → ℕ → ℕ → Bool
-is_within start extent at = int_le start (pos at) && int_lt (pos at) (start +ℤ pos extent)
-
--- a fill covers the point
-abbrev pub covers : Fill → ℕ → ℕ → Bool
-covers fill x y = is_within fill.rect.x fill.rect.width x && is_within fill.rect.y fill.rect.height y
 
 -- a point that no fill covers is transparent black
 abbrev pub transparent : Rgba
@@ -22,11 +17,11 @@ colour_of (Some fill) = fill.colour
 
 -- the colour of the last fill that covers the point, found from the last fill back
 abbrev pub colour_at : List Fill → ℕ → ℕ → Rgba
-colour_at fills x y = colour_of (find (λ fill. covers fill x y) (reverse fills))
+colour_at fills x y = colour_of (find (λ fill. covers fill.rect (pos x) (pos y)) (reverse fills))
 
--- the colour of a picture's pixel
+-- the colour of a picture's pixel, as a reader of the buffer sees it
 abbrev pub pixel_at : Picture → ℕ → ℕ → Rgba
-pixel_at picture x y = colour_at picture.fills x y
+pixel_at picture x y = seen_as picture.format (colour_at picture.fills x y)
 
 -- a picture is 1 to 512 pixels wide and high
 pub record HasSize (picture : Picture) : Type 0 where
@@ -35,14 +30,12 @@ pub record HasSize (picture : Picture) : Type 0 where
   pub high : 1 ≤ picture.height
   pub low : picture.height ≤ 512
 
--- the pixel that four bytes in the order red, green, blue, alpha make
-abbrev pub pixel_in : List ℕ → ℕ → Rgba
-pixel_in bytes i = record {
-  r = slice_index bytes (4 * i);
-  g = slice_index bytes (4 * i + 1);
-  b = slice_index bytes (4 * i + 2);
-  a = slice_index bytes (4 * i + 3);
-}
+-- two pictures are equal but for their fills
+pub record HasSameForm (one other : Picture) : Type 0 where
+  pub number : one.number ≡ other.number
+  pub width : one.width ≡ other.width
+  pub height : one.height ≡ other.height
+  pub format : one.format ≡ other.format
 
 -- the bytes are the picture's pixels, row by row from the top
 pub record ShowsPicture (picture : Picture) (bytes : List ℕ) : Type 0 where

@@ -1,29 +1,31 @@
-ghost use Rattle.std.specs.Prelude.{◌≡◌, find, reverse};
+ghost use Rattle.std.specs.Prelude.{◌≡◌, find, pos, reverse};
 ghost use Rattle.std.specs.Option.{option_copied};
-ghost use Rattle.sf_picture.specs.Pixels.{is_within, covers, colour_at};
+ghost use Rattle.sf_base.specs.Geometry.{covers};
+ghost use Rattle.sf_picture.specs.Pixels.{colour_at};
 
 use crate::fill::Fill;
-use sf_base::Rgba;
+use sf_base::{Rgba, is_within};
 
-/// Whether a coordinate lies in the span that starts there and is so long.
-fn is_within(start: i32, extent: u32, at: u32) -> bool
-    ensures { result ≡ is_within start extent at }
-{
-    let at = i64::from(at);
-    let start = i64::from(start);
-    start <= at && at < start + i64::from(extent)
-}
+/// No colour, and no cover of what lies below.
+pub(crate) const TRANSPARENT: Rgba = Rgba {
+    r: 0,
+    g: 0,
+    b: 0,
+    a: 0,
+};
 
 /// Whether a fill covers the point.
+#[tactic(auto, unfolding(sf_base::specs::Geometry::covers))]
 fn is_covered(fill: &Fill, x: u32, y: u32) -> bool
-    ensures { result ≡ covers fill.now x y }
+    ensures { result ≡ covers fill.now.rect (pos x) (pos y) }
 {
-    is_within(fill.rect.x, fill.rect.width, x) && is_within(fill.rect.y, fill.rect.height, y)
+    is_within(fill.rect.x, fill.rect.width, i64::from(x))
+        && is_within(fill.rect.y, fill.rect.height, i64::from(y))
 }
 
 /// The last fill that covers the point.
 fn top_fill(fills: &[Fill], x: u32, y: u32) -> Option<&Fill>
-    ensures { option_copied result ≡ find (λ fill. covers fill x y) (reverse fills.now) }
+    ensures { option_copied result ≡ find (λ fill. covers fill.rect (pos x) (pos y)) (reverse fills.now) }
 {
     fills.iter().rev().find(|fill| is_covered(fill, x, y))
 }
@@ -34,11 +36,6 @@ pub(crate) fn top_colour(fills: &[Fill], x: u32, y: u32) -> Rgba
 {
     match top_fill(fills, x, y) {
         Some(fill) => fill.colour,
-        None => Rgba {
-            r: 0,
-            g: 0,
-            b: 0,
-            a: 0,
-        },
+        None => TRANSPARENT,
     }
 }

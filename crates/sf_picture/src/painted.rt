@@ -1,14 +1,15 @@
 ghost use Rattle.std.specs.Prelude.{◌≡◌, ◌*◌, IfOk, IfErr, length};
 ghost use Rattle.sf_picture.specs.Pixels.{HasSize, ShowsPicture};
 
+use crate::cover::TRANSPARENT;
 use crate::picture::Picture;
-use crate::spans::paint_fill;
-use sf_base::NoMemory;
+use crate::spans::{fill_span, paint_fill};
+use sf_base::{NoMemory, seen_as};
 use std::alloc::Global;
 use std::marker::Model;
 
-/// A picture with its pixels: four bytes each, in the order red, green, blue, alpha, row by row
-/// from the top. Contracts see the picture alone, since it tells the bytes.
+/// A picture with its pixels as a reader sees them: four bytes each, in the order red, green, blue,
+/// alpha, row by row from the top. Contracts see the picture alone, since it tells the bytes.
 #[derive(Drop)]
 pub struct Painted {
     picture: Picture,
@@ -64,9 +65,11 @@ fn paint_all(bytes: &mut [u8], picture: &Picture)
     requires room { length bytes.old ≡ 4 * (picture.now.width * picture.now.height) }
     ensures { ShowsPicture picture.now bytes.new }
 {
-    bytes.fill(0);
+    let ground = seen_as(picture.format, TRANSPARENT);
+    let count = picture.width as usize * picture.height as usize;
+    fill_span(bytes, 0, count, ground);
     for fill in picture.fills.as_slice() {
-        paint_fill(bytes, picture.width, picture.height, fill);
+        paint_fill(bytes, picture.width, picture.height, picture.format, fill);
     }
 }
 

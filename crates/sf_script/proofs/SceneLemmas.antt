@@ -15,6 +15,7 @@ use Rattle.sf_script.specs.Script.{actors_of, fills_of, order_of, pictures_of, q
 use Rattle.sf_script.proofs.BeforeLemmas.{declares-last, declares_any-push, fills_so_far-push, first_token-push, steps_so_far-push}
 use Rattle.sf_script.specs.declared.line.Header.{Header}
 use Rattle.sf_script.specs.declared.line.Line.{Line}
+use Rattle.sf_base.specs.declared.format.Format.TheVariants as format
 use Rattle.sf_script.specs.declared.line.Line.TheVariants as line
 use Rattle.sf_script.specs.declared.line.NamedStep.{NamedStep}
 use Rattle.sf_script.specs.declared.line.PictureDecl.{PictureDecl}
@@ -156,7 +157,7 @@ fills_fit before (line.Fill x ∷ ls) e = All-cons IsFill x (fills_of ls) e.0.ra
 fills_fit before (l ∷ ls) e = All-nil IsFill
 
 abbrev drawn : PictureDecl → List Line → Picture
-drawn p ls = record { number = p.number; width = p.width; height = p.height; fills = fills_of ls }
+drawn p ls = record { number = p.number; width = p.width; height = p.height; fills = fills_of ls; format = format.Rgba }
 
 pictures_fit : (before ls : List Line) → EachFits before ls → All IsPicture (pictures_of ls)
 unfolding pictures_of

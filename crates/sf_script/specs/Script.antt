@@ -5,6 +5,7 @@ use Rattle.sf_picture.specs.declared.fill.Fill.{Fill}
 use Rattle.sf_picture.specs.declared.picture.Picture.{Picture}
 use Rattle.sf_words.specs.Text.{Text, lines_of, trimmed, words_of}
 use Rattle.sf_words.specs.Reading.{◌>>=◌, demand, end_at, some_or, word_at, wrong}
+use Rattle.sf_base.specs.declared.format.Format.TheVariants as format
 use Rattle.sf_words.specs.declared.fault.Cause.TheVariants.{Limit, NotUtf8, OutOfOrder, Unended, UnknownWord}
 use Rattle.sf_words.specs.declared.fault.WordFault.{WordFault}
 use Rattle.sf_script.specs.Before.{actor_of, declares_any, has_room, last_rank, may_follow}
@@ -84,7 +85,7 @@ fills_of _ = []
 -- each picture has the fills that stand behind its line
 unfoldable pub pictures_of : List Line → List Picture
 pictures_of [] = []
-pictures_of (line.Picture p ∷ lines) = record { number = p.number; width = p.width; height = p.height; fills = fills_of lines } ∷ pictures_of lines
+pictures_of (line.Picture p ∷ lines) = record { number = p.number; width = p.width; height = p.height; fills = fills_of lines; format = format.Rgba } ∷ pictures_of lines
 pictures_of (_ ∷ lines) = pictures_of lines
 
 -- the steps that stand in front

@@ -17,7 +17,7 @@ use crate::line::{Header, Keyword, Line};
 use crate::order::order_line;
 use crate::scene::{ActorScript, Pick, QueueDecl, Scene, Step};
 use crate::steps::step_line;
-use sf_base::Items;
+use sf_base::{Format, Items};
 use sf_picture::{Fill, Picture};
 use sf_words::{
     Cause, WordFault, count_words, demand, end, next_line, next_word, trim, word, wrong,
@@ -144,6 +144,7 @@ fn pictures(alloc: Global, lines: &[Line]) -> Result<Vec<Picture>, AllocError>
                 width: picture.width,
                 height: picture.height,
                 fills: Items::new(fills(alloc, after)?),
+                format: Format::Rgba,
             })?;
         }
         rest = after;

@@ -1,5 +1,5 @@
 use crate::stamped::Stamped;
-use sf_base::{Items, NoMemory};
+use sf_base::NoMemory;
 use sf_picture::{Painted, Picture};
 use std::alloc::Global;
 
@@ -14,11 +14,6 @@ impl Stamped for Painted {
     }
 
     fn copy_stamp(alloc: Global, stamp: &Picture) -> Result<Picture, NoMemory> {
-        Ok(Picture {
-            number: stamp.number,
-            width: stamp.width,
-            height: stamp.height,
-            fills: Items::new(Vec::from_slice(alloc, stamp.fills.as_slice())?),
-        })
+        stamp.copy(alloc)
     }
 }

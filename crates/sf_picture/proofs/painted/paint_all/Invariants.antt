@@ -3,4 +3,4 @@ use Rattle.sf_picture.specs.Spans.{ShowsFills}
 use Rattle.sf_picture.proofs.painted.paint_all.Given as goal
 
 abbrev pub invariant-loop-fill : goal.invariant-loop-fill
-invariant-loop-fill l = ShowsFills (take l.fill-index l.fill-items) l.picture.width l.picture.height l.bytes
+invariant-loop-fill l = ShowsFills l.picture.format (take l.fill-index l.fill-items) l.picture.width l.picture.height l.bytes

@@ -1,4 +1,4 @@
-use Rattle.sf_picture.specs.Spans.{FillsSpan}
+use Rattle.sf_base.specs.Bytes.{FillsSpan}
 use Rattle.sf_picture.proofs.spans.fill_span.Given as goal
 
 abbrev pub invariant-loop-at : goal.invariant-loop-at

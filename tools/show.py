@@ -1,0 +1,96 @@
+#!/usr/bin/env python3
+"""Plays a scene and writes its frames as PNG files.
+
+    show.py [--proved] [SCENE [FOLDER]]
+
+SCENE is scenes/phone.sf if it is not given, and FOLDER is out/NAME for a scene NAME.sf, beside the
+folder crates/. The records are written there too, as records.bin, for tools/records.py.
+
+Without --proved the program is compiled and run as it stands, by `rt try`: that takes less than a
+minute, and no proof is asked for. Such a run may write at most 1 MiB of records. With --proved
+`rt run` proves the program first, the first time for long, and has no such limit.
+
+status: that of the program (0 played, 2 the script is no scene), or 1 where there is no answer, or 2
+where words are wrong or a file cannot be read or written.
+"""
+
+import os
+import subprocess
+import sys
+
+from pictures import write_frames
+from stream import faults, read
+from wording import sentence
+
+TOP = os.path.dirname(os.path.dirname(os.path.abspath(__file__)))
+PROGRAM = os.path.join(TOP, "crates", "sf_main")
+USUAL_SCENE = os.path.join(TOP, "scenes", "phone.sf")
+# Which statuses of the program leave whole records behind: a played scene, and a script that is none.
+WHOLE = (0, 2)
+
+
+def complain(text):
+    print(f"show.py: {text}", file=sys.stderr)
+
+
+def usual_folder(scene):
+    return os.path.join(TOP, "out", os.path.splitext(os.path.basename(scene))[0])
+
+
+def arguments(words):
+    """How to run the program, the scene and the folder, or None where the words are wrong."""
+    command = "run" if words[:1] == ["--proved"] else "try"
+    names = words[1:] if command == "run" else words
+    if len(names) > 2 or any(name.startswith("-") for name in names):
+        return None
+    scene = names[0] if names else USUAL_SCENE
+    return command, scene, names[1] if len(names) == 2 else usual_folder(scene)
+
+
+def play(command, scene):
+    """The status of a run of the program on a scene, and its records. What `rt` says goes on to standard error."""
+    with open(scene, "rb") as script:
+        ended = subprocess.run(["rt", command], cwd=PROGRAM, stdin=script, stdout=subprocess.PIPE)
+    return ended.returncode, ended.stdout
+
+
+def show(command, scene, folder):
+    waiting = "compiles and plays it, unproved (half a minute to a minute)" if command == "try" else "proves, builds and plays it"
+    print(f"{os.path.relpath(scene)}: {waiting}", file=sys.stderr, flush=True)
+    status, data = play(command, scene)
+    records, of_stream = read(data)
+    if status not in WHOLE or not records:
+        complain(f"rt {command} ended with status {status} and gave no whole run")
+        return 1
+    for line in faults(records, of_stream):
+        complain(line)
+    os.makedirs(folder, exist_ok=True)
+    with open(os.path.join(folder, "records.bin"), "wb") as file:
+        file.write(data)
+    for path in write_frames(folder, records):
+        print(os.path.relpath(path))
+    if records[0].tag == "SFLT":
+        complain(sentence(records[0]))
+    return status
+
+
+def main(words):
+    if words in (["--help"], ["-h"]):
+        print(__doc__.strip())
+        return 0
+    parsed = arguments(words)
+    if parsed is None:
+        print(__doc__.strip(), file=sys.stderr)
+        return 2
+    try:
+        return show(*parsed)
+    except FileNotFoundError as fault:
+        complain("rt, the command of Rattle's kit, is not on the path" if fault.filename == "rt" else fault)
+        return 2
+    except OSError as fault:
+        complain(fault)
+        return 2
+
+
+if __name__ == "__main__":
+    sys.exit(main(sys.argv[1:]))
