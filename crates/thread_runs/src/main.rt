@@ -6,6 +6,7 @@
 
 mod counted;
 mod counter;
+mod entered;
 mod lock_run;
 mod seat;
 mod signals_run;

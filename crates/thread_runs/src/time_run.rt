@@ -48,7 +48,12 @@ fn risen(alloc: Global, seen: &Seen) -> Result<String, NoMemory> {
     Ok(text)
 }
 
-fn apply(alloc: Global, times: &Timelines, seat: &mut TimeSeat, act: Act) -> Result<String, NoMemory>
+fn apply(
+    alloc: Global,
+    times: &Timelines,
+    seat: &mut TimeSeat,
+    act: Act,
+) -> Result<String, NoMemory>
     requires { seat.old.table ≡ times.now }
     ensures table { seat.new.table ≡ seat.old.table }
     ensures first { seat.new.knows.is_first ≡ seat.old.knows.is_first }

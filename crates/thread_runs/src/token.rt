@@ -3,18 +3,11 @@ ghost use Rattle.std.specs.Prelude.{◌≡◌};
 ghost use Rattle.thread_runs.specs.Tokens.{table_of};
 
 use crate::counted::Counted;
+use crate::entered::Entered;
 use sf_base::NoMemory;
-use sf_turns::{Inside, Owed, TableName, Turn, TurnSeat};
+use sf_turns::{Owed, TableName, Turn, TurnSeat};
 use std::alloc::Global;
 use std::marker::PhantomData;
-
-/// A turn that has entered, with the pixels that it found.
-#[derive(Drop)]
-pub struct Entered {
-    pub inside: Inside<Counted>,
-    pub pixels: Counted,
-    ghost found: { pixels.stamp ≡ inside.expects },
-}
 
 #[derive(Drop)]
 pub enum Token {
@@ -213,7 +206,8 @@ pub fn apply<B: TableName>(
     ensures table { seat.new.table ≡ seat.old.table }
     ensures first { seat.new.is_first ≡ seat.old.is_first }
 {
-    match held.token {
+    let Held { token, of: _ } = held;
+    match token {
         Token::Turn(turn) => on_turn(alloc, seat, turn, act),
         Token::Entered(entered) => on_entered(alloc, seat, entered, act),
         Token::Owed(owed) => on_owed(alloc, seat, owed, act),

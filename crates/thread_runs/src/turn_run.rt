@@ -4,7 +4,7 @@ ghost use Rattle.std.specs.Option.{ForSome};
 
 use crate::counted::{Counted, Drops};
 use crate::seat::Seat;
-use crate::token::{Act, Held, Token, apply};
+use crate::token::{Act, After, Held, Token, apply};
 use sf_base::NoMemory;
 use sf_turns::{Stock, TableName, TurnSeat, open_turns};
 use std::alloc::Global;
@@ -77,14 +77,14 @@ impl<B: TableName> Tokens<B> {
         let Some(held) = self.take(number) else {
             return Ok(String::from_str(alloc, "no token")?);
         };
-        let after = apply(alloc, seat, held, what)?;
+        let After { kept, issued, text } = apply(alloc, seat, held, what)?;
         if number < self.places.len() {
-            self.places[number] = after.kept;
+            self.places[number] = kept;
         }
-        if let Some(issued) = after.issued {
+        if let Some(issued) = issued {
             self.places.push(Some(issued))?;
         }
-        Ok(after.text)
+        Ok(text)
     }
 }
 
