@@ -4,6 +4,7 @@ ghost use Rattle.std.specs.Prelude.{◌≡◌, true, Some, [], ◌∷◌};
 use crate::answer::Answer;
 use crate::counter::Counter;
 use crate::seat::Seat;
+use crate::words::{number, words};
 use sf_base::NoMemory;
 use sf_calls::{CallFault, CallLock, Pass};
 use std::alloc::Global;
@@ -18,9 +19,9 @@ struct Call {
 }
 
 fn call_of(line: &str) -> Option<Call> {
-    let mut words = line.split_whitespace();
-    let by = Seat::of(words.next()?)?;
-    let number = words.next()?.parse().ok()?;
+    let [by, number_word, _, _] = words(line);
+    let by = Seat::of(by)?;
+    let number = number(number_word)?;
     Some(Call { by, number })
 }
 

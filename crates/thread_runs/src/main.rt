@@ -15,6 +15,7 @@ mod thread_run;
 mod time_run;
 mod token;
 mod turn_run;
+mod words;
 mod write_run;
 
 use std::alloc::Global;

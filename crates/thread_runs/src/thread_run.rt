@@ -3,6 +3,7 @@ ghost use Rattle.std.specs.Prelude.{◌≡◌, Some, IfOk};
 
 use crate::counter::Counter;
 use crate::lock_run::Run;
+use crate::words::{number, words};
 use crate::{signals_run, write_run};
 use sf_base::NoMemory;
 use sf_calls::{CallFault, CallLock, Pass};
@@ -98,15 +99,15 @@ pub fn play<R: Print + Threads + Wait + Sync>(
     lines: &[String],
 ) -> io::Result<()> {
     for line in lines {
-        let mut words = line.split_whitespace();
-        let word = words.next().unwrap_or("");
-        let count = words.next().unwrap_or("").parse().unwrap_or(0);
-        match word {
-            "signals" => println!(rt; "{line}: {}", signals_run::play(rt, alloc, count))?,
-            "writes" => println!(rt; "{line}: {}", write_run::play(rt, alloc, count))?,
-            "adds" => println!(rt; "{line}: {}", add_rounds(rt, alloc, count))?,
-            _ => println!(rt; "{line}: no call")?,
-        }
+        let [word, times, _, _] = words(line);
+        let times = number(times).unwrap_or(0);
+        let count = match word {
+            "signals" => signals_run::play(rt, alloc, times),
+            "writes" => write_run::play(rt, alloc, times),
+            "adds" => add_rounds(rt, alloc, times),
+            _ => 0,
+        };
+        println!(rt; "{line}: {count}")?;
     }
     Ok(())
 }

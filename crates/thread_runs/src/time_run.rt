@@ -1,9 +1,10 @@
 //! Calls on timelines through a first seat and one that is split off it.
-ghost use Rattle.std.specs.Prelude.{◌≡◌, ◌≤◌, ◌↔◌, true, IsTrue};
+ghost use Rattle.std.specs.Prelude.{◌≡◌, ◌≤◌, true, IfSome};
 ghost use Rattle.std.specs.Option.{ForSome};
 
 use crate::answer::Answer;
 use crate::seat::Seat;
+use crate::words::{number, words};
 use sf_base::TimelineId;
 use sf_times::{TimeSeat, Timelines};
 use std::alloc::Global;
@@ -19,38 +20,35 @@ enum Call {
 /// A call through one seat.
 #[derive(Clone, Copy)]
 enum Act {
-    Signal(u32, u64),
-    See(u32),
+    Signal(u64, u64),
+    See(u64),
     SeeAll,
 }
 
-fn act_of(word: &str, timeline: Option<&str>, value: Option<&str>) -> Option<Act> {
+fn call_of(line: &str) -> Option<Call> {
+    let [word, seat, timeline, value] = words(line);
     match word {
-        "all" => Some(Act::SeeAll),
-        "see" => Some(Act::See(timeline?.parse().ok()?)),
-        "signal" => Some(Act::Signal(timeline?.parse().ok()?, value?.parse().ok()?)),
+        "split" => Some(Call::Split),
+        "join" => Some(Call::Join),
+        "all" => Some(Call::At(Seat::of(seat)?, Act::SeeAll)),
+        "see" => Some(Call::At(Seat::of(seat)?, Act::See(number(timeline)?))),
+        "signal" => {
+            let act = Act::Signal(number(timeline)?, number(value)?);
+            Some(Call::At(Seat::of(seat)?, act))
+        }
         _ => None,
     }
 }
 
-fn call_of(line: &str) -> Option<Call> {
-    let mut words = line.split_whitespace();
-    let word = words.next()?;
-    match word {
-        "split" => Some(Call::Split),
-        "join" => Some(Call::Join),
-        _ => {
-            let seat = Seat::of(words.next()?)?;
-            let act = act_of(word, words.next(), words.next())?;
-            Some(Call::At(seat, act))
-        }
-    }
-}
-
-fn is_timeline(number: u32) -> bool
-    ensures { IsTrue result ↔ ((1 ≤ number) × (number ≤ 64)) }
+/// The timeline with this number, where it is 1 to 64.
+fn timeline(number: u64) -> Option<TimelineId>
+    ensures { IfSome result (λ t. (1 ≤ t.0) × (t.0 ≤ 64)) }
 {
-    number >= 1 && number <= 64
+    if number >= 1 && number <= 64 {
+        Some(TimelineId(number as u32))
+    } else {
+        None
+    }
 }
 
 fn apply(times: &Timelines, seat: &mut TimeSeat, act: Act) -> Answer
@@ -59,18 +57,18 @@ fn apply(times: &Timelines, seat: &mut TimeSeat, act: Act) -> Answer
     ensures first { seat.new.knows.is_first ≡ seat.old.knows.is_first }
 {
     match act {
-        Act::Signal(timeline, value) => {
-            if !is_timeline(timeline) {
+        Act::Signal(number, value) => {
+            let Some(id) = timeline(number) else {
                 return Answer::NoTimeline;
-            }
-            seat.signal(times, TimelineId(timeline), value);
+            };
+            seat.signal(times, id, value);
             Answer::Signalled
         }
-        Act::See(timeline) => {
-            if !is_timeline(timeline) {
+        Act::See(number) => {
+            let Some(id) = timeline(number) else {
                 return Answer::NoTimeline;
-            }
-            Answer::Value(seat.seen(times, TimelineId(timeline)))
+            };
+            Answer::Value(seat.seen(times, id))
         }
         Act::SeeAll => Answer::Risen(seat.see_all(times)),
     }

@@ -6,6 +6,7 @@ use crate::answer::Answer;
 use crate::counted::{Counted, Drops};
 use crate::seat::Seat;
 use crate::token::{Act, After, Held, Token, apply};
+use crate::words::{number, words};
 use sf_turns::{Stock, TableName, TurnSeat, open_turns};
 use std::alloc::Global;
 use std::io;
@@ -25,30 +26,27 @@ enum Call {
     At(Seat, usize, Act),
 }
 
-fn act_of(word: &str, stamp: Option<&str>) -> Option<Act> {
+fn act_of(word: &str, stamp: &str) -> Option<Act> {
     match word {
         "ready" => Some(Act::Ready),
         "enter" => Some(Act::Enter),
         "give-up" => Some(Act::GiveUp),
-        "issue" => Some(Act::Issue(stamp?.parse().ok()?)),
+        "issue" => Some(Act::Issue(number(stamp)?)),
         "drop" => Some(Act::Drop),
         _ => None,
     }
 }
 
 fn call_of(line: &str) -> Option<Call> {
-    let mut words = line.split_whitespace();
-    let word = words.next()?;
+    let [word, second, third, fourth] = words(line);
     match word {
-        "open" => Some(Call::Open(words.next()?.parse().ok()?)),
+        "open" => Some(Call::Open(number(second)?)),
         "split" => Some(Call::Split),
         "join" => Some(Call::Join),
         "drops" => Some(Call::Drops),
         _ => {
-            let seat = Seat::of(word)?;
-            let token = words.next()?.parse().ok()?;
-            let act = act_of(words.next()?, words.next())?;
-            Some(Call::At(seat, token, act))
+            let act = act_of(third, fourth)?;
+            Some(Call::At(Seat::of(word)?, number(second)? as usize, act))
         }
     }
 }
