@@ -53,7 +53,7 @@ pub enum Call {
     State,
 }
 
-fn lent(words: &mut SplitWhitespace<'_>) -> Option<Lent> {
+fn lent_buffer(words: &mut SplitWhitespace<'_>) -> Option<Lent> {
     Some(Lent {
         by: actor(words)?,
         slot: slot(words)?,
@@ -61,14 +61,14 @@ fn lent(words: &mut SplitWhitespace<'_>) -> Option<Lent> {
     })
 }
 
-fn taken(words: &mut SplitWhitespace<'_>) -> Option<Taken> {
+fn taken_frame(words: &mut SplitWhitespace<'_>) -> Option<Taken> {
     Some(Taken {
         slot: slot(words)?,
         frame: number64(words)?,
     })
 }
 
-fn size(words: &mut SplitWhitespace<'_>) -> Option<Size> {
+fn size_asked(words: &mut SplitWhitespace<'_>) -> Option<Size> {
     Some(Size {
         width: number32(words)?,
         height: number32(words)?,
@@ -92,18 +92,18 @@ fn order(words: &mut SplitWhitespace<'_>, lent: Lent) -> Option<QueueOrder<u64>>
 /// A call of the producer, by its name.
 fn producer_call(name: &str, words: &mut SplitWhitespace<'_>) -> Option<Call> {
     match name {
-        "dequeue" => Some(Call::Dequeue(actor(words)?, size(words)?, number64(words)?)),
-        "request" => Some(Call::Request(lent(words)?)),
-        "detach" => Some(Call::Detach(lent(words)?)),
-        "detach-allowed" => Some(Call::DetachAllowed(lent(words)?)),
-        "attach" => Some(Call::Attach(actor(words)?, size(words)?)),
+        "dequeue" => Some(Call::Dequeue(actor(words)?, size_asked(words)?, number64(words)?)),
+        "request" => Some(Call::Request(lent_buffer(words)?)),
+        "detach" => Some(Call::Detach(lent_buffer(words)?)),
+        "detach-allowed" => Some(Call::DetachAllowed(lent_buffer(words)?)),
+        "attach" => Some(Call::Attach(actor(words)?, size_asked(words)?)),
         _ => None,
     }
 }
 
 /// A call of the producer that hands a right in.
 fn handing_call(name: &str, words: &mut SplitWhitespace<'_>) -> Option<Call> {
-    let lent = lent(words)?;
+    let lent = lent_buffer(words)?;
     match name {
         "queue" => Some(Call::Queue(lent.by, order(words, lent)?)),
         "queue-allowed" => Some(Call::QueueAllowed(lent.by, order(words, lent)?)),
@@ -117,9 +117,9 @@ fn handing_call(name: &str, words: &mut SplitWhitespace<'_>) -> Option<Call> {
 fn consumer_call(name: &str, words: &mut SplitWhitespace<'_>) -> Option<Call> {
     match name {
         "acquire" => Some(Call::Acquire(number64(words)?)),
-        "release" => Some(Call::Release(taken(words)?, fence(words)?, number64(words)?)),
-        "detachread" => Some(Call::DetachRead(taken(words)?)),
-        "attachread" => Some(Call::AttachRead(size(words)?)),
+        "release" => Some(Call::Release(taken_frame(words)?, fence(words)?, number64(words)?)),
+        "detachread" => Some(Call::DetachRead(taken_frame(words)?)),
+        "attachread" => Some(Call::AttachRead(size_asked(words)?)),
         _ => None,
     }
 }
