@@ -43,12 +43,12 @@ fn print_items(rt: &impl Print, q: &Slots<u64>) -> io::Result<()> {
     match (q.front(), q.second_time()) {
         (Some(front), Some(time)) => {
             println!(rt;
-                "  {count} items: frame {}, and a second for {time}",
+                "  {count} waiting: frame {}, and a second for {time}",
                 front.frame
             )
         }
-        (Some(front), None) => println!(rt; "  {count} items: frame {}", front.frame),
-        _ => println!(rt; "  {count} items"),
+        (Some(front), None) => println!(rt; "  {count} waiting: frame {}", front.frame),
+        _ => println!(rt; "  {count} waiting"),
     }
 }
 
