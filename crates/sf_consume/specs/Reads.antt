@@ -1,5 +1,5 @@
 -- The lease that a consumer means by a slot and a frame's number.
-use Rattle.std.specs.Prelude.{Some, ◌≡◌, ◌<◌, ℕ, unwrap_or, Result, Ok, Err}
+use Rattle.std.specs.Prelude.{Some, IsSome, ◌≡◌, ◌<◌, ℕ, unwrap_or, Result, Ok, Err}
 use Rattle.sf_base.specs.Fences.{no_points}
 use Rattle.sf_base.specs.declared.ids.SlotId.{SlotId}
 use Rattle.sf_base.specs.declared.status.QStatus.{QStatus}
@@ -41,7 +41,8 @@ abbrev pub attach_reply : Result (SlotId × Held) QStatus → PlainReply
 attach_reply (Err refused) = reply.Refused refused
 attach_reply (Ok given) = reply.Attached given.0 given.1
 
--- the slot is with the consumer
+-- the slot is with the consumer, with a buffer
 pub record IsTakenThere (told : Told) (slot : SlotId) : Type 0 where
   pub below : slot.0 < 64
   pub taken : (slot_at told slot.0).state ≡ Acquired
+  pub buffer : IsSome (slot_at told slot.0).held

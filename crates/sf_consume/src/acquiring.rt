@@ -57,7 +57,7 @@ fn drop_late<R: Drop>(q: &mut Slots<R>, expected: u64) -> u32
     let _count = q.len();
     let mut dropped = 0;
     while drops_front(q, expected) {
-        let _ = q.drop_front();
+        q.drop_front();
         dropped += 1;
     }
     dropped

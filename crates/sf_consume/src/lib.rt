@@ -1,3 +1,4 @@
+//! The consumer's calls on a BufferQueue: acquiring and releasing frames, detaching and
 //! attaching buffers, the consumer's limit, and giving the queue up. A refused call changes nothing
 //! and hands back what came with it. No call takes memory.
 #![tactic(auto)]
@@ -5,8 +6,6 @@
 mod acquiring;
 mod leases;
 mod limits;
-#[cfg(test)]
-mod tests;
 
 pub use acquiring::{Acquired, acquire};
 pub use leases::{attach_read, detach_read, release};

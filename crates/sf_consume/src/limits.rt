@@ -1,9 +1,10 @@
-ghost use Rattle.std.specs.Prelude.{◌≡◌, OnOk, OnErr};
+ghost use Rattle.std.specs.Prelude.{◌≡◌, None, OnOk, OnErr, false};
 ghost use Rattle.sf_slots.specs.declared.calls.PlainCall.TheVariants as call;
 ghost use Rattle.sf_base.specs.declared.ids.ActorId.{ActorId};
 ghost use Rattle.sf_slots.specs.declared.calls.PlainReply.TheVariants as reply;
 ghost use Rattle.sf_slots.specs.Queue.{told_of, configured, given_up};
 ghost use Rattle.sf_slots.specs.Replies.{refusal_of, refused_or};
+ghost use Rattle.sf_slots.specs.Told.{forbids, usable};
 ghost use Rattle.sf_slots.specs.Tells.{Continues};
 ghost use Rattle.sf_slots.specs.Effects.{refusal_in, nobody};
 
@@ -11,7 +12,8 @@ use sf_base::QStatus;
 use sf_slots::{Settings, Slots};
 
 fn max_acquired_refusal<R: Drop>(q: &Slots<R>, n: u32) -> Option<QStatus>
-    ensures { result ≡ refusal_of (told_of q.now) nobody (call.MaxAcquired n) }
+    ensures refusal { result ≡ refusal_of (told_of q.now) nobody (call.MaxAcquired n) }
+    ensures allowed { result ≡ None → forbids (told_of q.now) (usable (record q.now.settings { max_acquired = n })) ≡ false }
 {
     let settings = q.settings();
     if settings.abandoned {

@@ -11,12 +11,13 @@ use Rattle.sf_slots.specs.Queue.{Queue, told_of, slot_in, right_in, next_held, l
 use Rattle.sf_slots.specs.declared.slot.Held.{Held}
 use Rattle.sf_base.specs.Fences.{no_points}
 use Rattle.sf_queue.specs.declared.lending.Dequeued.{Dequeued}
-use Rattle.sf_slots.specs.Told.{Told, slot_at, slot_for}
+use Rattle.sf_slots.specs.Told.{Told, slot_at, slot_for, usable}
 use Rattle.sf_slots.specs.Replies.{refusal_of, size_asked, has_size}
 
 -- the slot that is taken next
 pub record IsSlotFor {R : Type 0} (with_buffer : Bool) (q : Queue R) (slot : SlotId) : Type 0 where
   pub chosen : slot_for with_buffer (told_of q) ≡ Some slot.0
+  pub inside : slot.0 < usable q.settings
   pub below : slot.0 < 64
   pub free : (slot_in q slot.0).state ≡ Free
 

@@ -174,3 +174,38 @@ pub fn detach<R: Drop>(
         Err(refused) => Err(refused),
     }
 }
+
+/// Gives back a lent buffer that is known not to be refused, as `lent_refusal` tells. It does what
+/// `cancel` does.
+pub fn cancel_allowed<R: Drop>(
+    q: &mut Slots<R>,
+    by: ActorId,
+    slot: SlotId,
+    buffer: u64,
+    right: R,
+    fence: Fence,
+)
+    requires { refusal_of (told_of q.old) by (lent_call false (lease_of (told_of q.old) slot buffer)) ≡ None }
+    ensures done { q.new ≡ returned q.old slot.0 right fence }
+    ensures history { (lease : WriteToken) → IsLeaseOf (told_of q.old) slot buffer lease →
+        Continues q.old q.new by (call.Cancel lease fence) reply.Done }
+{
+    match cancel(q, by, slot, buffer, right, fence) {
+        Ok(()) => {}
+        Err(_) => unreachable!(),
+    }
+}
+
+/// Takes out a lent buffer that is known not to be refused, as `lent_refusal` tells. It does what
+/// `detach` does.
+pub fn detach_allowed<R: Drop>(q: &mut Slots<R>, by: ActorId, slot: SlotId, buffer: u64)
+    requires { refusal_of (told_of q.old) by (lent_call true (lease_of (told_of q.old) slot buffer)) ≡ None }
+    ensures done { q.new ≡ cleared q.old slot.0 }
+    ensures history { (lease : WriteToken) → IsLeaseOf (told_of q.old) slot buffer lease →
+        Continues q.old q.new by (call.Detach lease) reply.Done }
+{
+    match detach(q, by, slot, buffer) {
+        Ok(()) => {}
+        Err(_) => unreachable!(),
+    }
+}

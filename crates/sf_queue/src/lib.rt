@@ -8,11 +8,9 @@ mod leases;
 mod lending;
 mod limits;
 mod queueing;
-#[cfg(test)]
-mod tests;
 
 pub use connection::{connect, disconnect};
-pub use leases::{cancel, detach, lent_refusal, request};
+pub use leases::{cancel, cancel_allowed, detach, detach_allowed, lent_refusal, request};
 pub use lending::{Dequeued, attach, dequeue, dequeue_needs};
 pub use limits::{set_async, set_max_dequeued};
-pub use queueing::{QueueOrder, queue, queue_refusal};
+pub use queueing::{QueueOrder, queue, queue_allowed, queue_refusal};

@@ -1,9 +1,10 @@
-ghost use Rattle.std.specs.Prelude.{◌≡◌, OnOk, OnErr};
+ghost use Rattle.std.specs.Prelude.{◌≡◌, None, OnOk, OnErr, false};
 ghost use Rattle.sf_base.specs.declared.ids.ActorId.{ActorId};
 ghost use Rattle.sf_slots.specs.declared.calls.PlainCall.TheVariants as call;
 ghost use Rattle.sf_slots.specs.declared.calls.PlainReply.TheVariants as reply;
 ghost use Rattle.sf_slots.specs.Queue.{told_of, configured};
 ghost use Rattle.sf_slots.specs.Replies.{refusal_of, refused_or};
+ghost use Rattle.sf_slots.specs.Told.{forbids, usable};
 ghost use Rattle.sf_slots.specs.Tells.{Continues};
 ghost use Rattle.sf_slots.specs.Effects.{refusal_in, nobody};
 
@@ -11,7 +12,8 @@ use sf_base::QStatus;
 use sf_slots::{Settings, SlotState, Slots};
 
 fn max_dequeued_refusal<R: Drop>(q: &Slots<R>, n: u32) -> Option<QStatus>
-    ensures { result ≡ refusal_of (told_of q.now) nobody (call.MaxDequeued n) }
+    ensures refusal { result ≡ refusal_of (told_of q.now) nobody (call.MaxDequeued n) }
+    ensures allowed { result ≡ None → forbids (told_of q.now) (usable (record q.now.settings { max_dequeued = n })) ≡ false }
 {
     let settings = q.settings();
     if settings.abandoned {
@@ -51,7 +53,8 @@ pub fn set_max_dequeued<R: Drop>(q: &mut Slots<R>, n: u32) -> Result<(), QStatus
 }
 
 fn async_refusal<R: Drop>(q: &Slots<R>, on: bool) -> Option<QStatus>
-    ensures { result ≡ refusal_of (told_of q.now) nobody (call.Async on) }
+    ensures refusal { result ≡ refusal_of (told_of q.now) nobody (call.Async on) }
+    ensures allowed { result ≡ None → forbids (told_of q.now) (usable (record q.now.settings { asynchronous = on })) ≡ false }
 {
     let settings = q.settings();
     if settings.abandoned {

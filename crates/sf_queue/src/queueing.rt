@@ -162,3 +162,19 @@ pub fn queue<R: Drop>(
     });
     Ok(frame)
 }
+
+/// Queues a frame that is known not to be refused, as `queue_refusal` tells, and answers its number.
+/// It does what `queue` does.
+pub fn queue_allowed<R: Drop>(q: &mut Slots<R>, by: ActorId, order: QueueOrder<R>) -> u64
+    requires numbered { q.old.settings.frames < 2 ^ 64 - 1 }
+    requires allowed { refusal_of (told_of q.old) by (order_call (told_of q.old) order) ≡ None }
+    ensures frame { result ≡ q.old.settings.frames + 1 }
+    ensures done { q.new ≡ enqueued q.old (item_of q.old order) }
+    ensures history { (lease : WriteToken) → IsLeaseOf (told_of q.old) order.slot order.buffer lease →
+        Continues q.old q.new by (call_of order lease) (reply.Queued (q.old.settings.frames + 1)) }
+{
+    match queue(q, by, order) {
+        Ok(frame) => frame,
+        Err(_) => unreachable!(),
+    }
+}

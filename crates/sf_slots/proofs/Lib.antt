@@ -12,3 +12,5 @@ pub mod GoingSettings
 pub mod GoingItems
 pub mod RefusalTable
 pub mod Chains
+pub mod FreeSlots
+pub mod Configured

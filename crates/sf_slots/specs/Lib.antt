@@ -1,6 +1,7 @@
 pub mod Events
 pub mod Told
 pub mod Queue
+pub mod Shown
 pub mod History
 pub mod Replies
 pub mod Effects

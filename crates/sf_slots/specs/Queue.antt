@@ -1,5 +1,5 @@
 -- A queue as the moves see it: what is told of it, and the rights in its slots and items.
-use Rattle.std.specs.Prelude.{◌≡◌, ℕ, ◌+◌, ◌-◌, ◌<◌, ◌≤◌, Bool, true, false, not, ◌==◌, ◌&&◌, ◌||◌, is_some, if◌then◌else◌, List, [], ◌∷◌, ◌++◌, length, map, filter, Option, Some, None, replicate, slice_get, slice_index_or, slice_set, take, drop}
+use Rattle.std.specs.Prelude.{◌≡◌, ℕ, ◌+◌, ◌-◌, ◌<◌, ◌≤◌, Bool, true, false, not, ◌==◌, ◌&&◌, nat_lt, is_some, if◌then◌else◌, List, [], ◌∷◌, ◌++◌, length, map, filter, Option, Some, None, replicate, slice_get, slice_index_or, slice_set, take, drop}
 use Rattle.std.specs.List.{list_any, range_with_len}
 use Rattle.sf_base.specs.declared.fences.Fence.{Fence}
 use Rattle.sf_base.specs.declared.ids.QueueId.{QueueId}
@@ -12,7 +12,7 @@ use Rattle.sf_slots.specs.declared.slot.Held.{Held}
 use Rattle.sf_slots.specs.declared.slot.Slot.{Slot}
 use Rattle.sf_slots.specs.declared.slot.SlotState.{SlotState}
 use Rattle.sf_slots.specs.declared.slot.SlotState.TheVariants.{Free, Dequeued, Queued, Acquired}
-use Rattle.sf_slots.specs.Told.{Told, unused, usable, is_in}
+use Rattle.sf_slots.specs.Told.{Told, unused, usable, is_in, is_bare}
 
 pub record Queue (R : Type 0) : Type 0 where
   pub number : QueueId
@@ -59,18 +59,38 @@ pub record IsOut (state : SlotState) : Type 0 where
   pub not_free : state ≡ Free → ⊥
   pub not_queued : state ≡ Queued → ⊥
 
--- a free slot with a buffer has the right to it
-abbrev pub holds : {R : Type 0} → Slot → Option R → Bool
-holds slot right = not (is_in Free slot && is_some slot.held) || is_some right
+-- a free slot with a buffer
+abbrev pub is_stored : Slot → Bool
+is_stored slot = is_in Free slot && is_some slot.held
 
--- what every queue keeps
+-- what a queue keeps of each slot: the right to its pixels lies in it, and it is in the freed list,
+-- exactly where it is free and has a buffer; a queued slot has a buffer; and a slot that may not be
+-- used is free and has none
+pub record IsKept {R : Type 0} (slot : Slot) (in_it : Option R) (is_listed is_usable : Bool) : Type 0 where
+  pub right : is_some in_it ≡ is_stored slot
+  pub listed : is_listed ≡ is_stored slot
+  pub queued : is_in Queued slot ≡ true → is_some slot.held ≡ true
+  pub outside : is_usable ≡ false → is_bare slot ≡ true
+
+-- what every queue keeps: the freed list has each of its slots once, and so have the items
 pub record IsSound {R : Type 0} (q : Queue R) : Type 0 where
   pub sized : length q.slots ≡ 64
   pub rights_sized : length q.rights ≡ 64
   pub fits : usable q.settings ≤ 64
-  pub rights : (s : ℕ) → s < 64 → holds (slot_in q s) (right_in q s) ≡ true
+  pub each : (s : ℕ) → s < 64 → IsKept (slot_in q s) (right_in q s) (contains q.freed s) (nat_lt s (usable q.settings))
   pub freed : ListsSlots q.slots Free q.freed
   pub items : ListsSlots q.slots Queued (map slot_number q.items)
+
+-- the slot may be used and is free
+pub record IsFreeSlot {R : Type 0} (q : Queue R) (s : ℕ) : Type 0 where
+  pub inside : s < usable q.settings
+  pub below : s < 64
+  pub free : (slot_in q s).state ≡ Free
+
+-- the slot is lent to the producer with this buffer
+pub record IsLentWith {R : Type 0} (q : Queue R) (s : ℕ) (buffer : Held) : Type 0 where
+  pub lent : (slot_in q s).state ≡ Dequeued
+  pub here : (slot_in q s).held ≡ Some buffer
 
 -- a slot without a buffer
 abbrev pub emptied : Slot → Slot

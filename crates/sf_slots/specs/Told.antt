@@ -51,6 +51,10 @@ usable settings = usable_with settings.max_acquired settings.max_dequeued settin
 abbrev pub forbids : Told → ℕ → Bool
 forbids told count = nat_lt 64 count || list_any (λ slot. not (is_in Free slot)) (drop count told.slots)
 
+-- some slot may be used and is free
+abbrev pub has_free : Told → Bool
+has_free told = list_any (is_in Free) (take (usable told.settings) told.slots)
+
 -- a free slot without a buffer
 abbrev pub is_bare : Slot → Bool
 is_bare slot = is_in Free slot && not (is_some slot.held)

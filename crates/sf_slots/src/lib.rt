@@ -11,13 +11,15 @@ mod limits;
 mod queueing;
 mod rings;
 mod settings;
+mod shown;
 mod slot;
 mod slots;
 
 pub use calls::{Entry, PlainCall, PlainReply, ReadToken, WriteToken};
 pub use item::{Item, PlainItem};
 pub use laws::{
-    calls_are_told_by_their_history, no_calls_tell_of_a_new_queue, refusals_are_listed,
+    a_free_slot_is_found_where_there_is_one, calls_are_told_by_their_history,
+    no_calls_tell_of_a_new_queue, refusals_are_listed,
 };
 pub use settings::Settings;
 pub use slot::{Held, Slot, SlotState};

@@ -1,9 +1,9 @@
-ghost use Rattle.std.specs.Prelude.{◌≡◌, ◌<◌, ◌≤◌, ◌-◌, ℕ, Option, None, IfSome, length, map, slice_get, take, drop, not, ◌^◌};
+ghost use Rattle.std.specs.Prelude.{◌≡◌, ◌<◌, ◌≤◌, ◌-◌, ℕ, Option, None, IfSome, is_some, false, length, map, slice_get, take, drop, not, ◌^◌};
 ghost use Rattle.std.specs.List.{position, range_with_len, list_any};
 ghost use Rattle.std.specs.Option.{option_map};
 ghost use Rattle.sf_slots.specs.declared.slot.SlotState.TheVariants as state;
-ghost use Rattle.sf_slots.specs.Told.{usable, usable_with, forbids, is_in, is_bare, lowest_bare, slot_for};
-ghost use Rattle.sf_slots.specs.Queue.{Queue, slot_in, told_of, emptied, unmarked, retired, retired_all, configured, given_up, without_marks};
+ghost use Rattle.sf_slots.specs.Told.{usable, usable_with, forbids, has_free, is_in, is_bare, lowest_bare, slot_for};
+ghost use Rattle.sf_slots.specs.Queue.{Queue, IsFreeSlot, IsSound, slot_in, told_of, emptied, unmarked, retired, retired_all, configured, given_up, without_marks};
 
 use crate::rings::{slot_of, take_right};
 use crate::settings::Settings;
@@ -92,7 +92,8 @@ impl<R: Drop> Slots<R> {
     /// The slot that was freed longest ago, of those with a buffer.
     fn first_freed(&self) -> Option<u32>
         ensures value { result ≡ slice_get self.now.freed 0 }
-        ensures free { IfSome result (λ s. (s < 64) × ((slot_in self.now s).state ≡ state.Free)) }
+        ensures free { IfSome result (IsFreeSlot self.now) }
+        ensures sound { IsSound self.now }
     {
         front_of(&self.freed)
     }
@@ -100,7 +101,7 @@ impl<R: Drop> Slots<R> {
     /// The lowest free slot without a buffer, of those that may be used.
     fn lowest_bare(&self) -> Option<u32>
         ensures value { result ≡ lowest_bare (told_of self.now) }
-        ensures free { IfSome result (λ s. (s < 64) × ((slot_in self.now s).state ≡ state.Free)) }
+        ensures free { IfSome result (IsFreeSlot self.now) }
     {
         match first_bare(&self.slots, self.usable() as usize) {
             Some(slot) => Some(slot as u32),
@@ -108,21 +109,30 @@ impl<R: Drop> Slots<R> {
         }
     }
 
-    /// The free slot to use next. With a buffer wanted it is the one freed longest ago, or else the
-    /// lowest one without a buffer; otherwise the other way round. None where no slot may be used and
-    /// is free.
-    pub fn next_free(&self, with_buffer: bool) -> Option<SlotId>
-        ensures slot { option_map (λ s. s.0) result ≡ slot_for with_buffer (told_of self.now) }
-        ensures free { IfSome result (λ s. (s.0 < 64) × ((slot_in self.now s.0).state ≡ state.Free)) }
+    /// The number of the free slot to use next.
+    fn next_number(&self, with_buffer: bool) -> Option<u32>
+        ensures value { result ≡ slot_for with_buffer (told_of self.now) }
+        ensures free { IfSome result (IsFreeSlot self.now) }
+        ensures sound { IsSound self.now }
     {
         let freed = self.first_freed();
         let bare = self.lowest_bare();
-        let slot = if with_buffer {
+        if with_buffer {
             freed.or(bare)
         } else {
             bare.or(freed)
-        };
-        match slot {
+        }
+    }
+
+    /// The free slot to use next. With a buffer wanted it is the one freed longest ago, or else the
+    /// lowest one without a buffer; otherwise the other way round. None exactly where no slot may be
+    /// used and is free.
+    pub fn next_free(&self, with_buffer: bool) -> Option<SlotId>
+        ensures slot { option_map (λ s. s.0) result ≡ slot_for with_buffer (told_of self.now) }
+        ensures free { IfSome result (λ s. IsFreeSlot self.now s.0) }
+        ensures exact { is_some result ≡ has_free (told_of self.now) }
+    {
+        match self.next_number(with_buffer) {
             Some(slot) => Some(SlotId(slot)),
             None => None,
         }
@@ -148,13 +158,17 @@ impl<R: Drop> Slots<R> {
         }
     }
 
-    /// Sets limits, mode and producer. Free slots that may no longer be used lose their buffers and
-    /// stored fences.
+    /// Sets limits, mode and producer, where no more than 64 slots may be used then and no slot that is
+    /// not free lies outside. Free slots that may no longer be used lose their buffers and stored
+    /// fences. The counters stay.
     pub fn configure(&mut self, settings: Settings)
-        requires { usable settings ≤ 64 }
+        requires allowed { forbids (told_of self.old) (usable settings) ≡ false }
+        requires frames { settings.frames ≡ self.old.settings.frames }
+        requires buffers { settings.buffers ≡ self.old.settings.buffers }
         ensures { self.new ≡ configured self.old settings }
     {
-        self.retire_between(settings.usable(), self.usable());
+        let before = self.settings();
+        self.retire_between(settings.usable(), before.usable());
         self.settings = settings;
     }
 

@@ -4,7 +4,7 @@ ghost use Rattle.circular_buffer.specs.Buffer.{buffer};
 ghost use Rattle.sf_slots.specs.declared.slot.SlotState.TheVariants as state;
 ghost use Rattle.sf_slots.specs.Told.{unused};
 ghost use Rattle.sf_slots.specs.declared.item.Item.{Item};
-ghost use Rattle.sf_slots.specs.Queue.{Queue, slot_in, last_in, is_droppable, replacing, slot_replaced, appended, enqueued, handed_over, dropping};
+ghost use Rattle.sf_slots.specs.Queue.{Queue, slot_in, last_in, is_droppable, replacing, slot_replaced, appended, enqueued, handed_over, dropping, IsLentWith};
 
 use crate::item::Item;
 use crate::rings::{push, put_right, slot_of};
@@ -95,17 +95,12 @@ impl<R: Drop> Slots<R> {
 
     /// Drops the first item: its slot is free, holds the item's right, keeps its fence and stands
     /// last in the freed list.
-    pub fn drop_front(&mut self) -> SlotId
+    pub fn drop_front(&mut self)
         requires { 0 < length self.old.items }
-        ensures slot { option_map (λ item. item.slot) (slice_get self.old.items 0) ≡ Some result }
-        ensures after { (item : Item R) → slice_get self.old.items 0 ≡ Some item → self.new ≡ dropping self.old item }
+        ensures { (item : Item R) → slice_get self.old.items 0 ≡ Some item → self.new ≡ dropping self.old item }
     {
         match self.items.pop_front() {
-            Some(item) => {
-                let slot = item.slot;
-                keep_back(&mut self.slots, &mut self.rights, &mut self.freed, item);
-                slot
-            }
+            Some(item) => keep_back(&mut self.slots, &mut self.rights, &mut self.freed, item),
             None => unreachable!(),
         }
     }
@@ -124,7 +119,7 @@ impl<R: Drop> Slots<R> {
     fn replace_last(&mut self) -> Option<SlotId>
         ensures slot { result ≡ slot_replaced (last_in self.old.items) }
         ensures after { self.new ≡ replacing self.old (last_in self.old.items) }
-        ensures others { (s : ℕ) → (slot_in self.old s).state ≡ state.Dequeued → (slot_in self.new s).state ≡ state.Dequeued }
+        ensures others { (s : ℕ) → (slot_in self.old s).state ≡ state.Dequeued → slot_in self.new s ≡ slot_in self.old s }
     {
         if !self.has_droppable_last() {
             return None;
@@ -142,7 +137,7 @@ impl<R: Drop> Slots<R> {
     /// Queues an item from its slot, behind the others.
     fn append(&mut self, item: Item<R>)
         requires below { item.slot.0 < 64 }
-        requires lent { (slot_in self.old item.slot.0).state ≡ state.Dequeued }
+        requires lent { IsLentWith self.old item.slot.0 item.held }
         requires numbered { self.old.settings.frames < 2 ^ 64 - 1 }
         ensures { self.new ≡ appended self.old item }
     {
@@ -158,14 +153,17 @@ impl<R: Drop> Slots<R> {
         push_item(&mut self.items, item);
     }
 
-    /// Queues an item from its slot, which is lent to the producer: in the place of the last item,
-    /// where that is droppable, or else behind it. The slot of an item that is replaced is free,
+    /// Queues an item from its slot, which is lent to the producer with the item's buffer: in the place
+    /// of the last item, where that is droppable, or else behind it. The item has the next frame number
+    /// and is droppable exactly in asynchronous mode. The slot of an item that is replaced is free,
     /// holds its right, keeps its fence, since the write may still be owed, and stands last in the
     /// freed list; it is the answer.
     pub fn enqueue(&mut self, item: Item<R>) -> Option<SlotId>
         requires below { item.slot.0 < 64 }
-        requires lent { (slot_in self.old item.slot.0).state ≡ state.Dequeued }
+        requires lent { IsLentWith self.old item.slot.0 item.held }
         requires numbered { self.old.settings.frames < 2 ^ 64 - 1 }
+        requires next { item.frame ≡ self.old.settings.frames + 1 }
+        requires mode { item.droppable ≡ self.old.settings.asynchronous }
         ensures replaced { result ≡ slot_replaced (last_in self.old.items) }
         ensures after { self.new ≡ enqueued self.old item }
     {

@@ -1,6 +1,6 @@
-ghost use Rattle.std.specs.Prelude.{◌≡◌, ◌<◌, ◌≤◌, ◌+◌, [], ◌∷◌, ◌++◌, IfOk, IfSome, IfNone, length, map, replicate, slice_index_or, true, false, ◌-◌, ◌^◌, count_by};
+ghost use Rattle.std.specs.Prelude.{◌≡◌, ◌<◌, ◌≤◌, ◌+◌, [], ◌∷◌, ◌++◌, IfOk, IsSome, length, map, replicate, slice_index_or, true, false, ◌-◌, ◌^◌, count_by};
 ghost use Rattle.sf_slots.specs.declared.slot.SlotState.TheVariants as state;
-ghost use Rattle.sf_slots.specs.Told.{unused, usable, count_in, is_in};
+ghost use Rattle.sf_slots.specs.Told.{unused, usable, count_in, is_in, forbids};
 ghost use Rattle.sf_slots.specs.Queue.{Queue, IsSound, slot_in, right_in, told_of, empty_queue, lent, taken, seated, next_held, marked, returned, cleared, emptied, IsOut};
 
 use crate::item::Item;
@@ -13,8 +13,9 @@ use std::alloc::Global;
 use std::marker::Model;
 
 /// A BufferQueue: 64 slots, the items that wait for the consumer, the freed buffers and the
-/// settings. A free or queued slot with a buffer holds the right `R` to its pixels, and the moves
-/// hand rights in and out. Only `new` takes memory.
+/// settings. The right `R` to a buffer's pixels lies in its slot while that is free, in its item while
+/// it is queued, and with whom the slot was given to while it is out; the moves hand rights in and out.
+/// Only `new` takes memory.
 #[derive(Drop)]
 pub struct Slots<R> {
     pub(crate) number: QueueId,
@@ -56,6 +57,20 @@ pub(crate) fn empty(slot: Slot) -> Slot
     }
 }
 
+/// The slots as they are at first: free and without buffers.
+fn unused_slots(alloc: Global) -> Result<Vec<Slot>, NoMemory>
+    ensures { IfOk result (λ slots. slots.items ≡ replicate 64 unused) }
+{
+    let unused = Slot {
+        state: SlotState::Free,
+        held: None,
+        requested: false,
+        frame: 0,
+        fence: Fence::none(),
+    };
+    Ok(vec![in alloc; unused; 64]?)
+}
+
 /// No rights yet.
 fn no_rights<R: Drop>(alloc: Global) -> Result<Vec<Option<R>>, NoMemory>
     ensures { IfOk result (λ rights. rights.items ≡ replicate 64 None) }
@@ -78,16 +93,9 @@ impl<R: Drop> Slots<R> {
         requires low { height ≤ 512 }
         ensures { IfOk result (λ q. q ≡ empty_queue queue width height) }
     {
-        let unused = Slot {
-            state: SlotState::Free,
-            held: None,
-            requested: false,
-            frame: 0,
-            fence: Fence::none(),
-        };
         Ok(Slots {
             number: queue,
-            slots: vec![in alloc; unused; 64]?,
+            slots: unused_slots(alloc)?,
             rights: no_rights(alloc)?,
             freed: HeapCircularBuffer::with_capacity(alloc, 64)?,
             items: HeapCircularBuffer::with_capacity(alloc, 64)?,
@@ -110,6 +118,7 @@ impl<R: Drop> Slots<R> {
     pub fn settings(&self) -> Settings
         ensures same { result ≡ self.now.settings }
         ensures sound { IsSound self.now }
+        ensures allowed { forbids (told_of self.now) (usable self.now.settings) ≡ false }
     {
         self.settings
     }
@@ -127,7 +136,7 @@ impl<R: Drop> Slots<R> {
         requires { slot.0 < 64 }
         ensures { result ≡ (slot_in self.now slot.0).state }
     {
-        self.slot(slot).state
+        self.slots[slot.0 as usize].state
     }
 
     /// The buffer of a slot, if it has one.
@@ -135,7 +144,7 @@ impl<R: Drop> Slots<R> {
         requires { slot.0 < 64 }
         ensures { result ≡ (slot_in self.now slot.0).held }
     {
-        self.slot(slot).held
+        self.slots[slot.0 as usize].held
     }
 
     /// Whether a slot's buffer counts as requested.
@@ -143,7 +152,7 @@ impl<R: Drop> Slots<R> {
         requires { slot.0 < 64 }
         ensures { result ≡ (slot_in self.now slot.0).requested }
     {
-        self.slot(slot).requested
+        self.slots[slot.0 as usize].requested
     }
 
     /// The frame number of a slot, 0 before its first frame.
@@ -151,7 +160,7 @@ impl<R: Drop> Slots<R> {
         requires { slot.0 < 64 }
         ensures { result ≡ (slot_in self.now slot.0).frame }
     {
-        self.slot(slot).frame
+        self.slots[slot.0 as usize].frame
     }
 
     /// How many slots are in a state.
@@ -176,10 +185,10 @@ impl<R: Drop> Slots<R> {
         self.items.len() as u32
     }
 
-    /// Lends a free slot to the producer. Its right, where it has a buffer, and its stored fence come
+    /// Lends a free slot that may be used to the producer. Its right, where it has a buffer, and its stored fence come
     /// out.
     pub fn lend(&mut self, slot: SlotId) -> (Option<R>, Fence)
-        requires below { slot.0 < 64 }
+        requires usable { slot.0 < usable self.old.settings }
         requires free { (slot_in self.old slot.0).state ≡ state.Free }
         ensures right { result.0 ≡ right_in self.old slot.0 }
         ensures fence { result.1 ≡ (slot_in self.old slot.0).fence }
@@ -196,10 +205,10 @@ impl<R: Drop> Slots<R> {
         (right, was.fence)
     }
 
-    /// Gives a free slot to the consumer, with frame number 0 and no fence. Its right, where it has a
+    /// Gives a free slot that may be used to the consumer, with frame number 0 and no fence. Its right, where it has a
     /// buffer, comes out.
     pub fn hold(&mut self, slot: SlotId) -> Option<R>
-        requires below { slot.0 < 64 }
+        requires usable { slot.0 < usable self.old.settings }
         requires free { (slot_in self.old slot.0).state ≡ state.Free }
         ensures right { result ≡ right_in self.old slot.0 }
         ensures after { self.new ≡ taken self.old slot.0 }
@@ -239,9 +248,10 @@ impl<R: Drop> Slots<R> {
         held
     }
 
-    /// Notes that the producer requested the buffer of a slot that is out.
+    /// Notes that the producer requested the buffer of a slot that is lent to it.
     pub fn mark_requested(&mut self, slot: SlotId)
-        requires { slot.0 < 64 }
+        requires below { slot.0 < 64 }
+        requires lent { (slot_in self.old slot.0).state ≡ state.Dequeued }
         ensures { self.new ≡ marked self.old slot.0 }
     {
         let was = slot_of(&self.slots, slot.0);
@@ -256,6 +266,7 @@ impl<R: Drop> Slots<R> {
     pub fn free(&mut self, slot: SlotId, right: R, fence: Fence)
         requires below { slot.0 < 64 }
         requires out { IsOut (slot_in self.old slot.0).state }
+        requires buffer { IsSome (slot_in self.old slot.0).held }
         ensures { self.new ≡ returned self.old slot.0 right fence }
     {
         let was = slot_of(&self.slots, slot.0);

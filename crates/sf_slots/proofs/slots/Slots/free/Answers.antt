@@ -13,8 +13,9 @@ push-requires g c =
 pub invariant_of-self : goal.invariant_of-self
 invariant_of-self g c =
     let out = rw (← c.self.view_is) at c.requires.out in
+    let buffer = rw (← c.self.view_is) at c.requires.buffer in
     record {
       for_freed = rw c.push.ensures c.self.invariant.for_freed;
       for_items = c.self.invariant.for_items;
-      sound = rw (c.put_right.ensures, c.push.ensures, c.slot_of-was.ensures, c.deref.ensures.value) (IsSound-returned c.self.invariant.sound c.args.slot.0 c.args.right c.args.fence c.requires.below out);
+      sound = rw (c.put_right.ensures, c.push.ensures, c.slot_of-was.ensures, c.deref.ensures.value) (IsSound-returned c.self.invariant.sound c.args.slot.0 c.args.right c.args.fence c.requires.below out buffer);
     }

@@ -1,4 +1,4 @@
-use Rattle.std.proofs.Common.{◌≡◌, arith, sym}
+use Rattle.std.proofs.Common.{◌≡◌, arith, sym, refl}
 use Rattle.std.proofs.lemmas.List.{get_or-set_other}
 use Rattle.sf_slots.proofs.Sound.{last_alone, room_for_item, IsSound-kept_back}
 use Rattle.sf_slots.proofs.slots.Slots.replace_last.Goals as goal
@@ -37,4 +37,4 @@ returns-in-Some-clause-others g c = λ s lent.
     let alone = last_alone _ c.in-Some.last sound (sym c.in-Some.ensures.value) in
     let inside = rw (← c.self.view_is) at lent in
     let other : (s ≡ c.in-Some.last.slot.0) → ⊥ = (λ same. cc (inside, alone.queued, same)) in
-    rw (c.keep_back.ensures.slots, get_or-set_other _ _ _ _ _ other) inside
+    rw (c.keep_back.ensures.slots, get_or-set_other _ _ _ _ _ other, ← c.self.view_is) refl
