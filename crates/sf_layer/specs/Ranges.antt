@@ -1,5 +1,6 @@
 -- The ranges of positions, crops and orientations.
 use Rattle.std.specs.Prelude.{ℕ, ◌<◌, ◌≤◌, ℤ, pos, negsuc, ◌≤ℤ◌, ◌+ℤ◌, Some}
+use Rattle.sf_base.specs.Geometry.{LiesWithin}
 use Rattle.sf_base.specs.declared.geometry.Rect.{Rect}
 use Rattle.sf_base.specs.declared.ids.LayerId.{LayerId}
 use Rattle.sf_layer.specs.declared.orient.TheConstants.{GREATEST_ORIENTATION}
@@ -18,21 +19,11 @@ pub record IsCrop (crop : Rect) : Type 0 where
   pub width : crop.width ≤ 16384
   pub height : crop.height ≤ 16384
 
--- so many pixels from there on lie within a size
-pub record LiesWithin (from : ℤ) (extent size : ℕ) : Type 0 where
-  pub low : pos 0 ≤ℤ from
-  pub high : (from +ℤ pos extent) ≤ℤ pos size
-
--- the crop of a shown buffer lies within the greatest buffer, 512 x 512
-pub record IsBufferCrop (crop : Rect) : Type 0 where
-  pub across : LiesWithin crop.x crop.width 512
-  pub down : LiesWithin crop.y crop.height 512
-
 -- positions, crops and orientations that an operation brings are in their ranges
 abbrev pub IsInRange : Op → Type 0
 IsInRange (op.Position x y) = IsCoordinate x × IsCoordinate y
 IsInRange (op.Crop (Some crop)) = IsCrop crop
-IsInRange (op.Show shown) = IsBufferCrop shown.crop
+IsInRange (op.Show shown) = LiesWithin shown.crop 512 512
 IsInRange (op.Orient orient) = orient ≤ GREATEST_ORIENTATION
 IsInRange _ = Unit {0}
 

@@ -1,5 +1,5 @@
 ghost use Rattle.std.specs.Prelude.{IsTrue, ◌↔◌};
-ghost use Rattle.sf_layer.specs.Ranges.{IsBufferCrop, LiesWithin};
+ghost use Rattle.sf_base.specs.Geometry.{IsWithin, LiesWithin};
 
 use sf_base::{QueueId, Rect};
 
@@ -16,9 +16,9 @@ pub struct Shown {
 impl Shown {
     /// Whether the crop lies within the greatest buffer, 512 x 512 pixels.
     pub fn is_in_range(&self) -> bool
-        ensures { IsTrue result ↔ IsBufferCrop self.now.crop }
+        ensures { IsTrue result ↔ LiesWithin self.now.crop 512 512 }
     {
-        lies_within(self.crop.x, self.crop.width) && lies_within(self.crop.y, self.crop.height)
+        is_inside(self.crop.x, self.crop.width) && is_inside(self.crop.y, self.crop.height)
     }
 }
 
@@ -26,8 +26,8 @@ impl Shown {
 const GREATEST_BUFFER: u32 = 512;
 
 // Whether so many pixels from there on lie within the side of the greatest buffer.
-fn lies_within(from: i32, extent: u32) -> bool
-    ensures { IsTrue result ↔ LiesWithin from extent 512 }
+fn is_inside(from: i32, extent: u32) -> bool
+    ensures { IsTrue result ↔ IsWithin from extent 512 }
 {
     0 <= from && extent <= GREATEST_BUFFER && from as u32 <= GREATEST_BUFFER - extent
 }
