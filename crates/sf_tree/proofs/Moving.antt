@@ -10,13 +10,13 @@ use Rattle.sf_layer.specs.declared.parent.Parent.{Parent}
 use Rattle.sf_layer.specs.declared.parent.Parent.TheVariants as parent
 use Rattle.sf_tree.specs.Kept.{HasNoCycle, IsRanked, IsTied}
 use Rattle.sf_tree.specs.Known.{IsBounded}
-use Rattle.sf_tree.specs.Layers.{is_numbered, layer_of, place_of, has_layer}
+use Rattle.sf_tree.specs.Layers.{is_numbered, layer_of, index_of, has_layer}
 use Rattle.sf_tree.specs.Steps.{all_steps, steps_of, reaches, to_parent}
 use Rattle.sf_tree.proofs.Ranks.{All-layer_of, layer_of-number}
 use Rattle.sf_tree.proofs.Reaching.{any_weaker, reaches-step, reaches-first, reaches-le}
 
 -- the numbers of the steps of a layer rank lower
-step_rank : (rank : ℕ → ℕ) (layer : Layer) (n : LayerId) → IsRanked rank layer → list_any (λ s. s.0 == n.0) (all_steps layer) ≡ true → rank n.0 < rank layer.number.0
+pub step_rank : (rank : ℕ → ℕ) (layer : Layer) (n : LayerId) → IsRanked rank layer → list_any (λ s. s.0 == n.0) (all_steps layer) ≡ true → rank n.0 < rank layer.number.0
 step_rank rank layer n r h = by_parent layer.parent refl h
   where
     same : (s : LayerId) → (s.0 == n.0) ≡ true → rank s.0 < rank layer.number.0 → rank n.0 < rank layer.number.0

@@ -10,7 +10,7 @@ use Rattle.sf_layer.specs.declared.parent.Parent.{Parent}
 use Rattle.sf_layer.specs.declared.parent.Parent.TheVariants as parent
 use Rattle.sf_tree.specs.Kept.{HasNoCycle, IsRanked, IsTied}
 use Rattle.sf_tree.specs.Known.{IsBounded}
-use Rattle.sf_tree.specs.Layers.{is_numbered, layer_of, place_of, has_layer}
+use Rattle.sf_tree.specs.Layers.{is_numbered, layer_of, index_of, has_layer}
 use Rattle.sf_tree.specs.Steps.{all_steps, steps_of, reaches, to_parent}
 
 -- a layer that is found is one of the tree, and has the number

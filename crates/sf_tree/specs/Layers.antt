@@ -15,8 +15,8 @@ abbrev pub layer_of : List Layer → LayerId → Option Layer
 layer_of tree id = find (is_numbered id) tree
 
 -- its place in the order of creation
-abbrev pub place_of : List Layer → LayerId → Option ℕ
-place_of tree id = position (is_numbered id) tree
+abbrev pub index_of : List Layer → LayerId → Option ℕ
+index_of tree id = position (is_numbered id) tree
 
 abbrev pub has_layer : List Layer → LayerId → Bool
 has_layer tree id = is_some (layer_of tree id)
