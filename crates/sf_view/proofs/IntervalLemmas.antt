@@ -1,10 +1,10 @@
--- Spans cut to other spans.
+-- Intervals cut to other intervals.
 use Rattle.std.proofs.Common.{◌≡◌, ℕ, Bool, true, false, ◌&&◌, refl, ap, sym, arith, ℤ, pos, ◌+ℤ◌, ◌≤ℤ◌}
 use Rattle.std.specs.Int.{int_max, int_min}
 use Rattle.std.specs.Prelude.{int_le, int_lt}
-use Rattle.sf_view.specs.declared.span.Span.{Span}
-use Rattle.sf_view.specs.Ancestry.{is_within}
-use Rattle.sf_view.specs.Spans.{is_in_span, IsExtent}
+use Rattle.sf_view.specs.declared.interval.Interval.{Interval}
+use Rattle.sf_base.specs.Geometry.{is_within}
+use Rattle.sf_view.specs.Intervals.{is_in_interval, HasExtent}
 use Rattle.std.proofs.lemmas.Int.{clamps, ints}
 use Rattle.std.proofs.lemmas.Bool.{true_from_ne_false}
 
@@ -42,9 +42,9 @@ swapped true false true d = refl
 swapped true false false d = refl
 swapped false b c d = refl
 
--- a span cut to another
-pub span_cut : (from to start end at : ℤ) → (int_le (int_max from start) at && int_lt at (int_min to end)) ≡ ((int_le from at && int_lt at to) && (int_le start at && int_lt at end))
-span_cut from to start end at = rw (int_le-max from start at, int_lt-min to end at) (swapped (int_le from at) (int_le start at) (int_lt at to) (int_lt at end))
+-- a interval cut to another
+pub interval_cut : (from to start end at : ℤ) → (int_le (int_max from start) at && int_lt at (int_min to end)) ≡ ((int_le from at && int_lt at to) && (int_le start at && int_lt at end))
+interval_cut from to start end at = rw (int_le-max from start at, int_lt-min to end at) (swapped (int_le from at) (int_le start at) (int_lt at to) (int_lt at end))
 
 pub from-max : (a b : ℤ) → a ≤ℤ int_max a b
 from-max a b = omega (arith, ints, clamps)
@@ -52,21 +52,21 @@ from-max a b = omega (arith, ints, clamps)
 pub to-min : (a b : ℤ) → int_min a b ≤ℤ a
 to-min a b = omega (arith, ints, clamps)
 
-pub ruleset spans = (span_cut, from-max, to-min)
+pub ruleset intervals = (interval_cut, from-max, to-min)
 
 int_lt-same : (a b at : ℤ) → a ≤ℤ b → b ≤ℤ a → int_lt at a ≡ int_lt at b
 int_lt-same a b at p q = bools_same _ _
     (λ h. true_from_ne_false (int_lt at b) (λ f. omega (arith, ints, h, f)))
     (λ h. true_from_ne_false (int_lt at a) (λ f. omega (arith, ints, h, f)))
 
--- a span as a start and an extent
-pub span_extent : (span : Span) (n : ℕ) (at : ℤ) → IsExtent span n → is_within span.from n at ≡ is_in_span span at
-span_extent span n at e = by_test (int_lt span.from span.to) refl
+-- a interval as a start and an extent
+pub interval_extent : (interval : Interval) (n : ℕ) (at : ℤ) → HasExtent interval n → is_within interval.from n at ≡ is_in_interval interval at
+interval_extent interval n at e = by_test (int_lt interval.from interval.to) refl
   where
-    by_test : (b : Bool) → int_lt span.from span.to ≡ b → is_within span.from n at ≡ is_in_span span at
-    by_test true t = ap (λ b. int_le span.from at && b) (int_lt-same (span.from +ℤ pos n) span.to at (e.below t) (e.above t))
+    by_test : (b : Bool) → int_lt interval.from interval.to ≡ b → is_within interval.from n at ≡ is_in_interval interval at
+    by_test true t = ap (λ b. int_le interval.from at && b) (int_lt-same (interval.from +ℤ pos n) interval.to at (e.below t) (e.above t))
     by_test false t =
         let none : n ≡ 0 = e.none t in
         bools_same _ _
-        (λ h. let p : int_le span.from at ≡ true = and_left _ _ h in let q : int_lt at (span.from +ℤ pos n) ≡ true = and_right _ _ h in absurd (omega (arith, ints, none, p, q)))
-        (λ h. let p : int_le span.from at ≡ true = and_left _ _ h in let q : int_lt at span.to ≡ true = and_right _ _ h in absurd (omega (arith, ints, t, p, q)))
+        (λ h. let p : int_le interval.from at ≡ true = and_left _ _ h in let q : int_lt at (interval.from +ℤ pos n) ≡ true = and_right _ _ h in absurd (omega (arith, ints, none, p, q)))
+        (λ h. let p : int_le interval.from at ≡ true = and_left _ _ h in let q : int_lt at interval.to ≡ true = and_right _ _ h in absurd (omega (arith, ints, t, p, q)))

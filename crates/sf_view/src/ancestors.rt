@@ -1,7 +1,5 @@
-ghost use Rattle.std.specs.Prelude.{◌≡◌, ◌≤◌, length, IfOk};
-ghost use Rattle.std.specs.List.{All};
-ghost use Rattle.sf_tree.specs.Kept.{IsLayerInRange, IsTree};
-ghost use Rattle.sf_tree.specs.Layers.{layer_of, parent_layer};
+ghost use Rattle.std.specs.Prelude.{◌≡◌, IfOk};
+ghost use Rattle.sf_tree.specs.Layers.{parent_layer};
 ghost use Rattle.sf_view.specs.Ancestry.{ancestry};
 
 use sf_base::NoMemory;
@@ -11,7 +9,7 @@ use std::alloc::Global;
 
 // The layer that a layer hangs from, if it is one.
 fn parent_layer(tree: &Tree, parent: Parent) -> Option<Layer>
-    ensures { result ≡ parent_layer tree.now parent }
+    ensures { result ≡ parent_layer tree.now.layers parent }
 {
     match parent {
         Parent::Layer(id) => tree.layer(id),
@@ -19,14 +17,10 @@ fn parent_layer(tree: &Tree, parent: Parent) -> Option<Layer>
     }
 }
 
-// A layer and its ancestors, from the layer up.
+/// A layer of a tree and its ancestors: the way up from the layer.
 #[tactic(auto, unfolding(crate::specs::Ancestry::ancestry))]
 pub fn ancestry(alloc: Global, tree: &Tree, layer: Layer) -> Result<Vec<Layer>, NoMemory>
-    requires kept { IsTree tree.now }
-    requires found { layer_of tree.now layer.number ≡ Some layer }
-    ensures list { IfOk result (λ list. list.items ≡ ancestry tree.now layer) }
-    ensures few { IfOk result (λ list. length list.items ≤ 65535) }
-    ensures in_range { IfOk result (λ list. All IsLayerInRange list.items) }
+    ensures { IfOk result (λ list. list.items ≡ ancestry tree.now.layers layer) }
 {
     let mut list = Vec::new(alloc);
     let mut next = Some(layer);
