@@ -17,7 +17,7 @@ use Rattle.sf_layer.specs.declared.op.Op.TheVariants as op
 use Rattle.sf_layer.specs.declared.parent.Parent.{Parent}
 use Rattle.sf_tree.specs.declared.reject.Reject.{Reject}
 use Rattle.sf_tree.specs.declared.reject.Reject.TheVariants as reject
-use Rattle.sf_tree.specs.Changes.{after, after_from, changed, created, destroyed, edited, edited_layer, fits_kind, made_relative, new_layer, Rejection, reparented, then_after, with_layer, without}
+use Rattle.sf_tree.specs.Changes.{after, after_from, changed, created, destroyed, edited, edited_layer, fits_kind, made_relative, new_layer, Rejection, reparented, then_after, with_layer, with_layers, without}
 use Rattle.sf_tree.specs.Kept.{IsTree}
 use Rattle.sf_tree.specs.Layers.{layer_of, index_of, has_layer, has_parent}
 use Rattle.sf_tree.specs.Steps.{all_steps, parent_steps, reaches_itself}
@@ -158,3 +158,18 @@ pub answer-rejected : (result : Result (Unit {0}) ApplyFault) (tree : TreeOf) (o
 answer-rejected (Ok _) tree operations rejected = tt
 answer-rejected (Err (fault.Reject cause number)) tree operations rejected = rw rejected refl
 answer-rejected (Err fault.NoMemory) tree operations rejected = tt
+
+-- what was done with a tree was done with its layers, and its limit stayed
+pub after-ok : (tree next : TreeOf) (operations : List (LayerId × Op)) → after tree operations ≡ Ok next → (after_from tree.most 1 tree.layers operations ≡ Ok next.layers) × (next.most ≡ tree.most)
+after-ok tree next operations e = by_layers (after_from tree.most 1 tree.layers operations) e
+  where
+    by_layers : (r : Result (List Layer) Rejection) → with_layers tree r ≡ Ok next → (r ≡ Ok next.layers) × (next.most ≡ tree.most)
+    by_layers (Ok layers) e = let same : (record tree { layers = layers }) ≡ next = cc in (ap (λ (t : TreeOf). Ok t.layers) same, sym (ap (λ (t : TreeOf). t.most) same))
+    by_layers (Err rejection) e = cc
+
+pub after-err : (tree : TreeOf) (rejection : Rejection) (operations : List (LayerId × Op)) → after tree operations ≡ Err rejection → after_from tree.most 1 tree.layers operations ≡ Err rejection
+after-err tree rejection operations e = by_layers (after_from tree.most 1 tree.layers operations) e
+  where
+    by_layers : (r : Result (List Layer) Rejection) → with_layers tree r ≡ Err rejection → r ≡ Err rejection
+    by_layers (Ok layers) e = cc
+    by_layers (Err other) e = let same : other ≡ rejection = cc in ap Err same

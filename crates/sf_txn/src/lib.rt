@@ -7,10 +7,6 @@ mod buffer;
 mod lease;
 mod lists;
 mod merge;
-#[cfg(test)]
-mod page;
-#[cfg(test)]
-mod tests;
 mod transaction;
 
 pub use buffer::BufferOp;
