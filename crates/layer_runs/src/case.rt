@@ -7,7 +7,7 @@ use sf_base::{LayerId, NoMemory};
 use sf_layer::{Kind, Op, Parent};
 use sf_tree::Tree;
 use sf_txn::Transaction;
-use std::alloc::Global;
+use std::alloc::{AllocError, Global};
 use std::io;
 use std::str::SplitWhitespace;
 
@@ -45,14 +45,17 @@ fn many(alloc: Global, words: &mut SplitWhitespace<'_>) -> Option<Vec<(LayerId, 
 }
 
 impl Case {
-    pub fn new(alloc: Global) -> Result<Case, NoMemory> {
-        Ok(Case {
-            alloc,
-            tree: Tree::new(alloc)?,
-            ops: Vec::new(alloc),
-            txn: Transaction::new(alloc),
-            other: Transaction::new(alloc),
-        })
+    pub fn new(alloc: Global) -> Result<Case, AllocError> {
+        match Tree::new(alloc) {
+            Ok(tree) => Ok(Case {
+                alloc,
+                tree,
+                ops: Vec::new(alloc),
+                txn: Transaction::new(alloc),
+                other: Transaction::new(alloc),
+            }),
+            Err(NoMemory) => Err(AllocError),
+        }
     }
 
     /// Begins anew with an empty tree, and keeps the transactions.
@@ -136,7 +139,7 @@ impl Case {
     }
 
     /// Does what a line says.
-    pub fn follow(&mut self, rt: &impl Print, line: &str) -> anyhow::Result<()> {
+    pub fn follow(&mut self, rt: &impl Print, line: &str) -> io::Result<()> {
         if line.starts_with("case ") {
             println!(rt; "{line}")?;
             *self = Case::new(self.alloc)?;

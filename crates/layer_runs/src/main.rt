@@ -33,9 +33,10 @@ mod show;
 mod words;
 
 use case::Case;
+use std::io;
 use std::io::{BufRead, BufReader};
 
-fn main(rt: HostRuntime) -> anyhow::Result<()> {
+fn main(rt: HostRuntime) -> io::Result<()> {
     let mut case = Case::new(rt.alloc())?;
     for line in BufReader::new(rt.alloc(), rt.reader())?.lines(rt.alloc()) {
         let line = line?;
