@@ -1,6 +1,6 @@
 ghost use Rattle.std.specs.Prelude.{◌≡◌, ℕ, ◌++◌, ◌∷◌, [], ◌↔◌, Bool, true, List, IfOk, IfErr, IsTrue};
 ghost use Rattle.sf_picture.specs.declared.picture.Picture.{Picture as PictureValue};
-ghost use Rattle.sf_txn.specs.Leases.{HasRisen};
+ghost use Rattle.sf_txn.specs.Counts.{HasRisen};
 
 use sf_base::NoMemory;
 use sf_picture::Painted;

@@ -6,6 +6,7 @@
 mod buffer;
 mod lease;
 mod lists;
+mod look;
 mod merge;
 mod transaction;
 
