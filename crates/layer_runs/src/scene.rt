@@ -79,6 +79,15 @@ fn above(rt: &impl Print, alloc: Global, tree: &Tree, id: LayerId) -> io::Result
     println!(rt; "")
 }
 
+/// The layers that the rest of a line names.
+fn named(alloc: Global, words: &mut SplitWhitespace<'_>) -> Option<Vec<LayerId>> {
+    let mut ids = Vec::new(alloc);
+    for word in words {
+        ids.push(LayerId(word.parse().ok()?)).ok()?;
+    }
+    Some(ids)
+}
+
 /// What a display of a size shows: of all layers, or of those of an order.
 fn viewed(alloc: Global, tree: &Tree, words: &mut SplitWhitespace<'_>) -> Option<View> {
     let width = number32(words)?;
@@ -86,10 +95,7 @@ fn viewed(alloc: Global, tree: &Tree, words: &mut SplitWhitespace<'_>) -> Option
     if !is_display(width, height) {
         return None;
     }
-    let mut ids = Vec::new(alloc);
-    while let Some(id) = layer(words) {
-        ids.push(id).ok()?;
-    }
+    let ids = named(alloc, words)?;
     let view = if ids.is_empty() {
         view_of(alloc, tree, width, height)
     } else {
