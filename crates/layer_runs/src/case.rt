@@ -2,9 +2,10 @@ ghost use Rattle.std.specs.Prelude.{◌≤◌};
 
 use crate::page::Page;
 use crate::words::number32;
-use crate::{fill, operation, scene};
+use crate::{compose, fill, operation, scene};
 use sf_base::{LayerId, NoMemory};
 use sf_layer::{Kind, Op, Parent};
+use sf_picture::Painted;
 use sf_tree::Tree;
 use sf_txn::Transaction;
 use std::alloc::{AllocError, Global};
@@ -17,6 +18,7 @@ pub struct Case {
     alloc: Global,
     tree: Tree,
     ops: Vec<(LayerId, Op)>,
+    contents: Vec<Painted>,
     txn: Transaction<Page>,
     other: Transaction<Page>,
 }
@@ -51,6 +53,7 @@ impl Case {
                 alloc,
                 tree,
                 ops: Vec::new(alloc),
+                contents: Vec::new(alloc),
                 txn: Transaction::new(alloc),
                 other: Transaction::new(alloc),
             }),
@@ -75,6 +78,13 @@ impl Case {
                 self.ops = ops;
                 true
             }
+            None => false,
+        }
+    }
+
+    fn with_picture(&mut self, picture: Option<Painted>) -> bool {
+        match picture {
+            Some(picture) => self.contents.push(picture).is_ok(),
             None => false,
         }
     }
@@ -133,9 +143,15 @@ impl Case {
             let ops = many(self.alloc, &mut words);
             return Ok(self.with_ops(ops));
         }
-        Ok(self.use_kept(rt, name)?
-            || scene::ask(rt, self.alloc, &self.tree, name, &mut words)?
-            || fill::fill(rt, self.alloc, &mut self.txn, name, &mut words)?)
+        if name == "picture" {
+            let picture = compose::painted(self.alloc, self.contents.len(), &mut words);
+            return Ok(self.with_picture(picture));
+        }
+        Ok(
+            self.use_kept(rt, name)?
+                || scene::ask(rt, self.alloc, &self.tree, &self.contents, name, &mut words)?
+                || fill::fill(rt, self.alloc, &mut self.txn, name, &mut words)?,
+        )
     }
 
     /// Does what a line says.

@@ -117,7 +117,11 @@ pub fn fill(
 
 fn buffers(rt: &impl Print, buffers: &[BufferOp<Page>]) -> io::Result<()> {
     for buffer in buffers {
-        println!(rt; "  layer {} frame {}", buffer.layer.0, buffer.lease.number())?;
+        println!(rt;
+            "  layer {} frame {}",
+            buffer.layer.0,
+            buffer.lease.number()
+        )?;
     }
     Ok(())
 }

@@ -14,6 +14,9 @@
 //! | `order` | the layers, in the order in which they are drawn |
 //! | `above LAYER` | a layer and its ancestors, from the layer up |
 //! | `view WIDTH HEIGHT` | what a display shows; with layers after it, what it shows of these in order |
+//! | `picture WIDTH HEIGHT FILL ..` | a picture of the next number, from 0; a fill is `X Y WIDTH HEIGHT R G B A` |
+//! | `frame WIDTH HEIGHT` | the pixels of a display: how often each stands in a row, and its channels |
+//! | `part WIDTH HEIGHT RECTANGLE ..` | the same after these were composed into a frame of sevens |
 //! | `buffer LAYER FRAME` | the transaction shows a frame of queue 1 on a layer |
 //! | `barrier LAYER FRAME`, `token N`, `desire TIME` | what else a transaction holds |
 //! | `show` | all that the transaction holds |
@@ -25,6 +28,7 @@
 #![tactic(auto)]
 
 mod case;
+mod compose;
 mod fill;
 mod operation;
 mod page;

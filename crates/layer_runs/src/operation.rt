@@ -70,4 +70,3 @@ pub fn parse(line: &str) -> Option<(LayerId, Op)> {
     };
     Some((layer, op))
 }
-

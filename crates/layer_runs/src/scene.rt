@@ -1,12 +1,13 @@
 ghost use Rattle.std.specs.List.{All};
-ghost use Rattle.std.specs.Prelude.{◌≡◌, ◌≤◌, IsTrue, length};
+ghost use Rattle.std.specs.Prelude.{◌≡◌, ◌≤◌, IfSome, IsTrue, length};
 ghost use Rattle.sf_layer.specs.Ranges.{IsOperation};
 ghost use Rattle.sf_view.specs.Views.{IsDisplay};
 
-use crate::show;
 use crate::words::{layer, number32};
-use sf_base::{LayerId, NoMemory};
+use crate::{compose, show};
+use sf_base::LayerId;
 use sf_layer::Op;
+use sf_picture::Painted;
 use sf_tree::{ApplyFault, Tree};
 use sf_view::{View, ancestry, view_in_order, view_of};
 use std::alloc::Global;
@@ -88,13 +89,22 @@ fn named(alloc: Global, words: &mut SplitWhitespace<'_>) -> Option<Vec<LayerId>>
     Some(ids)
 }
 
-/// What a display of a size shows: of all layers, or of those of an order.
-fn viewed(alloc: Global, tree: &Tree, words: &mut SplitWhitespace<'_>) -> Option<View> {
+/// The size of a display, as width and height.
+fn size(words: &mut SplitWhitespace<'_>) -> Option<(u32, u32)>
+    ensures { IfSome result (λ size. IsDisplay size.0 size.1) }
+{
     let width = number32(words)?;
     let height = number32(words)?;
-    if !is_display(width, height) {
-        return None;
+    if is_display(width, height) {
+        Some((width, height))
+    } else {
+        None
     }
+}
+
+/// What a display of a size shows: of all layers, or of those of an order.
+fn viewed(alloc: Global, tree: &Tree, words: &mut SplitWhitespace<'_>) -> Option<View> {
+    let (width, height) = size(words)?;
     let ids = named(alloc, words)?;
     let view = if ids.is_empty() {
         view_of(alloc, tree, width, height)
@@ -104,11 +114,47 @@ fn viewed(alloc: Global, tree: &Tree, words: &mut SplitWhitespace<'_>) -> Option
     view.ok()
 }
 
+/// The pixels of a display that shows a tree.
+fn frame(
+    alloc: Global,
+    tree: &Tree,
+    contents: &[Painted],
+    words: &mut SplitWhitespace<'_>,
+) -> Option<Vec<u8>> {
+    let (width, height) = size(words)?;
+    let view = view_of(alloc, tree, width, height).ok()?;
+    compose::whole(alloc, &view, contents)
+}
+
+/// The pixels of a frame of sevens after parts of a display were composed into it.
+fn part(
+    alloc: Global,
+    tree: &Tree,
+    contents: &[Painted],
+    words: &mut SplitWhitespace<'_>,
+) -> Option<Vec<u8>> {
+    let (width, height) = size(words)?;
+    let view = view_of(alloc, tree, width, height).ok()?;
+    compose::part(alloc, &view, contents, words)
+}
+
+/// Prints the pixels of what a line asks for, or that there are none.
+fn print_frame(rt: &impl Print, name: &str, pixels: Option<Vec<u8>>) -> io::Result<()> {
+    match pixels {
+        Some(bytes) => {
+            println!(rt; "{name}:")?;
+            compose::print(rt, &bytes)
+        }
+        None => println!(rt; "{name}: nothing to show"),
+    }
+}
+
 /// Prints what a line asks of a tree. Answers whether it asks for something.
 pub fn ask(
     rt: &impl Print,
     alloc: Global,
     tree: &Tree,
+    contents: &[Painted],
     name: &str,
     words: &mut SplitWhitespace<'_>,
 ) -> io::Result<bool> {
@@ -122,6 +168,8 @@ pub fn ask(
             Some(view) => show::view(rt, &view)?,
             None => return Ok(false),
         },
+        "frame" => print_frame(rt, name, frame(alloc, tree, contents, words))?,
+        "part" => print_frame(rt, name, part(alloc, tree, contents, words))?,
         _ => return Ok(false),
     }
     Ok(true)

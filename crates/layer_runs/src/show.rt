@@ -28,10 +28,7 @@ fn drawn(rt: &impl Print, drawn: &Drawn) -> io::Result<()> {
     let opaque = if drawn.opaque { " opaque" } else { "" };
     print!(rt;
         " at {} {} alpha {} orient {}{opaque}",
-        drawn.place.0,
-        drawn.place.1,
-        drawn.alpha,
-        drawn.orient
+        drawn.place.0, drawn.place.1, drawn.alpha, drawn.orient
     )?;
     content(rt, &drawn.content)?;
     println!(rt; "")
