@@ -146,10 +146,11 @@ pub fn part(
 }
 
 fn print_run(rt: &impl Print, count: u32, pixel: Option<[u8; 4]>) -> io::Result<()> {
-    match pixel {
-        Some([r, g, b, a]) => println!(rt; "  {count} x {r} {g} {b} {a}"),
-        None => Ok(()),
-    }
+    let Some(pixel) = pixel else {
+        return Ok(());
+    };
+    let [r, g, b, a] = pixel;
+    println!(rt; "  {count} x {r} {g} {b} {a}")
 }
 
 /// Prints a frame as runs of equal pixels, row after row.
