@@ -1,5 +1,5 @@
 -- The ranges of positions, crops and orientations.
-use Rattle.std.specs.Prelude.{ℕ, ◌<◌, ◌≤◌, ℤ, pos, negsuc, ◌≤ℤ◌, ◌+ℤ◌, Some}
+use Rattle.std.specs.Prelude.{◌<◌, ◌≤◌, ℤ, pos, negsuc, ◌≤ℤ◌, Some}
 use Rattle.sf_base.specs.Geometry.{LiesWithin}
 use Rattle.sf_base.specs.declared.geometry.Rect.{Rect}
 use Rattle.sf_base.specs.declared.ids.LayerId.{LayerId}

@@ -1,6 +1,6 @@
 -- Lists of the places of the layers that are drawn with each layer.
-use Rattle.std.proofs.Common.{◌≡◌, ℕ, zero, suc, ◌+◌, ◌-◌, ◌<◌, ◌≤◌, ◌≢◌, Bool, true, false, cond, not, List, [], ◌∷◌, ◌++◌, length, get_or, map, take, Option, Some, None, refl, ap, ◌∙◌, sym, subst, arith, append-nil, append_assoc, length-set, rules}
-use Rattle.std.specs.List.{All, AllZip, filter, flat_map, slice_get, slice_set}
+use Rattle.std.proofs.Common.{◌≡◌, ℕ, zero, suc, ◌+◌, ◌-◌, ◌<◌, ◌≤◌, ◌≢◌, Bool, true, false, List, [], ◌∷◌, ◌++◌, length, get_or, map, take, Some, None, refl, ap, ◌∙◌, sym, subst, arith, append-nil, append_assoc, length-set}
+use Rattle.std.specs.List.{All, filter, flat_map, slice_get, slice_set}
 use Rattle.std.specs.Prelude.{eqb, ◌==◌}
 use Rattle.std.proofs.lemmas.Bool.{eqb-true, eq-eqb}
 use Rattle.std.proofs.lemmas.List.{length-map, get_or-map, get_or-set_same, get_or-set_other, take_all}
@@ -10,12 +10,11 @@ use Rattle.sf_base.specs.declared.ids.LayerId.{LayerId}
 use Rattle.sf_layer.specs.declared.layer.Layer.{Layer}
 use Rattle.sf_layer.specs.declared.parent.Parent.{Parent}
 use Rattle.sf_layer.specs.declared.parent.Parent.TheVariants as parent
-use Rattle.sf_tree.specs.DrawOrder.{draw, draw_parent, drawn_with, is_behind, is_same}
+use Rattle.sf_tree.specs.DrawOrder.{draw, draw_parent, drawn_with, is_same}
 use Rattle.sf_tree.specs.Kept.{IsDistinct}
 use Rattle.sf_tree.specs.Known.{AtPlaces, IsBelow, is_on_side}
-use Rattle.sf_tree.specs.Layers.{is_numbered, layer_of, index_of, has_layer}
-use Rattle.sf_tree.proofs.Keeping.{found_itself}
-use Rattle.sf_tree.proofs.Lookups.{is_numbered-place, layer_of-none}
+use Rattle.sf_tree.specs.Layers.{index_of}
+use Rattle.sf_tree.proofs.Lookups.{is_numbered-place}
 use Rattle.sf_tree.proofs.Places.{index_of_same}
 use Rattle.sf_tree.proofs.ShowLemmas.{inside_from_slice_get}
 use Rattle.std.proofs.lemmas.Option.{get_or_from_slice_get}

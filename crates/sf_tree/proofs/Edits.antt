@@ -1,5 +1,5 @@
 -- An edit of a layer in place: what it makes of the list, and that it can be taken back.
-use Rattle.std.proofs.Common.{◌≡◌, ℕ, ◌<◌, true, List, length, get_or, Some, refl, ap, ◌∙◌, sym, subst, arith, length-set, Ok, Err, Result, Option, None, Bool, false, ◌&&◌, ℤ}
+use Rattle.std.proofs.Common.{◌≡◌, ℕ, ◌<◌, true, List, length, get_or, Some, refl, ap, ◌∙◌, sym, subst, length-set, Ok, Err, Result, Option, None, Bool, false, ◌&&◌, ℤ}
 use Rattle.std.specs.Prelude.{if◌then◌else◌, IfOk}
 use Rattle.std.specs.List.{slice_get, slice_set}
 use Rattle.std.proofs.lemmas.List.{get_or-set_same, set-set, set-get_or}

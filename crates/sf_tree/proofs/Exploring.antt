@@ -1,8 +1,8 @@
 -- The two steps from a layer that a search has reached.
 use Rattle.std.proofs.Common.{◌≡◌, ℕ, zero, suc, ◌+◌, ◌<◌, ◌≤◌, Bool, true, false, List, [], ◌∷◌, ◌++◌, length, get_or, Option, Some, None, refl, ap, ◌∙◌, sym, subst, arith, inl, inr, ◌⊎◌, append-nil, append_assoc, add-one}
 use Rattle.std.specs.List.{AllByRecursion, Contains, list_any, slice_get}
-use Rattle.std.specs.Prelude.{◌==◌, ◌||◌, eqb, IfSome, IsSomeAnd, option_to_list}
-use Rattle.std.proofs.lemmas.Bool.{eqb-true, eq-eqb, cases_lt}
+use Rattle.std.specs.Prelude.{◌==◌, ◌||◌, IfSome, IsSomeAnd, option_to_list}
+use Rattle.std.proofs.lemmas.Bool.{eq-eqb, cases_lt}
 use Rattle.std.proofs.Math.ListN.{get_or-append}
 use Rattle.std.proofs.lemmas.List.Elements.{Contains-append_left}
 use Rattle.sf_base.specs.declared.ids.LayerId.{LayerId}
@@ -11,10 +11,10 @@ use Rattle.sf_tree.specs.declared.cycles.Along.{Along}
 use Rattle.sf_tree.specs.declared.cycles.Along.TheVariants as along
 use Rattle.sf_tree.specs.Layers.{layer_of, index_of}
 use Rattle.sf_tree.specs.Steps.{steps_of, reaches, to_parent}
-use Rattle.sf_tree.specs.Search.{GoesOn, Grows, IsExplored, IsFollowed, IsReached, IsSearch, relative_along, steps_along}
+use Rattle.sf_tree.specs.Search.{Grows, IsExplored, IsFollowed, IsReached, IsSearch, relative_along, steps_along}
 use Rattle.sf_tree.proofs.Lookups.{layer_of-place}
 use Rattle.sf_tree.proofs.Searching.{mark_count-le}
-use Rattle.sf_tree.proofs.Reaching.{reaches-le, reaches-step, reaches-more}
+use Rattle.sf_tree.proofs.Reaching.{reaches-step, reaches-more}
 
 steps_along-two : (a : Along) (layer : Layer) → steps_along a layer ≡ to_parent layer.parent ++ option_to_list (relative_along a layer)
 steps_along-two along.Parents layer = sym (append-nil (to_parent layer.parent))

@@ -1,18 +1,17 @@
 -- What every tree keeps, operation by operation.
-use Rattle.std.proofs.Common.{◌≡◌, ℕ, zero, suc, ◌+◌, ◌<◌, ◌≤◌, ◌≢◌, Bool, true, false, not, cond, ◌&&◌, List, [], ◌∷◌, ◌++◌, length, get_or, map, Option, Some, None, is_some, Result, Ok, Err, refl, ap, ◌∙◌, sym, subst, arith, inl, inr, ◌⊎◌, length-append, length-set, ℤ, pos, rules}
-use Rattle.std.specs.List.{All, AllPairs, filter, find, position, position_or_len, slice_get, slice_set, list_any}
-use Rattle.std.specs.Prelude.{◌==◌, ◌||◌, eqb, nat_le, nat_lt, if◌then◌else◌, IfSome, option_to_list}
+use Rattle.std.proofs.Common.{◌≡◌, ℕ, ◌+◌, ◌<◌, ◌≤◌, ◌≢◌, Bool, true, false, not, cond, List, [], ◌∷◌, ◌++◌, length, get_or, map, Option, Some, None, is_some, refl, ap, ◌∙◌, sym, subst, arith, inl, inr, ◌⊎◌, length-append, length-set, pos, rules}
+use Rattle.std.specs.List.{All, AllPairs, filter, find, slice_get, slice_set}
+use Rattle.std.specs.Prelude.{◌==◌, eqb, if◌then◌else◌, IfSome}
 use Rattle.std.proofs.lemmas.Bool.{eqb-true, eq-eqb, lt-ltb}
 use Rattle.std.proofs.lemmas.List.{length-map, get_or-map, get_or-set_same, get_or-set_other}
-use Rattle.std.proofs.lemmas.List.Elements.{All-filter, All-map, All-push, All-set, All-weaker}
+use Rattle.std.proofs.lemmas.List.Elements.{All-filter, All-map, All-push, All-set}
 use Rattle.std.proofs.lemmas.List.Folds.{position_or_len-set}
 use Rattle.std.proofs.lemmas.List.Kept.{AllPairs-filter}
 use Rattle.std.proofs.lemmas.List.Quantifiers.{position-Some}
-use Rattle.std.proofs.lemmas.List.Recursion.{found_set_other}
 use Rattle.std.proofs.lemmas.List.Sums.{length-filter, count_by-le-length, position_or_len_is}
 use Rattle.std.proofs.lemmas.Option.{get_or_from_slice_get, slice_get-get_or}
 use Rattle.sf_base.specs.declared.ids.LayerId.{LayerId}
-use Rattle.sf_layer.specs.Ranges.{IsInRange, IsOperation, IsCoordinate}
+use Rattle.sf_layer.specs.Ranges.{IsInRange, IsCoordinate}
 use Rattle.sf_layer.specs.declared.kind.Kind.{Kind}
 use Rattle.sf_layer.specs.declared.kind.Kind.TheVariants as kind
 use Rattle.sf_layer.specs.declared.layer.Layer.{Layer}
@@ -20,14 +19,14 @@ use Rattle.sf_layer.specs.declared.op.Op.{Op}
 use Rattle.sf_layer.specs.declared.op.Op.TheVariants as op
 use Rattle.sf_layer.specs.declared.parent.Parent.{Parent}
 use Rattle.sf_layer.specs.declared.parent.Parent.TheVariants as parent
-use Rattle.sf_tree.specs.Changes.{new_layer, with_layer, without, without_steps_to, parent_without, relative_without, edited, fits_kind}
+use Rattle.sf_tree.specs.Changes.{new_layer, without, without_steps_to, parent_without, relative_without, edited, fits_kind}
 use Rattle.sf_tree.specs.Kept.{HasNoCycle, IsDistinct, IsLayerInRange, IsOfKind, IsRanked, IsTied, IsTree}
 use Rattle.sf_tree.specs.Known.{IsBounded}
 use Rattle.sf_tree.specs.Layers.{is_numbered, layer_of, index_of, has_layer, has_parent}
 use Rattle.sf_tree.proofs.Edits.{edited_number}
 use Rattle.sf_tree.proofs.Lookups.{has_layer-place, layer_of-place, index_of-absent}
-use Rattle.sf_tree.proofs.Places.{IsDistinct-push, index_of_inside, index_of_push}
-use Rattle.sf_tree.proofs.Ranks.{All-layer_of, layer_of-number, bounded_rank, is_there}
+use Rattle.sf_tree.proofs.Places.{IsDistinct-push, index_of_push}
+use Rattle.sf_tree.proofs.Ranks.{bounded_rank}
 
 pub IsTree_nil : (most : ℕ) → most ≤ 9216 → IsTree most []
 IsTree_nil most limit = record {

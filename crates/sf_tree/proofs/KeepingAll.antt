@@ -1,13 +1,12 @@
 -- What every tree keeps, whatever operations are done.
-use Rattle.std.proofs.Common.{◌≡◌, ℕ, ◌+◌, ◌<◌, ◌≤◌, Bool, true, false, not, cond, ◌&&◌, List, [], ◌∷◌, ◌++◌, length, Option, Some, None, is_some, Result, Ok, Err, refl, ap, ◌∙◌, sym, subst, arith, ℤ}
+use Rattle.std.proofs.Common.{◌≡◌, ℕ, ◌+◌, ◌<◌, Bool, true, false, not, ◌&&◌, List, [], ◌∷◌, ◌++◌, length, Option, Some, None, is_some, Result, Ok, Err, refl, ap, ◌∙◌, sym, subst, arith, ℤ}
 use Rattle.std.specs.List.{All, slice_get, slice_set}
-use Rattle.std.specs.Prelude.{◌==◌, nat_le, if◌then◌else◌, OnOk, OnErr, IfErr}
+use Rattle.std.specs.Prelude.{nat_le, if◌then◌else◌, OnOk, OnErr, IfErr}
 use Rattle.sf_tree.specs.declared.apply.ApplyFault.{ApplyFault}
 use Rattle.sf_tree.specs.declared.apply.ApplyFault.TheVariants as fault
 use Rattle.sf_tree.specs.Answers.{IsRejection}
 use Rattle.sf_tree.specs.Trees.{TreeOf}
 use Rattle.std.proofs.lemmas.List.Elements.{All-head, All-tail}
-use Rattle.std.proofs.lemmas.Option.{slice_get-get_or}
 use Rattle.sf_base.specs.declared.ids.LayerId.{LayerId}
 use Rattle.sf_layer.specs.Ranges.{IsInRange, IsOperation}
 use Rattle.sf_layer.specs.declared.kind.Kind.{Kind}
@@ -23,7 +22,7 @@ use Rattle.sf_tree.specs.Layers.{layer_of, index_of, has_layer, has_parent}
 use Rattle.sf_tree.specs.Steps.{all_steps, parent_steps, reaches_itself}
 use Rattle.sf_tree.proofs.Keeping.{IsTree-created, IsTree-destroyed, IsTree-edited}
 use Rattle.sf_tree.proofs.KeepingMoves.{IsTree-reparented, IsTree-related}
-use Rattle.sf_tree.proofs.Lookups.{has_layer-place, layer_of-place, layer_of-none, with_layer-place}
+use Rattle.sf_tree.proofs.Lookups.{has_layer-place, layer_of-place, with_layer-place}
 use Rattle.sf_tree.proofs.Places.{index_of_inside}
 
 -- a layer that is in the tree stands at a place

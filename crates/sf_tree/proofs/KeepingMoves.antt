@@ -1,7 +1,7 @@
 -- What every tree keeps where a layer hangs or is drawn elsewhere.
-use Rattle.std.proofs.Common.{◌≡◌, ℕ, zero, suc, ◌+◌, ◌<◌, ◌≤◌, Bool, true, false, cond, List, [], ◌∷◌, ◌++◌, length, get_or, Option, Some, None, is_some, refl, ap, ◌∙◌, sym, subst, arith, inl, inr, ◌⊎◌, length-set, ℤ}
-use Rattle.std.specs.List.{All, find, list_any, slice_get, slice_set}
-use Rattle.std.specs.Prelude.{◌==◌, ◌||◌, eqb, IfSome, option_to_list}
+use Rattle.std.proofs.Common.{◌≡◌, ℕ, ◌<◌, Bool, true, false, List, length, Some, None, refl, ap, ◌∙◌, sym, subst, arith, inl, inr, length-set, ℤ}
+use Rattle.std.specs.List.{All, find, slice_get, slice_set}
+use Rattle.std.specs.Prelude.{◌==◌, eqb}
 use Rattle.std.proofs.lemmas.Bool.{eqb-true, eq-eqb}
 use Rattle.std.proofs.lemmas.List.{get_or-set_same}
 use Rattle.std.proofs.lemmas.List.Elements.{All-set}
@@ -11,10 +11,10 @@ use Rattle.sf_base.specs.declared.ids.LayerId.{LayerId}
 use Rattle.sf_layer.specs.declared.layer.Layer.{Layer}
 use Rattle.sf_layer.specs.declared.parent.Parent.{Parent}
 use Rattle.sf_layer.specs.declared.parent.Parent.TheVariants as parent
-use Rattle.sf_tree.specs.Kept.{HasNoCycle, IsLayerInRange, IsOfKind, IsRanked, IsTied, IsTree}
+use Rattle.sf_tree.specs.Kept.{IsLayerInRange, IsOfKind, IsRanked, IsTied, IsTree}
 use Rattle.sf_tree.specs.Known.{IsBounded}
 use Rattle.sf_tree.specs.Layers.{is_numbered, layer_of, index_of, has_layer, has_parent}
-use Rattle.sf_tree.specs.Steps.{all_steps, reaches, reaches_itself, to_parent}
+use Rattle.sf_tree.specs.Steps.{all_steps, reaches_itself, to_parent}
 use Rattle.sf_tree.proofs.Keeping.{IsTree-set, found_itself, index_of-set}
 use Rattle.sf_tree.proofs.Lookups.{is_numbered-place, layer_of-place}
 use Rattle.sf_tree.proofs.Moving.{HasNoCycle-moved, StepsTo, in_last, not_under}

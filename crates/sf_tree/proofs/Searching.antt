@@ -1,10 +1,10 @@
 -- What a search knows, from its start on.
-use Rattle.std.proofs.Common.{◌≡◌, ℕ, zero, suc, ◌+◌, ◌<◌, ◌≤◌, ◌≢◌, Bool, true, false, cond, List, [], ◌∷◌, ◌++◌, length, get_or, replicate, Option, Some, None, refl, ap, ◌∙◌, sym, subst, arith, inl, inr, ◌⊎◌, length-append, length-set}
-use Rattle.std.specs.List.{AllByRecursion, Contains, list_any, slice_set, slice_get}
-use Rattle.std.specs.Prelude.{◌==◌, ◌||◌, eqb, IfSome, option_to_list}
+use Rattle.std.proofs.Common.{◌≡◌, ℕ, zero, suc, ◌+◌, ◌<◌, ◌≤◌, ◌≢◌, Bool, true, false, List, [], ◌∷◌, ◌++◌, length, get_or, replicate, Some, None, refl, ap, ◌∙◌, sym, subst, arith, inl, inr, ◌⊎◌, length-append, length-set}
+use Rattle.std.specs.List.{Contains, slice_set}
+use Rattle.std.specs.Prelude.{◌==◌, eqb}
 use Rattle.std.proofs.lemmas.Bool.{eqb-true, cases_lt}
-use Rattle.std.proofs.lemmas.List.{get_or-set_same, get_or-set_other, get_or-replicate, length-replicate}
-use Rattle.std.proofs.lemmas.List.Elements.{Contains-append_left, Contains-append_right, Contains-push}
+use Rattle.std.proofs.lemmas.List.{get_or-set_other, get_or-replicate, length-replicate}
+use Rattle.std.proofs.lemmas.List.Elements.{Contains-append_left, Contains-push}
 use Rattle.std.proofs.lemmas.List.Quantifiers.{position-Some}
 use Rattle.std.proofs.Math.ListN.{get_or-append}
 use Rattle.std.proofs.Math.Seq.{get_or-append_seam}
@@ -13,9 +13,9 @@ use Rattle.sf_layer.specs.declared.kind.Kind.TheVariants as kind
 use Rattle.sf_layer.specs.declared.layer.Layer.{Layer}
 use Rattle.sf_layer.specs.declared.parent.Parent.TheVariants as parent
 use Rattle.sf_tree.specs.Changes.{new_layer}
-use Rattle.sf_tree.specs.Layers.{is_numbered, layer_of, index_of}
-use Rattle.sf_tree.specs.Steps.{steps_of, reaches}
-use Rattle.sf_tree.specs.Search.{IsExplored, IsFollowed, IsReached, IsSearch, GoesOn, mark_count}
+use Rattle.sf_tree.specs.Layers.{is_numbered, index_of}
+use Rattle.sf_tree.specs.Steps.{reaches}
+use Rattle.sf_tree.specs.Search.{IsReached, IsSearch, GoesOn, mark_count}
 use Rattle.sf_tree.proofs.Places.{index_of_inside}
 use Rattle.sf_tree.proofs.Reaching.{reaches-le}
 

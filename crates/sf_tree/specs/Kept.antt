@@ -1,16 +1,13 @@
 -- What every tree keeps.
-use Rattle.std.specs.Prelude.{◌≡◌, ◌≢◌, ℕ, ◌<◌, ◌≤◌, Bool, true, List, length, Option, Some, None, IfSome, slice_index_or, ℤ}
+use Rattle.std.specs.Prelude.{◌≡◌, ◌≢◌, ℕ, ◌<◌, ◌≤◌, true, List, length, Some, None, IfSome, slice_index_or}
 use Rattle.std.specs.List.{All}
-use Rattle.sf_base.specs.declared.geometry.Rect.{Rect}
 use Rattle.sf_base.specs.declared.ids.LayerId.{LayerId}
 use Rattle.sf_base.specs.Geometry.{LiesWithin}
 use Rattle.sf_layer.specs.Ranges.{IsCoordinate, IsCrop}
 use Rattle.sf_layer.specs.declared.kind.Kind.TheVariants as kind
 use Rattle.sf_layer.specs.declared.orient.TheConstants.{GREATEST_ORIENTATION}
 use Rattle.sf_layer.specs.declared.layer.Layer.{Layer}
-use Rattle.sf_layer.specs.declared.parent.Parent.{Parent}
 use Rattle.sf_layer.specs.declared.parent.Parent.TheVariants as parent
-use Rattle.sf_layer.specs.declared.shown.Shown.{Shown}
 use Rattle.sf_tree.specs.Layers.{index_of, has_layer, has_parent}
 
 -- no two layers have one number

@@ -1,5 +1,5 @@
 -- The layers of a tree, in the order of their creation, and how one is found by its number.
-use Rattle.std.specs.Prelude.{ℕ, ◌==◌, Bool, true, false, List, Option, None, is_some}
+use Rattle.std.specs.Prelude.{ℕ, ◌==◌, Bool, true, List, Option, None, is_some}
 use Rattle.std.specs.List.{find, position}
 use Rattle.sf_base.specs.declared.ids.LayerId.{LayerId}
 use Rattle.sf_layer.specs.declared.layer.Layer.{Layer}

@@ -1,5 +1,5 @@
 -- Ancestors, step by step.
-use Rattle.std.proofs.Common.{◌≡◌, ℕ, zero, suc, ◌-◌, ◌+◌, ◌<◌, ◌≤◌, List, [], ◌∷◌, ◌++◌, length, Option, Some, None, refl, ap, ◌∙◌, sym, subst, arith, append_assoc}
+use Rattle.std.proofs.Common.{◌≡◌, ℕ, zero, suc, ◌-◌, ◌+◌, ◌<◌, ◌≤◌, List, [], ◌∷◌, ◌++◌, length, Option, Some, None, refl, ap, ◌∙◌, sym, arith, append_assoc}
 use Rattle.std.specs.List.{All}
 use Rattle.sf_layer.specs.declared.layer.Layer.{Layer}
 use Rattle.sf_layer.specs.declared.parent.Parent.{Parent}

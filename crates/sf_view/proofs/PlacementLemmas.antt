@@ -1,5 +1,5 @@
 -- Bounds of layers, layer by layer.
-use Rattle.std.proofs.Common.{◌≡◌, ℕ, zero, suc, ◌-◌, ◌<◌, ◌≤◌, Bool, true, false, ◌&&◌, List, ◌∷◌, length, get_or, Option, Some, None, refl, ap, ◌∙◌, sym, arith, ℤ, pos, ◌+ℤ◌, ◌≢◌, replicate, length-set}
+use Rattle.std.proofs.Common.{◌≡◌, ℕ, suc, ◌<◌, ◌≤◌, Bool, true, false, ◌&&◌, List, length, get_or, Option, Some, None, refl, ap, ◌∙◌, sym, arith, ℤ, pos, ◌+ℤ◌, ◌≢◌, replicate, length-set}
 use Rattle.std.proofs.lemmas.Int.{ints}
 use Rattle.sf_layer.specs.declared.layer.Layer.{Layer}
 use Rattle.std.proofs.lemmas.Bool.{eqb-true, eq-eqb, true_from_ne_false}

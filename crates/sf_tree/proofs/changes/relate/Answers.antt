@@ -1,7 +1,7 @@
-use Rattle.std.proofs.Common.{◌≡◌, Some, None, sym, ap, ◌∙◌, refl, arith, false, true, ◌&&◌, Bool, w32}
+use Rattle.std.proofs.Common.{◌≡◌, Some, sym, ap, ◌∙◌, refl, arith, false, true, ◌&&◌, Bool, w32}
 use Rattle.std.proofs.lemmas.Int.{to_z-of_z}
 use Rattle.sf_layer.specs.declared.layer.Layer.{Layer}
-use Rattle.sf_tree.specs.Layers.{has_layer, has_parent}
+use Rattle.sf_tree.specs.Layers.{has_layer}
 use Rattle.sf_tree.proofs.Edits.{IsEdit, edit_at, made_relative-settled, made_relative-unknown, has_layer-absent}
 use Rattle.sf_tree.proofs.changes.relate.Goals as goal
 

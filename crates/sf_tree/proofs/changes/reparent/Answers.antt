@@ -1,6 +1,6 @@
-use Rattle.std.proofs.Common.{◌≡◌, Some, None, sym, ap, ◌∙◌, refl, arith, false, true, ◌&&◌, Bool}
+use Rattle.std.proofs.Common.{◌≡◌, sym, ap, ◌∙◌, refl, arith, false, true, ◌&&◌, Bool}
 use Rattle.sf_layer.specs.declared.layer.Layer.{Layer}
-use Rattle.sf_tree.specs.Layers.{has_layer, has_parent}
+use Rattle.sf_tree.specs.Layers.{has_layer}
 use Rattle.sf_tree.proofs.Edits.{IsEdit, edit_at, reparented-settled, reparented-unknown, has_layer-absent}
 use Rattle.sf_tree.proofs.changes.reparent.Goals as goal
 

@@ -1,8 +1,7 @@
-use Rattle.std.proofs.Common.{◌≡◌, ◌<◌, ◌≤◌, ◌+◌, ◌-◌, ◌*◌, Some, Bool, true, false, not, ◌&&◌, sym, ap, ◌∙◌, refl, arith, rules, subst}
+use Rattle.std.proofs.Common.{◌≡◌, ◌≤◌, ◌+◌, ◌-◌, Some, sym, ◌∙◌, refl, arith, subst}
 use Rattle.sf_layer.specs.declared.layer.Layer.{Layer}
 use Rattle.sf_tree.specs.Known.{IsKnown, Outranks}
-use Rattle.sf_tree.specs.Layers.{layer_of}
-use Rattle.sf_tree.specs.Showing.{passes, shows}
+use Rattle.sf_tree.specs.Showing.{shows}
 use Rattle.sf_tree.proofs.Lookups.{layer_of-none, layer_of-place}
 use Rattle.sf_tree.proofs.Places.{index_of_inside}
 use Rattle.sf_tree.proofs.ShowLemmas.{shows-is, Outranks-parent, Outranks-relative, Outranks-le, at_found, IsKnown-set}

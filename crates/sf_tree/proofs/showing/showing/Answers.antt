@@ -1,4 +1,4 @@
-use Rattle.std.proofs.Common.{◌≡◌, ◌<◌, ◌+◌, length, sym, ap, ◌∙◌, refl, arith, ◌++◌, ◌∷◌, []}
+use Rattle.std.proofs.Common.{◌<◌, ◌+◌, length, sym, ◌∙◌, refl, arith}
 use Rattle.sf_tree.proofs.ShowLemmas.{Outranks-le, Outranks-tree, written_back, layer_at, map-take-more}
 use Rattle.sf_tree.specs.Showing.{shows}
 use Rattle.sf_tree.proofs.showing.showing.Goals as goal

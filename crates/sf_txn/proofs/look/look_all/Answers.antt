@@ -1,4 +1,4 @@
-use Rattle.std.proofs.Common.{◌≡◌, ◌+◌, ◌-◌, ◌++◌, ◌≤◌, ◌<◌, ◌∷◌, [], ◌∙◌, Bool, List, length, get_or, sym, ap, arith, append_assoc, vec_capacity, vec_len}
+use Rattle.std.proofs.Common.{◌≡◌, ◌+◌, ◌++◌, ◌≤◌, ◌<◌, ◌∷◌, [], ◌∙◌, Bool, List, length, ap, arith, append_assoc, vec_capacity, vec_len}
 use Rattle.std.proofs.lemmas.Grind.{common_steps}
 use Rattle.sf_txn.proofs.Looking.{LookedBelow-more, next-fits}
 use Rattle.sf_txn.proofs.look.look_all.Goals as goal

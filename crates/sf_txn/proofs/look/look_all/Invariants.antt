@@ -1,4 +1,4 @@
-use Rattle.std.proofs.Common.{◌≡◌, ◌+◌, ◌-◌, ◌++◌, ◌≤◌, ℕ, Bool, List, length, vec_capacity, vec_len}
+use Rattle.std.proofs.Common.{◌≡◌, ◌+◌, ◌-◌, ◌++◌, ◌≤◌, Bool, List, length, vec_capacity, vec_len}
 use Rattle.sf_txn.proofs.Looking.{LookedBelow}
 use Rattle.sf_txn.proofs.look.look_all.Given as goal
 

@@ -1,5 +1,5 @@
-use Rattle.std.proofs.Common.{◌≡◌, ◌∙◌}
-use Rattle.sf_view.proofs.AncestryLemmas.{ancestry_more, none_left}
+use Rattle.std.proofs.Common.{◌∙◌}
+use Rattle.sf_view.proofs.AncestryLemmas.{ancestry_more}
 use Rattle.sf_view.proofs.ancestors.ancestry.Goals as goal
 
 pub loop-steps-preserved : goal.loop-steps-preserved

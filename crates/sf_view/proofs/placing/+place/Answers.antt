@@ -1,13 +1,12 @@
-use Rattle.std.proofs.Common.{◌≡◌, ◌+◌, ◌<◌, ◌≤◌, ◌-◌, ◌*◌, ◌∙◌, Some, None, sym, ap, arith, length, List, ◌∷◌, subst}
+use Rattle.std.proofs.Common.{◌≡◌, ◌+◌, ◌≤◌, ◌-◌, ◌∙◌, Some, sym, arith, length, List, subst}
 use Rattle.sf_layer.specs.declared.layer.Layer.{Layer}
-use Rattle.sf_layer.specs.declared.parent.Parent.TheVariants as parent
 use Rattle.sf_tree.specs.Known.{Outranks}
-use Rattle.sf_tree.specs.Layers.{layer_of, parent_layer}
+use Rattle.sf_tree.specs.Layers.{parent_layer}
 use Rattle.sf_tree.proofs.Lookups.{layer_of-none, layer_of-place}
 use Rattle.sf_tree.proofs.Places.{index_of_inside}
-use Rattle.sf_tree.proofs.ShowLemmas.{at_found, Outranks-le, Outranks-parent}
+use Rattle.sf_tree.proofs.ShowLemmas.{at_found, Outranks-le}
 use Rattle.sf_view.specs.Ancestry.{ancestry, and_above}
-use Rattle.sf_view.specs.Placements.{AreFound, IsInReach, IsPlaced}
+use Rattle.sf_view.specs.Placements.{IsPlaced}
 use Rattle.sf_view.proofs.AncestryLemmas.{above-few, ancestry-is, hangs}
 use Rattle.sf_view.proofs.PlacementLemmas.{AreFound-set, IsInReach-le}
 use Rattle.sf_view.proofs.placing.+place.Goals as goal

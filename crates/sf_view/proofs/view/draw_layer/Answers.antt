@@ -1,8 +1,6 @@
-use Rattle.std.proofs.Common.{◌≡◌, ◌≤◌, sym, ◌∙◌, ap, refl, arith, rules, to_z, of_z, w32, ℕ, List, length, pos, inl, inr}
+use Rattle.std.proofs.Common.{◌≡◌, ◌≤◌, sym, ◌∙◌, refl, arith, rules, to_z, of_z, w32, length, pos, inl, inr}
 use Rattle.std.proofs.lemmas.Int.{ints}
-use Rattle.sf_layer.specs.declared.layer.Layer.{Layer}
-use Rattle.sf_view.specs.Ancestry.{ancestry}
-use Rattle.sf_view.specs.Placements.{IsInReach, IsOnDisplay, IsPlaced, is_in_bounds}
+use Rattle.sf_view.specs.Placements.{IsOnDisplay, is_in_bounds}
 use Rattle.sf_view.proofs.PlacementLemmas.{IsInReach-le, is_in_display-inside, small_crop}
 use Rattle.sf_view.proofs.IntervalLemmas.{and_right}
 use Rattle.sf_view.proofs.view.draw_layer.Goals as goal

@@ -1,4 +1,4 @@
-use Rattle.std.proofs.Common.{◌≡◌, ◌≤◌, ◌+◌, ℕ, List, length, Some, None, refl, sym, ap, ◌∙◌, subst, arith}
+use Rattle.std.proofs.Common.{◌≡◌, ◌≤◌, ◌+◌, List, length, refl, sym, ap, ◌∙◌, subst, arith}
 use Rattle.std.specs.List.{All, AllZip}
 use Rattle.std.proofs.lemmas.List.{take_all}
 use Rattle.std.proofs.lemmas.List.Elements.{All-push}
@@ -6,7 +6,6 @@ use Rattle.std.proofs.lemmas.Slice.Zip.{all_zipped_more}
 use Rattle.sf_layer.specs.declared.layer.Layer.{Layer}
 use Rattle.sf_layer.specs.declared.orient.TheConstants.{GREATEST_ORIENTATION}
 use Rattle.sf_tree.specs.Kept.{IsLayerInRange}
-use Rattle.sf_tree.specs.Layers.{layer_of}
 use Rattle.sf_tree.proofs.Lookups.{layer_of-none, layer_of-place}
 use Rattle.sf_tree.proofs.Ranks.{All-layer_of}
 use Rattle.sf_tree.proofs.ShowLemmas.{Outranks-le, Outranks-tree, written_back}
@@ -15,7 +14,6 @@ use Rattle.sf_view.specs.declared.drawn.Drawn.{Drawn}
 use Rattle.sf_view.specs.Image.{drawn_in}
 use Rattle.sf_view.specs.Views.{Draws, IsClip}
 use Rattle.sf_view.proofs.AncestryLemmas.{ancestry-few}
-use Rattle.sf_view.proofs.PlacementLemmas.{AreFound-none}
 use Rattle.sf_view.proofs.ViewLemmas.{with_content-none, with_content-no, with_content-yes}
 use Rattle.sf_view.proofs.view.view_in_order.Goals as goal
 

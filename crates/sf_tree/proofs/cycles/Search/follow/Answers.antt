@@ -1,4 +1,4 @@
-use Rattle.std.proofs.Common.{◌≡◌, sym, ap, ◌∙◌, refl, arith, false}
+use Rattle.std.proofs.Common.{◌≡◌, sym, arith, false}
 use Rattle.std.proofs.lemmas.Grind.{common_steps}
 use Rattle.std.specs.Prelude.{eqb, slice_index_or}
 use Rattle.sf_tree.proofs.Searching.{GoesOn-new}

@@ -1,4 +1,3 @@
-use Rattle.std.proofs.Common.{◌≡◌, Some, sym, ap, ◌∙◌, refl}
 use Rattle.sf_tree.proofs.Lookups.{index_of-without}
 use Rattle.sf_tree.proofs.layers.Layers.without.Goals as goal
 

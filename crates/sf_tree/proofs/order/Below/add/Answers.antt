@@ -1,9 +1,7 @@
-use Rattle.std.proofs.Common.{◌≡◌, ◌<◌, Some, None, true, false, sym, ap, ◌∙◌, refl, subst, List, ◌++◌, ◌∷◌, [], map, length, arith}
+use Rattle.std.proofs.Common.{◌≡◌, ◌<◌, Some, sym, ap, ◌∙◌, refl, map, length}
 use Rattle.std.proofs.lemmas.List.{length-map}
-use Rattle.sf_layer.specs.declared.layer.Layer.{Layer}
 use Rattle.sf_layer.specs.declared.parent.Parent.TheVariants as parent
 use Rattle.sf_tree.specs.DrawOrder.{draw_parent, drawn_with}
-use Rattle.sf_tree.specs.Known.{IsSortedBelow}
 use Rattle.sf_tree.proofs.BelowLemmas.{AtPlaces-push, drawn_with-no, drawn_with-yes, IsBelow-other, IsBelow-push, not_in_tree}
 use Rattle.sf_tree.proofs.Places.{index_of_inside}
 use Rattle.sf_tree.proofs.ZOrder.{on_ok_weaker}

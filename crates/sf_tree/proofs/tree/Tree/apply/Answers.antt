@@ -1,4 +1,4 @@
-use Rattle.sf_tree.proofs.KeepingAll.{answer-keeps, answer-ok, answer-rejected}
+use Rattle.sf_tree.proofs.KeepingAll.{answer-keeps}
 use Rattle.sf_tree.proofs.tree.Tree.apply.Goals as goal
 
 pub invariant_of-self : goal.invariant_of-self
