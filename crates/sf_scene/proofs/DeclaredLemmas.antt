@@ -1,5 +1,5 @@
 -- Declarations with one more.
-use Rattle.std.proofs.Common.{◌≡◌, ◌≢◌, ℕ, zero, suc, ◌-◌, ◌<◌, ◌==◌, Bool, true, false, ◌||◌, List, [], ◌∷◌, ◌++◌, length, Option, None, Some, refl, sym, ap, subst, ◌∙◌, arith, eqb, get_or}
+use Rattle.std.proofs.Common.{◌≡◌, ◌≢◌, ℕ, zero, suc, ◌-◌, ◌<◌, ◌≤◌, ◌==◌, Bool, true, false, ◌||◌, List, [], ◌∷◌, ◌++◌, length, Option, None, Some, refl, sym, ap, subst, ◌∙◌, arith, eqb, get_or}
 use Rattle.std.proofs.lemmas.Bool.Decides.{nat_tests}
 use Rattle.std.proofs.lemmas.Bool.{or_left}
 use Rattle.std.proofs.lemmas.List.Elements.{All-nil, All-push, All-weaker, All-cons, All-head, All-tail}
@@ -79,3 +79,11 @@ AreDeclared-on_last number Fits Q f same g xs h q = record {
   each = All-on_last Fits Q f g xs h.each q;
   differ = λ i j d a b e. h.differ i j d a (subst (λ (n : ℕ). j < n) (length-on_last f xs) b) (sym (number-on_last number f same xs i d) ∙ e ∙ number-on_last number f same xs j d);
 }
+
+-- what stands at the end is the last
+pub last_of-is : {X : Type 0} (xs : List X) (x : X) → 1 ≤ length xs → x ≡ get_or xs (length xs - 1) x → last_of xs ≡ Some x
+last_of-is [] x l h = absurd (omega arith)
+last_of-is (y ∷ []) x l h = ap Some (sym h)
+last_of-is (y ∷ z ∷ zs) x l h =
+    let e : length (y ∷ z ∷ zs) - 1 ≡ suc (length (z ∷ zs) - 1) = omega arith in
+    last_of-is (z ∷ zs) x (omega arith) (rw e at h)

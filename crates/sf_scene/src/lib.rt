@@ -4,6 +4,7 @@
 //! what is named is declared. A run depends on its scene alone.
 #![tactic(auto)]
 
+mod ask;
 mod build;
 mod change;
 mod declarations;
