@@ -1,4 +1,4 @@
-ghost use Rattle.std.specs.Prelude.{◌≡◌, ◌≤◌, [], IfOk, IfSome};
+ghost use Rattle.std.specs.Prelude.{◌≡◌, [], true, IfOk, IfSome};
 ghost use Rattle.sf_words.specs.Text.{words_of};
 ghost use Rattle.sf_words.specs.Reading.{Gives};
 ghost use Rattle.sf_scene.specs.Named.{AreKnown, timelines_in};
