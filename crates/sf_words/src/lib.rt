@@ -19,5 +19,3 @@ pub use reading::{
 };
 pub use text::{next_line, next_word, trim};
 
-#[cfg(test)]
-mod tests;
