@@ -63,6 +63,15 @@ fn follow(alloc: Global, made: &mut Made, line: &str) -> Option<Answer> {
     }
 }
 
+// Does what a line says, and shows it with its answer where it asks something.
+fn show(rt: &HostRuntime, made: &mut Made, line: &str) -> Result<()> {
+    let answer = follow(rt.alloc(), made, line).context("a line can't be followed")?;
+    if !matches!(answer, Answer::Done) {
+        println!(rt; "{line}: {answer:?}")?;
+    }
+    Ok(())
+}
+
 fn main(rt: HostRuntime) -> Result<()> {
     let mut made = Made {
         regions: Regions::new(rt.alloc()),
@@ -72,12 +81,8 @@ fn main(rt: HostRuntime) -> Result<()> {
     };
     for line in BufReader::new(rt.alloc(), rt.reader())?.lines(rt.alloc()) {
         let line = line?;
-        let line = line.trim();
         if !line.is_empty() && !line.starts_with('#') {
-            match follow(rt.alloc(), &mut made, line).context("a line can't be followed")? {
-                Answer::Done => {}
-                answer => println!(rt; "{line}: {answer:?}")?,
-            }
+            show(&rt, &mut made, &line)?;
         }
     }
     Ok(())

@@ -43,18 +43,11 @@ impl Pictures {
     // Puts a picture on the stack: a copy of the uppermost, a blank one, or one of a format.
     fn put(&mut self, form: &str, numbers: &[i64]) -> Option<Answer> {
         let picture = match numbers {
-            [] => self.stack.last()?.copy(self.alloc).ok()?,
-            [width, height] => blank_picture(self.alloc, size(*width), size(*height))?,
-            [number, width, height] => Picture {
-                number: size(*number),
-                width: size(*width),
-                height: size(*height),
-                fills: Items::new(Vec::new(self.alloc)),
-                format: format_of(form)?,
-            },
-            _ => return None,
+            [] => self.stack.last()?.copy(self.alloc).ok(),
+            [width, height] => blank_picture(self.alloc, size(*width), size(*height)),
+            _ => drawn(self.alloc, form, numbers),
         };
-        self.stack.push(picture).ok()?;
+        self.stack.push(picture?).ok()?;
         Some(Answer::Done)
     }
 
@@ -134,6 +127,20 @@ fn repainted(painted: Painted, picture: Picture) -> Option<Painted>
     } else {
         None
     }
+}
+
+// A picture without fills, by its format, its number and its size.
+fn drawn(alloc: Global, form: &str, numbers: &[i64]) -> Option<Picture> {
+    let [number, width, height] = numbers else {
+        return None;
+    };
+    Some(Picture {
+        number: size(*number),
+        width: size(*width),
+        height: size(*height),
+        fills: Items::new(Vec::new(alloc)),
+        format: format_of(form)?,
+    })
 }
 
 fn blank_picture(alloc: Global, width: u32, height: u32) -> Option<Picture> {
