@@ -116,7 +116,7 @@ limits-timeline s x h r f = record {
   queues = h.queues;
   pictures = h.pictures;
   actors = h.actors;
-  known_timelines = 
+  known_timelines =
       each_step-weaker (KnowsTimelines s.timelines) (KnowsTimelines (s.timelines ++ x ∷ [])) s.actors
       (λ st k. All-weaker (λ n. has_timeline s.timelines n ≡ true) (λ n. has_timeline (s.timelines ++ x ∷ []) n ≡ true) (has_number-push (λ (t : ℕ). t) s.timelines x) (timelines_named st) k) h.known_timelines;
   known_queues = h.known_queues;
@@ -137,7 +137,7 @@ limits-queue s x h r f = record {
   pictures = h.pictures;
   actors = h.actors;
   known_timelines = h.known_timelines;
-  known_queues = 
+  known_queues =
       each_step-weaker (KnowsQueue s.queues) (KnowsQueue (s.queues ++ x ∷ [])) s.actors
       (λ st k. IfSome-weaker (λ n. has_queue s.queues n ≡ true) (λ n. has_queue (s.queues ++ x ∷ []) n ≡ true) (queue_named st) (has_number-push (λ (q : QueueDecl). q.number) s.queues x) k) h.known_queues;
   known_pictures = h.known_pictures;
@@ -158,7 +158,7 @@ limits-picture s x h r f = record {
   actors = h.actors;
   known_timelines = h.known_timelines;
   known_queues = h.known_queues;
-  known_pictures = 
+  known_pictures =
       each_step-weaker (KnowsPicture s.pictures) (KnowsPicture (s.pictures ++ x ∷ [])) s.actors
       (λ st k. IfSome-weaker (λ n. has_picture s.pictures n ≡ true) (λ n. has_picture (s.pictures ++ x ∷ []) n ≡ true) (picture_named st) (has_number-push (λ (p : Picture). p.number) s.pictures x) k) h.known_pictures;
   order = h.order;
@@ -322,7 +322,7 @@ limits-fill s x h l k = record {
   actors = h.actors;
   known_timelines = h.known_timelines;
   known_queues = h.known_queues;
-  known_pictures = 
+  known_pictures =
       each_step-weaker (KnowsPicture s.pictures) (KnowsPicture (with_fill s.pictures x)) s.actors
       (λ st k. IfSome-weaker (λ n. has_picture s.pictures n ≡ true) (λ n. has_picture (with_fill s.pictures x) n ≡ true) (picture_named st) (λ n t. has_number-on_last (λ (p : Picture). p.number) (filled x) (λ p. refl) s.pictures n ∙ t) k) h.known_pictures;
   order = h.order;
@@ -332,7 +332,6 @@ limits-fill s x h l k = record {
   hits = h.hits;
   mirrors = h.mirrors;
 }
-
 
 -- a last picture that is taken off, filled and put back
 pub with_fill-back : (old new ps : List Picture) (p : Picture) (fills : List Fill) (x : Fill) → old ≡ ps ++ p ∷ [] → fills ≡ p.fills ++ x ∷ [] → new ≡ ps ++ record p { fills = fills } ∷ [] → new ≡ with_fill old x
