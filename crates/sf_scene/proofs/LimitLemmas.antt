@@ -2,15 +2,14 @@
 use Rattle.std.proofs.Common.{◌≡◌, ℕ, ◌<◌, ◌≤◌, ◌+◌, ◌==◌, Bool, true, false, ◌||◌, List, [], ◌∷◌, ◌++◌, length, refl, sym, ap, subst, ◌∙◌, inl, inr, arith, length-append, Option, None, Some}
 use Rattle.std.proofs.lemmas.Bool.{or_cases, or_left, or_right}
 use Rattle.std.proofs.lemmas.List.Elements.{All-nil, All-append, All-push, All-weaker}
-use Rattle.std.proofs.lemmas.List.Folds.{list_any-append}
 use Rattle.std.specs.List.{All}
 use Rattle.std.specs.Prelude.{IfSome}
 use Rattle.sf_picture.specs.declared.fill.Fill.{Fill}
 use Rattle.sf_picture.specs.declared.picture.Picture.{Picture}
-use Rattle.sf_scene.specs.Limits.{AreDeclared, EachStep, IsActor, IsHeader, IsPick, IsWithinLimits, StepFits, most_actors}
+use Rattle.sf_scene.specs.Limits.{EachStep, IsActor, IsHeader, IsPick, IsWithinLimits, StepFits, most_actors}
 use Rattle.sf_scene.specs.Named.{KnowsPicture, KnowsQueue, KnowsTimelines, picture_named, queue_named, timelines_named}
 use Rattle.sf_scene.specs.Ranges.{IsCapture, IsDisplay, IsFill, IsHit, IsMirror, IsPicture, IsQueue, IsStack, IsStep, IsTimeline}
-use Rattle.sf_scene.specs.Scene.{SceneValue, has_actor, has_capture, has_display, has_hit, has_layer, has_number, has_picture, has_queue, has_timeline, bare_scene, fills_so_far, last_of, steps_so_far, with_fill, with_step}
+use Rattle.sf_scene.specs.Scene.{SceneValue, has_actor, has_capture, has_display, has_hit, has_layer, has_picture, has_queue, has_timeline, bare_scene, fills_so_far, last_of, steps_so_far, with_fill, with_step}
 use Rattle.sf_scene.specs.declared.declarations.CaptureDecl.{CaptureDecl}
 use Rattle.sf_scene.specs.declared.declarations.DisplayDecl.{DisplayDecl}
 use Rattle.sf_scene.specs.declared.declarations.HitDecl.{HitDecl}
