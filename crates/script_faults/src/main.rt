@@ -6,15 +6,16 @@
 //! after each of its bytes, too, with a line for each run of cuts of which the same is said.
 #![tactic(auto)]
 
-mod answer;
+mod answers;
 mod table;
 
-use answer::answer;
+use answers::{Answer, told};
 use sf_grammar::LONGEST_SCRIPT;
 use sf_io::{ReadFault, ReadSource, read_all};
+use std::env;
+use std::io::{self, Write};
 use std::process::ExitCode;
-use std::{env, io};
-use table::answers;
+use table::table_told;
 
 /// The longest table, in bytes.
 const LONGEST_TABLE: usize = 8 * LONGEST_SCRIPT;
@@ -27,9 +28,9 @@ fn has_word(rt: &HostRuntime) -> io::Result<bool> {
 fn one(rt: &HostRuntime) -> io::Result<u8> {
     let alloc = rt.alloc();
     let mut source = ReadSource::new(rt.reader());
-    let answer = match read_all(alloc, &mut source, LONGEST_SCRIPT + 1) {
-        Ok(script) => answer(alloc, &script),
-        Err(ReadFault::TooLong) => answer::Answer::TOO_LONG,
+    let answer = match read_all(alloc, &mut source, LONGEST_SCRIPT) {
+        Ok(script) => told(alloc, &script),
+        Err(ReadFault::TooLong) => Answer::TOO_LONG,
         Err(_) => return Ok(3),
     };
     let text = answer.text(alloc)?;
@@ -44,8 +45,8 @@ fn many(rt: &HostRuntime) -> io::Result<u8> {
     let Ok(table) = read_all(alloc, &mut source, LONGEST_TABLE) else {
         return Ok(3);
     };
-    let text = answers(alloc, &table)?;
-    io::write_all(&mut io::writer(rt), &text)?;
+    let text = table_told(alloc, &table)?;
+    io::writer(rt).write_all(&text)?;
     Ok(0)
 }
 

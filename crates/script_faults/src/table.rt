@@ -1,4 +1,4 @@
-use crate::answer::{Answer, answer};
+use crate::answers::{Answer, told};
 use sf_words::{next_line, next_word, number_within};
 use std::alloc::Global;
 use std::io;
@@ -28,7 +28,10 @@ fn push_lines(script: &mut Vec<u8>, counted: &[u8]) -> io::Result<()> {
 // The lines up to the next title, behind what the script has, and the table from there on.
 fn push_body<'a>(script: &mut Vec<u8>, table: &'a [u8]) -> io::Result<&'a [u8]> {
     let mut rest = table;
-    while let Some((line, after)) = next_line(rest) {
+    for _ in 0..table.len() {
+        let Some((line, after)) = next_line(rest) else {
+            break;
+        };
         match line {
             [b'=', ..] => return Ok(rest),
             [b'*', counted @ ..] => push_lines(script, counted)?,
@@ -62,7 +65,7 @@ fn push_answer(text: &mut Vec<u8>, alloc: Global, title: &[u8], said: Answer) ->
 fn push_cuts(text: &mut Vec<u8>, alloc: Global, script: &[u8]) -> io::Result<()> {
     let mut last = None;
     for length in 0..script.len() {
-        let said = answer(alloc, &script[..length]);
+        let said = told(alloc, &script[..length]);
         if last != Some(said) {
             let title = format!(in alloc; "cut after {length}")?;
             push_answer(text, alloc, title.as_bytes(), said)?;
@@ -73,14 +76,17 @@ fn push_cuts(text: &mut Vec<u8>, alloc: Global, script: &[u8]) -> io::Result<()>
 }
 
 /// What is said of each script of a table, a line for each.
-pub fn answers(alloc: Global, table: &[u8]) -> io::Result<Vec<u8>> {
+pub fn table_told(alloc: Global, table: &[u8]) -> io::Result<Vec<u8>> {
     let mut text = Vec::new(alloc);
     let mut base = Vec::new(alloc);
     let mut rest = table;
-    while let Some((title, after)) = next_line(rest) {
+    for _ in 0..table.len() {
+        let Some((title, after)) = next_line(rest) else {
+            break;
+        };
         let mut script = begun(alloc, &base, title)?;
         rest = push_body(&mut script, after)?;
-        push_answer(&mut text, alloc, title, answer(alloc, &script))?;
+        push_answer(&mut text, alloc, title, told(alloc, &script))?;
         match title {
             [b'=', b'<', ..] => push_cuts(&mut text, alloc, &script)?,
             [b'=', b'=', ..] => base = script,

@@ -1,5 +1,5 @@
 -- An actor has few names after one more line that fits.
-use Rattle.std.proofs.Common.{ℕ, ◌+◌, ◌<◌, ◌≤◌, List, [], ◌∷◌, ◌++◌, length, length-append, Option, None, Some, arith}
+use Rattle.std.proofs.Common.{◌+◌, ◌<◌, ◌≤◌, List, [], ◌∷◌, ◌++◌, length, length-append, Option, None, Some, arith}
 use Rattle.std.specs.Prelude.{IfSome, option_to_list}
 use Rattle.sf_words.specs.Text.{Text}
 use Rattle.sf_scene.specs.Scene.{SceneValue}

@@ -1,8 +1,7 @@
 -- One more repeated part.
-use Rattle.std.proofs.Common.{◌≡◌, ℕ, List, [], ◌∷◌, ◌++◌, length, map, true, Result, Ok, ap, subst, sym, ◌∙◌, refl, codes}
+use Rattle.std.proofs.Common.{◌≡◌, ℕ, List, [], ◌∷◌, ◌++◌, length, true, Result, Ok, ap, subst, sym, ◌∙◌, refl, codes}
 use Rattle.std.proofs.lemmas.Bool.{cond-true}
 use Rattle.std.proofs.lemmas.List.Elements.{All-push}
-use Rattle.std.specs.List.{All}
 use Rattle.std.specs.Str.{bytes_eq}
 use Rattle.sf_words.specs.Text.{Text}
 use Rattle.sf_words.specs.Reading.{◌>>=◌}

@@ -1,11 +1,10 @@
 -- What follows `set N LAYER`.
-use Rattle.std.specs.Prelude.{ℕ, ℤ, if◌then◌else◌, Bool, List, length, Option, None, Some, Result, Ok, Err, codes}
+use Rattle.std.specs.Prelude.{ℕ, ℤ, if◌then◌else◌, Bool, List, length, Option, None, Some, Ok, codes}
 use Rattle.std.specs.Str.{bytes_eq}
 use Rattle.sf_words.specs.Text.{Text}
 use Rattle.sf_words.specs.Colours.{colour_at}
 use Rattle.sf_words.specs.Reading.{Read, ◌>>=◌, flag_at, number_at, signed_at, some_or, word_at, wrong}
 use Rattle.sf_words.specs.declared.fault.Cause.TheVariants.{UnknownWord}
-use Rattle.sf_words.specs.declared.fault.WordFault.{WordFault}
 use Rattle.sf_scene.specs.declared.change.Change.{Change}
 use Rattle.sf_scene.specs.declared.change.Change.TheVariants as change
 use Rattle.sf_grammar.specs.Keywords.{change_form_of}

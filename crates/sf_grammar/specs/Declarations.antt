@@ -1,5 +1,5 @@
 -- The forms of declarations, behind their first words.
-use Rattle.std.specs.Prelude.{ℕ, ◌==◌, ◌||◌, not, if◌then◌else◌, Bool, true, false, pos, List, [], ◌∷◌, length, Option, None, Some, Result, Ok, Err, codes}
+use Rattle.std.specs.Prelude.{ℕ, ◌==◌, ◌||◌, not, if◌then◌else◌, Bool, pos, List, [], ◌∷◌, length, Option, None, Some, Result, Ok, codes}
 use Rattle.std.specs.Str.{bytes_eq}
 use Rattle.sf_base.specs.declared.format.Format.{Format}
 use Rattle.sf_base.specs.declared.format.Format.TheVariants as format

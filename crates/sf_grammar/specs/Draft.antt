@@ -1,5 +1,5 @@
 -- What the lines before a line spell, and which lines may follow them.
-use Rattle.std.specs.Prelude.{ℕ, ◌+◌, ◌==◌, nat_le, nat_lt, not, ◌&&◌, Bool, true, false, List, [], ◌∷◌, ◌++◌, length, position, option_to_list, Option, None, Some}
+use Rattle.std.specs.Prelude.{ℕ, ◌==◌, nat_le, nat_lt, not, ◌&&◌, Bool, true, false, List, [], ◌∷◌, ◌++◌, length, position, option_to_list, Option, None, Some}
 use Rattle.std.specs.Str.{bytes_eq}
 use Rattle.sf_words.specs.Text.{Text}
 use Rattle.sf_scene.specs.Scene.{SceneValue, bare_scene, fills_so_far, last_of, steps_so_far, with_fill, with_step}

@@ -1,5 +1,5 @@
 -- What `parse` answers.
-use Rattle.std.specs.Prelude.{◌≡◌, ℕ, nat_lt, if◌then◌else◌, length, Result, Ok, Err}
+use Rattle.std.specs.Prelude.{◌≡◌, nat_lt, if◌then◌else◌, length, Result, Ok, Err}
 use Rattle.sf_words.specs.Causes.{number_of}
 use Rattle.sf_words.specs.Text.{Text}
 use Rattle.sf_words.specs.declared.fault.Cause.TheVariants.{Limit}

@@ -1,5 +1,5 @@
 -- The forms of declarations that version 2 has, behind their first words.
-use Rattle.std.specs.Prelude.{ℕ, List, length, Result, Ok}
+use Rattle.std.specs.Prelude.{ℕ, List, Result, Ok}
 use Rattle.sf_words.specs.Text.{Text}
 use Rattle.sf_words.specs.Reading.{◌>>=◌, end_at, number_at, signed_at}
 use Rattle.sf_words.specs.declared.fault.WordFault.{WordFault}

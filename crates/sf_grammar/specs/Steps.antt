@@ -1,5 +1,5 @@
 -- The forms of steps, behind their first words.
-use Rattle.std.specs.Prelude.{ℕ, Bool, true, false, if◌then◌else◌, List, [], Option, None, Result, Ok, Err, codes}
+use Rattle.std.specs.Prelude.{ℕ, Bool, true, false, List, [], Option, None, Result, Ok, Err, codes}
 use Rattle.sf_words.specs.Text.{Text}
 use Rattle.sf_words.specs.Reading.{Read, ◌>>=◌, end_at, fixed_at, flag_at, number_at}
 use Rattle.sf_words.specs.declared.fault.WordFault.{WordFault}

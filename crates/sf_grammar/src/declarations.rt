@@ -11,7 +11,9 @@ use crate::line::Header;
 use sf_base::{Format, Items, Rect};
 use sf_picture::{Fill, Picture};
 use sf_scene::{QueueDecl, Scene};
-use sf_words::{Cause, WordFault, colour, demand, end, fixed, is, next_word, number32, number64, word, wrong};
+use sf_words::{
+    Cause, WordFault, colour, demand, end, fixed, is, next_word, number32, number64, word, wrong,
+};
 use std::alloc::Global;
 
 #[tactic(auto, unfolding(crate::specs::Declarations::version_at))]

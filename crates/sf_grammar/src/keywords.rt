@@ -151,7 +151,11 @@ fn second_keyword(word: &[u8]) -> Option<Keyword>
 fn versioned_keyword(is_second: bool, word: &[u8]) -> Option<Keyword>
     ensures { result ≡ versioned_keyword_of is_second word.now }
 {
-    if is_second { second_keyword(word) } else { None }
+    if is_second {
+        second_keyword(word)
+    } else {
+        None
+    }
 }
 
 /// The form that a first word begins, if it begins one. The word `queue` begins a step where an

@@ -10,7 +10,9 @@ ghost use Rattle.sf_grammar.specs.Parts.{asked_size_at, cut_point, expected_at, 
 use crate::fault::LineFault;
 use crate::mentions::timeline_in;
 use sf_scene::{Points, Scene};
-use sf_words::{Cause, WordFault, count_words, end, fixed, is, next_word, number_within, number32, number64};
+use sf_words::{
+    Cause, WordFault, count_words, end, fixed, is, next_word, number_within, number32, number64,
+};
 use std::alloc::Global;
 
 const LATEST_TIME: u64 = 9_223_372_036_854_775_807;

@@ -76,12 +76,7 @@ fn as_name<'a>(
 
 // `dequeue Q as S [size DW DH]`, `dequeuewait Q as S [size DW DH]`
 #[tactic(auto, unfolding(crate::specs::Steps::dequeue_at))]
-fn dequeue(
-    alloc: Global,
-    draft: &Draft,
-    waits: bool,
-    line: &[u8],
-) -> Result<NamedStep, LineFault>
+fn dequeue(alloc: Global, draft: &Draft, waits: bool, line: &[u8]) -> Result<NamedStep, LineFault>
     ensures given { GivesUnless (λ x. x) result (dequeue_at draft.now waits (words_of line.now)) }
     ensures fits { IfOk result (NamedFits draft.now) }
 {

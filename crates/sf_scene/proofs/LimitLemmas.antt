@@ -2,15 +2,14 @@
 use Rattle.std.proofs.Common.{◌≡◌, ℕ, ◌<◌, ◌≤◌, ◌+◌, ◌==◌, Bool, true, false, ◌||◌, List, [], ◌∷◌, ◌++◌, length, refl, sym, ap, subst, ◌∙◌, inl, inr, arith, length-append, Option, None, Some}
 use Rattle.std.proofs.lemmas.Bool.{or_cases, or_left, or_right}
 use Rattle.std.proofs.lemmas.List.Elements.{All-nil, All-append, All-push, All-weaker}
-use Rattle.std.proofs.lemmas.List.Folds.{list_any-append}
 use Rattle.std.specs.List.{All}
 use Rattle.std.specs.Prelude.{IfSome}
 use Rattle.sf_picture.specs.declared.fill.Fill.{Fill}
 use Rattle.sf_picture.specs.declared.picture.Picture.{Picture}
-use Rattle.sf_scene.specs.Limits.{AreDeclared, EachStep, IsActor, IsHeader, IsPick, IsWithinLimits, StepFits, most_actors}
+use Rattle.sf_scene.specs.Limits.{EachStep, IsActor, IsHeader, IsPick, IsWithinLimits, StepFits, most_actors}
 use Rattle.sf_scene.specs.Named.{KnowsPicture, KnowsQueue, KnowsTimelines, picture_named, queue_named, timelines_named}
 use Rattle.sf_scene.specs.Ranges.{IsCapture, IsDisplay, IsFill, IsHit, IsMirror, IsPicture, IsQueue, IsStack, IsStep, IsTimeline}
-use Rattle.sf_scene.specs.Scene.{SceneValue, has_actor, has_capture, has_display, has_hit, has_layer, has_number, has_picture, has_queue, has_timeline, bare_scene, fills_so_far, last_of, steps_so_far, with_fill, with_step}
+use Rattle.sf_scene.specs.Scene.{SceneValue, has_actor, has_capture, has_display, has_hit, has_layer, has_picture, has_queue, has_timeline, bare_scene, fills_so_far, last_of, steps_so_far, with_fill, with_step}
 use Rattle.sf_scene.specs.declared.declarations.CaptureDecl.{CaptureDecl}
 use Rattle.sf_scene.specs.declared.declarations.DisplayDecl.{DisplayDecl}
 use Rattle.sf_scene.specs.declared.declarations.HitDecl.{HitDecl}
@@ -116,7 +115,7 @@ limits-timeline s x h r f = record {
   queues = h.queues;
   pictures = h.pictures;
   actors = h.actors;
-  known_timelines = 
+  known_timelines =
       each_step-weaker (KnowsTimelines s.timelines) (KnowsTimelines (s.timelines ++ x ∷ [])) s.actors
       (λ st k. All-weaker (λ n. has_timeline s.timelines n ≡ true) (λ n. has_timeline (s.timelines ++ x ∷ []) n ≡ true) (has_number-push (λ (t : ℕ). t) s.timelines x) (timelines_named st) k) h.known_timelines;
   known_queues = h.known_queues;
@@ -137,7 +136,7 @@ limits-queue s x h r f = record {
   pictures = h.pictures;
   actors = h.actors;
   known_timelines = h.known_timelines;
-  known_queues = 
+  known_queues =
       each_step-weaker (KnowsQueue s.queues) (KnowsQueue (s.queues ++ x ∷ [])) s.actors
       (λ st k. IfSome-weaker (λ n. has_queue s.queues n ≡ true) (λ n. has_queue (s.queues ++ x ∷ []) n ≡ true) (queue_named st) (has_number-push (λ (q : QueueDecl). q.number) s.queues x) k) h.known_queues;
   known_pictures = h.known_pictures;
@@ -158,7 +157,7 @@ limits-picture s x h r f = record {
   actors = h.actors;
   known_timelines = h.known_timelines;
   known_queues = h.known_queues;
-  known_pictures = 
+  known_pictures =
       each_step-weaker (KnowsPicture s.pictures) (KnowsPicture (s.pictures ++ x ∷ [])) s.actors
       (λ st k. IfSome-weaker (λ n. has_picture s.pictures n ≡ true) (λ n. has_picture (s.pictures ++ x ∷ []) n ≡ true) (picture_named st) (has_number-push (λ (p : Picture). p.number) s.pictures x) k) h.known_pictures;
   order = h.order;
@@ -322,7 +321,7 @@ limits-fill s x h l k = record {
   actors = h.actors;
   known_timelines = h.known_timelines;
   known_queues = h.known_queues;
-  known_pictures = 
+  known_pictures =
       each_step-weaker (KnowsPicture s.pictures) (KnowsPicture (with_fill s.pictures x)) s.actors
       (λ st k. IfSome-weaker (λ n. has_picture s.pictures n ≡ true) (λ n. has_picture (with_fill s.pictures x) n ≡ true) (picture_named st) (λ n t. has_number-on_last (λ (p : Picture). p.number) (filled x) (λ p. refl) s.pictures n ∙ t) k) h.known_pictures;
   order = h.order;
@@ -332,7 +331,6 @@ limits-fill s x h l k = record {
   hits = h.hits;
   mirrors = h.mirrors;
 }
-
 
 -- a last picture that is taken off, filled and put back
 pub with_fill-back : (old new ps : List Picture) (p : Picture) (fills : List Fill) (x : Fill) → old ≡ ps ++ p ∷ [] → fills ≡ p.fills ++ x ∷ [] → new ≡ ps ++ record p { fills = fills } ∷ [] → new ≡ with_fill old x

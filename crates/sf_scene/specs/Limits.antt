@@ -1,5 +1,5 @@
 -- What each scene keeps.
-use Rattle.std.specs.Prelude.{◌≡◌, ◌≢◌, ℕ, ◌≤◌, ◌==◌, ◌||◌, Bool, true, if◌then◌else◌, List, length, All, AllPairs}
+use Rattle.std.specs.Prelude.{◌≡◌, ◌≢◌, ℕ, ◌≤◌, ◌==◌, ◌||◌, true, if◌then◌else◌, List, length, All, AllPairs}
 use Rattle.sf_scene.specs.Named.{KnowsPicture, KnowsQueue, KnowsTimelines}
 use Rattle.sf_scene.specs.Ranges.{IsCapture, IsDisplay, IsHit, IsMirror, IsPicture, IsQueue, IsStack, IsStep, IsTimeline}
 use Rattle.sf_scene.specs.Scene.{SceneValue, has_actor}

@@ -1,5 +1,5 @@
 -- The ranges of what a scene declares and of the numbers in its steps.
-use Rattle.std.specs.Prelude.{◌≡◌, ℕ, ◌<◌, ◌≤◌, ◌^◌, ℤ, pos, negsuc, ◌≤ℤ◌, List, length, All, Option, IfSome}
+use Rattle.std.specs.Prelude.{ℕ, ◌<◌, ◌≤◌, ℤ, pos, negsuc, ◌≤ℤ◌, length, All, IfSome}
 use Rattle.sf_picture.specs.Pixels.{HasSize}
 use Rattle.sf_picture.specs.declared.fill.Fill.{Fill}
 use Rattle.sf_picture.specs.declared.picture.Picture.{Picture}

@@ -27,13 +27,7 @@ pub enum Step {
     /// The buffer that this name holds is queued, with this picture promised in it: the time at
     /// which it is to be shown, in nanoseconds, the part of it that shows (corner, width and
     /// height), and the points of its acquire fence.
-    Queue(
-        u32,
-        u32,
-        Option<u64>,
-        Option<(u32, u32, u32, u32)>,
-        Points,
-    ),
+    Queue(u32, u32, Option<u64>, Option<(u32, u32, u32, u32)>, Points),
     /// The buffer that this name holds goes back unqueued, once these points are reached.
     Cancel(u32, Points),
     /// The buffer that the first name holds leaves its queue: under the second name it stands loose.

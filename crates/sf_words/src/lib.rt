@@ -18,4 +18,3 @@ pub use reading::{
     wrong,
 };
 pub use text::{next_line, next_word, trim};
-

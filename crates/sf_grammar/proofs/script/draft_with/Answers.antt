@@ -1,4 +1,4 @@
-use Rattle.std.proofs.Common.{ℕ, ap, arith, length}
+use Rattle.std.proofs.Common.{ap, arith, length}
 use Rattle.sf_grammar.specs.Draft.{DraftValue}
 use Rattle.sf_grammar.proofs.DraftLemmas.{few_picks}
 use Rattle.sf_grammar.proofs.script.draft_with.Goals as goal

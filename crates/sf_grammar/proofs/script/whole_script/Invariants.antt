@@ -1,4 +1,4 @@
-use Rattle.std.proofs.Common.{◌≡◌, ◌+◌, ◌≤◌, [], length}
+use Rattle.std.proofs.Common.{◌≡◌, ◌+◌, ◌≤◌, length}
 use Rattle.sf_words.specs.Text.{lines_of}
 use Rattle.sf_grammar.specs.Draft.{no_lines}
 use Rattle.sf_grammar.specs.Script.{lines_at}

@@ -39,7 +39,7 @@ impl Answer {
 }
 
 /// What `parse` says of these bytes.
-pub fn answer(alloc: Global, script: &[u8]) -> Answer {
+pub fn told(alloc: Global, script: &[u8]) -> Answer {
     match parse(alloc, script) {
         Ok(_) => Answer::Scene,
         Err(ParseFault::Script(fault)) => Answer::Fault(fault),
