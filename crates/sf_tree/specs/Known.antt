@@ -1,5 +1,5 @@
 -- What is found out of layers on the way to a draw order.
-use Rattle.std.specs.Prelude.{◌≡◌, ℕ, ◌<◌, ◌≤◌, Bool, List, length, Option, Some, None, slice_index_or, slice_get, [], filter, true, false, not, ℤ}
+use Rattle.std.specs.Prelude.{◌≡◌, ℕ, ◌<◌, ◌≤◌, Bool, List, length, Option, Some, None, slice_index_or, slice_get, slice_set, ◌∷◌, ◌++◌, [], filter, true, false, not, ℤ}
 use Rattle.std.specs.List.{All, AllZip}
 use Rattle.sf_base.specs.declared.ids.LayerId.{LayerId}
 use Rattle.sf_layer.specs.declared.layer.Layer.{Layer}
@@ -25,7 +25,8 @@ pub record Outranks (tree : List Layer) (layer : Layer) (steps : ℕ) : Type 0 w
 -- what is known of layers by place is whether they show
 pub record IsKnown (tree : List Layer) (known : List (Option Bool)) : Type 0 where
   pub size : length known ≡ length tree
-  pub right : (place : ℕ) (d : Layer) (shown : Bool) → place < length tree → slice_index_or known place None ≡ Some shown → shown ≡ shows tree (slice_index_or tree place d)
+  pub right : (place : ℕ) (d : Layer) (shown : Bool) → place < length tree → slice_index_or known place None ≡ Some shown
+      → shown ≡ shows tree (slice_index_or tree place d)
 
 -- the layers at these places
 abbrev pub AtPlaces : List Layer → List ℕ → List Layer → Type 0
@@ -44,12 +45,23 @@ showing tree = in_z_order (filter (shows tree) tree)
 -- the layers that are drawn with each layer, by place, as far as these layers go
 pub record IsBelow (tree layers : List Layer) (below : List (List ℕ)) : Type 0 where
   pub size : length below ≡ length tree
-  pub lists : (place : ℕ) (layer : Layer) → slice_get tree place ≡ Some layer → AtPlaces tree (slice_index_or below place []) (drawn_with (parent.Layer layer.number) layers)
+  pub lists : (place : ℕ) (layer : Layer) → slice_get tree place ≡ Some layer
+      → AtPlaces tree (slice_index_or below place []) (drawn_with (parent.Layer layer.number) layers)
 
 -- the places of these layers, by what they are drawn with
 pub record IsSortedBelow (tree layers : List Layer) (roots : List ℕ) (below : List (List ℕ)) : Type 0 where
   pub hang : AtPlaces tree roots (drawn_with parent.Root layers)
   pub lists : IsBelow tree layers below
+
+-- the layer at a place joins those that are sorted
+abbrev pub SortsOneMore : List Layer → ℕ → List ℕ → List (List ℕ) → List ℕ → List (List ℕ) → Type 0
+SortsOneMore tree place roots lists next_roots next_lists =
+    (earlier : List Layer) (layer : Layer) → slice_get tree place ≡ Some layer
+    → IsSortedBelow tree earlier roots lists → IsSortedBelow tree (earlier ++ layer ∷ []) next_roots next_lists
+
+-- one more place at the end of a list
+abbrev pub with_place : List (List ℕ) → ℕ → ℕ → List (List ℕ)
+with_place lists with place = slice_set lists with (slice_index_or lists with [] ++ place ∷ [])
 
 -- of layers those that lie behind the one that they are drawn with, or the others
 abbrev pub is_on_side : Bool → Layer → Bool

@@ -47,6 +47,13 @@ abbrev pub Grows : List LayerId → List LayerId → Type 0
 Grows old new = (more : List LayerId) × (new ≡ old ++ more)
 
 -- a search goes on, with a step that was followed
-pub record GoesOn (steps : Layer → List LayerId) (tree : List Layer) (first : LayerId) (found : List LayerId) (marks : List Bool) (next : Option LayerId) : Type 0 where
+pub record GoesOn (steps : Layer → List LayerId) (tree : List Layer) (first : LayerId) (found : List LayerId) (marks : List Bool)
+    (next : Option LayerId) : Type 0 where
   pub search : IsSearch steps tree first found marks
   pub followed : IfSome next (IsFollowed tree first found)
+
+-- whatever the steps are: where a step leads on from a layer that was found, a search goes on with it
+abbrev pub KeepsSearch : List Layer → LayerId → Option LayerId → List LayerId → List Bool → List LayerId → List Bool → Type 0
+KeepsSearch tree first next found marks more_found more_marks =
+    (steps : Layer → List LayerId) (k : ℕ) → IfSome next (λ id. reaches steps tree (k + 1) first id ≡ true)
+    → k < length found → IsSearch steps tree first found marks → GoesOn steps tree first more_found more_marks next

@@ -3,7 +3,7 @@ ghost use Rattle.sf_base.specs.declared.ids.LayerId.{LayerId as LayerIdValue};
 ghost use Rattle.sf_layer.specs.declared.layer.Layer.{Layer as LayerValue};
 ghost use Rattle.sf_tree.specs.Layers.{index_of};
 ghost use Rattle.sf_tree.specs.Steps.{reaches, reaches_itself, to_parent};
-ghost use Rattle.sf_tree.specs.Search.{GoesOn, Grows, IsExplored, IsSearch, relative_along, steps_along};
+ghost use Rattle.sf_tree.specs.Search.{Grows, IsExplored, IsSearch, KeepsSearch, relative_along, steps_along};
 
 use crate::layers::Layers;
 use sf_base::{LayerId, NoMemory};
@@ -55,7 +55,8 @@ impl Search {
         place: usize,
     ) -> Result<Search, NoMemory>
         requires { index_of layers.now first ≡ Some place }
-        ensures search { IfOk result (λ search. (steps : LayerValue → List LayerIdValue) → IsSearch steps layers.now first search.found.items search.marks.items) }
+        ensures search { IfOk result (λ search. (steps : LayerValue → List LayerIdValue) →
+            IsSearch steps layers.now first search.found.items search.marks.items) }
         ensures first { IfOk result (λ search. search.found.items ≡ first ∷ []) }
     {
         let mut marks = vec![in alloc; false; layers.len()]?;
@@ -75,7 +76,8 @@ impl Search {
         requires { length self.old.marks.items ≡ length layers.now }
         ensures back { result ≡ Ok true → IsSomeAnd next (λ id. id.0 ≡ first.0) }
         ensures grows { result ≡ Ok false → Grows self.old.found.items self.new.found.items }
-        ensures on { result ≡ Ok false → (steps : LayerValue → List LayerIdValue) (k : ℕ) → IfSome next (λ id. reaches steps layers.now (k + 1) first id ≡ true) → k < length self.old.found.items → IsSearch steps layers.now first self.old.found.items self.old.marks.items → GoesOn steps layers.now first self.new.found.items self.new.marks.items next }
+        ensures on { result ≡ Ok false → KeepsSearch layers.now first next
+            self.old.found.items self.old.marks.items self.new.found.items self.new.marks.items }
     {
         let Some(next) = next else {
             return Ok(false);
@@ -108,7 +110,8 @@ impl Search {
         ensures back { result ≡ Ok true → reaches (steps_along along) layers.now (index + 1) first first ≡ true }
         ensures grows { result ≡ Ok false → Grows self.old.found.items self.new.found.items }
         ensures search { result ≡ Ok false → IsSearch (steps_along along) layers.now first self.new.found.items self.new.marks.items }
-        ensures explored { result ≡ Ok false → (d : LayerIdValue) → IsExplored (steps_along along) layers.now first self.new.found.items (slice_index_or self.old.found.items index d) }
+        ensures explored { result ≡ Ok false → (d : LayerIdValue) → IsExplored (steps_along along) layers.now first
+            self.new.found.items (slice_index_or self.old.found.items index d) }
     {
         let from = self.found[index];
         let Some(place) = layers.index_of(from) else {

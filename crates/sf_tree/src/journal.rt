@@ -59,7 +59,8 @@ impl Journal {
 
     // Notes how the last change is taken back, or hands it back for want of memory.
     pub fn remember(&mut self, undo: Undo) -> Result<(), Undo>
-        ensures ok { OnOk result ((layers first : List LayerValue) → CanUndo undo layers → GoesBack self.old (undone undo layers) first → GoesBack self.new layers first) }
+        ensures ok { OnOk result ((layers first : List LayerValue) → CanUndo undo layers →
+            GoesBack self.old (undone undo layers) first → GoesBack self.new layers first) }
         ensures same { IfErr result (λ given. given ≡ undo) }
         ensures err { OnErr result ((layers first : List LayerValue) → GoesBack self.old layers first → GoesBack self.new layers first) }
     {

@@ -5,7 +5,7 @@ ghost use Rattle.sf_layer.specs.declared.layer.Layer.{Layer as LayerValue};
 ghost use Rattle.sf_layer.specs.declared.parent.Parent.TheVariants as parent;
 ghost use Rattle.sf_tree.specs.DrawOrder.{draw, draw_order, draw_parent, drawn_with, is_behind};
 ghost use Rattle.sf_tree.specs.Kept.{HasNoCycle, IsDistinct, IsTied};
-ghost use Rattle.sf_tree.specs.Known.{AtPlaces, is_on_side, IsBelow, IsSortedBelow, showing};
+ghost use Rattle.sf_tree.specs.Known.{AtPlaces, is_on_side, IsBelow, IsSortedBelow, showing, SortsOneMore, with_place};
 ghost use Rattle.sf_tree.specs.Showing.{shows};
 
 use crate::layers::Layers;
@@ -65,7 +65,9 @@ impl Below {
     fn add(&mut self, layers: &Layers, place: usize) -> Result<(), NoMemory>
         requires inside { place < length layers.now }
         requires size { length self.old.lists.items ≡ length layers.now }
-        ensures { OnOk result ((earlier : List LayerValue) (layer : LayerValue) → slice_get layers.now place ≡ Some layer → IsSortedBelow layers.now earlier self.old.roots.items (map (λ list. list.items) self.old.lists.items) → IsSortedBelow layers.now (earlier ++ layer ∷ []) self.new.roots.items (map (λ list. list.items) self.new.lists.items)) }
+        ensures { OnOk result (SortsOneMore layers.now place
+            self.old.roots.items (map (λ list. list.items) self.old.lists.items)
+            self.new.roots.items (map (λ list. list.items) self.new.lists.items)) }
     {
         match draw_parent(&layers.at(place)) {
             Parent::Root => {
@@ -84,7 +86,8 @@ impl Below {
     fn push(&mut self, with: usize, place: usize) -> Result<(), NoMemory>
         requires { with < length self.old.lists.items }
         ensures roots { self.new.roots.items ≡ self.old.roots.items }
-        ensures lists { OnOk result (map (λ list. list.items) self.new.lists.items ≡ slice_set (map (λ list. list.items) self.old.lists.items) with (slice_index_or (map (λ list. list.items) self.old.lists.items) with [] ++ place ∷ [])) }
+        ensures lists { OnOk result (map (λ list. list.items) self.new.lists.items
+            ≡ with_place (map (λ list. list.items) self.old.lists.items) with place) }
     {
         let list = &mut self.lists[with];
         list.push(place)?;
@@ -133,7 +136,8 @@ fn draw(
 ) -> Result<(), NoMemory>
     requires inside { place < length layers.now }
     requires lists { IsBelow layers.now (showing layers.now) (map (λ list. list.items) lists.now) }
-    ensures { OnOk result ((layer : LayerValue) → slice_get layers.now place ≡ Some layer → order.new.items ≡ order.old.items ++ draw (showing layers.now) steps layer) }
+    ensures { OnOk result ((layer : LayerValue) → slice_get layers.now place ≡ Some layer →
+        order.new.items ≡ order.old.items ++ draw (showing layers.now) steps layer) }
 {
     if steps == 0 {
         return Ok(());
@@ -156,7 +160,9 @@ fn draw_side(
 ) -> Result<(), NoMemory>
     requires lists { IsBelow layers.now (showing layers.now) (map (λ list. list.items) lists.now) }
     requires places { (list : List LayerValue) × AtPlaces layers.now places.now list }
-    ensures { OnOk result ((list : List LayerValue) → AtPlaces layers.now places.now list → order.new.items ≡ order.old.items ++ flat_map (draw (showing layers.now) steps) (filter (is_on_side behind) list)) }
+    ensures { OnOk result ((list : List LayerValue) → AtPlaces layers.now places.now list →
+        order.new.items ≡ order.old.items
+        ++ flat_map (draw (showing layers.now) steps) (filter (is_on_side behind) list)) }
 {
     for place in places {
         if !is_on_side(&layers.at(*place), behind) {

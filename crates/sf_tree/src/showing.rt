@@ -48,7 +48,8 @@ fn show(layers: &Layers, known: &mut [Option<bool>], place: usize, steps: usize)
 fn decide(layers: &Layers, known: &mut [Option<bool>], layer: &Layer, steps: usize) -> bool
     requires known { IsKnown layers.now known.old }
     requires steps { Outranks layers.now layer.now (steps + 1) }
-    ensures shown { result ≡ (not layer.now.hidden && (parent_passes layers.now (shows layers.now) layer.now.parent && relative_passes layers.now (shows layers.now) layer.now.relative)) }
+    ensures shown { result ≡ (not layer.now.hidden && (parent_passes layers.now (shows layers.now) layer.now.parent
+        && relative_passes layers.now (shows layers.now) layer.now.relative)) }
     ensures known { IsKnown layers.now known.new }
 {
     if layer.hidden {

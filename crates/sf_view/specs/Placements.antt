@@ -51,4 +51,5 @@ pub record IsPlacement (width height : ℕ) (placement : Placement) : Type 0 whe
 -- what was found of layers, by where they stand in the tree, is their placements
 pub record AreFound (tree : List Layer) (width height : ℕ) (found : List (Option Placement)) : Type 0 where
   pub size : length found ≡ length tree
-  pub right : (index : ℕ) (layer : Layer) (placement : Placement) → slice_get tree index ≡ Some layer → slice_index_or found index None ≡ Some placement → IsPlaced width height (ancestry tree layer) placement
+  pub right : (index : ℕ) (layer : Layer) (placement : Placement) → slice_get tree index ≡ Some layer
+      → slice_index_or found index None ≡ Some placement → IsPlaced width height (ancestry tree layer) placement
