@@ -2,7 +2,7 @@ ghost use Rattle.std.specs.List.{AllZip};
 ghost use Rattle.std.specs.Prelude.{◌≡◌, ◌+ℤ◌, ◌≤◌, ◌≤ℤ◌, IfSome, IsTrue, pos};
 ghost use Rattle.sf_compose.specs.Readings.{IsReadable};
 ghost use Rattle.sf_compose.specs.Sources.{LiesIn};
-ghost use Rattle.sf_region.specs.Points.{IsInBounds};
+ghost use Rattle.sf_region.specs.Points.{IsInBounds, far, neg_far};
 
 use crate::words::{colour, number32, rect};
 use sf_base::{Format, Items, Rect};
@@ -88,35 +88,48 @@ fn sources(alloc: Global, drawn: &[Drawn], contents: &[Painted]) -> Option<Vec<u
 {
     let mut list = Vec::new(alloc);
     for layer in drawn {
-        list.push(source(&layer.content, contents)?).ok()?;
+        let Some(place) = source(&layer.content, contents) else {
+            return None;
+        };
+        match list.push(place) {
+            Ok(()) => {}
+            Err(_) => return None,
+        }
     }
     Some(list)
 }
 
 /// The bytes of a view's frame.
 pub fn whole(alloc: Global, view: &View, contents: &[Painted]) -> Option<Vec<u8>> {
-    let sources = sources(alloc, view.drawn.as_slice(), contents)?;
+    let Some(sources) = sources(alloc, view.drawn.as_slice(), contents) else {
+        return None;
+    };
     compose_frame(alloc, view, contents, &sources).ok()
 }
 
 /// The bytes of a frame of sevens after a part was composed into it.
 fn composed(alloc: Global, view: &View, contents: &[Painted], part: &Region) -> Option<Vec<u8>> {
-    let sources = sources(alloc, view.drawn.as_slice(), contents)?;
+    let Some(sources) = sources(alloc, view.drawn.as_slice(), contents) else {
+        return None;
+    };
     let size = 4 * (view.width as usize * view.height as usize);
     let mut frame = vec![in alloc; 7u8; size].ok()?;
     compose_one(alloc, view, contents, &sources, part, &mut frame).ok()?;
     Some(frame)
 }
 
+/// Whether so many pixels from one on lie where a region's may.
+fn is_near(from: i32, extent: u32) -> bool
+    ensures { IsTrue result → (neg_far ≤ℤ from) × ((from +ℤ pos extent) ≤ℤ far) }
+{
+    -33_554_432 <= from && i64::from(from) + i64::from(extent) <= 33_554_432
+}
+
 /// Whether a rectangle's edges lie where a region's may.
-fn is_near(rect: &Rect) -> bool
+fn is_in_bounds(rect: &Rect) -> bool
     ensures { IsTrue result → IsInBounds rect.now }
 {
-    let far = 33_554_432;
-    -far <= rect.x
-        && -far <= rect.y
-        && i64::from(rect.x) + i64::from(rect.width) <= i64::from(far)
-        && i64::from(rect.y) + i64::from(rect.height) <= i64::from(far)
+    is_near(rect.x, rect.width) && is_near(rect.y, rect.height)
 }
 
 /// The points of the rectangles that a line says.
@@ -126,7 +139,7 @@ fn region(alloc: Global, words: &mut SplitWhitespace<'_>) -> Option<Region> {
         let Some(rect) = rect(words) else {
             break;
         };
-        if !is_near(&rect) {
+        if !is_in_bounds(&rect) {
             return None;
         }
         all = all.union(&Region::rect(alloc, rect).ok()?).ok()?;
