@@ -27,11 +27,13 @@ invariant_of-self-in-Ok-1 c =
     let operations : c.deref-3.result.now ≡ map operation_of (plain c.args.edits) = c.deref-3.ensures.value ∙ (c.in_ok-operations.ensures.same ∙ ap (λ (es : List Operation). map operation_of (plain es)) (c.deref-2.ensures.value ∙ edits)) in
     let made : after c.self.inside.tree c.deref-3.result.now ≡ Ok c.apply.new.self = c.in-Ok.ensures.ok in
     let shown : c.show_all.new.shown.items ≡ leases_after c.reserve.new.self.items c.into_vec-edits.result.items = c.show_all.ensures.leases in
-    let kept : c.reserve.new.self.items ≡ c.self.inside.shown.items = c.reserve.ensures.items in
-    (stage-stands c.args.edits (record { layers = c.self.inside.tree.layers; shown = c.self.inside.shown.items }) c.apply.new.self.layers c.show_all.new.shown.items c.requires.ready
-    (done c.self.inside.tree c.apply.new.self _ _ c.self.invariant.1 operations made)
-    (shown ∙ (ap (λ (ss : List ShownLease). leases_after ss c.into_vec-edits.result.items) kept ∙ ap (leases_after c.self.inside.shown.items) edits))
-    c.self.invariant.0, (after-ok c.self.inside.tree c.apply.new.self _ made).1 ∙ c.self.invariant.1)
+    let kept : c.reserve.new.self.items ≡ c.self.inside.shown.items = c.reserve.ensures.items in (
+      stage-stands c.args.edits (record { layers = c.self.inside.tree.layers; shown = c.self.inside.shown.items }) c.apply.new.self.layers c.show_all.new.shown.items c.requires.ready
+          (done c.self.inside.tree c.apply.new.self _ _ c.self.invariant.1 operations made)
+          (shown ∙ (ap (λ (ss : List ShownLease). leases_after ss c.into_vec-edits.result.items) kept ∙ ap (leases_after c.self.inside.shown.items) edits))
+          c.self.invariant.0,
+      (after-ok c.self.inside.tree c.apply.new.self _ made).1 ∙ c.self.invariant.1,
+    )
 
 pub returns-in-Ok : goal.returns-in-Ok
 unfolding tried
