@@ -121,7 +121,7 @@ unfolding painted blended product
 painted-black under = rw (nothing-left under.r, nothing-left under.g, nothing-left under.b, nothing-left under.a) refl
 
 -- layers over a ground are an image
-pub Repaints-paints : (w h : ℕ) (p q : ℕ → ℕ → Bool) (f g : ℕ → ℕ → Rgba → Rgba) (image : ℕ → ℕ → Rgba) (old mid new : List ℕ) (v : ℕ) → v ≡ w → Paints v p f old mid → Paints w p g mid new → ((x y : ℕ) → x < w → y < h → q x y ≡ p x y) → ((x y : ℕ) (under : Rgba) → g x y (f x y under) ≡ image x y) → Repaints w h q image old new
+pub Repaints-paints : (w h : ℕ) (p q : ℕ → ℕ → Bool) (f g : ℕ → ℕ → Rgba → Rgba) (image : ℕ → ℕ → Rgba) (old mid new : List ℕ) (v : ℕ) → v ≡ w → Paints v p f old mid → Paints w p g mid new → ((x y : ℕ) → x < w → y < h → q x y ≡ p x y) → ((x y : ℕ) (under : Rgba) → p x y ≡ true → g x y (f x y under) ≡ image x y) → Repaints w h q image old new
 Repaints-paints w h p q f g image old mid new v e ground b tests paints = record {
   size = b.size ∙ ground.size;
   pixels = λ x y wide high. by_test x y wide high (p x y) refl;
@@ -131,7 +131,7 @@ Repaints-paints w h p q f g image old mid new v e ground b tests paints = record
     a = subst (λ (n : ℕ). Paints n p f old mid) e ground
 
     by_test : (x y : ℕ) → x < w → y < h → (s : Bool) → p x y ≡ s → pixel_in new (y * w + x) ≡ (if q x y then image x y else pixel_in old (y * w + x))
-    by_test x y wide high true s = rw (tests x y wide high, s) ((rw s at (b.pixels x y wide)) ∙ (ap (g x y) (rw s at (a.pixels x y wide)) ∙ paints x y (pixel_in old (y * w + x))))
+    by_test x y wide high true s = rw (tests x y wide high, s) ((rw s at (b.pixels x y wide)) ∙ (ap (g x y) (rw s at (a.pixels x y wide)) ∙ paints x y (pixel_in old (y * w + x)) s))
     by_test x y wide high false s = rw (tests x y wide high, s) ((rw s at (b.pixels x y wide)) ∙ (rw s at (a.pixels x y wide)))
 
 pub rows_apart : (left right top y a b : ℕ) → is_in_box left right top y a b ≡ true → is_in_box left right y (y + 1) a b ≡ false

@@ -4,20 +4,13 @@ ghost use Rattle.sf_compose.specs.Frames.{KeepsRest, Repaints, ShowsPart};
 ghost use Rattle.sf_compose.specs.Readings.{AreReadable, read_image};
 
 use crate::area::{Area, cut};
-use crate::layer::{paint_area, paint_layers};
+use crate::ground::paint_ground;
+use crate::layer::paint_layers;
 use crate::pixels::Pixels;
-use sf_base::{NoMemory, Rect, Rgba};
+use sf_base::{NoMemory, Rect};
 use sf_region::Region;
 use sf_view::View;
 use std::alloc::Global;
-
-// A display where nothing is drawn.
-const OPAQUE_BLACK: Rgba = Rgba {
-    r: 0,
-    g: 0,
-    b: 0,
-    a: 255,
-};
 
 /// Composes a view into a part of a frame: each point of the display that is in the part gets the
 /// colour that the drawn layers, read from the contents, paint there over opaque black, and no
@@ -29,8 +22,9 @@ const OPAQUE_BLACK: Rgba = Rgba {
 /// contents, at the place that stands for the layer in `sources`, and what it shows of the buffer
 /// lies in that picture. For a layer that shows a colour any number may stand there.
 ///
-/// Each drawn layer paints whole rows, those of its clip in each rectangle of the part. After want
-/// of memory the frame is as it was.
+/// Each drawn layer paints whole rows, those of its clip in each rectangle of the part; the ground is
+/// painted only where no solid layer has the whole rectangle. After want of memory the frame is as
+/// it was.
 pub fn compose_one<C: Pixels>(
     _alloc: Global,
     view: &View,
@@ -72,6 +66,6 @@ pub fn compose_rect<C: Pixels>(
         bottom: view.height,
     };
     let area = cut(display, rect);
-    paint_area(frame, view.width, area, OPAQUE_BLACK, 255);
+    paint_ground(frame, view.width, area, view.drawn.as_slice());
     paint_layers(view, contents, sources, area, frame);
 }

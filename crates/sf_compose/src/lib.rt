@@ -6,6 +6,7 @@
 mod area;
 mod compose;
 mod contents;
+mod ground;
 mod laws;
 mod layer;
 mod pixels;

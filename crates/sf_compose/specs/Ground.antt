@@ -1,0 +1,30 @@
+-- What hides the ground of an area: a drawn layer that leaves nothing of what lies below.
+use Rattle.std.specs.Prelude.{ℕ, ℤ, pos, ◌+ℤ◌, int_le, nat_eq, Bool, false, ◌&&◌, ◌||◌, if◌then◌else◌, List}
+use Rattle.std.specs.List.{list_any}
+use Rattle.sf_base.specs.declared.pixel.Rgba.{Rgba}
+use Rattle.sf_compose.specs.declared.area.Area.{Area}
+use Rattle.sf_view.specs.Image.{opaque_black}
+use Rattle.sf_view.specs.declared.content.Content.{Content}
+use Rattle.sf_view.specs.declared.content.Content.TheVariants as content
+use Rattle.sf_view.specs.declared.drawn.Drawn.{Drawn}
+
+-- a colour that lets no light through
+abbrev pub is_solid_colour : Content → Bool
+is_solid_colour (content.Colour colour) = nat_eq colour.a 255
+is_solid_colour (content.Buffer shown) = false
+
+-- a drawn layer of which each pixel hides what lies below
+abbrev pub is_solid : Drawn → Bool
+is_solid drawn = nat_eq drawn.alpha 255 && (drawn.opaque || is_solid_colour drawn.content)
+
+-- a span of so many coordinates from a start on has those from one on and before another
+abbrev pub spans : ℤ → ℕ → ℕ → ℕ → Bool
+spans start extent first end = int_le start (pos first) && int_le (pos end) (start +ℤ pos extent)
+
+-- a drawn layer hides the ground at each point of an area
+abbrev pub hides : Area → Drawn → Bool
+hides area drawn = is_solid drawn && (spans drawn.clip.x drawn.clip.width area.left area.right && spans drawn.clip.y drawn.clip.height area.top area.bottom)
+
+-- the ground of an area under drawn layers: where one of them hides it, what was there may stay
+unfoldable pub ground_under : Area → List Drawn → Rgba → Rgba
+ground_under area layers under = if list_any (hides area) layers then under else opaque_black
