@@ -8,7 +8,17 @@ use Rattle.sf_calls.specs.Views.{PassView}
 module _ {C R M : Type 0} where
   -- the first pass, as `open` gives it
   abbrev pub first_pass : TableId → ℕ → M → List (Entry C R) → PassView C R M
-  first_pass table by mark history = record { table = table; is_first = true; by = by; mark = Some mark; start = history; gave = []; took = []; seen = history; turns = 0 }
+  first_pass table by mark history = record {
+    table = table;
+    is_first = true;
+    by = by;
+    mark = Some mark;
+    start = history;
+    gave = [];
+    took = [];
+    seen = history;
+    turns = 0;
+  }
 
   -- the first pass, after it gave one to the caller
   abbrev pub giving : ℕ → PassView C R M → PassView C R M

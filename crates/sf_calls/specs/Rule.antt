@@ -34,7 +34,9 @@ module _ {O C R M : Type 0} (history : O → List (Entry C R)) (mark : O → M) 
     pub idle : v.inside ≡ false → Begins v.found v.seen × (v.live ≡ 1 → calls_by v.by v.seen ≡ calls_by v.by v.found)
     pub one : v.live ≤ 1
     pub start : v.is_first ≡ true → v.start ≡ history key
-    pub first : v.is_first ≡ true → (j ≡ 0) × (v.live ≡ 1) × (cast ≡ v.by ∷ v.gave) × ((p : ℕ × List (Entry C R)) → Contains v.took p → Contains cast p.0 × (calls_by p.0 log ≡ calls_by p.0 p.1) × Begins p.1 v.seen) × Begins (history key) v.seen
+    pub first : v.is_first ≡ true → (j ≡ 0) × (v.live ≡ 1) × (cast ≡ v.by ∷ v.gave)
+        × ((p : ℕ × List (Entry C R)) → Contains v.took p → Contains cast p.0
+        × (calls_by p.0 log ≡ calls_by p.0 p.1) × Begins p.1 v.seen) × Begins (history key) v.seen
 
   -- The rule: the history is legal and goes on from that at `open`; the object is home with this
   -- history, or one pass has it; no two passes hold one ticket or one number; a number that was taken
@@ -55,17 +57,47 @@ module _ {O C R M : Type 0} (history : O → List (Entry C R)) (mark : O → M) 
         ⊎ ((get_elem? s.homes 0 ≡ some none) × ((j : ℕ) × (v : Knows C R M) × (get_elem? s.views j ≡ some v) × (v.inside ≡ true) × (v.live ≡ 1)))
     pub single : (k : ℕ) → sum_by (λ (v : Knows C R M). ticket_at k v.ticket) s.views ≤ 1
     pub apart : (b : ℕ) → sum_by (λ (v : Knows C R M). number_at b v.live v.by) s.views ≤ 1
-    pub gone : (j : ℕ) (v : Knows C R M) (p : ℕ × List (Entry C R)) → get_elem? s.views j ≡ some v → v.is_first ≡ true → Contains v.took p → sum_by (λ (v : Knows C R M). number_at p.0 v.live v.by) s.views ≡ 0
-    pub each : (j : ℕ) (v : Knows C R M) → get_elem? s.views j ≡ some v → Fits (slice_index s.words 1) (slice_index s.words 0) (get_elem? s.homes 0) log cast j v
+    pub gone : (j : ℕ) (v : Knows C R M) (p : ℕ × List (Entry C R)) → get_elem? s.views j ≡ some v
+        → v.is_first ≡ true → Contains v.took p → sum_by (λ (v : Knows C R M). number_at p.0 v.live v.by) s.views ≡ 0
+    pub each : (j : ℕ) (v : Knows C R M) → get_elem? s.views j ≡ some v
+        → Fits (slice_index s.words 1) (slice_index s.words 0) (get_elem? s.homes 0) log cast j v
 
 module _ {C R M : Type 0} where
   -- the first pass, as it is opened
   abbrev pub opened : ℕ → M → List (Entry C R) → Knows C R M
-  opened by m log = record { is_first = true; live = 1; by = by; mark = Some m; start = log; gave = []; took = []; seen = log; turns = 0; ticket = None; inside = false; found = log; asked = 0 }
+  opened by m log = record {
+    is_first = true;
+    live = 1;
+    by = by;
+    mark = Some m;
+    start = log;
+    gave = [];
+    took = [];
+    seen = log;
+    turns = 0;
+    ticket = None;
+    inside = false;
+    found = log;
+    asked = 0;
+  }
 
   -- what is left of a pass that was taken in
   abbrev pub spent : Knows C R M
-  spent = record { is_first = false; live = 0; by = 0; mark = None; start = []; gave = []; took = []; seen = []; turns = 0; ticket = None; inside = false; found = []; asked = 0 }
+  spent = record {
+    is_first = false;
+    live = 0;
+    by = 0;
+    mark = None;
+    start = [];
+    gave = [];
+    took = [];
+    seen = [];
+    turns = 0;
+    ticket = None;
+    inside = false;
+    found = [];
+    asked = 0;
+  }
 
   -- the first pass, after it gave one to the caller that its last step named
   abbrev pub giving : Knows C R M → Knows C R M
@@ -73,7 +105,21 @@ module _ {C R M : Type 0} where
 
   -- the pass that was given, which knows what the first one knows
   abbrev pub given : Knows C R M → Knows C R M
-  given v = record { is_first = false; live = 1; by = v.asked; mark = v.mark; start = v.start; gave = []; took = []; seen = v.seen; turns = 0; ticket = None; inside = false; found = v.seen; asked = 0 }
+  given v = record {
+    is_first = false;
+    live = 1;
+    by = v.asked;
+    mark = v.mark;
+    start = v.start;
+    gave = [];
+    took = [];
+    seen = v.seen;
+    turns = 0;
+    ticket = None;
+    inside = false;
+    found = v.seen;
+    asked = 0;
+  }
 
   -- the first pass, after it took another in: it knows the longer of both histories
   abbrev pub met : Knows C R M → Knows C R M → Knows C R M
@@ -89,14 +135,33 @@ module _ {C R M : Type 0} where
     Asks st m n m' = m' ≡ (record m.0 { asked = st.first }, m.1)
 
     -- the pass whose ticket is served has the object, and finds the history
-    abbrev pub Finds : (O → List (Entry C R)) → (O → M) → (M → List (Entry C R) → ℕ → C → Answer R → Type 0) → Step (Option O) → Me (Option O) (Knows C R M) → ℕ → Me (Option O) (Knows C R M) → Type 0
+    abbrev pub Finds : (O → List (Entry C R)) → (O → M) → (M → List (Entry C R) → ℕ → C → Answer R → Type 0)
+        → Step (Option O) → Me (Option O) (Knows C R M) → ℕ → Me (Option O) (Knows C R M) → Type 0
     Finds history mark answers st m n m' =
-        (m.0.ticket ≡ Some n → (o : O) × (m' ≡ (record m.0 { inside = true; found = history o }, (0, Some o) ∷ m.1)) × IsLegal (answers (mark o)) (history o) × Begins m.0.seen (history o) × (calls_by m.0.by (history o) ≡ calls_by m.0.by m.0.seen) × (m.0.mark ≡ Some (mark o)))
+        (m.0.ticket ≡ Some n → (o : O) × (m' ≡ (
+          record m.0 {
+            inside = true;
+            found = history o;
+          },
+          (0, Some o) ∷ m.1,
+        )) × IsLegal (answers (mark o)) (history o)
+        × Begins m.0.seen (history o) × (calls_by m.0.by (history o) ≡ calls_by m.0.by m.0.seen)
+        × (m.0.mark ≡ Some (mark o)))
         × (m.0.ticket ≢ Some n → m' ≡ m)
 
     -- the object is home, and the next ticket is served
     abbrev pub PassesOn : (O → List (Entry C R)) → Step (Option O) → Me (Option O) (Knows C R M) → ℕ → Me (Option O) (Knows C R M) → Type 0
-    PassesOn history st m n m' = (o : O) → m.1 ≡ (0, Some o) ∷ [] → m' ≡ (record m.0 { seen = history o; turns = m.0.turns + 1; ticket = None; inside = false; found = history o }, [])
+    PassesOn history st m n m' = (o : O) → m.1 ≡ (0, Some o) ∷ []
+        → m' ≡ (
+          record m.0 {
+            seen = history o;
+            turns = m.0.turns + 1;
+            ticket = None;
+            inside = false;
+            found = history o;
+          },
+          [],
+        )
 
     -- the object is home unchanged, and the next ticket is served; the pass had no turn
     abbrev pub GivesUp : Step (Option O) → Me (Option O) (Knows C R M) → ℕ → Me (Option O) (Knows C R M) → Type 0

@@ -21,4 +21,14 @@ pub record PassView (C R M : Type 0) : Type 0 where
 
 -- the view of a pass that is in no call
 abbrev pub pass_view : {C R M : Type 0} → TableId → Knows C R M → PassView C R M
-pass_view table v = record { table = table; is_first = v.is_first; by = v.by; mark = v.mark; start = v.start; gave = v.gave; took = v.took; seen = v.seen; turns = v.turns }
+pass_view table v = record {
+  table = table;
+  is_first = v.is_first;
+  by = v.by;
+  mark = v.mark;
+  start = v.start;
+  gave = v.gave;
+  took = v.took;
+  seen = v.seen;
+  turns = v.turns;
+}

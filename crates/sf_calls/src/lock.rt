@@ -73,7 +73,8 @@ impl<O: Object> CallLock<O> {
         // The history began as each pass that was taken in knew it, and has no further calls of that
         // pass; and since `open` it has none of a caller that is neither the first nor one that it
         // gave a pass to.
-        ensures taken { IfOk result (λ object. (p : ℕ × List (Entry O.PlainCall O.PlainReply)) → Contains last.took p → GoesOnWithout p.0 p.1 (O.history object)) }
+        ensures taken { IfOk result (λ object. (p : ℕ × List (Entry O.PlainCall O.PlainReply))
+            → Contains last.took p → GoesOnWithout p.0 p.1 (O.history object)) }
         ensures since { IfOk result (λ object. Begins last.start (O.history object)) }
         ensures callers { IfOk result (λ object. (b : ℕ) → (Contains (last.by ∷ last.gave) b → ⊥) → calls_by b (O.history object) ≡ calls_by b last.start) }
     {

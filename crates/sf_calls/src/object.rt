@@ -73,7 +73,11 @@ pub trait Object: Sized {
     fn apply(&mut self, by: u32, call: Self::Call) -> Outcome<Self::Call, Self::Reply>
         requires { call_fits (mark self.old) call }
         ensures mark { mark self.new ≡ mark self.old }
-        ensures done { IfDone result (λ r. (history self.new ≡ entry by (plain_call call) (plain_reply r) ∷ history self.old) × answers (mark self.old) (history self.old) by (plain_call call) (replies (plain_reply r)) × reply_fits (mark self.old) r) }
-        ensures not_yet { IfNotYet result (λ back. (self.new ≡ self.old) × (back ≡ call) × answers (mark self.old) (history self.old) by (plain_call call) waits) }
+        ensures done { IfDone result (λ r.
+            (history self.new ≡ entry by (plain_call call) (plain_reply r) ∷ history self.old)
+            × answers (mark self.old) (history self.old) by (plain_call call) (replies (plain_reply r))
+            × reply_fits (mark self.old) r) }
+        ensures not_yet { IfNotYet result (λ back. (self.new ≡ self.old) × (back ≡ call)
+            × answers (mark self.old) (history self.old) by (plain_call call) waits) }
         ensures no_memory { IfNoMemory result (λ back. (self.new ≡ self.old) × (back ≡ call)) };
 }

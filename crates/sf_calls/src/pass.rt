@@ -27,7 +27,8 @@ impl<O: Object> Model for Pass<O> {
 
     ghost view = { λ p. pass_view p.seat.table_id p.seat.me.0 };
 
-    ghost invariant = { λ p. (p.seat.me.0.live ≡ 1) × (p.seat.me.0.by ≡ p.by) × (p.seat.me.0.ticket ≡ None) × (p.seat.me.0.inside ≡ false) × (p.seat.me.1 ≡ []) };
+    ghost invariant = { λ p. (p.seat.me.0.live ≡ 1) × (p.seat.me.0.by ≡ p.by) × (p.seat.me.0.ticket ≡ None)
+        × (p.seat.me.0.inside ≡ false) × (p.seat.me.1 ≡ []) };
 }
 
 impl<O: Object> Pass<O> {
@@ -76,8 +77,10 @@ impl<O: Object> Pass<O> {
         requires own { self.old.table ≡ lock.now }
         requires fits { Fits O.call_fits self.old call }
         ensures same { self.new ≡ record self.old { seen = self.new.seen; turns = self.new.turns } }
-        ensures done { IfOk result (λ reply. (m : O.Mark) → HasMark self.old m → Made O.answers m self.old (O.plain_call call) (O.plain_reply reply) self.new × O.reply_fits m reply) }
-        ensures not_yet { IfFaultNotYet result (λ back. (back ≡ call) × ((m : O.Mark) → HasMark self.old m → Waited O.answers m self.old (O.plain_call call) self.new)) }
+        ensures done { IfOk result (λ reply. (m : O.Mark) → HasMark self.old m
+            → Made O.answers m self.old (O.plain_call call) (O.plain_reply reply) self.new × O.reply_fits m reply) }
+        ensures not_yet { IfFaultNotYet result (λ back. (back ≡ call)
+            × ((m : O.Mark) → HasMark self.old m → Waited O.answers m self.old (O.plain_call call) self.new)) }
         ensures no_memory { IfFaultNoMemory result (λ back. (back ≡ call) × (self.new ≡ self.old)) }
     {
         let ticket = lock.draw(rt, &mut self.seat);

@@ -68,8 +68,20 @@ impl<O: Object> CallLock<O> {
         requires held { (seat.old.me.1 ≡ (0, None) ∷ []) × (seat.old.me.0.inside ≡ true) × (seat.old.me.0.live ≡ 1) }
         requires marked { seat.old.me.0.mark ≡ Some (O.mark object) }
         requires legal { IsLegal (O.answers (O.mark object)) (O.history object) }
-        requires grown { (new : List (Entry O.PlainCall O.PlainReply)) × (O.history object ≡ new ++ seat.old.me.0.found) × ((b : ℕ) → b ≢ seat.old.me.0.by → calls_by b new ≡ []) }
-        ensures { (seat.new.table_id ≡ seat.old.table_id) × (seat.new.me ≡ (record seat.old.me.0 { seen = O.history object; turns = seat.old.me.0.turns + 1; ticket = None; inside = false; found = O.history object }, [])) }
+        requires grown { (new : List (Entry O.PlainCall O.PlainReply))
+            × (O.history object ≡ new ++ seat.old.me.0.found)
+            × ((b : ℕ) → b ≢ seat.old.me.0.by → calls_by b new ≡ []) }
+        ensures { (seat.new.table_id ≡ seat.old.table_id)
+            × (seat.new.me ≡ (
+              record seat.old.me.0 {
+                seen = O.history object;
+                turns = seat.old.me.0.turns + 1;
+                ticket = None;
+                inside = false;
+                found = O.history object;
+              },
+              [],
+            )) }
     {
         no_object(self.table.shared.exchange(seat, 0, Some(object)));
         let served = self.table.shared.fetch_add::<PassOn>(seat, 1, 1);
@@ -83,7 +95,15 @@ impl<O: Object> CallLock<O> {
         requires marked { seat.old.me.0.mark ≡ Some (O.mark object) }
         requires legal { IsLegal (O.answers (O.mark object)) (O.history object) }
         requires unchanged { O.history object ≡ seat.old.me.0.found }
-        ensures { (seat.new.table_id ≡ seat.old.table_id) × (seat.new.me ≡ (record seat.old.me.0 { ticket = None; inside = false; found = seat.old.me.0.seen }, [])) }
+        ensures { (seat.new.table_id ≡ seat.old.table_id)
+            × (seat.new.me ≡ (
+              record seat.old.me.0 {
+                ticket = None;
+                inside = false;
+                found = seat.old.me.0.seen;
+              },
+              [],
+            )) }
     {
         no_object(self.table.shared.exchange(seat, 0, Some(object)));
         let served = self.table.shared.fetch_add::<GiveUp>(seat, 1, 1);
@@ -115,7 +135,8 @@ impl<O: Object> CallLock<O> {
         requires first { (seat.old.me.0.is_first ≡ true) × (seat.old.me.0.inside ≡ false) }
         requires other { (other.me.0.live ≡ 1) × (other.me.0.inside ≡ false) × (other.me.1 ≡ []) }
         ensures same { (seat.new.table_id ≡ seat.old.table_id) × (seat.new.me ≡ (met seat.old.me.0 other.me.0, seat.old.me.1)) }
-        ensures own_calls { Begins seat.old.me.0.seen seat.new.me.0.seen × (calls_by seat.old.me.0.by seat.new.me.0.seen ≡ calls_by seat.old.me.0.by seat.old.me.0.seen) }
+        ensures own_calls { Begins seat.old.me.0.seen seat.new.me.0.seen
+            × (calls_by seat.old.me.0.by seat.new.me.0.seen ≡ calls_by seat.old.me.0.by seat.old.me.0.seen) }
         ensures their_calls { Begins other.me.0.seen seat.new.me.0.seen × (calls_by other.me.0.by seat.new.me.0.seen ≡ calls_by other.me.0.by other.me.0.seen) }
     {
         self.table.shared.join_seat::<TakeIn>(seat, other);

@@ -57,8 +57,10 @@ module _ {P T : Type 0} (stamp_of : P → T) where
   -- more than `out` of the first seat's are in use besides the first (`total` counts all)
   pub record Fits (buffers : ℕ) (words : List ℕ) (homes : List (mathlib.Core.Option.Option (Home P T))) (chains : List (List T)) (total : ℕ) (j : ℕ) (v : Knows T) : Type 0 where
     pub seen : (b : ℕ) → b < buffers → greatest b v.seen ≤ slice_index words b
-    pub token : (t : Token T) → v.token ≡ Some t → (t.buffer < buffers) × TokenFits (slice_index words t.buffer) (get_elem? homes t.buffer) (slice_index_or chains t.buffer []) t
-    pub stock : (b : ℕ) → 0 < stock_at b v.stock → (b < buffers) × StockFits (slice_index words b) (get_elem? homes b) (slice_index_or chains b []) b v.opens v.stock
+    pub token : (t : Token T) → v.token ≡ Some t → (t.buffer < buffers)
+        × TokenFits (slice_index words t.buffer) (get_elem? homes t.buffer) (slice_index_or chains t.buffer []) t
+    pub stock : (b : ℕ) → 0 < stock_at b v.stock → (b < buffers)
+        × StockFits (slice_index words b) (get_elem? homes b) (slice_index_or chains b []) b v.opens v.stock
     pub one : v.live ≤ 1
     pub apart : v.live ≡ 0 → v.leaves ≡ []
     pub first : v.is_first ≡ true → (j ≡ 0) × (v.live ≡ 1) × (total ≤ 1 + v.out)
@@ -73,7 +75,8 @@ module _ {P T : Type 0} (stamp_of : P → T) where
     pub ahead : (b : ℕ) → b < buffers → 0 < length (slice_index_or chains b []) → slice_index s.words b < length (slice_index_or chains b [])
     pub short : (b : ℕ) → b < buffers → length (slice_index_or chains b []) ≤ 2 ^ 64
     pub single : (b k : ℕ) → b < buffers → sum_by (λ (v : Knows T). token_at b k v.token) s.views ≤ 1
-    pub there : (b k : ℕ) → b < buffers → slice_index s.words b ≤ k → k < length (slice_index_or chains b []) → 1 ≤ sum_by (λ (v : Knows T). token_at b k v.token) s.views
+    pub there : (b k : ℕ) → b < buffers → slice_index s.words b ≤ k → k < length (slice_index_or chains b [])
+        → 1 ≤ sum_by (λ (v : Knows T). token_at b k v.token) s.views
     -- the leaves of all seats are the turns below the word, each once
     pub counted : (b : ℕ) → b < buffers → sum_by (λ (v : Knows T). leaves_of b v.leaves) s.views ≡ slice_index s.words b
     pub left : (b k : ℕ) → b < buffers → k < slice_index s.words b → sum_by (λ (v : Knows T). leaf_at b k v.leaves) s.views ≡ 1
@@ -134,7 +137,18 @@ module _ {T : Type 0} where
 
   -- the token of the next turn
   abbrev pub heir : Knows T → Knows T
-  heir v = record { is_first = false; live = 0; out = 0; leaves = []; seen = v.seen; stock = []; opens = false; token = heir_of v.token v.said; asked = 0; said = None }
+  heir v = record {
+    is_first = false;
+    live = 0;
+    out = 0;
+    leaves = [];
+    seen = v.seen;
+    stock = [];
+    opens = false;
+    token = heir_of v.token v.said;
+    asked = 0;
+    said = None;
+  }
 
   -- the first seat, after its stock was split off
   abbrev pub endowing : Knows T → Knows T
@@ -150,7 +164,18 @@ module _ {T : Type 0} where
 
   -- the stock of these
   abbrev pub cut_off : Knows T → Knows T
-  cut_off v = record { is_first = false; live = 0; out = 0; leaves = []; seen = []; stock = take v.asked v.stock; opens = false; token = None; asked = 0; said = None }
+  cut_off v = record {
+    is_first = false;
+    live = 0;
+    out = 0;
+    leaves = [];
+    seen = [];
+    stock = take v.asked v.stock;
+    opens = false;
+    token = None;
+    asked = 0;
+    said = None;
+  }
 
   -- the first seat, after another was split off
   abbrev pub lending : Knows T → Knows T
@@ -214,7 +239,20 @@ module _ {T : Type 0} where
     -- the pixels of a new buffer come home, and it has its turn 0
     abbrev pub Begins : (P → T) → Step (Home P T) → Me (Home P T) (Knows T) → ℕ → Me (Home P T) (Knows T) → Type 0
     Begins stamp_of st m n m' = (p : P) → m.1 ≡ (st.word, Full p) ∷ []
-        → m' ≡ (record m.0 { stock = []; opens = false; token = Some record { buffer = st.word; number = 0; stage = Away; expects = stamp_of p; promise = None } }, [])
+        → m' ≡ (
+          record m.0 {
+            stock = [];
+            opens = false;
+            token = Some record {
+              buffer = st.word;
+              number = 0;
+              stage = Away;
+              expects = stamp_of p;
+              promise = None;
+            };
+          },
+          [],
+        )
 
     -- the token's turn leaves
     abbrev pub Leaves : Step (Home P T) → Me (Home P T) (Knows T) → ℕ → Me (Home P T) (Knows T) → Type 0

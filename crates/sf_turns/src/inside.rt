@@ -34,7 +34,15 @@ impl<P: Stamped> Model for Inside<P> {
 
     ghost view = { λ s. record { table = s.seat.table_id; buffer = s.buffer; number = s.number; expects = s.expects; loads = s.loads; shown = s.shown } };
 
-    ghost invariant = { λ s. (arc_value s.table ≡ s.seat.table_id) × IsAside s.seat.me × (s.seat.me.0.token ≡ Some record { buffer = s.buffer; number = s.number; stage = stage.Inside; expects = s.expects; promise = None }) × (s.seat.me.0.opens ≡ false) × (s.seat.me.0.stock ≡ []) × (s.seat.me.1 ≡ (s.buffer, Vacant) ∷ []) × (s.buffer < s.seat.table_id.slots) };
+    ghost invariant = { λ s. (arc_value s.table ≡ s.seat.table_id) × IsAside s.seat.me
+        × (s.seat.me.0.token ≡ Some record {
+          buffer = s.buffer;
+          number = s.number;
+          stage = stage.Inside;
+          expects = s.expects;
+          promise = None;
+        }) × (s.seat.me.0.opens ≡ false) × (s.seat.me.0.stock ≡ [])
+        × (s.seat.me.1 ≡ (s.buffer, Vacant) ∷ []) × (s.buffer < s.seat.table_id.slots) };
 }
 
 impl<P: Stamped> Inside<P> {

@@ -31,7 +31,15 @@ impl<P: Stamped> Model for Owed<P> {
 
     ghost view = { λ s. record { table = s.seat.table_id; buffer = s.buffer; number = s.number; expects = s.expects; promises = s.promises } };
 
-    ghost invariant = { λ s. (arc_value s.table ≡ s.seat.table_id) × IsAside s.seat.me × (s.seat.me.0.token ≡ Some record { buffer = s.buffer; number = s.number; stage = stage.Away; expects = s.expects; promise = Some s.promises }) × (s.seat.me.0.opens ≡ false) × (s.seat.me.0.stock ≡ []) × (s.seat.me.1 ≡ []) × (s.buffer < s.seat.table_id.slots) };
+    ghost invariant = { λ s. (arc_value s.table ≡ s.seat.table_id) × IsAside s.seat.me
+        × (s.seat.me.0.token ≡ Some record {
+          buffer = s.buffer;
+          number = s.number;
+          stage = stage.Away;
+          expects = s.expects;
+          promise = Some s.promises;
+        }) × (s.seat.me.0.opens ≡ false)
+        × (s.seat.me.0.stock ≡ []) × (s.seat.me.1 ≡ []) × (s.buffer < s.seat.table_id.slots) };
 }
 
 impl<P: Stamped> Owed<P> {

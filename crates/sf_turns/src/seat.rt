@@ -27,9 +27,18 @@ impl<P: Stamped> Model for TurnSeat<P> {
 
     ghost Value = { SeatView };
 
-    ghost view = { λ s. record { table = s.seat.table_id; is_first = s.seat.me.0.is_first; out = s.seat.me.0.out; leaves = s.seat.me.0.leaves; seen = s.seat.me.0.seen } };
+    ghost view = { λ s. record {
+      table = s.seat.table_id;
+      is_first = s.seat.me.0.is_first;
+      out = s.seat.me.0.out;
+      leaves = s.seat.me.0.leaves;
+      seen = s.seat.me.0.seen;
+    } };
 
-    ghost invariant = { λ s. (arc_value s.table ≡ s.seat.table_id) × (s.seat.me.0.live ≡ 1) × (s.seat.me.0.token ≡ None) × (s.seat.me.0.stock ≡ []) × (s.seat.me.0.opens ≡ false) × (s.seat.me.1 ≡ []) × (IsAlone s.seat.me.0 → IsExact s.seat.table_id.slots s.seat.me.0.leaves s.seat.me.0.seen) };
+    ghost invariant = { λ s. (arc_value s.table ≡ s.seat.table_id) × (s.seat.me.0.live ≡ 1)
+        × (s.seat.me.0.token ≡ None) × (s.seat.me.0.stock ≡ []) × (s.seat.me.0.opens ≡ false)
+        × (s.seat.me.1 ≡ []) × (IsAlone s.seat.me.0
+        → IsExact s.seat.table_id.slots s.seat.me.0.leaves s.seat.me.0.seen) };
 }
 
 impl<P: Stamped> TurnSeat<P> {
@@ -37,7 +46,8 @@ impl<P: Stamped> TurnSeat<P> {
     /// first seat, and then has one more seat out. Want of memory changes nothing.
     pub fn split(&mut self) -> Result<TurnSeat<P>, NoMemory>
         requires { self.old.is_first ≡ true }
-        ensures ok { IfOk result (λ s. (self.new ≡ record self.old { out = self.old.out + 1 }) × (s ≡ record self.old { is_first = false; out = 0; leaves = [] })) }
+        ensures ok { IfOk result (λ s. (self.new ≡ record self.old { out = self.old.out + 1 })
+            × (s ≡ record self.old { is_first = false; out = 0; leaves = [] })) }
         ensures err { OnErr result (self.new ≡ self.old) }
     {
         let Ok(table) = Arc::try_clone(&self.table) else {
@@ -90,7 +100,8 @@ impl<P: Stamped> TurnSeat<P> {
         requires own { turn.table_id ≡ self.old.table }
         requires range { buffer < self.old.table.slots }
         requires aside { IsAside turn.me × (turn.me.0.stock ≡ []) × (turn.me.1 ≡ []) }
-        requires token { (t : Token P.Stamp) × (x : P.Stamp) × (turn.me.0.token ≡ Some t) × (t.stage ≡ stage.Done) × (t.buffer ≡ buffer) × (t.promise ≡ Some x) }
+        requires token { (t : Token P.Stamp) × (x : P.Stamp) × (turn.me.0.token ≡ Some t)
+            × (t.stage ≡ stage.Done) × (t.buffer ≡ buffer) × (t.promise ≡ Some x) }
         ensures left { (t : Token P.Stamp) → turn.me.0.token ≡ Some t → Leaves self.old buffer t.number self.new }
         ensures exact { IsExactAlone self.new }
     {

@@ -28,7 +28,9 @@ impl<P: Stamped> Model for Stock<P> {
 
     ghost view = { λ s. record { table = s.seat.table_id; buffers = range s.from s.count } };
 
-    ghost invariant = { λ s. (arc_value s.table ≡ s.seat.table_id) × IsAside s.seat.me × (s.seat.me.0.token ≡ None) × (s.seat.me.0.opens ≡ false) × (s.seat.me.0.stock ≡ range s.from s.count) × (s.seat.me.1 ≡ []) × (s.from + s.count ≤ s.seat.table_id.slots) × (s.from + s.count < 2 ^ 32) };
+    ghost invariant = { λ s. (arc_value s.table ≡ s.seat.table_id) × IsAside s.seat.me
+        × (s.seat.me.0.token ≡ None) × (s.seat.me.0.opens ≡ false) × (s.seat.me.0.stock ≡ range s.from s.count)
+        × (s.seat.me.1 ≡ []) × (s.from + s.count ≤ s.seat.table_id.slots) × (s.from + s.count < 2 ^ 32) };
 }
 
 /// The right to open one buffer.
@@ -49,7 +51,9 @@ impl<P: Stamped> Model for Permit<P> {
 
     ghost view = { λ s. record { table = s.seat.table_id; buffer = s.buffer } };
 
-    ghost invariant = { λ s. (arc_value s.table ≡ s.seat.table_id) × IsAside s.seat.me × (s.seat.me.0.token ≡ None) × (s.seat.me.0.opens ≡ false) × (s.seat.me.0.stock ≡ s.buffer ∷ []) × (s.seat.me.1 ≡ []) × (s.buffer < s.seat.table_id.slots) };
+    ghost invariant = { λ s. (arc_value s.table ≡ s.seat.table_id) × IsAside s.seat.me
+        × (s.seat.me.0.token ≡ None) × (s.seat.me.0.opens ≡ false) × (s.seat.me.0.stock ≡ s.buffer ∷ [])
+        × (s.seat.me.1 ≡ []) × (s.buffer < s.seat.table_id.slots) };
 }
 
 impl<P: Stamped> Stock<P> {
@@ -57,7 +61,8 @@ impl<P: Stamped> Stock<P> {
     /// has left. Want of memory changes nothing.
     pub fn cut(&mut self, n: u32) -> Result<Stock<P>, NoMemory>
         requires { n ≤ length self.old.buffers }
-        ensures ok { IfOk result (λ s. (s ≡ record self.old { buffers = take n self.old.buffers }) × (self.new ≡ record self.old { buffers = drop n self.old.buffers })) }
+        ensures ok { IfOk result (λ s. (s ≡ record self.old { buffers = take n self.old.buffers })
+            × (self.new ≡ record self.old { buffers = drop n self.old.buffers })) }
         ensures err { OnErr result (self.new ≡ self.old) }
     {
         let Ok(table) = Arc::try_clone(&self.table) else {

@@ -107,11 +107,18 @@ impl<P: Stamped> TurnTable<P> {
     pub(crate) fn enter(&self, seat: &mut TableSeat<P>, told: TableSeat<P>, buffer: u32) -> P
         requires own { (seat.old.table_id ≡ self.now) × (told.table_id ≡ self.now) }
         requires note { IsAside told.me × (told.me.0.stock ≡ []) × (told.me.0.token ≡ None) × (told.me.1 ≡ []) }
-        requires token { (t : Token P.Stamp) × (seat.old.me.0.token ≡ Some t) × (t.stage ≡ stage.Away) × (t.buffer ≡ buffer) × (t.number ≤ greatest buffer told.me.0.seen) }
+        requires token { (t : Token P.Stamp) × (seat.old.me.0.token ≡ Some t) × (t.stage ≡ stage.Away)
+            × (t.buffer ≡ buffer) × (t.number ≤ greatest buffer told.me.0.seen) }
         requires empty { seat.old.me.1 ≡ [] }
         requires range { buffer < self.now.slots }
         ensures same { Stays seat.old seat.new }
-        ensures entered { seat.new.me ≡ (record seat.old.me.0 { seen = seat.old.me.0.seen ++ told.me.0.seen; token = at_stage stage.Inside seat.old.me.0.token }, (buffer, Vacant) ∷ []) }
+        ensures entered { seat.new.me ≡ (
+          record seat.old.me.0 {
+            seen = seat.old.me.0.seen ++ told.me.0.seen;
+            token = at_stage stage.Inside seat.old.me.0.token;
+          },
+          (buffer, Vacant) ∷ [],
+        ) }
         ensures found { (t : Token P.Stamp) → seat.old.me.0.token ≡ Some t → P.stamp_of result ≡ t.expects }
     {
         self.table.shared.join_seat::<Tell>(seat, told);
@@ -145,7 +152,20 @@ impl<P: Stamped> TurnTable<P> {
         requires stock { (seat.old.me.0.stock ≡ buffer ∷ []) × (seat.old.me.0.opens ≡ false) × (seat.old.me.0.token ≡ None) }
         requires empty { seat.old.me.1 ≡ [] }
         ensures same { Stays seat.old seat.new }
-        ensures begun { seat.new.me ≡ (record seat.old.me.0 { stock = []; opens = false; token = Some record { buffer = buffer; number = 0; stage = stage.Away; expects = P.stamp_of p; promise = None } }, []) }
+        ensures begun { seat.new.me ≡ (
+          record seat.old.me.0 {
+            stock = [];
+            opens = false;
+            token = Some record {
+              buffer = buffer;
+              number = 0;
+              stage = stage.Away;
+              expects = P.stamp_of p;
+              promise = None;
+            };
+          },
+          [],
+        ) }
     {
         self.table.shared.load::<Clear>(seat, buffer as usize);
         self.table
@@ -189,7 +209,8 @@ impl<P: Stamped> TurnTable<P> {
     pub(crate) fn finish(&self, seat: &mut TableSeat<P>, buffer: u32, p: P)
         requires own { seat.old.table_id ≡ self.now }
         requires range { buffer < self.now.slots }
-        requires token { (t : Token P.Stamp) × (seat.old.me.0.token ≡ Some t) × (t.stage ≡ stage.Inside) × (t.buffer ≡ buffer) × (t.promise ≡ Some (P.stamp_of p)) }
+        requires token { (t : Token P.Stamp) × (seat.old.me.0.token ≡ Some t) × (t.stage ≡ stage.Inside)
+            × (t.buffer ≡ buffer) × (t.promise ≡ Some (P.stamp_of p)) }
         requires held { seat.old.me.1 ≡ (buffer, Vacant) ∷ [] }
         ensures same { Stays seat.old seat.new }
         ensures done { seat.new.me ≡ (record seat.old.me.0 { token = at_stage stage.Done seat.old.me.0.token }, []) }
@@ -206,7 +227,8 @@ impl<P: Stamped> TurnTable<P> {
         requires range { buffer < self.now.slots }
         requires reader { (seat.old.me.0.live ≡ 1) × (seat.old.me.0.token ≡ None) }
         requires aside { IsAside turn.me × (turn.me.0.stock ≡ []) × (turn.me.1 ≡ []) }
-        requires token { (t : Token P.Stamp) × (x : P.Stamp) × (turn.me.0.token ≡ Some t) × (t.stage ≡ stage.Done) × (t.buffer ≡ buffer) × (t.promise ≡ Some x) }
+        requires token { (t : Token P.Stamp) × (x : P.Stamp) × (turn.me.0.token ≡ Some t)
+            × (t.stage ≡ stage.Done) × (t.buffer ≡ buffer) × (t.promise ≡ Some x) }
         ensures same { Stays seat.old seat.new }
         ensures left { seat.new.me ≡ (departed_with (handed seat.old.me.0 turn.me.0) turn.me.0.token, seat.old.me.1) }
         ensures exact { IsAlone seat.old.me.0 → IsExact self.now.slots seat.new.me.0.leaves seat.new.me.0.seen }
