@@ -1,5 +1,5 @@
 -- What a call tells its caller, from the steps of the call.
-use Rattle.std.proofs.Common.{◌≡◌, ℕ, true, false, ◌+◌, ◌≢◌, List, [], ◌∷◌, ◌++◌, Some, None, sym, refl, ap, ◌∙◌, subst}
+use Rattle.std.proofs.Common.{◌≡◌, ℕ, true, false, ◌+◌, ◌≢◌, List, [], ◌∷◌, Some, None, sym, refl, ap, ◌∙◌, subst}
 use Rattle.atomic_table.specs.Seated.{TableId}
 use Rattle.sf_calls.specs.declared.protocol.Knows.{Knows}
 use Rattle.sf_calls.specs.declared.object.Entry.{Entry}
@@ -7,7 +7,7 @@ use Rattle.sf_calls.specs.declared.object.Answer.{Answer}
 use Rattle.sf_calls.specs.Histories.{IsLegal, Begins, calls_by, entry, replies, waits}
 use Rattle.sf_calls.specs.Calling.{Made, Waited}
 use Rattle.sf_calls.specs.Views.{pass_view}
-use Rattle.sf_calls.proofs.Histories.{begins_more, calls_here, calls_else, calls-append, legal_snoc}
+use Rattle.sf_calls.proofs.Histories.{begins_more, calls_here, calls_else}
 
 pub other_calls : {C R : Type 0} (b : ℕ) (e : Entry C R) → e.by ≢ b → calls_by b (e ∷ []) ≡ []
 other_calls b e ne = calls_else b e [] ne
@@ -41,19 +41,22 @@ module _ {C R M : Type 0} (answers : M → List (Entry C R) → ℕ → C → An
   after : w ≡ record v0 { seen = h'; turns = v0.turns + 1; ticket = None; inside = false; found = h' }
   after = e3 ∙ ap (λ (z : K). record z { seen = h'; turns = z.turns + 1; ticket = None; inside = false; found = h' }) (e2 ∙ ap (λ (z : K). record z { inside = true; found = h }) e1)
 
-  same : pass_view t' w ≡ record (pass_view t v0) { seen = w.seen; turns = v0.turns + 1 }
-  same = (λ i. pass_view (table i) (after i)) ∙ ap (λ (z : List (Entry C R)). record (pass_view t v0) { seen = z; turns = v0.turns + 1 }) (sym seen)
+  turn : w.turns ≡ v0.turns + 1
+  turn = ap (λ (z : K). z.turns) after
 
-  pub made : (call : C) (reply : R) → h' ≡ h ++ entry b call reply ∷ [] → answers m h b call (replies reply) → Made answers m (pass_view t v0) call reply (pass_view t' w)
+  pub same : pass_view t' w ≡ record (pass_view t v0) { seen = w.seen; turns = w.turns }
+  same = (λ i. pass_view (table i) (after i)) ∙ (λ i. record (pass_view t v0) { seen = sym seen i; turns = sym turn i })
+
+  pub made : (call : C) (reply : R) → h' ≡ entry b call reply ∷ h → answers m h b call (replies reply) → Made answers m (pass_view t v0) call reply (pass_view t' w)
   made call reply grown answered =
       let e : Entry C R = entry v0.by call reply in
-      let whole : h' ≡ h ++ e ∷ [] = grown ∙ (λ i. h ++ entry (by i) call reply ∷ []) in
+      let whole : h' ≡ e ∷ h = grown ∙ (λ i. entry (by i) call reply ∷ h) in
       record {
-        legal = subst (IsLegal (answers m)) (sym (seen ∙ whole)) (legal_snoc (answers m) h e legal (subst (λ (z : ℕ). answers m h z call (replies reply)) by answered));
+        legal = subst (IsLegal (answers m)) (sym (seen ∙ whole)) (subst (λ (z : ℕ). answers m h z call (replies reply)) by answered, legal);
         begins = subst (λ (z : List (Entry C R) × List (Entry C R)). Begins z.0 z.1) (λ i. (was i, sym (seen ∙ whole) i)) (begins_more v1.seen h (e ∷ []) begins);
-        ends = (h, seen ∙ whole);
-        own = ap (calls_by v0.by) (seen ∙ whole) ∙ (calls-append v0.by h (e ∷ []) ∙ (λ i. own0 i ++ calls_here v0.by e [] refl i));
-        same = same;
+        newest = (h, seen ∙ whole);
+        own = ap (calls_by v0.by) (seen ∙ whole) ∙ (calls_here v0.by e h refl ∙ ap (λ l. e ∷ l) own0);
+        turn = turn;
       }
 
   pub waited : (call : C) → h' ≡ h → answers m h b call waits → Waited answers m (pass_view t v0) call (pass_view t' w)
@@ -62,7 +65,7 @@ module _ {C R M : Type 0} (answers : M → List (Entry C R) → ℕ → C → An
     begins = subst (λ (z : List (Entry C R) × List (Entry C R)). Begins z.0 z.1) (λ i. (was i, sym (seen ∙ still) i)) begins;
     own = ap (calls_by v0.by) (seen ∙ still) ∙ own0;
     not_yet = subst (λ (z : List (Entry C R) × ℕ). answers m z.0 z.1 call waits) (λ i. (sym (seen ∙ still) i, by i)) answered;
-    same = same;
+    turn = turn;
   }
 
 -- want of memory leaves what contracts see of the pass

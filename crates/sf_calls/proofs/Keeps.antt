@@ -1,7 +1,7 @@
 -- Each step keeps the rule of the lock.
 use Rattle.std.proofs.Common.{◌≡◌, ℕ, Bool, eqb, true, false, zero, suc, ◌+◌, ◌-◌, ◌<◌, ◌≤◌, ◌≢◌, ◌^◌, ◌%◌, cond, map, List, [], ◌∷◌, ◌++◌, ◌⊎◌, Some, None, length, get_or, set, sym, refl, ap, ◌∙◌, subst, inl, inr, ⊎_elim, arith, le_refl, length-set, get_or-set_other, get_or-set_same, eq-eqb, ne_eqb}
 use Rattle.std.specs.List.{Contains, sum_by}
-use Rattle.std.proofs.lemmas.List.{set-get_or, append-nil}
+use Rattle.std.proofs.lemmas.List.{set-get_or}
 use Rattle.std.proofs.lemmas.List.Sums.{sum_by-cons}
 use Rattle.std.proofs.Math.Nat.{mod-eq_of_lt}
 use mathlib.Core.Logic.{dite}
@@ -14,13 +14,13 @@ use Rattle.atomic_table.proofs.Lists.{at_set, set_here, set_else, set_again, at_
 use Rattle.sf_calls.specs.declared.protocol.Knows.{Knows}
 use Rattle.sf_calls.specs.declared.object.Entry.{Entry}
 use Rattle.sf_calls.specs.declared.object.Answer.{Answer}
-use Rattle.sf_calls.specs.Histories.{IsLegal, Begins, calls_by, longer}
+use Rattle.sf_calls.specs.Histories.{IsLegal, Begins, GoesOnWithout, calls_by, longer}
 use Rattle.atomic_table.specs.Seated.{TableId}
 use Rattle.sf_calls.specs.Passes.{TookAll}
 use Rattle.sf_calls.specs.Views.{PassView, pass_view}
 use Rattle.sf_calls.specs.Rule.{ticket_at, number_at, Fits, Kept, opened, spent, giving, given, met, Draws, Asks, Finds, PassesOn, GivesUp, Recalls}
-use Rattle.sf_calls.proofs.Seats.{inside, same_at, at_le, sum_set, two_le, sum_snoc, zero_sum}
-use Rattle.sf_calls.proofs.Histories.{begins_refl, begins_more, begins_trans, longer_begins, calls_here, calls-append, between, no_more}
+use Rattle.sf_base.proofs.Lists.{inside, same_at, at_le, sum_set, two_le, sum_snoc, zero_sum}
+use Rattle.sf_calls.proofs.Histories.{begins_refl, begins_nil, begins_more, begins_trans, longer_begins, calls_here, calls-append, between, no_more}
 
 abbrev one_if : Bool → ℕ
 one_if t = cond t 1 0
@@ -107,7 +107,7 @@ module _ {O C R M : Type 0} (history : O → List (Entry C R)) (mark : O → M) 
     lone_ticket k j u has ne there has2 =
         let a : ticket_in k v ≡ 1 = ap (ticket_at k) has ∙ ticket_here k k refl in
         let c : ticket_in k u ≡ 1 = ap (ticket_at k) has2 ∙ ticket_here k k refl in
-        let two = two_le (ticket_in k) s.views id j v u nobody refl ne at there in
+        let two = two_le (ticket_in k) s.views id j v u ne at there in
         let most = r.single k in omega arith
 
     -- no other pass that is not taken in has the number
@@ -115,11 +115,8 @@ module _ {O C R M : Type 0} (history : O → List (Entry C R)) (mark : O → M) 
     lone_number j u live live2 ne there same =
         let a : number_in v.by v ≡ 1 = number_here v.by v.live v.by refl ∙ live in
         let c : number_in v.by u ≡ 1 = number_here v.by u.live u.by (sym same) ∙ live2 in
-        let two = two_le (number_in v.by) s.views id j v u nobody (number_zero v.by) ne at there in
+        let two = two_le (number_in v.by) s.views id j v u ne at there in
         let most = r.apart v.by in omega arith
-      where
-        number_zero : (b : ℕ) → number_at b 0 0 ≡ 0
-        number_zero b = dite (ℕ_discrete b 0) (λ e. number_here b 0 0 e) (λ n. number_else b 0 0 n)
 
     -- a step that leaves the homes, the history and the numbers, and raises the next ticket
     ticketed : (w : V) (words : List ℕ) → length words ≡ 3 → get_or words 1 0 ≡ get_or s.words 1 0 → get_or s.words 0 0 ≤ get_or words 0 0 → get_or words 0 0 < 2 ^ 64
@@ -326,7 +323,7 @@ module _ {O C R M : Type 0} (history : O → List (Entry C R)) (mark : O → M) 
   module _ (s : St) (r : Rule s) (id : ℕ) (v : V) (at : get_elem? s.views id ≡ some v) (in_ : v.inside ≡ true) (live : v.live ≡ 1) where
     released : (w : V) (words : List ℕ) (o : O) (new : Log) → length words ≡ 3 → get_or words 1 0 ≡ get_or s.words 1 0 + 1 → get_or words 0 0 ≡ get_or s.words 0 0
         → w.is_first ≡ v.is_first → w.live ≡ v.live → w.by ≡ v.by → w.mark ≡ v.mark → w.gave ≡ v.gave → w.took ≡ v.took → w.start ≡ v.start → w.ticket ≡ None → w.inside ≡ false
-        → history o ≡ v.found ++ new → v.mark ≡ Some (mark o) → IsLegal (answers (mark o)) (history o) → ((b : ℕ) → b ≢ v.by → calls_by b new ≡ [])
+        → history o ≡ new ++ v.found → v.mark ≡ Some (mark o) → IsLegal (answers (mark o)) (history o) → ((b : ℕ) → b ≢ v.by → calls_by b new ≡ [])
         → Begins v.seen w.seen → Begins w.seen (history o) → calls_by v.by (history o) ≡ calls_by v.by w.seen → w.found ≡ w.seen
         → Rule record { words = words; homes = set s.homes 0 (some (Some o)); views = set s.views id w }
     released w words o new wide serving next first live_w by marked gave took start ticket out is mark_is legal others more begins own same_found =
@@ -334,11 +331,11 @@ module _ {O C R M : Type 0} (history : O → List (Entry C R)) (mark : O → M) 
         let here = mine.inside in_ in
         let log' : Log = history o in
         let was : v.found ≡ r.log = here.2 in
-        let grown : log' ≡ r.log ++ new = is ∙ ap (λ (z : Log). z ++ new) was in
+        let grown : log' ≡ new ++ r.log = is ∙ ap (λ (z : Log). new ++ z) was in
         let one = r.one_home in
         let n : ℕ = get_or s.words 1 0 in
         let home' : get_elem? (set s.homes 0 (some (Some o))) 0 ≡ some (some (Some o)) = set_here s.homes 0 (some (Some o)) (omega arith) in
-        let still : (b : ℕ) → b ≢ v.by → calls_by b log' ≡ calls_by b r.log = λ b ne. ap (calls_by b) grown ∙ (calls-append b r.log new ∙ (ap (λ l. calls_by b r.log ++ l) (others b ne) ∙ append-nil (calls_by b r.log))) in
+        let still : (b : ℕ) → b ≢ v.by → calls_by b log' ≡ calls_by b r.log = λ b ne. ap (calls_by b) grown ∙ (calls-append b new r.log ∙ ap (λ l. l ++ calls_by b r.log) (others b ne)) in
         let up : (xs : Log) → Begins xs r.log → Begins xs log' = λ xs b. let q = begins_more xs r.log new b in subst (Begins xs) (sym grown) q in
         let numbers : (b : ℕ) → sum_by (number_in b) (set s.views id w) ≡ sum_by (number_in b) s.views = λ b. same_sum (number_in b) s.views id v w at (λ i. number_at b (live_w i) (by i)) in
         let known : Contains r.cast v.by = mine.number live in
@@ -378,7 +375,7 @@ module _ {O C R M : Type 0} (history : O → List (Entry C R)) (mark : O → M) 
                   (λ p c. let c2 : Contains v.took p = subst (λ (z : List Took). Contains z p) took c in
                       let ne : p.0 ≢ v.by = λ e2. (let zero_ = r.gone id v p at (sym first ∙ f) c2 in let some_ = at_le (number_in p.0) s.views id v at in let h = number_here p.0 v.live v.by e2 in absurd (omega arith)) in
                       let k = q.3 p c2 in (k.0, still p.0 ne ∙ k.1, begins_trans p.1 v.seen w.seen k.2 more)),
-                  (let a = q.4 in let m = more in (a.0 ++ m.0, m.1 ∙ (ap (λ l. l ++ m.0) a.1 ∙ Rattle.std.proofs.Common.append_assoc (history key) a.0 m.0))),
+                  begins_trans (history key) v.seen w.seen q.4 more,
                 );
               })
               (λ (g : (j ≢ id) × (get_elem? s.views j ≡ some u)). let f = r.each j u g.1 in record {
@@ -403,7 +400,7 @@ module _ {O C R M : Type 0} (history : O → List (Entry C R)) (mark : O → M) 
         }
 
   -- the call is done, or it is not yet time for it
-  pub passes : (slots id : ℕ) (me : Sat) (o : O) (new : Log) → me.1 ≡ (0, Some o) ∷ [] → me.0.inside ≡ true → me.0.live ≡ 1 → history o ≡ me.0.found ++ new → me.0.mark ≡ Some (mark o) → IsLegal (answers (mark o)) (history o)
+  pub passes : (slots id : ℕ) (me : Sat) (o : O) (new : Log) → me.1 ≡ (0, Some o) ∷ [] → me.0.inside ≡ true → me.0.live ≡ 1 → history o ≡ new ++ me.0.found → me.0.mark ≡ Some (mark o) → IsLegal (answers (mark o)) (history o)
       → ((b : ℕ) → b ≢ me.0.by → calls_by b new ≡ []) → Allows Rule slots id me 1 (λ n. (n + 1) % 2 ^ 64) (PassesOn history (step slots 1 1 0 none) me)
   passes slots id me o new held in_ live is mark_is legal others s r homes at small =
       let v : V = me.0 in let n : ℕ = get_or s.words 1 0 in let mine = r.each id v at in let here = mine.inside in_ in
@@ -412,7 +409,7 @@ module _ {O C R M : Type 0} (history : O → List (Entry C R)) (mark : O → M) 
       let no_wrap : (n + 1) % 2 ^ 64 ≡ n + 1 = mod-eq_of_lt (let l = r.short in omega (arith, q.1)) in
       let words' : List ℕ = set s.words 1 ((n + 1) % 2 ^ 64) in
       let w : V = record v { seen = history o; turns = v.turns + 1; ticket = None; inside = false; found = history o } in
-      let grown : history o ≡ r.log ++ new = is ∙ ap (λ (z : Log). z ++ new) here.2 in (
+      let grown : history o ≡ new ++ r.log = is ∙ ap (λ (z : Log). new ++ z) here.2 in (
         w,
         gives,
         tt,
@@ -446,7 +443,7 @@ module _ {O C R M : Type 0} (history : O → List (Entry C R)) (mark : O → M) 
         subst (λ (c : List (ℕ × S)). Rule record { words = words'; homes = put_back s.homes c; views = set s.views id w }) (sym held)
             (released s r id v at in_ live w words' o [] (length-set s.words 1 ((n + 1) % 2 ^ 64) ∙ r.wide)
             (get_or-set_same s.words 1 ((n + 1) % 2 ^ 64) 0 (omega arith) ∙ no_wrap) (get_or-set_other s.words 1 0 ((n + 1) % 2 ^ 64) 0 (λ e. omega arith))
-            refl refl refl refl refl refl refl refl refl (is ∙ sym (append-nil v.found)) mark_is legal (λ b ne. refl)
+            refl refl refl refl refl refl refl refl refl is mark_is legal (λ b ne. refl)
             (begins_refl v.seen) (subst (Begins v.seen) (sym whole) mine.begins) (ap (calls_by v.by) whole ∙ mine.own live) refl),
         λ i. (w, rest (held i)),
       )
@@ -585,7 +582,7 @@ module _ {O C R M : Type 0} (history : O → List (Entry C R)) (mark : O → M) 
         each = λ j x e. ⊎_elim
             (λ (h : (j ≡ other) × (spent ≡ x)). subst (λ (z : V). F (get_or s.words 1 0) (get_or s.words 0 0) (get_elem? s.homes 0) r.log r.cast j z) h.1 record {
               marked = λ l. absurd (omega arith);
-              begins = (r.log, refl);
+              begins = begins_nil r.log;
               own = λ l. absurd (omega arith);
               ticket = λ k t. absurd (let z : None ≡ Some k = t in cc);
               inside = λ t. absurd (let z : false ≡ true = t in cc);
@@ -671,7 +668,7 @@ module _ {O C R M : Type 0} (history : O → List (Entry C R)) (mark : O → M) 
     pub seen : history object ≡ v.seen
     pub marked : v.mark ≡ Some (mark object)
     pub legal : IsLegal (answers (mark object)) (history object)
-    pub taken : (p : Took) → Contains v.took p → calls_by p.0 (history object) ≡ calls_by p.0 p.1
+    pub taken : (p : Took) → Contains v.took p → GoesOnWithout p.0 p.1 (history object)
     pub since : Begins v.start (history object)
     pub callers : (b : ℕ) → (Contains (v.by ∷ v.gave) b → ⊥) → calls_by b (history object) ≡ calls_by b v.start
 
@@ -679,9 +676,9 @@ module _ {O C R M : Type 0} (history : O → List (Entry C R)) (mark : O → M) 
   closes s r id v at first out all =
       let mine = r.each id v at in let q = mine.first first in
       let more : Log = mine.begins.0 in
-      let split_log : r.log ≡ v.seen ++ more = mine.begins.1 in
-      let none_past : (b : ℕ) → calls_by b more ≡ [] = λ b. past b v.seen r.log more split_log (own_of b) in
-      let whole : r.log ≡ v.seen = split_log ∙ (ap (λ (z : Log). v.seen ++ z) (empty more none_past) ∙ append-nil v.seen) in
+      let split_log : r.log ≡ more ++ v.seen = mine.begins.1 in
+      let none_past : (b : ℕ) → calls_by b more ≡ [] = λ b. past b more r.log v.seen split_log (own_of b) in
+      let whole : r.log ≡ v.seen = split_log ∙ ap (λ (z : Log). z ++ v.seen) (empty more none_past) in
       let start : v.start ≡ history key = mine.start first in
       ⊎_elim
       (λ (h : (o : O) × (get_elem? s.homes 0 ≡ some (some (Some o))) × (history o ≡ r.log) × (mark o ≡ mark key)). record {
@@ -690,7 +687,10 @@ module _ {O C R M : Type 0} (history : O → List (Entry C R)) (mark : O → M) 
         seen = h.2 ∙ whole;
         marked = mine.marked q.1 ∙ ap (λ (z : M). Some z) (sym h.3);
         legal = subst (λ (z : M × Log). IsLegal (answers z.0) z.1) (λ i. (sym h.3 i, sym h.2 i)) r.legal;
-        taken = λ p c. ap (calls_by p.0) h.2 ∙ (q.3 p c).1;
+        taken = λ p c. let k = q.3 p c in record {
+          begins = subst (Begins p.1) (sym (h.2 ∙ whole)) k.2;
+          calls = ap (calls_by p.0) h.2 ∙ k.1;
+        };
         since = subst (λ (z : Log × Log). Begins z.0 z.1) (λ i. (sym start i, sym h.2 i)) r.since;
         callers = λ b not. ap (calls_by b) h.2 ∙ (r.callers b (λ c. not (subst (λ (z : List ℕ). Contains z b) q.2 c)) ∙ ap (calls_by b) (sym start));
       })
@@ -709,8 +709,8 @@ module _ {O C R M : Type 0} (history : O → List (Entry C R)) (mark : O → M) 
           (λ (not : Contains r.cast b → ⊥). between b (history key) v.seen r.log q.4 mine.begins (r.callers b not))
           (member r.cast b)
 
-      past : (b : ℕ) (xs zs ys : Log) → zs ≡ xs ++ ys → calls_by b zs ≡ calls_by b xs → calls_by b ys ≡ []
-      past b xs zs ys e f = no_more (calls_by b xs) (calls_by b ys) (sym (calls-append b xs ys) ∙ (ap (calls_by b) (sym e) ∙ f))
+      past : (b : ℕ) (new zs xs : Log) → zs ≡ new ++ xs → calls_by b zs ≡ calls_by b xs → calls_by b new ≡ []
+      past b new zs xs e f = no_more (calls_by b new) (calls_by b xs) (sym (calls-append b new xs) ∙ (ap (calls_by b) (sym e) ∙ f))
 
       empty : (ys : Log) → ((b : ℕ) → calls_by b ys ≡ []) → ys ≡ []
       empty [] h = refl
@@ -721,7 +721,7 @@ module _ {O C R M : Type 0} (history : O → List (Entry C R)) (mark : O → M) 
     pub seen : history object ≡ p.seen
     pub marked : p.mark ≡ Some (mark object)
     pub legal : IsLegal (answers (mark object)) (history object)
-    pub taken : (q : Took) → Contains p.took q → calls_by q.0 (history object) ≡ calls_by q.0 q.1
+    pub taken : (q : Took) → Contains p.took q → GoesOnWithout q.0 q.1 (history object)
     pub since : Begins p.start (history object)
     pub callers : (b : ℕ) → (Contains (p.by ∷ p.gave) b → ⊥) → calls_by b (history object) ≡ calls_by b p.start
 

@@ -1,4 +1,3 @@
-pub mod Seats
 pub mod Histories
 pub mod Keeps
 pub mod Calling

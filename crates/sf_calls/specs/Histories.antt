@@ -1,5 +1,5 @@
--- Histories of calls, oldest first.
-use Rattle.std.specs.Prelude.{◌≡◌, ℕ, List, [], ◌∷◌, Some, take, slice_get, ◌++◌, ◌==◌, if◌then◌else◌, nat_le, length}
+-- Histories of calls. A history has the newest call first, so that each question looks back from now.
+use Rattle.std.specs.Prelude.{◌≡◌, ℕ, List, [], ◌∷◌, ◌++◌, ◌==◌, if◌then◌else◌, nat_le, length}
 use Rattle.sf_calls.specs.declared.object.Entry.{Entry}
 use Rattle.sf_calls.specs.declared.object.Answer.{Answer}
 use Rattle.sf_calls.specs.declared.object.Answer.TheVariants.{Replies, Waits}
@@ -16,18 +16,24 @@ replies r = Replies r
 abbrev pub waits : {R : Type 0} → Answer R
 waits = Waits
 
--- each reply is what the object of one thread answers after the entries before it
+-- each reply is what the object of one thread answers after the earlier calls
 abbrev pub IsLegal : {C R : Type 0} → (List (Entry C R) → ℕ → C → Answer R → Type 0) → List (Entry C R) → Type 0
-IsLegal answers log = (k : ℕ) (e : Entry _ _) → slice_get log k ≡ Some e → answers (take k log) e.by e.call (Replies e.reply)
+IsLegal answers [] = Unit {0}
+IsLegal answers (e ∷ earlier) = answers earlier e.by e.call (Replies e.reply) × IsLegal answers earlier
 
--- ys begins with xs
+-- the history ys began as xs: xs are its earliest calls
 abbrev pub Begins : {A : Type 0} → List A → List A → Type 0
-Begins xs ys = (more : List _) × (ys ≡ xs ++ more)
+Begins xs ys = (more : List _) × (ys ≡ more ++ xs)
 
 -- the calls of one caller
 abbrev pub calls_by : {C R : Type 0} → ℕ → List (Entry C R) → List (Entry C R)
 calls_by b [] = []
-calls_by b (e ∷ es) = if e.by == b then e ∷ calls_by b es else calls_by b es
+calls_by b (e ∷ earlier) = if e.by == b then e ∷ calls_by b earlier else calls_by b earlier
+
+-- the history ys goes on from xs with no further call of the caller b
+pub record GoesOnWithout {C R : Type 0} (b : ℕ) (xs ys : List (Entry C R)) : Type 0 where
+  pub begins : Begins xs ys
+  pub calls : calls_by b ys ≡ calls_by b xs
 
 -- the longer of two lists
 abbrev pub longer : {A : Type 0} → List A → List A → List A

@@ -1,5 +1,4 @@
 pub mod Calling
-pub mod Counter
 pub mod Histories
 pub mod Outcomes
 pub mod Passes

@@ -10,8 +10,6 @@ mod object;
 mod pass;
 mod protocol;
 mod steps;
-#[cfg(test)]
-mod tests;
 
 pub use fault::CallFault;
 pub use lock::CallLock;

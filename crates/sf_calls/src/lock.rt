@@ -1,6 +1,6 @@
 ghost use Rattle.std.specs.Prelude.{◌≡◌, ℕ, List, [], ◌∷◌, true, Some, IsOk, IfOk, IfErr, Contains};
 ghost use Rattle.sf_calls.specs.declared.object.Entry.{Entry};
-ghost use Rattle.sf_calls.specs.Histories.{IsLegal, Begins, calls_by};
+ghost use Rattle.sf_calls.specs.Histories.{IsLegal, Begins, GoesOnWithout, calls_by};
 ghost use Rattle.sf_calls.specs.Passes.{first_pass, HasMark, TookAll};
 
 use crate::object::Object;
@@ -42,10 +42,10 @@ impl<O: Object> CallLock<O> {
     /// The object under a lock, and the first pass, for the caller `by`, which knows the object's
     /// history. Want of memory hands the object back.
     pub fn open(alloc: Global, object: O, by: u32) -> Result<(CallLock<O>, Pass<O>), (NoMemory, O)>
-        requires legal { IsLegal (O.answers (O.mark object)) (O.history object) }
         ensures ok { IfOk result (λ opened. opened.1 ≡ first_pass opened.0 by (O.mark object) (O.history object)) }
         ensures err { IfErr result (λ refused. refused.1 ≡ object) }
     {
+        object.legal();
         let about = (Snapshot::of(&object), by);
         let mut slots = Vec::new(alloc);
         if let Err(failed) = slots.push(Some(object)) {
@@ -70,9 +70,10 @@ impl<O: Object> CallLock<O> {
         ensures mark { IfOk result (λ object. HasMark last (O.mark object)) }
         ensures legal { IfOk result (λ object. IsLegal (O.answers (O.mark object)) (O.history object)) }
 
-        // Of each pass that was taken in the history has just the calls that that pass knew, and
-        // since `open` none of a caller that is neither the first nor one that it gave a pass to.
-        ensures taken { IfOk result (λ object. (p : ℕ × List (Entry O.PlainCall O.PlainReply)) → Contains last.took p → calls_by p.0 (O.history object) ≡ calls_by p.0 p.1) }
+        // The history began as each pass that was taken in knew it, and has no further calls of that
+        // pass; and since `open` it has none of a caller that is neither the first nor one that it
+        // gave a pass to.
+        ensures taken { IfOk result (λ object. (p : ℕ × List (Entry O.PlainCall O.PlainReply)) → Contains last.took p → GoesOnWithout p.0 p.1 (O.history object)) }
         ensures since { IfOk result (λ object. Begins last.start (O.history object)) }
         ensures callers { IfOk result (λ object. (b : ℕ) → (Contains (last.by ∷ last.gave) b → ⊥) → calls_by b (O.history object) ≡ calls_by b last.start) }
     {

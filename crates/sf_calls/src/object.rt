@@ -1,7 +1,7 @@
-ghost use Rattle.std.specs.Prelude.{◌≡◌, ℕ, List, [], ◌∷◌, ◌++◌};
+ghost use Rattle.std.specs.Prelude.{◌≡◌, ℕ, List, ◌∷◌};
 ghost use Rattle.sf_calls.specs.declared.object.Answer.{Answer};
 ghost use Rattle.sf_calls.specs.declared.object.Entry.{Entry};
-ghost use Rattle.sf_calls.specs.Histories.{entry, replies, waits};
+ghost use Rattle.sf_calls.specs.Histories.{IsLegal, entry, replies, waits};
 ghost use Rattle.sf_calls.specs.Outcomes.{IfDone, IfNotYet, IfNoMemory};
 
 /// A call in an object's history: its caller's number, and what the history keeps of the call
@@ -46,6 +46,7 @@ pub trait Object: Sized {
     /// What `new` fixed for good, and which tokens a call may bring.
     type Mark;
 
+    // The calls that were done, the newest first.
     ghost history: { Self → List (Entry Self.PlainCall Self.PlainReply) };
 
     ghost mark: { Self → Self.Mark };
@@ -62,11 +63,17 @@ pub trait Object: Sized {
     // What the object of one thread answers to a caller's call after a history.
     ghost answers: { Self.Mark → List (Entry Self.PlainCall Self.PlainReply) → ℕ → Self.PlainCall → Answer Self.PlainReply → Type 0 };
 
-    /// Applies a caller's call, as the only thread that has the object.
+    /// Tells that each reply in the history is what the object of one thread answers after the
+    /// calls before it. It does nothing: an object keeps this of itself.
+    fn legal(&self)
+        ensures { IsLegal (answers (mark self.now)) (history self.now) };
+
+    /// Applies a caller's call, as the only thread that has the object. Where it is not done, the
+    /// object is as it was, and the call comes back.
     fn apply(&mut self, by: u32, call: Self::Call) -> Outcome<Self::Call, Self::Reply>
         requires { call_fits (mark self.old) call }
         ensures mark { mark self.new ≡ mark self.old }
-        ensures done { IfDone result (λ r. (history self.new ≡ history self.old ++ entry by (plain_call call) (plain_reply r) ∷ []) × answers (mark self.old) (history self.old) by (plain_call call) (replies (plain_reply r)) × reply_fits (mark self.old) r) }
-        ensures not_yet { IfNotYet result (λ back. (history self.new ≡ history self.old) × (back ≡ call) × answers (mark self.old) (history self.old) by (plain_call call) waits) }
-        ensures no_memory { IfNoMemory result (λ back. (history self.new ≡ history self.old) × (back ≡ call)) };
+        ensures done { IfDone result (λ r. (history self.new ≡ entry by (plain_call call) (plain_reply r) ∷ history self.old) × answers (mark self.old) (history self.old) by (plain_call call) (replies (plain_reply r)) × reply_fits (mark self.old) r) }
+        ensures not_yet { IfNotYet result (λ back. (self.new ≡ self.old) × (back ≡ call) × answers (mark self.old) (history self.old) by (plain_call call) waits) }
+        ensures no_memory { IfNoMemory result (λ back. (self.new ≡ self.old) × (back ≡ call)) };
 }

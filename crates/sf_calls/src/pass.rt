@@ -61,11 +61,12 @@ impl<O: Object> Pass<O> {
         lock.meet(&mut self.seat, seat);
     }
 
-    /// Waits for its turn under the lock, and applies the call. The reply, after which the
-    /// history that this pass knows ends with the call. `NotYet` where the object answered so in
+    /// Waits for its turn under the lock, and applies the call. The reply, after which the call is
+    /// the newest in the history that this pass knows. `NotYet` where the object answered so in
     /// this turn: the pass then knows the history that it found. `NoMemory` is want of memory, and
     /// leaves the pass and the object as they were. Either fault hands the call back and leaves
-    /// no entry in the history.
+    /// no entry in the history. Nothing of the pass changes but what it knows of the history and
+    /// its number of turns.
     pub fn call<W: Wait>(
         &mut self,
         lock: &CallLock<O>,
@@ -74,6 +75,7 @@ impl<O: Object> Pass<O> {
     ) -> Result<O::Reply, CallFault<O::Call>>
         requires own { self.old.table ≡ lock.now }
         requires fits { Fits O.call_fits self.old call }
+        ensures same { self.new ≡ record self.old { seen = self.new.seen; turns = self.new.turns } }
         ensures done { IfOk result (λ reply. (m : O.Mark) → HasMark self.old m → Made O.answers m self.old (O.plain_call call) (O.plain_reply reply) self.new × O.reply_fits m reply) }
         ensures not_yet { IfFaultNotYet result (λ back. (back ≡ call) × ((m : O.Mark) → HasMark self.old m → Waited O.answers m self.old (O.plain_call call) self.new)) }
         ensures no_memory { IfFaultNoMemory result (λ back. (back ≡ call) × (self.new ≡ self.old)) }

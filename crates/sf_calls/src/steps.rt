@@ -68,7 +68,7 @@ impl<O: Object> CallLock<O> {
         requires held { (seat.old.me.1 ≡ (0, None) ∷ []) × (seat.old.me.0.inside ≡ true) × (seat.old.me.0.live ≡ 1) }
         requires marked { seat.old.me.0.mark ≡ Some (O.mark object) }
         requires legal { IsLegal (O.answers (O.mark object)) (O.history object) }
-        requires grown { (new : List (Entry O.PlainCall O.PlainReply)) × (O.history object ≡ seat.old.me.0.found ++ new) × ((b : ℕ) → b ≢ seat.old.me.0.by → calls_by b new ≡ []) }
+        requires grown { (new : List (Entry O.PlainCall O.PlainReply)) × (O.history object ≡ new ++ seat.old.me.0.found) × ((b : ℕ) → b ≢ seat.old.me.0.by → calls_by b new ≡ []) }
         ensures { (seat.new.table_id ≡ seat.old.table_id) × (seat.new.me ≡ (record seat.old.me.0 { seen = O.history object; turns = seat.old.me.0.turns + 1; ticket = None; inside = false; found = O.history object }, [])) }
     {
         no_object(self.table.shared.exchange(seat, 0, Some(object)));

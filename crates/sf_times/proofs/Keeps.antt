@@ -2,7 +2,7 @@
 use Rattle.std.proofs.Common.{◌≡◌, ℕ, true, zero, suc, ◌+◌, ◌<◌, ◌≤◌, ◌≢◌, max, List, [], ◌∷◌, ◌++◌, length, get_or, set, sym, refl, ap, ◌∙◌, subst, inl, inr, ⊎_elim, arith, le_refl, le_trans, length-set, get_or-set_other, get_or-set_same, replicate}
 use Rattle.std.specs.List.{Contains, sum_by}
 use Rattle.std.proofs.lemmas.List.Elements.{Contains-append_left, Contains-append_right, Contains-append_cases, Contains-push, Contains-push_cases}
-use Rattle.std.proofs.lemmas.List.Sums.{sum_by-set, sum_by-cons, sum_by-append}
+use Rattle.std.proofs.lemmas.List.Sums.{sum_by-cons, sum_by-append}
 use Rattle.std.proofs.lemmas.List.{set-get_or, get_or-replicate}
 use mathlib.Core.Logic.{dite}
 use mathlib.Core.Option.{Option, none, some, some-injective, some-ne-none}
@@ -11,10 +11,11 @@ use lib.ListN.{get_elem?}
 use Rattle.atomic_table.specs.Table.{State, Me, step, keeps, opening, Allows, Splits, Joins}
 use Rattle.atomic_table.proofs.Lists.{at_set, set_here, set_else, at_snoc, at_longer}
 use Rattle.sf_times.specs.declared.protocol.Knows.{Knows}
-use Rattle.sf_times.specs.Points.{greatest, value_at}
+use Rattle.sf_base.specs.Points.{greatest, value_at}
 use Rattle.sf_times.specs.Rule.{WasSignalled, WasReached, live_of, Fits, Kept, Loads, Audits, Raises}
 use Rattle.sf_times.specs.Seats.{opened, spent, lending, split_off, joined, loaded, raised, IsAlone, OnlyOwnSignals}
-use Rattle.sf_times.proofs.Points.{value_here, value_else, greatest-append, greatest-last, has_le}
+use Rattle.sf_base.proofs.Lists.{inside, same_at, sum_set, two_le}
+use Rattle.sf_base.proofs.PointLemmas.{value_here, value_else, greatest-append, greatest-last, has_le}
 
 abbrev St : Type 0
 St = State (Unit {0}) Knows
@@ -22,34 +23,12 @@ St = State (Unit {0}) Knows
 abbrev M : Type 0
 M = Me (Unit {0}) Knows
 
-module _ {A : Type 0} where
-  pub inside : (l : List A) (i : ℕ) (a : A) → get_elem? l i ≡ some a → i < length l
-  inside [] i a e = absurd (some-ne-none a (sym e))
-  inside (x ∷ xs) zero a e = omega arith
-  inside (x ∷ xs) (suc i) a e = let h = inside xs i a e in omega arith
-
-  pub read : (l : List A) (i : ℕ) (a d : A) → get_elem? l i ≡ some a → get_or l i d ≡ a
-  read [] i a d e = absurd (some-ne-none a (sym e))
-  read (x ∷ xs) zero a d e = some-injective x a e
-  read (x ∷ xs) (suc i) a d e = read xs i a d e
-
-  pub same_at : (l : List A) (i j : ℕ) (a b : A) → i ≡ j → get_elem? l i ≡ some a → get_elem? l j ≡ some b → a ≡ b
-  same_at l i j a b e p q = some-injective a b (sym p ∙ (ap (get_elem? l) e ∙ q))
-
-  pub at_le : (f : A → ℕ) (l : List A) (i : ℕ) (a : A) → get_elem? l i ≡ some a → f a ≤ sum_by f l
-  at_le f [] i a e = absurd (some-ne-none a (sym e))
-  at_le f (x ∷ xs) zero a e = let h : f x ≡ f a = ap f (some-injective x a e) in omega (arith, sum_by-cons f x xs)
-  at_le f (x ∷ xs) (suc i) a e = omega (arith, sum_by-cons f x xs, at_le f xs i a e)
-
-  pub sum_set : (f : A → ℕ) (l : List A) (i : ℕ) (a b : A) → get_elem? l i ≡ some a → sum_by f (set l i b) + f a ≡ sum_by f l + f b
-  sum_set f l i a b e = let h : f (get_or l i a) ≡ f a = ap f (read l i a a e) in omega (arith, sum_by-set f l i b a (inside l i a e))
-
-  pub two_le : (f : A → ℕ) (l : List A) (i j : ℕ) (a b z : A) → f z ≡ 0 → j ≢ i → get_elem? l i ≡ some a → get_elem? l j ≡ some b → f a + f b ≤ sum_by f l
-  two_le f l i j a b z zeroed ne p q = let h = at_le f (set l i z) j b (set_else l i j z ne ∙ q) in omega (arith, sum_set f l i a z p)
-
 -- a signal leaves what the first seat, alone, was shown
 pub still_told : (v : Knows) (q : ℕ × ℕ) → (IsAlone v → OnlyOwnSignals v) → IsAlone (raised v q) → OnlyOwnSignals (raised v q)
-still_told v q told a p h = ⊎_elim inl (λ (g : Contains v.signals p). inr (Contains-append_left v.signals (q ∷ []) p g)) (told a p h)
+still_told v q told a = let own = told a in record {
+  shown = λ p h. ⊎_elim inl (λ (g : Contains v.signals p). inr (Contains-append_left v.signals (q ∷ []) p g)) (own.shown p h);
+  known = λ t low high. let le = own.known t low high in omega (arith, greatest-last t v.known q, greatest-last t v.signals q);
+}
 
 -- a view whose place in the rule is told anew: the words rise, what was told stays told
 refit : (words words' : List ℕ) (views views' : List Knows) (j : ℕ) (u : Knows) → ((t : ℕ) → t < 65 → get_or words t 0 ≤ get_or words' t 0) → ((p : ℕ × ℕ) → WasReached views p → WasReached views' p)
@@ -113,9 +92,14 @@ module _ (s : St) (r : Kept s) (id : ℕ) (v : Knows) (at : get_elem? s.views id
   alone first out p h = dite (ℕ_discrete h.0 id)
       (λ e. subst (λ (z : Knows). Contains z.signals p) (same_at s.views h.0 id h.1 v e h.2 at) h.3)
       (λ ne. let m = (r.each id v at).first first in
-      let two = two_le live_of s.views id h.0 v h.1 spent refl ne at h.2 in
+      let two = two_le live_of s.views id h.0 v h.1 ne at h.2 in
       let gone : h.1.signals ≡ [] = (r.each h.0 h.1 h.2).spent (omega (arith, m.1, m.2)) in
       let none = subst (λ (z : List (ℕ × ℕ)). Contains z p) gone h.3 in absurd (omega (arith, none.1)))
+
+  -- so no counter is above what it signalled
+  alone_above : v.is_first ≡ true → v.out ≡ 0 → (t : ℕ) → t < 65 → get_or s.words t 0 ≤ greatest t v.signals
+  alone_above first out t l = let n : ℕ = get_or s.words t 0 in
+      ⊎_elim (λ (z : n ≡ 0). omega arith) (λ (h : WasSignalled s.views (t, n)). has_le t n v.signals (alone first out (t, n) h)) (r.met t l)
 
 pub opens : (words : List ℕ) → words ≡ replicate 65 0 → Kept (opening words [] opened)
 opens words e = record {
@@ -156,11 +140,12 @@ loads slots id me i small one s r _ at _ = let n : ℕ = get_or s.words i 0 in l
         refl,
         mine.below i small,
         mine.signals_below i small,
-        λ (a : IsAlone v). let all = alone s r id v at a.0 a.1 in let le = mine.signals_below i small in
-            ⊎_elim (λ (z : n ≡ 0). omega arith) (λ (h : WasSignalled s.views (i, n)). let has = has_le i n v.signals (all (i, n) h) in omega arith) here,
-        λ (a : IsAlone v). let all = alone s r id v at a.0 a.1 in
-            λ p h. ⊎_elim inl (λ (g : WasSignalled s.views p). inr (all p g))
-            (⊎_elim (mine.told p) (λ (e : (i, n) ≡ p). subst (WasReached s.views) e here) (Contains-push_cases v.shown (i, n) p h)),
+        λ (a : IsAlone v). let le = mine.signals_below i small in let above = alone_above s r id v at a.0 a.1 i small in omega arith,
+        λ (a : IsAlone v). let all = alone s r id v at a.0 a.1 in record {
+          shown = λ p h. ⊎_elim inl (λ (g : WasSignalled s.views p). inr (all p g))
+              (⊎_elim (mine.told p) (λ (e : (i, n) ≡ p). subst (WasReached s.views) e here) (Contains-push_cases v.shown (i, n) p h));
+          known = λ t low high. le_trans (known t (omega arith)) (alone_above s r id v at a.0 a.1 t (omega arith));
+        },
       ),
     )
 
@@ -190,8 +175,10 @@ audits slots id me one s r _ at _ = let n : ℕ = get_or s.words 0 0 in let v : 
           s.homes,
       (
         refl,
-        λ (a : IsAlone v). let all = alone s r id v at a.0 a.1 in
-            λ p h. ⊎_elim inl (λ (g : WasSignalled s.views p). inr (all p g)) (mine.told p h),
+        λ (a : IsAlone v). let all = alone s r id v at a.0 a.1 in record {
+          shown = λ p h. ⊎_elim inl (λ (g : WasSignalled s.views p). inr (all p g)) (mine.told p h);
+          known = λ t low high. le_trans (mine.below t (omega arith)) (alone_above s r id v at a.0 a.1 t (omega arith));
+        },
       ),
     )
 

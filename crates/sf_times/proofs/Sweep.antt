@@ -4,10 +4,10 @@ use Rattle.std.proofs.lemmas.List.{append-nil}
 use Rattle.std.proofs.Math.Seq.{take-suc-set}
 use mathlib.Core.Logic.{dite}
 use native.Mathlib.Decide.{ℕ_discrete}
-use Rattle.sf_times.specs.Points.{greatest, points_from}
+use Rattle.sf_base.specs.Points.{greatest, points_from}
 use Rattle.sf_times.specs.Seats.{loaded, all_loaded, IsAlone, OnlyOwnSignals}
 use Rattle.sf_times.specs.Views.{SeatView}
-use Rattle.sf_times.proofs.Points.{greatest-append}
+use Rattle.sf_base.proofs.PointLemmas.{greatest-append}
 
 abbrev pub after_load : SeatView → ℕ × ℕ → SeatView
 after_load v p = record v { knows = loaded v.knows p }

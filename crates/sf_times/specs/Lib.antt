@@ -1,4 +1,3 @@
-pub mod Points
 pub mod Rule
 pub mod Seats
 pub mod Views

@@ -5,7 +5,7 @@ use mathlib.Core.Option.{some}
 use lib.ListN.{get_elem?}
 use Rattle.atomic_table.specs.Table.{State, Me, Step}
 use Rattle.sf_times.specs.declared.protocol.Knows.{Knows}
-use Rattle.sf_times.specs.Points.{greatest}
+use Rattle.sf_base.specs.Points.{greatest}
 use Rattle.sf_times.specs.Seats.{loaded, raised, IsAlone, OnlyOwnSignals}
 
 -- a live seat signalled the point, or took it in

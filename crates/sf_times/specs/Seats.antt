@@ -1,5 +1,6 @@
 -- What a seat knows after each call. A point is a timeline's number and a value of its counter.
-use Rattle.std.specs.Prelude.{◌≡◌, ℕ, ◌+◌, ◌-◌, true, false, List, [], ◌∷◌, ◌++◌, ◌⊎◌, Contains}
+use Rattle.std.specs.Prelude.{◌≡◌, ℕ, ◌+◌, ◌-◌, ◌≤◌, true, false, List, [], ◌∷◌, ◌++◌, ◌⊎◌, Contains}
+use Rattle.sf_base.specs.Points.{greatest}
 use Rattle.sf_times.specs.declared.protocol.Knows.{Knows}
 
 -- the first seat, as it is opened
@@ -38,6 +39,8 @@ raised v p = record v { signals = v.signals ++ p ∷ []; known = v.known ++ p �
 abbrev pub IsAlone : Knows → Type 0
 IsAlone v = (v.is_first ≡ true) × (v.out ≡ 0)
 
--- each value that its loads showed is 0, or was signalled through it or a seat that it took in
-abbrev pub OnlyOwnSignals : Knows → Type 0
-OnlyOwnSignals v = (p : ℕ × ℕ) → Contains v.shown p → (p.1 ≡ 0) ⊎ Contains v.signals p
+-- what a seat knows is what was signalled through it or a seat that it took in: each value that its
+-- loads showed is 0 or such a signal, and of each timeline no greater value is known
+pub record OnlyOwnSignals (v : Knows) : Type 0 where
+  pub shown : (p : ℕ × ℕ) → Contains v.shown p → (p.1 ≡ 0) ⊎ Contains v.signals p
+  pub known : (t : ℕ) → 1 ≤ t → t ≤ 64 → greatest t v.known ≤ greatest t v.signals

@@ -7,8 +7,6 @@
 
 mod protocol;
 mod seat;
-#[cfg(test)]
-mod tests;
 mod timelines;
 
 pub use seat::TimeSeat;

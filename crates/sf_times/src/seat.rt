@@ -1,5 +1,5 @@
 ghost use Rattle.std.specs.Prelude.{◌≡◌, ℕ, ◌-◌, ◌≤◌, true, slice_index};
-ghost use Rattle.sf_times.specs.Points.{greatest, points_from};
+ghost use Rattle.sf_base.specs.Points.{greatest, points_from};
 ghost use Rattle.sf_times.specs.Seats.{lending, split_off, joined, loaded, all_loaded, raised, IsAlone, OnlyOwnSignals};
 
 use crate::protocol::{Audit, Knows, Load, Signal, SplitOff, TakeIn};
@@ -55,6 +55,14 @@ impl TimeSeat {
         let shared = &table.table.shared;
         shared.join_seat::<TakeIn>(&mut self.seat, seat);
         shared.load::<Audit>(&mut self.seat, 0);
+    }
+
+    /// Tells, without a load, that all that a first seat with no other out knows was signalled
+    /// through itself or a seat that it took in.
+    pub fn exact(&self)
+        ensures { IsAlone self.now.knows → OnlyOwnSignals self.now.knows }
+    {
+        let _ = &self.seat;
     }
 
     /// Signals the timeline at the value: its counter rises to the value, if it was lower. The

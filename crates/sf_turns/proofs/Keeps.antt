@@ -13,9 +13,10 @@ use Rattle.sf_turns.specs.declared.protocol.Home.{Home}
 use Rattle.sf_turns.specs.declared.protocol.Home.TheVariants.{Full}
 use Rattle.sf_turns.specs.declared.protocol.Stage.{Stage}
 use Rattle.sf_turns.specs.declared.protocol.Stage.TheVariants.{Away, Inside, Done}
-use Rattle.sf_turns.specs.Counts.{same, same_turn, leaf_at, leaves_of, stock_at, greatest, token_at}
+use Rattle.sf_turns.specs.Counts.{same, same_turn, leaf_at, leaves_of, stock_at, token_at}
+use Rattle.sf_base.specs.Points.{greatest}
 use Rattle.sf_turns.specs.Rule.{live_of, IsHome, Lies, Promises, TokenFits, StockFits, Fits, Kept, spent}
-use Rattle.sf_turns.proofs.Seats.{inside, sum_set, two_le, sum_snoc, zero_sum}
+use Rattle.sf_base.proofs.Lists.{inside, sum_set, two_le, sum_snoc, zero_sum}
 use Rattle.sf_turns.proofs.Tallies.{same_here, same_else, turn_here, turn_other, turn_else, turn_le, leaf_at-append, leaves_of-append}
 
 module _ {T : Type 0} where
@@ -266,7 +267,7 @@ module _ {P T : Type 0} (stamp_of : P → T) (buffers : ℕ) where
       alone_turn j u t2 ne there has2 same_b same_n =
           let a : token_in t.buffer t.number v ≡ 1 = ap (token_at t.buffer t.number) has ∙ turn_here t.buffer t.number t.buffer t.number refl refl in
           let c : token_in t.buffer t.number u ≡ 1 = ap (token_at t.buffer t.number) has2 ∙ turn_here t.buffer t.number t2.buffer t2.number (sym same_b) (sym same_n) in
-          let two = two_le (token_in t.buffer t.number) s.views id j v u spent refl ne at there in
+          let two = two_le (token_in t.buffer t.number) s.views id j v u ne at there in
           let most = r.single t.buffer t.number its.0 in omega arith
 
       -- its buffer is in no stock
@@ -598,7 +599,7 @@ module _ {P T : Type 0} (stamp_of : P → T) (buffers : ℕ) where
       no_other : (j : ℕ) (u : V) (b : ℕ) → j ≢ id → get_elem? s.views j ≡ some u → 0 < stock_at b u.stock → b ≢ b0
       no_other j u b ne there some_ e =
           let a : stock_in b v ≡ 1 = ap (stock_at b) only ∙ (let c = same_here b b0 e in omega arith) in
-          let two = two_le (stock_in b) s.views id j v u spent refl ne at there in
+          let two = two_le (stock_in b) s.views id j v u ne at there in
           let most = r.stocked b in omega arith
 
       -- its slot is taken, to be filled

@@ -17,10 +17,12 @@ use Rattle.sf_turns.specs.declared.protocol.Home.{Home}
 use Rattle.sf_turns.specs.declared.protocol.Home.TheVariants.{Vacant, Full, Said}
 use Rattle.sf_turns.specs.declared.protocol.Stage.{Stage}
 use Rattle.sf_turns.specs.declared.protocol.Stage.TheVariants.{Away, Inside, Done}
-use Rattle.sf_turns.specs.Counts.{leaf_at, leaves_of, stock_at, count_if, greatest, IsExact}
+use Rattle.sf_turns.specs.Counts.{leaf_at, leaves_of, stock_at, IsExact}
+use Rattle.sf_base.specs.Points.{value_at, greatest}
 use Rattle.sf_turns.specs.Rule.{live_of, IsHome, Lies, Promises, Fits, Kept, opened, spent, IsAlone, at_stage, promised, heir_of, said_of, loaded, note, told, issuing, heir, endowing, endowed, cutting, cut_off, lending, lent, absorbed, handed, departed_with, Loads, Audits, Reaches, Says, Asks, Takes, Returns, Clears, Begins, Leaves}
-use Rattle.sf_turns.proofs.Seats.{inside, sum_set, at_le, two_le, zero_sum}
-use Rattle.sf_turns.proofs.Tallies.{same_here, stock_at-range, stock_at-range_past, count_here, count_else, greatest-append, greatest-last, stock_at-append}
+use Rattle.sf_base.proofs.Lists.{inside, sum_set, at_le, two_le, zero_sum}
+use Rattle.sf_base.proofs.PointLemmas.{value_here, value_else, greatest-append, greatest-last}
+use Rattle.sf_turns.proofs.Tallies.{same_here, stock_at-range, stock_at-range_past, stock_at-append}
 use Rattle.sf_turns.proofs.Keeps.{token_in, leaf_in, leaves_in, stock_in, reviewed, merges, parts, homed, issues, goes, cleared, begins}
 
 module _ {P T : Type 0} (stamp_of : P → T) (buffers : ℕ) where
@@ -54,7 +56,7 @@ module _ {P T : Type 0} (stamp_of : P → T) (buffers : ℕ) where
       let others : sum_by f (set s.views id spent) ≡ 0 = zero_sum f (set s.views id spent) (λ j u e. ⊎_elim
       (λ (h : (j ≡ id) × (spent ≡ u)). ap f (sym h.1) ∙ z)
       (λ (h : (j ≢ id) × (get_elem? s.views j ≡ some u)).
-      let two = two_le live_of s.views id j v u spent refl h.0 at h.1 in let out = a.1 in
+      let two = two_le live_of s.views id j v u h.0 at h.1 in let out = a.1 in
       other u ((r.each j u h.1).apart (omega (arith, m.1, m.2))))
       (at_set s.views id j spent u e)) in
       omega (arith, sum_set f s.views id v spent at)
@@ -75,8 +77,8 @@ module _ {P T : Type 0} (stamp_of : P → T) (buffers : ℕ) where
   -- one more sighting
   sighted : (b c n m : ℕ) (seen : List (ℕ × ℕ)) → greatest c seen ≤ m → (b ≡ c → n ≤ m) → greatest c (seen ++ (b, n) ∷ []) ≤ m
   sighted b c n m seen le here = dite (ℕ_discrete b c)
-      (λ e. let q : count_if c (b, n) ≡ n = ap (λ (z : ℕ). count_if z (b, n)) (sym e) ∙ count_here b n in let h = here e in omega (arith, greatest-last c seen (b, n)))
-      (λ ne. let q = count_else c b n ne in omega (arith, greatest-last c seen (b, n)))
+      (λ e. let q : value_at c (b, n) ≡ n = ap (λ (z : ℕ). value_at z (b, n)) (sym e) ∙ value_here b n in let h = here e in omega (arith, greatest-last c seen (b, n)))
+      (λ ne. let q = value_else c b n ne in omega (arith, greatest-last c seen (b, n)))
 
   pub loads : (slots id : ℕ) (me : M) (b : ℕ) → b < buffers → Allows Rule slots id me b (λ n. n) (Loads (step slots b 0 0 none) me)
   loads slots id me b small s r homes at _ = let n : ℕ = get_or s.words b 0 in let v : V = me.0 in let w : V = loaded v (b, n) in let mine = r.each id v at in

@@ -1,5 +1,6 @@
 -- Numbers that are read off lists of leaves, of counts that were seen and of buffers.
-use Rattle.std.specs.Prelude.{◌≡◌, ℕ, zero, suc, ◌+◌, ◌<◌, ◌≤◌, ◌==◌, max, Option, Some, None, List, [], ◌∷◌, if◌then◌else◌}
+use Rattle.std.specs.Prelude.{◌≡◌, ℕ, zero, suc, ◌+◌, ◌<◌, ◌≤◌, ◌==◌, Option, Some, None, List, [], ◌∷◌, if◌then◌else◌}
+use Rattle.sf_base.specs.Points.{greatest}
 use Rattle.sf_turns.specs.declared.protocol.Token.{Token}
 
 -- 1 where a is b, else 0
@@ -24,15 +25,6 @@ leaves_of b (p ∷ ps) = same b p.0 + leaves_of b ps
 abbrev pub stock_at : ℕ → List ℕ → ℕ
 stock_at b [] = 0
 stock_at b (x ∷ xs) = same b x + stock_at b xs
-
--- the count, where it is of the buffer b, else 0
-abbrev pub count_if : ℕ → ℕ × ℕ → ℕ
-count_if b p = if p.0 == b then p.1 else 0
-
--- the greatest count seen of the buffer b, 0 where none was seen
-abbrev pub greatest : ℕ → List (ℕ × ℕ) → ℕ
-greatest b [] = 0
-greatest b (p ∷ ps) = max (count_if b p) (greatest b ps)
 
 -- 1 where the token is the turn k of the buffer b, else 0
 abbrev pub token_at : {T : Type 0} → ℕ → ℕ → Option (Token T) → ℕ

@@ -12,7 +12,8 @@ use Rattle.sf_turns.specs.declared.protocol.Home.{Home}
 use Rattle.sf_turns.specs.declared.protocol.Home.TheVariants.{Vacant, Full, Said}
 use Rattle.sf_turns.specs.declared.protocol.Stage.{Stage}
 use Rattle.sf_turns.specs.declared.protocol.Stage.TheVariants.{Away, Inside, Done}
-use Rattle.sf_turns.specs.Counts.{leaf_at, leaves_of, stock_at, greatest, token_at, range, IsExact}
+use Rattle.sf_turns.specs.Counts.{leaf_at, leaves_of, stock_at, token_at, range, IsExact}
+use Rattle.sf_base.specs.Points.{greatest}
 
 -- 1 for a thread's seat
 abbrev pub live_of : {T : Type 0} → Knows T → ℕ

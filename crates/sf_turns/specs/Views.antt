@@ -1,7 +1,8 @@
 -- What contracts see of seats, stocks and tokens, and what calls tell of seats.
-use Rattle.std.specs.Prelude.{◌≡◌, ℕ, ◌+◌, ◌-◌, ◌≤◌, Bool, true, false, List, [], ◌∷◌, ◌++◌}
+use Rattle.std.specs.Prelude.{◌≡◌, ℕ, ◌+◌, ◌-◌, ◌≤◌, ◌^◌, min, Bool, true, false, List, [], ◌∷◌, ◌++◌}
 use Rattle.atomic_table.specs.Seated.{TableId}
-use Rattle.sf_turns.specs.Counts.{greatest, leaves_of, IsExact}
+use Rattle.sf_turns.specs.Counts.{leaves_of, IsExact}
+use Rattle.sf_base.specs.Points.{greatest}
 
 -- The table, whether it is the first seat, how many seats were split off it and not joined, the
 -- turns that left through it or that it took in, as buffer and number, and the counts of leaves
@@ -45,6 +46,10 @@ pub record IssuedView (T : Type 0) : Type 0 where
 -- turn 0 of the buffer, whose pixels have the stamp
 abbrev pub first_turn : {T : Type 0} → PermitView → T → TurnView T
 first_turn permit stamp = record { table = permit.table; buffer = permit.buffer; number = 0; expects = stamp; loads = 0; shown = false }
+
+-- the turn after one more load, which is counted up to the greatest number of 64 bits
+abbrev pub loaded_once : {T : Type 0} → TurnView T → Bool → TurnView T
+loaded_once turn shown = record turn { loads = min (turn.loads + 1) (2 ^ 64 - 1); shown = shown }
 
 -- the turn, once the next was issued
 abbrev pub issued_with : {T : Type 0} → TurnView T → T → IssuedView T

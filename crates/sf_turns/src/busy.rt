@@ -1,4 +1,4 @@
-ghost use Rattle.std.specs.Prelude.{◌≡◌};
+ghost use Rattle.std.specs.Prelude.{◌≡◌, ◌<◌};
 ghost use Rattle.sf_turns.specs.Views.{Leaves, IsExactAlone};
 
 use crate::seat::TurnSeat;
@@ -34,9 +34,10 @@ impl<P: Stamped> Model for Busy<P> {
 }
 
 impl<P: Stamped> Busy<P> {
-    /// The number of its buffer.
+    /// The number of its buffer, one of the table's.
     pub fn buffer(&self) -> u32
-        ensures { result ≡ self.now.buffer }
+        ensures number { result ≡ self.now.buffer }
+        ensures inside { result < self.now.table.slots }
     {
         self.buffer
     }

@@ -1,4 +1,4 @@
-ghost use Rattle.std.specs.Prelude.{◌≡◌, IfOk, IfErr};
+ghost use Rattle.std.specs.Prelude.{◌≡◌, ◌<◌, IfOk, IfErr};
 ghost use Rattle.sf_turns.specs.Views.{issued_with, heir_expecting};
 
 use crate::busy::Busy;
@@ -38,9 +38,10 @@ impl<P: Stamped> Model for Inside<P> {
 }
 
 impl<P: Stamped> Inside<P> {
-    /// The number of its buffer.
+    /// The number of its buffer, one of the table's.
     pub fn buffer(&self) -> u32
-        ensures { result ≡ self.now.buffer }
+        ensures number { result ≡ self.now.buffer }
+        ensures inside { result < self.now.table.slots }
     {
         self.buffer
     }

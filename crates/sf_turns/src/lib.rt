@@ -7,6 +7,7 @@
 
 mod busy;
 mod inside;
+mod naming;
 mod open;
 mod owed;
 mod painted;
@@ -14,13 +15,12 @@ mod protocol;
 mod seat;
 mod stamped;
 mod stock;
-#[cfg(test)]
-mod tests;
 mod turn;
 mod turn_table;
 
 pub use busy::Busy;
 pub use inside::Inside;
+pub use naming::TableName;
 pub use open::open_turns;
 pub use owed::Owed;
 pub use seat::TurnSeat;

@@ -11,13 +11,14 @@ use sf_base::NoMemory;
 use std::alloc::Global;
 use std::sync::Arc;
 
-/// The table of a run: its first seat, and a stock of that many buffers, all numbers below
-/// `buffers`. Only want of memory refuses it.
+/// The table of a run, which has that many buffers: its first seat, and the stock of all of them,
+/// whose numbers are those below `buffers`. Only want of memory refuses it.
 pub fn open_turns<P: Stamped>(
     alloc: Global,
     buffers: u32,
 ) -> Result<(TurnSeat<P>, Stock<P>), NoMemory>
     ensures table { IfOk result (λ r. r.1.table ≡ r.0.table) }
+    ensures buffers { IfOk result (λ r. r.0.table.slots ≡ buffers) }
     ensures seat { IfOk result (λ r. (r.0.is_first ≡ true) × (r.0.out ≡ 0) × (r.0.leaves ≡ []) × (r.0.seen ≡ [])) }
     ensures stock { IfOk result (λ r. r.1.buffers ≡ range 0 buffers) }
 {

@@ -35,9 +35,10 @@ impl<P: Stamped> Model for Owed<P> {
 }
 
 impl<P: Stamped> Owed<P> {
-    /// The number of its buffer.
+    /// The number of its buffer, one of the table's.
     pub fn buffer(&self) -> u32
-        ensures { result ≡ self.now.buffer }
+        ensures number { result ≡ self.now.buffer }
+        ensures inside { result < self.now.table.slots }
     {
         self.buffer
     }

@@ -60,6 +60,14 @@ impl<P: Stamped> TurnSeat<P> {
         self.table.join(&mut self.seat, seat);
     }
 
+    /// Tells, without a load, that a first seat with no other out has all turns that left, each
+    /// once, and has seen no more.
+    pub fn exact(&self)
+        ensures { IsExactAlone self.now }
+    {
+        let _ = &self.seat;
+    }
+
     /// How many turns of a buffer have left, by one load.
     pub(crate) fn load_leaves(&mut self, buffer: u32) -> u64
         requires { buffer < self.old.table.slots }

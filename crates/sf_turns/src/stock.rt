@@ -98,9 +98,10 @@ impl<P: Stamped> Stock<P> {
 }
 
 impl<P: Stamped> Permit<P> {
-    /// The number of the buffer that it may open.
+    /// The number of the buffer that it may open, one of the table's.
     pub fn buffer(&self) -> u32
-        ensures { result ≡ self.now.buffer }
+        ensures number { result ≡ self.now.buffer }
+        ensures inside { result < self.now.table.slots }
     {
         self.buffer
     }

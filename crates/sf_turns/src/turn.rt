@@ -1,8 +1,8 @@
 ghost use Rattle.std.specs.Arc.{arc_value};
-ghost use Rattle.std.specs.Prelude.{◌≡◌, ℕ, ◌+◌, ◌-◌, ◌<◌, ◌≤◌, ◌^◌, ◌↔◌, ◌⊎◌, false, [], Some, None, IfOk, IfErr, IsTrue, MatchResult};
+ghost use Rattle.std.specs.Prelude.{◌≡◌, ℕ, ◌<◌, ◌≤◌, ◌↔◌, false, [], Some, None, IfOk, IfErr, IsTrue, MatchResult};
 ghost use Rattle.sf_turns.specs.declared.protocol.Stage.TheVariants as stage;
 ghost use Rattle.sf_turns.specs.Rule.{IsAside};
-ghost use Rattle.sf_turns.specs.Views.{Observes, issued_with, heir_expecting, IsExactAlone};
+ghost use Rattle.sf_turns.specs.Views.{Observes, issued_with, heir_expecting, loaded_once, IsExactAlone};
 
 use crate::inside::Inside;
 use crate::owed::Owed;
@@ -40,9 +40,10 @@ impl<P: Stamped> Model for Turn<P> {
 }
 
 impl<P: Stamped> Turn<P> {
-    /// The number of its buffer.
+    /// The number of its buffer, one of the table's.
     pub fn buffer(&self) -> u32
-        ensures { result ≡ self.now.buffer }
+        ensures number { result ≡ self.now.buffer }
+        ensures inside { result < self.now.table.slots }
     {
         self.buffer
     }
@@ -62,13 +63,13 @@ impl<P: Stamped> Turn<P> {
     }
 
     /// Whether all turns before it have left, as one load through the seat shows it. Once it is
-    /// true, `enter` through this seat succeeds. The turn counts these loads, up to the greatest
-    /// number, and keeps what the last one showed.
+    /// true, `enter` through this seat succeeds. The turn counts this load, up to the greatest
+    /// number, and keeps what it showed.
     pub fn ready(&mut self, seat: &mut TurnSeat<P>) -> bool
         requires { self.old.table ≡ seat.old.table }
         ensures observed { (n : ℕ) × Observes seat.old self.old.buffer n seat.new × (IsTrue result ↔ (self.old.number ≤ n)) }
-        ensures turn { self.new ≡ record self.old { loads = self.new.loads; shown = result } }
-        ensures counted { (self.old.loads ≤ self.new.loads) × ((self.new.loads ≡ self.old.loads + 1) ⊎ (self.new.loads ≡ 2 ^ 64 - 1)) }
+        ensures counted { self.new ≡ loaded_once self.old result }
+        ensures risen { self.old.loads ≤ self.new.loads }
         ensures exact { IsExactAlone seat.new }
     {
         let count = seat.load_leaves(self.buffer);

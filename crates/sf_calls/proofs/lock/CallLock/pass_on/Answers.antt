@@ -18,6 +18,6 @@ fetch_add-served-requires g c = let i = c.self.invariant in let x = c.exchange.e
       x.0 ∙ (c.requires.own ∙ sym c.self.view_is),
       omega arith,
       passes g.O.Object.history g.O.Object.mark g.O.Object.answers _ _ _ _ c.args.object c.requires.grown.0 held in_ live
-          (c.requires.grown.1 ∙ ap (λ (m : M). m.0.found ++ c.requires.grown.0) (sym x.3)) (ap (λ (m : M). m.0.mark) x.3 ∙ c.requires.marked) c.requires.legal
+          (c.requires.grown.1 ∙ ap (λ (m : M). c.requires.grown.0 ++ m.0.found) (sym x.3)) (ap (λ (m : M). m.0.mark) x.3 ∙ c.requires.marked) c.requires.legal
           (λ b ne. c.requires.grown.2 b (λ e. ne (e ∙ ap (λ (m : M). m.0.by) (sym x.3)))),
     )

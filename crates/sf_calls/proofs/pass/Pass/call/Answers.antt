@@ -1,19 +1,17 @@
-use Rattle.std.proofs.Common.{◌≡◌, List, [], ◌∷◌, ◌++◌, Option, Some, sym, ap, ◌∙◌, subst}
+use Rattle.std.proofs.Common.{◌≡◌, List, [], ◌∷◌, Option, Some, sym, ap, ◌∙◌, subst}
 use Rattle.atomic_table.specs.Table.{Me}
 use Rattle.sf_calls.specs.declared.protocol.Knows.{Knows}
 use Rattle.sf_calls.specs.declared.object.Entry.{Entry}
 use Rattle.sf_calls.specs.Histories.{IsLegal, entry}
 use Rattle.sf_calls.specs.Views.{PassView, pass_view}
 use Rattle.sf_calls.specs.Calling.{Made, Waited}
-use Rattle.sf_calls.proofs.Histories.{legal_snoc}
 use Rattle.sf_calls.proofs.Calling.{made, waited, unchanged, other_calls}
 use Rattle.sf_calls.proofs.pass.Pass.call.Goals as goal
 
 pub pass_on-requires-clause-legal : goal.pass_on-requires-clause-legal
 pass_on-requires-clause-legal g c =
     let d = c.in-Done.ensures.done in let en = c.enter-object.ensures in
-    subst (λ (z : g.row.O-Mark.Denot × List (Entry g.row.O-PlainCall.Denot g.row.O-PlainReply.Denot)). IsLegal (g.O.Object.answers z.0) z.1) (λ i. (sym c.apply.ensures.mark i, sym d.0 i))
-    (legal_snoc (g.O.Object.answers (g.O.Object.mark c.enter-object.result)) _ (entry c.self.inside.by (g.O.Object.plain_call c.args.call) (g.O.Object.plain_reply c.in-Done.reply)) en.legal d.1)
+    subst (λ (z : g.row.O-Mark.Denot × List (Entry g.row.O-PlainCall.Denot g.row.O-PlainReply.Denot)). IsLegal (g.O.Object.answers z.0) z.1) (λ i. (sym c.apply.ensures.mark i, sym d.0 i)) (d.1, en.legal)
 
 pub pass_on-requires-clause-grown : goal.pass_on-requires-clause-grown
 pass_on-requires-clause-grown g c =
@@ -21,7 +19,7 @@ pass_on-requires-clause-grown g c =
     let M : Type 0 = Me (Option g.row.O.Denot) (Knows g.row.O-PlainCall.Denot g.row.O-PlainReply.Denot g.row.O-Mark.Denot) in
     let e : Entry g.row.O-PlainCall.Denot g.row.O-PlainReply.Denot = entry c.self.inside.by (g.O.Object.plain_call c.args.call) (g.O.Object.plain_reply c.in-Done.reply) in (
       e ∷ [],
-      d.0 ∙ ap (λ (z : List (Entry g.row.O-PlainCall.Denot g.row.O-PlainReply.Denot)). z ++ e ∷ []) (sym (ap (λ (m : M). m.0.found) en.entered)),
+      d.0 ∙ ap (λ (z : List (Entry g.row.O-PlainCall.Denot g.row.O-PlainReply.Denot)). e ∷ z) (sym (ap (λ (m : M). m.0.found) en.entered)),
       λ b ne. other_calls b e (λ z. ne (sym z ∙ (sym c.self.invariant.1 ∙ (sym (ap (λ (m : M). m.0.by) dr.drawn) ∙ sym (ap (λ (m : M). m.0.by) en.entered))))),
     )
 
@@ -52,7 +50,7 @@ returns-in-NotYet-clause-not_yet g c =
           c.self.inside.seat.table_id c.pass_on-in-NotYet.new.seat.table_id c.draw-ticket.result c.self.inside.by
           (g.O.Object.history c.enter-object.result) (g.O.Object.history c.apply.new.self)
           (ap (λ (m : M). m.0) dr.drawn) (ap (λ (m : M). m.0) en.entered) (ap (λ (m : M). m.0) p.1) (p.0 ∙ (en.same.0 ∙ dr.same.0)) en.legal en.begins en.own_calls (sym c.self.invariant.1)
-          (g.O.Object.plain_call c.args.call) d.0 d.2
+          (g.O.Object.plain_call c.args.call) (ap g.O.Object.history d.0) d.2
           ),
     )
 

@@ -1,6 +1,6 @@
 use Rattle.std.proofs.Common.{◌≡◌, ℕ, List, length, take, refl, ap, ◌∙◌, arith}
 use Rattle.std.proofs.Math.Seq.{take-length}
-use Rattle.sf_times.specs.Points.{points_from}
+use Rattle.sf_base.specs.Points.{points_from}
 use Rattle.sf_times.specs.Views.{SeatView}
 use Rattle.sf_times.proofs.Sweep.{starts, goes_on, after_loads}
 use Rattle.sf_times.proofs.seat.TimeSeat.see_all.Goals as goal

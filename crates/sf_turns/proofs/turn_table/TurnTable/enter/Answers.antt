@@ -4,8 +4,8 @@ use Rattle.atomic_table.specs.Table.{Me, rest}
 use Rattle.sf_turns.specs.declared.protocol.Knows.{Knows}
 use Rattle.sf_turns.specs.declared.protocol.Home.{Home}
 use Rattle.sf_turns.specs.declared.protocol.Home.TheVariants.{Full}
-use Rattle.sf_turns.specs.Counts.{greatest}
-use Rattle.sf_turns.proofs.Tallies.{greatest-append}
+use Rattle.sf_base.specs.Points.{greatest}
+use Rattle.sf_base.proofs.PointLemmas.{greatest-append}
 use Rattle.sf_turns.proofs.Steps.{tells, enters_at}
 use Rattle.sf_turns.proofs.turn_table.TurnTable.enter.Goals as goal
 

@@ -1,8 +1,9 @@
--- What the counter of this crate's tests answers: it adds numbers up to a total of 1000.
-use Rattle.std.specs.Prelude.{◌≡◌, ℕ, ◌+◌, ◌<◌, List, sum_by}
+-- What the counter under a lock answers: it adds numbers up to a total of 1000.
+use Rattle.std.specs.Prelude.{◌≡◌, ℕ, ◌+◌, ◌<◌, ◌≤◌, List, sum_by}
 use Rattle.sf_calls.specs.declared.object.Entry.{Entry}
 use Rattle.sf_calls.specs.declared.object.Answer.{Answer}
 use Rattle.sf_calls.specs.declared.object.Answer.TheVariants.{Replies, Waits}
+use Rattle.sf_calls.specs.Histories.{IsLegal}
 
 -- what the calls of a history add up to
 abbrev pub total_of : List (Entry ℕ ℕ) → ℕ
@@ -12,3 +13,9 @@ total_of log = sum_by (λ (e : Entry ℕ ℕ). e.call) log
 abbrev pub Counts : List (Entry ℕ ℕ) → ℕ → Answer ℕ → Type 0
 Counts log call (Replies r) = r ≡ total_of log + call
 Counts log call Waits = 1000 < total_of log + call
+
+-- what the counter keeps of its total and its calls
+pub record IsCounted (total : ℕ) (log : List (Entry ℕ ℕ)) : Type 0 where
+  pub sum : total ≡ total_of log
+  pub small : total ≤ 1000
+  pub legal : IsLegal (λ earlier by call answer. Counts earlier call answer) log

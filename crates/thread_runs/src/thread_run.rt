@@ -1,0 +1,117 @@
+//! What two threads do at once. Each line is a word and how often.
+ghost use Rattle.std.specs.Prelude.{◌≡◌, Some, IfOk};
+
+use crate::counter::Counter;
+use crate::lock_run::Run;
+use crate::{signals_run, write_run};
+use sf_base::NoMemory;
+use sf_calls::{CallFault, CallLock, Pass};
+use std::alloc::Global;
+use std::sync::Wait;
+use std::thread::{Threads, join};
+
+/// What both callers add: it fits into the total once.
+const NUMBER: u64 = 600;
+
+/// Adds the number. The total, or none where the call came back.
+fn add_once<W: Wait>(
+    rt: &W,
+    lock: &CallLock<Counter>,
+    pass: Pass<Counter>,
+) -> Result<(Pass<Counter>, Option<u64>), NoMemory>
+    requires own { pass.table ≡ lock.now }
+    requires marked { pass.mark ≡ Some tt }
+    ensures { IfOk result (λ r. r.0 ≡ record pass { seen = r.0.seen; turns = r.0.turns }) }
+{
+    let mut pass = pass;
+    match pass.call(lock, rt, NUMBER) {
+        Ok(total) => Ok((pass, Some(total))),
+        Err(CallFault::NotYet(_)) => Ok((pass, None)),
+        Err(CallFault::NoMemory(_)) => Err(NoMemory),
+    }
+}
+
+/// Both callers add on a thread of their own: the counter, and what each got.
+fn add_both<R: Threads + Wait + Sync>(
+    rt: &R,
+    alloc: Global,
+) -> Result<(Counter, Option<u64>, Option<u64>), NoMemory> {
+    let Run {
+        lock,
+        first,
+        second,
+    } = Run::open(alloc)?;
+    let shared = &lock;
+    let (one, two) = join(
+        rt,
+        || -> Result<(Pass<Counter>, Option<u64>), NoMemory>
+            requires { (first.table ≡ shared.now) × (first.mark ≡ Some tt) }
+            ensures { IfOk result (λ r. r.0 ≡ record first { seen = r.0.seen; turns = r.0.turns }) }
+        { add_once(rt, shared, first) },
+        || -> Result<(Pass<Counter>, Option<u64>), NoMemory>
+            requires { (second.table ≡ shared.now) × (second.mark ≡ Some tt) }
+            ensures { IfOk result (λ r. r.0 ≡ record second { seen = r.0.seen; turns = r.0.turns }) }
+        { add_once(rt, shared, second) },
+    );
+    let (first, x) = one?;
+    let (second, y) = two?;
+    let run = Run {
+        lock,
+        first,
+        second,
+    };
+    Ok((run.close()?, x, y))
+}
+
+/// Whether one of the calls is the whole history, and the other came back.
+fn has_one_call(counter: &Counter, first: Option<u64>, second: Option<u64>) -> bool {
+    match counter.calls() {
+        [call] => {
+            let (caller, other) = if call.by == 1 {
+                (first, second)
+            } else {
+                (second, first)
+            };
+            counter.total() == NUMBER && caller == Some(call.reply) && other.is_none()
+        }
+        _ => false,
+    }
+}
+
+fn add_rounds<R: Threads + Wait + Sync>(
+    rt: &R,
+    alloc: Global,
+    rounds: u64,
+) -> Result<String, NoMemory> {
+    let mut shared = 0u64;
+    for _ in 0..rounds {
+        let (counter, first, second) = add_both(rt, alloc)?;
+        if has_one_call(&counter, first, second) {
+            shared = shared.saturating_add(1);
+        }
+    }
+    Ok(format!(in alloc; "{shared} with one call made and one that came back")?)
+}
+
+pub fn play<R: Threads + Wait + Sync>(
+    rt: &R,
+    alloc: Global,
+    lines: &[String],
+) -> Result<Vec<String>, NoMemory> {
+    let mut answers = Vec::new(alloc);
+    for line in lines {
+        let words: Vec<&str> = line.split_whitespace().collect(alloc)?;
+        let (word, count) = match *words {
+            [word, count] => (word, count.parse().unwrap_or(0)),
+            _ => ("", 0),
+        };
+        let answer = match word {
+            "signals" => signals_run::play(rt, alloc, count)?,
+            "writes" => write_run::play(rt, alloc, count)?,
+            "adds" => add_rounds(rt, alloc, count)?,
+            _ => String::from_str(alloc, "no call")?,
+        };
+        answers.push(format!(in alloc; "{line}: {answer}")?)?;
+    }
+    Ok(answers)
+}
