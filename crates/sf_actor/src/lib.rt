@@ -14,8 +14,6 @@ mod holding;
 mod operation;
 mod refusal;
 mod table;
-#[cfg(test)]
-mod tests;
 
 pub use actor::{Actor, Stepped};
 pub use desk::Desk;

@@ -8,15 +8,11 @@
 
 mod history;
 mod laws;
-#[cfg(test)]
-mod picture_tests;
 mod play;
 mod queues;
 mod session;
 mod state;
 mod step;
-#[cfg(test)]
-mod tests;
 mod vsync;
 
 pub use laws::one_play;

@@ -9,7 +9,5 @@ mod frame;
 mod room;
 mod shown;
 mod stage;
-#[cfg(test)]
-mod tests;
 
 pub use stage::{Committed, ShownLease, Stage};

@@ -3,15 +3,13 @@ use Rattle.std.specs.Prelude.{◌≡◌, ℕ, ◌+◌, ◌*◌, ◌<◌, Bool, t
 use Rattle.std.specs.List.{flat_map, range_with_len}
 use Rattle.sf_base.specs.declared.geometry.Rect.{Rect}
 use Rattle.sf_base.specs.declared.pixel.Rgba.{Rgba}
-use Rattle.sf_picture.specs.declared.picture.Picture.{Picture}
-use Rattle.sf_picture.specs.Pixels.{pixel_in}
+use Rattle.sf_base.specs.Bytes.{pixel_in}
 use Rattle.sf_region.specs.Points.{has}
-use Rattle.sf_view.specs.Stacks.{view_image}
 use Rattle.sf_view.specs.Views.{ViewOf}
 
--- each point of the display that is in the part has the colour of the view's image
-pub record ShowsPart (picture : ℕ → Picture) (view : ViewOf) (part : List Rect) (frame : List ℕ) : Type 0 where
-  pub pixels : (x y : ℕ) → x < view.width → y < view.height → has part (pos x) (pos y) ≡ true → pixel_in frame (y * view.width + x) ≡ view_image picture view (pos x) (pos y)
+-- each point of the display that is in the part has the colour of an image
+pub record ShowsPart (view : ViewOf) (part : List Rect) (image : ℕ → ℕ → Rgba) (frame : List ℕ) : Type 0 where
+  pub pixels : (x y : ℕ) → x < view.width → y < view.height → has part (pos x) (pos y) ≡ true → pixel_in frame (y * view.width + x) ≡ image x y
 
 -- no other point of the display changed
 pub record KeepsRest (view : ViewOf) (part : List Rect) (old new : List ℕ) : Type 0 where

@@ -2,6 +2,7 @@
 use Rattle.std.specs.Prelude.{ℕ, ◌<◌, if◌then◌else◌, List, [], ◌∷◌, length, slice_index_or, ℤ, pos}
 use Rattle.std.specs.List.{AllZip}
 use Rattle.sf_base.specs.Paint.{painted}
+use Rattle.sf_base.specs.declared.format.Format.TheVariants as format
 use Rattle.sf_base.specs.declared.pixel.Rgba.{Rgba}
 use Rattle.sf_layer.specs.declared.shown.Shown.{Shown}
 use Rattle.sf_picture.specs.declared.picture.Picture.{Picture}
@@ -15,7 +16,7 @@ use Rattle.sf_compose.specs.Sources.{LiesIn}
 
 -- no picture, which stands for one at a place that the contents don't have
 abbrev pub no_picture : Picture
-no_picture = record { number = 0; width = 0; height = 0; fills = [] }
+no_picture = record { number = 0; width = 0; height = 0; fills = []; format = format.Rgba }
 
 abbrev pub content_at : List Picture → ℕ → Picture
 content_at contents source = slice_index_or contents source no_picture

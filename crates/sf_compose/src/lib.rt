@@ -1,18 +1,18 @@
 //! The image of a view: the drawn layers painted over one another, from the back, into the bytes
 //! of a frame. It is the last step of a frame's way: what a vsync latched is composed here, and
-//! only in the part that is asked for.
+//! only in the part that is asked for. Each layer goes row by row, one call of a row kernel for each.
 #![tactic(auto)]
 
+mod area;
 mod compose;
-mod frame;
-mod image;
-mod painted;
+mod contents;
+mod laws;
+mod layer;
 mod pixels;
-mod span;
-#[cfg(test)]
-mod tests;
+mod spans;
 mod whole;
 
 pub use compose::compose_one;
+pub use laws::what_is_read_is_the_image;
 pub use pixels::Pixels;
 pub use whole::compose_frame;

@@ -15,6 +15,3 @@ pub use gate::{Gate, OpenGate};
 pub use memory::{MemSink, MemSource};
 pub use streams::{ReadFault, WriteFault, put, read_all};
 pub use traits::{Failed, Sink, Source};
-
-#[cfg(test)]
-mod tests;

@@ -8,7 +8,7 @@ use Rattle.std.proofs.lemmas.Int.{ints}
 use Rattle.std.proofs.lemmas.Slice.Eq.{slice_eq-Decides}
 use Rattle.sf_base.specs.declared.geometry.Rect.{Rect}
 use Rattle.sf_region.specs.Edges.{place, left, right, top, bottom, first_place, past_all}
-use Rattle.sf_region.specs.Points.{IsNear}
+use Rattle.sf_region.specs.Points.{IsInBounds}
 use Rattle.sf_region.specs.Spans.{on, keeps, row, rect_of, rects_of, IsProper, AllAfter, IsSpread, AllEndBy}
 use Rattle.sf_region.specs.Canonical.{IsFull, AllFollow, IsBanded, Changes, IsCanonical}
 use Rattle.sf_region.specs.Bands.{IsAheadRows, FromFirst, Differ, IsBuilt, Turned, IsCombined}
@@ -22,8 +22,8 @@ append_nil [] = refl
 append_nil (x ∷ xs) = ap (λ z. x ∷ z) (append_nil xs)
 
 -- the rectangle of a span
-pub place_of : (n : ℕ) → place (pos n -ℤ pos 67108864) ≡ n
-place_of n = ⊎_elim
+pub place_back : (n : ℕ) → place (pos n -ℤ pos 67108864) ≡ n
+place_back n = ⊎_elim
     (λ (low : n < 67108864).
     let e : pos n -ℤ pos 67108864 ≡ negsuc (67108863 - n) = omega (arith, ints, low) in
     rw e (omega (arith, low)))
@@ -34,21 +34,21 @@ place_of n = ⊎_elim
 
 pub left_is : (s : Span) (t b : ℕ) → left (rect_of s t b) ≡ s.start
 unfolding left rect_of
-left_is s t b = place_of s.start
+left_is s t b = place_back s.start
 
 pub right_is : (s : Span) (t b : ℕ) → s.start ≤ s.end → right (rect_of s t b) ≡ s.end
 unfolding right rect_of
-right_is s t b h = rw (place_of s.start) (omega (arith, h))
+right_is s t b h = rw (place_back s.start) (omega (arith, h))
 
 pub top_is : (s : Span) (t b : ℕ) → top (rect_of s t b) ≡ t
 unfolding top rect_of
-top_is s t b = place_of t
+top_is s t b = place_back t
 
 pub bottom_is : (s : Span) (t b : ℕ) → t ≤ b → bottom (rect_of s t b) ≡ b
 unfolding bottom rect_of
-bottom_is s t b h = rw (place_of t) (omega (arith, h))
+bottom_is s t b h = rw (place_back t) (omega (arith, h))
 
-near_rect : (s : Span) (t b : ℕ) → IsProper s → first_place ≤ t → t < b → b ≤ past_all → IsNear (rect_of s t b)
+near_rect : (s : Span) (t b : ℕ) → IsProper s → first_place ≤ t → t < b → b ≤ past_all → IsInBounds (rect_of s t b)
 unfolding rect_of
 near_rect s t b p from h to = record {
   left = omega (arith, ints, p.from);

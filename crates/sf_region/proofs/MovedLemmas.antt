@@ -7,7 +7,8 @@ use Rattle.std.proofs.lemmas.Int.{ints, by_lt_z}
 use Rattle.std.proofs.lemmas.List.{take_more}
 use Rattle.sf_base.specs.declared.geometry.Rect.{Rect}
 use Rattle.sf_region.specs.Edges.{place, left, right, top, bottom}
-use Rattle.sf_region.specs.Points.{covers, has, moved, IsNear, StaysNear, neg_far}
+use Rattle.sf_base.specs.Geometry.{covers}
+use Rattle.sf_region.specs.Points.{has, moved, IsInBounds, StaysInBounds, neg_far}
 use Rattle.sf_region.specs.Spans.{row}
 use Rattle.sf_region.specs.Canonical.{IsFull, Follows, AllFollow, IsBanded, Changes, IsCanonical}
 use Rattle.sf_region.specs.declared.spans.Span.{Span}
@@ -52,7 +53,7 @@ record MovedEdges (mx nx my ny : ℕ) (r q : Rect) : Type 0 where
   top : top q + my ≡ top r + ny
   bottom : bottom q + my ≡ bottom r + ny
 
-edges_of : (dx dy : ℤ) (r : Rect) → IsNear r → IsNear (moved dx dy r) → MovedEdges (below dx) (above dx) (below dy) (above dy) r (moved dx dy r)
+edges_of : (dx dy : ℤ) (r : Rect) → IsInBounds r → IsInBounds (moved dx dy r) → MovedEdges (below dx) (above dx) (below dy) (above dy) r (moved dx dy r)
 unfolding left right top bottom moved
 edges_of dx dy r a b =
     let across : place (r.x +ℤ dx) + below dx ≡ place r.x + above dx = moved_place r.x dx a.left b.left in
@@ -62,7 +63,7 @@ edges_of dx dy r a b =
 -- each rectangle is near when it is moved
 abbrev pub AllNear : ℤ → ℤ → List Rect → Type 0
 AllNear dx dy [] = Unit {0}
-AllNear dx dy (r ∷ rs) = IsNear (moved dx dy r) × AllNear dx dy rs
+AllNear dx dy (r ∷ rs) = IsInBounds (moved dx dy r) × AllNear dx dy rs
 
 follows_moved : (mx nx my ny : ℕ) (r r' q q' : Rect) → MovedEdges mx nx my ny r r' → MovedEdges mx nx my ny q q' → Follows r q → Follows r' q'
 follows_moved mx nx my ny r r' q q' a b f = ⊎_elim
@@ -71,10 +72,10 @@ follows_moved mx nx my ny r r' q q' a b f = ⊎_elim
     inr (omega (arith, here.0, a.top, b.top), omega (arith, here.1, a.bottom, b.bottom), omega (arith, here.2, a.right, b.left)))
     f
 
-full_moved : (mx nx my ny : ℕ) (r q : Rect) → MovedEdges mx nx my ny r q → IsNear q → IsFull r → IsFull q
+full_moved : (mx nx my ny : ℕ) (r q : Rect) → MovedEdges mx nx my ny r q → IsInBounds q → IsFull r → IsFull q
 full_moved mx nx my ny r q e near f = record { near = near; wide = omega (arith, e.left, e.right, f.wide); high = omega (arith, e.top, e.bottom, f.high) }
 
-follow_moved : (dx dy : ℤ) (r : Rect) (rs : List Rect) → IsNear r → IsNear (moved dx dy r) → IsBanded rs → AllNear dx dy rs → AllFollow r rs → AllFollow (moved dx dy r) (map (moved dx dy) rs)
+follow_moved : (dx dy : ℤ) (r : Rect) (rs : List Rect) → IsInBounds r → IsInBounds (moved dx dy r) → IsBanded rs → AllNear dx dy rs → AllFollow r rs → AllFollow (moved dx dy r) (map (moved dx dy) rs)
 follow_moved dx dy r [] near near' b a f = tt
 follow_moved dx dy r (q ∷ qs) near near' b a f =
     (follows_moved _ _ _ _ r (moved dx dy r) q (moved dx dy q) (edges_of dx dy r near near') (edges_of dx dy q b.0.near a.0) f.0, follow_moved dx dy r qs near near' b.2 a.1 f.1)
@@ -179,7 +180,7 @@ sizes : (r : Rect) → IsFull r → (0 < r.width) × (0 < r.height)
 unfolding left right top bottom
 sizes r f = (omega (arith, f.wide), omega (arith, f.high))
 
-near_moved : (dx dy : ℤ) (r : Rect) (rs : List Rect) → IsFull r → StaysNear dx dy (r ∷ rs) → IsNear (moved dx dy r)
+near_moved : (dx dy : ℤ) (r : Rect) (rs : List Rect) → IsFull r → StaysInBounds dx dy (r ∷ rs) → IsInBounds (moved dx dy r)
 unfolding moved
 near_moved dx dy r rs f stays =
     let size = sizes r f in
@@ -194,11 +195,11 @@ near_moved dx dy r rs f stays =
       bottom = omega (arith, ints, last.3);
     }
 
-pub stays_near : (dx dy : ℤ) (rs : List Rect) → IsBanded rs → StaysNear dx dy rs → AllNear dx dy rs
+pub stays_near : (dx dy : ℤ) (rs : List Rect) → IsBanded rs → StaysInBounds dx dy rs → AllNear dx dy rs
 stays_near dx dy [] b s = tt
 stays_near dx dy (r ∷ rs) b s = (near_moved dx dy r rs b.0 s, stays_near dx dy rs b.2 (λ x y h. s x y (or_right _ _ h)))
 
-pub all_from : (dx dy : ℤ) (rs : List Rect) → AllNear dx dy rs → All (λ r. IsNear (moved dx dy r)) rs
+pub all_from : (dx dy : ℤ) (rs : List Rect) → AllNear dx dy rs → All (λ r. IsInBounds (moved dx dy r)) rs
 all_from dx dy [] a k d h = absurd (omega (arith, h))
 all_from dx dy (r ∷ rs) a zero d h = a.0
 all_from dx dy (r ∷ rs) a (suc k) d h = all_from dx dy rs a.1 k d (omega (arith, h))

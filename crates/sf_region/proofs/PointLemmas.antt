@@ -6,7 +6,8 @@ use Rattle.std.proofs.lemmas.Int.{ints, by_lt_z}
 use Rattle.std.specs.Prelude.{slice_index_or, take}
 use Rattle.sf_base.specs.declared.geometry.Rect.{Rect}
 use Rattle.sf_region.specs.Edges.{place, left, right, top, bottom}
-use Rattle.sf_region.specs.Points.{covers, has, IsNear, neg_far}
+use Rattle.sf_base.specs.Geometry.{covers}
+use Rattle.sf_region.specs.Points.{has, IsInBounds, neg_far}
 use Rattle.sf_region.specs.Spans.{on, keeps, row, rect_of, rects_of, IsProper, IsSpread}
 use Rattle.sf_region.specs.Canonical.{IsFull, IsBanded, IsCanonical, IsDisjoint}
 use Rattle.sf_region.specs.declared.spans.Span.{Span}
@@ -68,7 +69,7 @@ more_far z n h = omega (arith, ints, h)
 within_place : (z x : ℤ) (n : ℕ) → neg_far ≤ℤ z → (int_le z x && int_lt x (z +ℤ pos n)) ≡ (nat_le (place z) (place x) && nat_lt (place x) (place z + n))
 within_place z x n h = rw (le_place z x h, lt_place x (z +ℤ pos n) (more_far z n h), place_plus z n h) refl
 
-covers_is : (r : Rect) (x y : ℤ) → IsNear r → covers r x y ≡ ((nat_le (left r) (place x) && nat_lt (place x) (right r)) && (nat_le (top r) (place y) && nat_lt (place y) (bottom r)))
+covers_is : (r : Rect) (x y : ℤ) → IsInBounds r → covers r x y ≡ ((nat_le (left r) (place x) && nat_lt (place x) (right r)) && (nat_le (top r) (place y) && nat_lt (place y) (bottom r)))
 unfolding covers left right top bottom
 covers_is r x y near = rw (within_place r.x x r.width near.left, within_place r.y y r.height near.top) refl
 
@@ -105,11 +106,11 @@ combined_points how out first second a b c is x y =
     has_is out x y a ∙ (is (place x) (place y) ∙ rw (has_is first x y b, has_is second x y c) refl)
 
 -- one rectangle
-is_full : (r : Rect) → IsNear r → 0 < r.width → 0 < r.height → IsFull r
+is_full : (r : Rect) → IsInBounds r → 0 < r.width → 0 < r.height → IsFull r
 unfolding left right top bottom
 is_full r near wide high = record { near = near; wide = omega (arith, wide); high = omega (arith, high) }
 
-pub one_canonical : (r : Rect) → IsNear r → 0 < r.width → 0 < r.height → IsCanonical (r ∷ [])
+pub one_canonical : (r : Rect) → IsInBounds r → 0 < r.width → 0 < r.height → IsCanonical (r ∷ [])
 one_canonical r near wide high =
     let full = is_full r near wide high in
     record {

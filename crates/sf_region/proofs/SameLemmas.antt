@@ -5,19 +5,19 @@ use Rattle.std.specs.Prelude.{◌&&◌, nat_eq}
 use Rattle.std.specs.Bool.{Decides}
 use Rattle.std.specs.Ordering.{int_eq}
 use Rattle.std.specs.Cmp.Lexicographic.{pointwise}
-use Rattle.std.proofs.lemmas.Bool.{cases_lt, false≢true, or_left, or_from, and_parts, and_from, eqb-true, eq-eqb}
-use Rattle.std.proofs.lemmas.Bool.Decides.{Decides-int_eq}
+use Rattle.std.proofs.lemmas.Bool.{cases_lt, false≢true, or_left, or_from}
 use Rattle.std.proofs.lemmas.Slice.Eq.{slice_eq-Decides}
 use Rattle.std.proofs.lemmas.Int.{ints}
+use Rattle.sf_base.proofs.Deciding.{rect_decides}
 use Rattle.sf_base.specs.declared.geometry.Rect.{Rect}
 use Rattle.sf_region.specs.Edges.{place, left, right, top, bottom}
-use Rattle.sf_region.specs.Points.{has, IsNear, neg_far}
+use Rattle.sf_region.specs.Points.{has, IsInBounds, neg_far}
 use Rattle.sf_region.specs.Spans.{on, row, IsSpread}
 use Rattle.sf_region.specs.Canonical.{IsFull, AllFollow, IsBanded, Changes, IsCanonical}
 use Rattle.sf_region.specs.declared.spans.Span.{Span}
 use Rattle.sf_region.proofs.SpanLemmas.{span_in, span_before, span_after, on_after, on_dropped}
 use Rattle.sf_region.proofs.RowLemmas.{row_in, row_above, row_below, row_over, spread_row}
-use Rattle.sf_region.proofs.BandLemmas.{span_same, place_of, no_span}
+use Rattle.sf_region.proofs.BandLemmas.{span_same, place_back, no_span}
 use Rattle.sf_region.proofs.PointLemmas.{has_is}
 
 -- spans
@@ -114,7 +114,7 @@ pub rect_by : (r q : Rect) → r.x ≡ q.x → r.y ≡ q.y → r.width ≡ q.wid
 rect_by r q a b c d =
     let e : record { x = r.x; y = r.y; width = r.width; height = r.height } ≡ record { x = q.x; y = q.y; width = q.width; height = q.height } = rw (a, b, c, d) refl in e
 
-same_rect : (r q : Rect) → IsNear r → IsNear q → left r ≡ left q → right r ≡ right q → top r ≡ top q → bottom r ≡ bottom q → r ≡ q
+same_rect : (r q : Rect) → IsInBounds r → IsInBounds q → left r ≡ left q → right r ≡ right q → top r ≡ top q → bottom r ≡ bottom q → r ≡ q
 unfolding left right top bottom
 same_rect r q a b l rr t bb = rect_by r q (place_same r.x q.x a.left b.left l) (place_same r.y q.y a.top b.top t) (omega (arith, l, rr)) (omega (arith, t, bb))
 
@@ -178,27 +178,13 @@ same_region rs qs a b is =
     let at : (x y : ℕ) → on (row rs y) x ≡ on (row qs y) x = λ x y.
     let zx : ℤ = pos x -ℤ pos 67108864 in
     let zy : ℤ = pos y -ℤ pos 67108864 in
-    let one : has rs zx zy ≡ on (row rs y) x = has_is rs zx zy a.banded ∙ rw (place_of x, place_of y) refl in
-    let two : has qs zx zy ≡ on (row qs y) x = has_is qs zx zy b.banded ∙ rw (place_of x, place_of y) refl in
+    let one : has rs zx zy ≡ on (row rs y) x = has_is rs zx zy a.banded ∙ rw (place_back x, place_back y) refl in
+    let two : has qs zx zy ≡ on (row qs y) x = has_is qs zx zy b.banded ∙ rw (place_back x, place_back y) refl in
     sym one ∙ (is zx zy ∙ two) in
     let rows : (y : ℕ) → row rs y ≡ row qs y = λ y. same_spans (row rs y) (row qs y) (spread_row rs y a.banded) (spread_row qs y b.banded) (λ x. at x y) in
     same_lists rs qs rs qs rows (each_apart rs a.banded) (each_apart qs b.banded) a.banded b.banded a.changes b.changes rows
 
 -- whether two lists of rectangles are the same
-both : (a b : Bool) (P Q : Type 0) → Decides a P → Decides b Q → Decides (a && b) (P × Q)
-both a b P Q d e =
-    ((λ t. let parts = and_parts a b t in (d.0 parts.0, e.0 parts.1)), (λ h. and_from a b (d.1 h.0) (e.1 h.1)))
-
-nat_decides : (m n : ℕ) → Decides (nat_eq m n) (m ≡ n)
-nat_decides m n = ((λ t. eqb-true m n t), (λ e. eq-eqb m n e))
-
-pub rect_decides : (r q : Rect) → Decides (int_eq r.x q.x && (int_eq r.y q.y && (nat_eq r.width q.width && nat_eq r.height q.height))) (r ≡ q)
-rect_decides r q =
-    let all = both _ _ _ _ (Decides-int_eq r.x q.x) (both _ _ _ _ (Decides-int_eq r.y q.y) (both _ _ _ _ (nat_decides r.width q.width) (nat_decides r.height q.height))) in (
-      (λ t. let e = all.0 t in rect_by r q e.0 e.1.0 e.1.1.0 e.1.1.1),
-      (λ e. all.1 (ap (λ (z : Rect). z.x) e, (ap (λ (z : Rect). z.y) e, (ap (λ (z : Rect). z.width) e, ap (λ (z : Rect). z.height) e)))),
-    )
-
 pub lists_decide : (rs qs : List Rect) (b : Bool)
     → b ≡ pointwise (λ (r q : Rect). int_eq r.x q.x && (int_eq r.y q.y && (nat_eq r.width q.width && nat_eq r.height q.height))) rs qs → Decides b (rs ≡ qs)
 lists_decide rs qs b is = slice_eq-Decides rect_decides rs qs b is

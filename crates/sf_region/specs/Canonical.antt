@@ -5,12 +5,13 @@
 use Rattle.std.specs.Prelude.{ℤ, true, false, ◌<◌, ◌≤◌, ◌≡◌, ◌≢◌, ◌⊎◌, List, [], ◌∷◌}
 use Rattle.sf_base.specs.declared.geometry.Rect.{Rect}
 use Rattle.sf_region.specs.Edges.{left, right, top, bottom}
-use Rattle.sf_region.specs.Points.{IsNear, covers, has}
+use Rattle.sf_base.specs.Geometry.{covers}
+use Rattle.sf_region.specs.Points.{IsInBounds, has}
 use Rattle.sf_region.specs.Spans.{row}
 
 -- a rectangle with a point in it
 pub record IsFull (r : Rect) : Type 0 where
-  pub near : IsNear r
+  pub near : IsInBounds r
   pub wide : left r < right r
   pub high : top r < bottom r
 

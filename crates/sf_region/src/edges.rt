@@ -1,6 +1,6 @@
 ghost use Rattle.std.specs.Prelude.{◌≡◌, ◌<◌, ◌≤◌};
 ghost use Rattle.sf_region.specs.Edges.{left, right, top, bottom, past_all};
-ghost use Rattle.sf_region.specs.Points.{IsNear};
+ghost use Rattle.sf_region.specs.Points.{IsInBounds};
 ghost use Rattle.sf_region.specs.Spans.{rect_of};
 
 use crate::spans::Span;
@@ -12,7 +12,7 @@ const ORIGIN: i32 = -67108864;
 /// The span of a rectangle in each of its rows.
 #[tactic(auto, unfolding(crate::specs::Edges::left, crate::specs::Edges::right))]
 pub fn span_of(rect: &Rect) -> Span
-    requires { IsNear rect.now }
+    requires { IsInBounds rect.now }
     ensures { result ≡ record { start = left rect.now; end = right rect.now } }
 {
     let start = (rect.x - ORIGIN) as u32;
@@ -25,7 +25,7 @@ pub fn span_of(rect: &Rect) -> Span
 /// The first row of a rectangle.
 #[tactic(auto, unfolding(crate::specs::Edges::top))]
 pub fn top_of(rect: &Rect) -> u32
-    requires { IsNear rect.now }
+    requires { IsInBounds rect.now }
     ensures { result ≡ top rect.now }
 {
     (rect.y - ORIGIN) as u32
@@ -34,7 +34,7 @@ pub fn top_of(rect: &Rect) -> u32
 /// The row below a rectangle.
 #[tactic(auto, unfolding(crate::specs::Edges::bottom))]
 pub fn bottom_of(rect: &Rect) -> u32
-    requires { IsNear rect.now }
+    requires { IsInBounds rect.now }
     ensures { result ≡ bottom rect.now }
 {
     (rect.y - ORIGIN) as u32 + rect.height

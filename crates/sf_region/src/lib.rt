@@ -13,7 +13,5 @@ mod edges;
 mod region;
 mod rows;
 mod spans;
-#[cfg(test)]
-mod tests;
 
 pub use region::Region;

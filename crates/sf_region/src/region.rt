@@ -1,7 +1,8 @@
-ghost use Rattle.std.specs.Prelude.{◌≡◌, ℤ, pos, ◌+ℤ◌, int_le, int_lt, ◌&&◌, ◌||◌};
+ghost use Rattle.std.specs.Prelude.{◌≡◌, ℤ, ◌+ℤ◌, ◌&&◌, ◌||◌};
 ghost use Rattle.std.specs.Prelude.{not, ◌↔◌, IsTrue, List, [], map, All, IfOk};
 ghost use Rattle.sf_region.specs.Canonical.{IsCanonical, IsDisjoint};
-ghost use Rattle.sf_region.specs.Points.{covers, has, moved, IsNear, StaysNear};
+ghost use Rattle.sf_base.specs.Geometry.{covers};
+ghost use Rattle.sf_region.specs.Points.{has, moved, IsInBounds, StaysInBounds};
 ghost use Rattle.sf_region.specs.Spans.{keeps};
 ghost use Rattle.sf_base.specs.declared.geometry.Rect.{Rect};
 
@@ -44,7 +45,7 @@ impl Region {
 
     /// The pixels of one rectangle; the empty set where its width or height is 0.
     pub fn rect(alloc: Global, rect: Rect) -> Result<Region, NoMemory>
-        requires { IsNear rect }
+        requires { IsInBounds rect }
         ensures { IfOk result (λ region. (x y : ℤ) → has region x y ≡ covers rect x y) }
     {
         if rect.width == 0 || rect.height == 0 {
@@ -94,7 +95,7 @@ impl Region {
     ///
     /// The moved pixels are to lie within 2^25 of 0, too.
     pub fn translate(&self, dx: i32, dy: i32) -> Result<Region, NoMemory>
-        requires { StaysNear dx dy self.now }
+        requires { StaysInBounds dx dy self.now }
         ensures points { IfOk result (λ region. (x y : ℤ)
             → has region (x +ℤ dx) (y +ℤ dy) ≡ has self.now x y) }
         ensures rects { IfOk result (λ region. region ≡ map (moved dx dy) self.now) }
@@ -110,7 +111,7 @@ impl Region {
     pub fn contains(&self, x: i32, y: i32) -> bool
         ensures { result ≡ has self.now x y }
     {
-        self.rects.iter().any(|rect| is_covered(rect, x, y))
+        self.rects.iter().any(|rect| rect.covers(x, y))
     }
 
     /// Whether both are the same set of pixels. Takes no memory.
@@ -135,7 +136,7 @@ impl Region {
 
 /// The rectangles, each moved.
 fn moved_rects(alloc: Global, rects: &[Rect], dx: i32, dy: i32) -> Result<Vec<Rect>, NoMemory>
-    requires { All (λ r. IsNear (moved dx dy r)) rects.now }
+    requires { All (λ r. IsInBounds (moved dx dy r)) rects.now }
     ensures { IfOk result (λ v. v.items ≡ map (moved dx dy) rects.now) }
 {
     let mut all = Vec::new(alloc);
@@ -148,7 +149,7 @@ fn moved_rects(alloc: Global, rects: &[Rect], dx: i32, dy: i32) -> Result<Vec<Re
 /// The rectangle, moved.
 #[tactic(auto, unfolding(crate::specs::Points::moved))]
 fn moved_by(rect: &Rect, dx: i32, dy: i32) -> Rect
-    requires { IsNear (moved dx dy rect.now) }
+    requires { IsInBounds (moved dx dy rect.now) }
     ensures { result ≡ moved dx dy rect.now }
 {
     Rect {
@@ -157,19 +158,4 @@ fn moved_by(rect: &Rect, dx: i32, dy: i32) -> Rect
         width: rect.width,
         height: rect.height,
     }
-}
-
-/// Whether a rectangle covers a pixel.
-#[tactic(auto, unfolding(crate::specs::Points::covers))]
-fn is_covered(rect: &Rect, x: i32, y: i32) -> bool
-    ensures { result ≡ covers rect.now x y }
-{
-    is_within(rect.x, rect.width, x) && is_within(rect.y, rect.height, y)
-}
-
-/// Whether a coordinate is among so many from a first one on.
-fn is_within(first: i32, count: u32, coordinate: i32) -> bool
-    ensures { result ≡ (int_le first coordinate && int_lt coordinate (first +ℤ pos count)) }
-{
-    first <= coordinate && i64::from(coordinate) < i64::from(first) + i64::from(count)
 }

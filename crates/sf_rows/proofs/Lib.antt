@@ -1,5 +1,6 @@
 pub mod ByteWords
 pub mod EachLane
+pub mod PickLemmas
 pub mod PixelLemmas
-pub mod RowLemmas
 pub mod Rounding
+pub mod RowLemmas

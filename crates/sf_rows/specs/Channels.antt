@@ -1,5 +1,5 @@
 -- Channels of rows by their places: what the kernels' inner steps compute, byte by byte.
-use Rattle.std.specs.Prelude.{ℕ, ◌+◌, ◌-◌, ◌*◌, ◌/◌, ◌%◌, ◌<◌, ◌≤◌, ◌≡◌, min, List, ◌∷◌, [], length, slice_index, slice_set, if◌then◌else◌, ◌==◌}
+use Rattle.std.specs.Prelude.{ℕ, ◌+◌, ◌-◌, ◌*◌, ◌/◌, ◌%◌, ◌<◌, ◌≤◌, ◌≡◌, min, List, ◌∷◌, [], length, slice_index, if◌then◌else◌, ◌==◌}
 use Rattle.sf_base.specs.Blend.{product, blended}
 use Rattle.sf_base.specs.declared.pixel.Rgba.{Rgba}
 
@@ -42,11 +42,6 @@ pub record PaintedPixels (old : List ℕ) (channel : ℕ → ℕ) (at : ℕ) (ne
 -- a sum of two channels, 255 at most
 unfoldable pub capped_sum : ℕ → ℕ → ℕ
 capped_sum x y = min 255 (x + y)
-
--- the row with the bytes of a pixel from a place on
-unfoldable pub with_pixel : List ℕ → ℕ → Rgba → List ℕ
-with_pixel row place p =
-    slice_set (slice_set (slice_set (slice_set row place p.r) (place + 1) p.g) (place + 2) p.b) (place + 3) p.a
 
 -- a channel times a share of 255, plus another times what the share leaves
 unfoldable pub mix : ℕ → ℕ → ℕ → ℕ

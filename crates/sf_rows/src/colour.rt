@@ -1,7 +1,7 @@
-ghost use Rattle.std.specs.Prelude.{◌≡◌, ℕ, ◌*◌, ◌%◌, ◌<◌, length};
+ghost use Rattle.std.specs.Prelude.{◌≡◌, ℕ, ◌*◌, ◌%◌, ◌<◌, length, slice_index};
+ghost use Rattle.sf_base.specs.Bytes.{pixel_in};
 ghost use Rattle.sf_base.specs.Paint.{painted};
-ghost use Rattle.sf_rows.specs.Channels.{colour_channel, PaintedPixels};
-ghost use Rattle.sf_rows.specs.Pixels.{pixel};
+ghost use Rattle.sf_rows.specs.Channels.{colour_channel, colour_part, PaintedPixels};
 
 use crate::lanes::{four_pixels, four_times};
 use crate::rest::paint_pixel;
@@ -15,13 +15,12 @@ use std::simd::prelude::*;
 pub fn blend_colour(dst: &mut [u8], colour: Rgba, alpha: u8)
     requires { length dst.old % 4 ≡ 0 }
     ensures each_pixel { (k : ℕ) → 4 * k < length dst.old
-        → pixel dst.new k ≡ painted (pixel dst.old k) colour alpha }
+        → pixel_in dst.new k ≡ painted (pixel_in dst.old k) colour alpha }
     ensures len { length dst.new ≡ length dst.old }
 {
-    let mut at = blend_colour_blocks(dst, colour, alpha);
-    while at < dst.len() {
-        paint_pixel(dst, at, colour, alpha);
-        at += 4;
+    let done = blend_colour_blocks(dst, colour, alpha) / 4;
+    for k in done..dst.len() / 4 {
+        paint_pixel(dst, k, colour, alpha);
     }
 }
 
@@ -31,6 +30,34 @@ fn blend_colour_blocks(dst: &mut [u8], colour: Rgba, alpha: u8) -> usize
     ensures { PaintedPixels dst.old (colour_channel dst.old colour alpha) result dst.new }
 {
     let lanes = four_times(colour);
+    if alpha == 255 && colour.a == 255 {
+        solid_blocks(dst, lanes, colour)
+    } else {
+        colour_blocks(dst, lanes, colour, alpha)
+    }
+}
+
+/// Stores a solid colour, which hides what was there.
+#[inline(always)]
+fn solid_blocks(dst: &mut [u8], lanes: u8x16, colour: Rgba) -> usize
+    requires each { (k : ℕ) → k < 16 → slice_index lanes k ≡ colour_part colour k }
+    requires solid { colour.a ≡ 255 }
+    ensures { PaintedPixels dst.old (colour_channel dst.old colour 255) result dst.new }
+{
+    let mut at = 0;
+    while dst.len() - at >= 16 {
+        lanes.copy_to_slice(&mut dst[at..]);
+        at += 16;
+    }
+    at
+}
+
+/// Blends a colour.
+#[inline(always)]
+fn colour_blocks(dst: &mut [u8], lanes: u8x16, colour: Rgba, alpha: u8) -> usize
+    requires each { (k : ℕ) → k < 16 → slice_index lanes k ≡ colour_part colour k }
+    ensures { PaintedPixels dst.old (colour_channel dst.old colour alpha) result dst.new }
+{
     let mut at = 0;
     while dst.len() - at >= 16 {
         let painted = four_pixels(u8x16::from_slice(&dst[at..]), lanes, alpha);

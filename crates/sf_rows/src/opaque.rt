@@ -1,11 +1,12 @@
 ghost use Rattle.std.specs.Prelude.{◌≡◌, ℕ, ◌*◌, ◌%◌, ◌<◌, length};
+ghost use Rattle.sf_base.specs.Bytes.{pixel_in};
 ghost use Rattle.sf_base.specs.Paint.{painted};
 ghost use Rattle.sf_rows.specs.Channels.{opaque_channel, PaintedPixels};
-ghost use Rattle.sf_rows.specs.Pixels.{pixel, opaque_pixel};
+ghost use Rattle.sf_rows.specs.Pixels.{opaque_pixel};
 
 use crate::lanes::{four_opaque_pixels, four_opaque_whole};
-use crate::rest::{paint_pixel, read_pixel};
-use sf_base::Rgba;
+use crate::rest::paint_pixel;
+use sf_base::{Rgba, get_pixel};
 use std::simd::prelude::*;
 
 /// Paints a row of RGBA pixels, each taken as opaque, over another of the same length.
@@ -17,17 +18,16 @@ pub fn blend_row_opaque(dst: &mut [u8], src: &[u8], alpha: u8)
     requires same { length src.now ≡ length dst.old }
     requires whole { length dst.old % 4 ≡ 0 }
     ensures each_pixel { (k : ℕ) → 4 * k < length dst.old
-        → pixel dst.new k ≡ painted (pixel dst.old k) (opaque_pixel (pixel src.now k)) alpha }
+        → pixel_in dst.new k ≡ painted (pixel_in dst.old k) (opaque_pixel (pixel_in src.now k)) alpha }
     ensures len { length dst.new ≡ length dst.old }
 {
-    let mut at = blend_opaque_blocks(dst, src, alpha);
-    while at < dst.len() {
+    let done = blend_opaque_blocks(dst, src, alpha) / 4;
+    for k in done..dst.len() / 4 {
         let source = Rgba {
             a: 255,
-            ..read_pixel(src, at)
+            ..get_pixel(src, k)
         };
-        paint_pixel(dst, at, source, alpha);
-        at += 4;
+        paint_pixel(dst, k, source, alpha);
     }
 }
 

@@ -1,35 +1,15 @@
-ghost use Rattle.std.specs.Prelude.{◌≡◌, ◌+◌, ◌≤◌, length, slice_set};
+ghost use Rattle.std.specs.Prelude.{◌≡◌, ◌+◌, ◌*◌, ◌≤◌, length};
+ghost use Rattle.sf_base.specs.Bytes.{FillsSpan, pixel_in};
 ghost use Rattle.sf_base.specs.Paint.{painted};
-ghost use Rattle.sf_rows.specs.Channels.{with_pixel};
-ghost use Rattle.sf_rows.specs.Pixels.{pixel_at};
 
-use sf_base::{Rgba, over};
+use sf_base::{Rgba, get_pixel, over, put_pixel};
 
-/// The pixel whose bytes begin at a place.
+/// Paints one source over the pixel of this number.
 #[inline(always)]
-#[tactic(auto, unfolding(crate::specs::Pixels::pixel_at))]
-pub fn read_pixel(row: &[u8], place: usize) -> Rgba
-    requires { place + 4 ≤ length row.now }
-    ensures { result ≡ pixel_at row.now place }
+pub fn paint_pixel(row: &mut [u8], at: usize, source: Rgba, alpha: u8)
+    requires { 4 * (at + 1) ≤ length row.old }
+    ensures size { length row.new ≡ length row.old }
+    ensures one { FillsSpan row.old row.new at (at + 1) (painted (pixel_in row.old at) source alpha) }
 {
-    Rgba {
-        r: row[place],
-        g: row[place + 1],
-        b: row[place + 2],
-        a: row[place + 3],
-    }
-}
-
-/// Paints one source over the pixel whose bytes begin at a place.
-#[inline(always)]
-#[tactic(auto, unfolding(crate::specs::Channels::with_pixel))]
-pub fn paint_pixel(row: &mut [u8], place: usize, source: Rgba, alpha: u8)
-    requires { place + 4 ≤ length row.old }
-    ensures { row.new ≡ with_pixel row.old place (painted (pixel_at row.old place) source alpha) }
-{
-    let pixel = over(read_pixel(row, place), source, alpha);
-    row[place] = pixel.r;
-    row[place + 1] = pixel.g;
-    row[place + 2] = pixel.b;
-    row[place + 3] = pixel.a;
+    put_pixel(row, at, over(get_pixel(row, at), source, alpha));
 }

@@ -1,10 +1,11 @@
 ghost use Rattle.std.specs.Prelude.{◌≡◌, ℕ, ◌*◌, ◌%◌, ◌<◌, length};
+ghost use Rattle.sf_base.specs.Bytes.{pixel_in};
 ghost use Rattle.sf_base.specs.Paint.{painted};
 ghost use Rattle.sf_rows.specs.Channels.{row_channel, PaintedPixels};
-ghost use Rattle.sf_rows.specs.Pixels.{pixel};
 
 use crate::lanes::{four_pixels, four_whole_pixels};
-use crate::rest::{paint_pixel, read_pixel};
+use crate::rest::paint_pixel;
+use sf_base::get_pixel;
 use std::simd::prelude::*;
 
 /// Paints a row of RGBA pixels over another of the same length, pixel by pixel.
@@ -15,13 +16,12 @@ pub fn blend_row(dst: &mut [u8], src: &[u8], alpha: u8)
     requires same { length src.now ≡ length dst.old }
     requires whole { length dst.old % 4 ≡ 0 }
     ensures each_pixel { (k : ℕ) → 4 * k < length dst.old
-        → pixel dst.new k ≡ painted (pixel dst.old k) (pixel src.now k) alpha }
+        → pixel_in dst.new k ≡ painted (pixel_in dst.old k) (pixel_in src.now k) alpha }
     ensures len { length dst.new ≡ length dst.old }
 {
-    let mut at = blend_row_blocks(dst, src, alpha);
-    while at < dst.len() {
-        paint_pixel(dst, at, read_pixel(src, at), alpha);
-        at += 4;
+    let done = blend_row_blocks(dst, src, alpha) / 4;
+    for k in done..dst.len() / 4 {
+        paint_pixel(dst, k, get_pixel(src, k), alpha);
     }
 }
 

@@ -2,9 +2,9 @@
 //! the benchmark of `bench/rows` times against other libraries.
 #![tactic(auto)]
 
-ghost use Rattle.std.specs.Prelude.{◌≡◌, ◌%◌, ◌≤◌, ◌+◌, length};
+ghost use Rattle.std.specs.Prelude.{◌≡◌, ◌%◌, ◌≤◌, ◌+◌, ◌*◌, length};
 
-use sf_base::{Rgba, over};
+use sf_base::{Rgba, get_pixel, over, put_pixel};
 
 /// `blend_row` of the row kernels.
 #[unsafe(no_mangle)]
@@ -32,27 +32,11 @@ pub extern "C" fn sf_rows_c_blend_colour(dst: &mut [u8], r: u8, g: u8, b: u8, a:
     sf_rows::blend_colour(dst, Rgba { r, g, b, a }, alpha);
 }
 
-/// The pixel whose bytes begin at a place.
-fn pixel_at(row: &[u8], place: usize) -> Rgba
-    requires { place + 4 ≤ length row.now }
+/// Paints one pixel over the pixel of this number.
+fn paint_at(row: &mut [u8], at: usize, source: Rgba, alpha: u8)
+    requires { 4 * (at + 1) ≤ length row.old }
 {
-    Rgba {
-        r: row[place],
-        g: row[place + 1],
-        b: row[place + 2],
-        a: row[place + 3],
-    }
-}
-
-/// Paints one pixel over the pixel whose bytes begin at a place.
-fn paint_at(row: &mut [u8], place: usize, source: Rgba, alpha: u8)
-    requires { place + 4 ≤ length row.old }
-{
-    let pixel = over(pixel_at(row, place), source, alpha);
-    row[place] = pixel.r;
-    row[place + 1] = pixel.g;
-    row[place + 2] = pixel.b;
-    row[place + 3] = pixel.a;
+    put_pixel(row, at, over(get_pixel(row, at), source, alpha));
 }
 
 /// The plain loop that `blend_row` is compared with.
@@ -61,7 +45,7 @@ pub extern "C" fn sf_rows_c_plain_row(dst: &mut [u8], src: &[u8], alpha: u8)
     requires same { length src.now ≡ length dst.old }
 {
     for k in 0..dst.len() / 4 {
-        paint_at(dst, 4 * k, pixel_at(src, 4 * k), alpha);
+        paint_at(dst, k, get_pixel(src, k), alpha);
     }
 }
 
@@ -73,9 +57,9 @@ pub extern "C" fn sf_rows_c_plain_row_opaque(dst: &mut [u8], src: &[u8], alpha: 
     for k in 0..dst.len() / 4 {
         let source = Rgba {
             a: 255,
-            ..pixel_at(src, 4 * k)
+            ..get_pixel(src, k)
         };
-        paint_at(dst, 4 * k, source, alpha);
+        paint_at(dst, k, source, alpha);
     }
 }
 
@@ -83,6 +67,6 @@ pub extern "C" fn sf_rows_c_plain_row_opaque(dst: &mut [u8], src: &[u8], alpha: 
 #[unsafe(no_mangle)]
 pub extern "C" fn sf_rows_c_plain_colour(dst: &mut [u8], r: u8, g: u8, b: u8, a: u8, alpha: u8) {
     for k in 0..dst.len() / 4 {
-        paint_at(dst, 4 * k, Rgba { r, g, b, a }, alpha);
+        paint_at(dst, k, Rgba { r, g, b, a }, alpha);
     }
 }

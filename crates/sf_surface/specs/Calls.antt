@@ -1,5 +1,6 @@
 -- What the calls of a queue's users say and are given.
 use Rattle.std.specs.Prelude.{◌≡◌, ◌==◌, ℕ, Bool, false, if◌then◌else◌}
+use Rattle.sf_base.specs.Slots.{no_slot}
 use Rattle.sf_base.specs.declared.fences.Fence.{Fence}
 use Rattle.sf_base.specs.declared.ids.QueueId.{QueueId}
 use Rattle.sf_base.specs.declared.ids.SlotId.{SlotId}
@@ -22,9 +23,6 @@ use Rattle.sf_surface.specs.declared.call.Gives.TheVariants as gives
 use Rattle.sf_surface.specs.Leases.{WriteLeaseOf, ReadLeaseOf, requested_lease}
 
 -- the slot that a call names: that of its lease, and none where the lease is of another queue
-abbrev pub no_slot : SlotId
-no_slot = record { 0 = 4294967295 }
-
 abbrev pub named_slot : QueueId → QueueId → SlotId → SlotId
 named_slot queue of slot = if of.0 == queue.0 then slot else no_slot
 

@@ -11,8 +11,6 @@ mod lease;
 mod object;
 mod plain;
 mod producing;
-#[cfg(test)]
-mod tests;
 
 pub use call::{Answer, Call, Gives};
 pub use lease::{ReadLease, WriteLease};

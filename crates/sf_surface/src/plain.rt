@@ -4,7 +4,7 @@ ghost use Rattle.sf_surface.specs.Calls.{named_slot, write_token, queued_token, 
 
 use crate::call::Call;
 use crate::lease::{ReadLease, WriteLease};
-use sf_base::{QueueId, SlotId};
+use sf_base::{NO_SLOT, QueueId, SlotId};
 use sf_picture::Painted;
 use sf_slots::{Item, PlainCall, PlainItem, ReadToken, WriteToken};
 
@@ -12,11 +12,7 @@ use sf_slots::{Item, PlainCall, PlainItem, ReadToken, WriteToken};
 fn named_slot(queue: QueueId, of: QueueId, slot: SlotId) -> SlotId
     ensures { result ≡ named_slot queue of slot }
 {
-    if of.0 == queue.0 {
-        slot
-    } else {
-        SlotId(u32::MAX)
-    }
+    if of.0 == queue.0 { slot } else { NO_SLOT }
 }
 
 /// What a call says of a lease to write.
@@ -37,7 +33,7 @@ pub(crate) fn queued_token(queue: QueueId, lease: &WriteLease) -> WriteToken
         write_token(queue, lease)
     } else {
         WriteToken {
-            slot: SlotId(u32::MAX),
+            slot: NO_SLOT,
             ..lease.token
         }
     }

@@ -1,11 +1,14 @@
 //! Calls on a counter under a lock, by the callers 1 and 2.
 ghost use Rattle.std.specs.Prelude.{◌≡◌, true, Some, [], ◌∷◌};
 
+use crate::answer::Answer;
 use crate::counter::Counter;
 use crate::seat::Seat;
+use crate::words::{number, words};
 use sf_base::NoMemory;
 use sf_calls::{CallFault, CallLock, Pass};
 use std::alloc::Global;
+use std::io;
 use std::sync::Wait;
 
 /// A number that one of the callers adds.
@@ -15,43 +18,29 @@ struct Call {
     number: u64,
 }
 
-fn call_of(words: &[&str]) -> Option<Call> {
-    match *words {
-        [seat, "adds", number] => Some(Call {
-            by: Seat::of(seat)?,
-            number: number.parse().ok()?,
-        }),
-        _ => None,
-    }
+fn call_of(line: &str) -> Option<Call> {
+    let [by, number_word, _, _] = words(line);
+    let by = Seat::of(by)?;
+    let number = number(number_word)?;
+    Some(Call { by, number })
 }
 
 /// Adds the number, as one call under the lock.
 pub fn add<W: Wait>(
     rt: &W,
-    alloc: Global,
     lock: &CallLock<Counter>,
     pass: &mut Pass<Counter>,
     number: u64,
-) -> Result<String, NoMemory>
+) -> Answer
     requires own { pass.old.table ≡ lock.now }
     requires marked { pass.old.mark ≡ Some tt }
     ensures { pass.new ≡ record pass.old { seen = pass.new.seen; turns = pass.new.turns } }
 {
     match pass.call(lock, rt, number) {
-        Ok(total) => Ok(format!(in alloc; "{total}")?),
-        Err(CallFault::NotYet(back)) => Ok(format!(in alloc; "not yet, {back} comes back")?),
-        Err(CallFault::NoMemory(_)) => Err(NoMemory),
+        Ok(total) => Answer::Total(total),
+        Err(CallFault::NotYet(back)) => Answer::NotYet(back),
+        Err(CallFault::NoMemory(_)) => Answer::NoMemory,
     }
-}
-
-/// The calls of the object, the oldest first, a line each.
-pub fn history(alloc: Global, counter: &Counter) -> Result<Vec<String>, NoMemory> {
-    let mut lines = Vec::new(alloc);
-    for entry in counter.calls() {
-        let line = format!(in alloc; "{} added {}: {}", entry.by, entry.call, entry.reply)?;
-        lines.push(line)?;
-    }
-    Ok(lines)
 }
 
 /// A lock with the passes of both callers.
@@ -83,10 +72,10 @@ impl Run {
         })
     }
 
-    fn call<W: Wait>(&mut self, rt: &W, alloc: Global, call: Call) -> Result<String, NoMemory> {
+    fn call<W: Wait>(&mut self, rt: &W, call: Call) -> Answer {
         match call.by {
-            Seat::First => add(rt, alloc, &self.lock, &mut self.first, call.number),
-            Seat::Second => add(rt, alloc, &self.lock, &mut self.second, call.number),
+            Seat::First => add(rt, &self.lock, &mut self.first, call.number),
+            Seat::Second => add(rt, &self.lock, &mut self.second, call.number),
         }
     }
 
@@ -105,20 +94,27 @@ impl Run {
     }
 }
 
-pub fn play<W: Wait>(rt: &W, alloc: Global, calls: &[String]) -> Result<Vec<String>, NoMemory> {
-    let mut run = Run::open(alloc)?;
-    let mut answers = Vec::new(alloc);
+/// The calls of the object, the oldest first.
+fn print_history(rt: &impl Print, counter: &Counter) -> io::Result<()> {
+    for entry in counter.calls() {
+        println!(rt; "{} added {}: {}", entry.by, entry.call, entry.reply)?;
+    }
+    Ok(())
+}
+
+pub fn play<R: Print + Wait>(rt: &R, alloc: Global, calls: &[String]) -> io::Result<()> {
+    let Ok(mut run) = Run::open(alloc) else {
+        return println!(rt; "out of memory");
+    };
     for line in calls {
-        let words: Vec<&str> = line.split_whitespace().collect(alloc)?;
-        let answer = match call_of(&words) {
-            Some(call) => run.call(rt, alloc, call)?,
-            None => String::from_str(alloc, "no call")?,
+        let answer = match call_of(line) {
+            Some(call) => run.call(rt, call),
+            None => Answer::NoCall,
         };
-        answers.push(format!(in alloc; "{line}: {answer}")?)?;
+        println!(rt; "{line}: {answer}")?;
     }
-    let counter = run.close()?;
-    for line in history(alloc, &counter)? {
-        answers.push(line)?;
+    match run.close() {
+        Ok(counter) => print_history(rt, &counter),
+        Err(_) => println!(rt; "out of memory"),
     }
-    Ok(answers)
 }

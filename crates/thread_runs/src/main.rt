@@ -4,8 +4,10 @@
 //! answered. Lines that begin with '#' say what a run shows.
 #![tactic(auto)]
 
+mod answer;
 mod counted;
 mod counter;
+mod entered;
 mod lock_run;
 mod seat;
 mod signals_run;
@@ -13,42 +15,31 @@ mod thread_run;
 mod time_run;
 mod token;
 mod turn_run;
+mod words;
 mod write_run;
 
-use sf_base::NoMemory;
 use std::alloc::Global;
 use std::io;
 use std::sync::Wait;
 use std::thread::Threads;
 
-/// What the calls of a run answered, a line each.
-fn play<R: Threads + Wait + Sync>(
+/// Makes the calls of a run, and writes what each answered.
+fn play<R: Print + Threads + Wait + Sync>(
     rt: &R,
     alloc: Global,
     lines: &[String],
-) -> Result<Vec<String>, NoMemory> {
+) -> io::Result<()> {
     let [head, calls @ ..] = lines else {
-        return Ok(Vec::new(alloc));
+        return Ok(());
     };
     match head.as_str() {
-        "timelines" => time_run::play(alloc, calls),
-        "turns" => turn_run::play(alloc, calls),
-        "lock" => lock_run::play(rt, alloc, calls),
-        "threads" => thread_run::play(rt, alloc, calls),
-        _ => Ok(Vec::new(alloc)),
+        "timelines" => time_run::play(rt, alloc, calls)?,
+        "turns" => turn_run::play(rt, alloc, calls)?,
+        "lock" => lock_run::play(rt, alloc, calls)?,
+        "threads" => thread_run::play(rt, alloc, calls)?,
+        _ => {}
     }
-}
-
-fn print_run(rt: &impl Print, answers: Result<Vec<String>, NoMemory>) -> io::Result<()> {
-    match answers {
-        Ok(lines) => {
-            for line in lines {
-                println!(rt; "{line}")?;
-            }
-            println!(rt; "")
-        }
-        Err(NoMemory) => println!(rt; "out of memory"),
-    }
+    println!(rt; "")
 }
 
 fn main(rt: HostRuntime) -> io::Result<()> {
@@ -57,11 +48,11 @@ fn main(rt: HostRuntime) -> io::Result<()> {
     for line in rt.lines(alloc) {
         let line = line?;
         if line.is_empty() {
-            print_run(&rt, play(&rt, alloc, &lines))?;
+            play(&rt, alloc, &lines)?;
             lines = Vec::new(alloc);
         } else if !line.starts_with('#') {
             lines.push(line)?;
         }
     }
-    print_run(&rt, play(&rt, alloc, &lines))
+    play(&rt, alloc, &lines)
 }

@@ -1,7 +1,7 @@
 //! Two threads that signal a timeline each, and observe that of the other rising.
 ghost use Rattle.std.specs.Prelude.{◌≡◌, ◌≤◌};
 
-use sf_base::{NoMemory, TimelineId};
+use sf_base::TimelineId;
 use sf_times::{TimeSeat, Timelines};
 use std::alloc::Global;
 use std::thread::{Threads, join};
@@ -32,9 +32,12 @@ fn signal_and_observe(
     (seat, true)
 }
 
-/// Both threads signal up to the last value: what they observed, and the values at the end.
-pub fn play<R: Threads>(rt: &R, alloc: Global, last: u64) -> Result<String, NoMemory> {
-    let (times, mut first) = Timelines::open(alloc)?;
+/// Both threads signal up to the last value. The sum of both counters at the end, or 0 where what
+/// one of them observed fell.
+pub fn play<R: Threads>(rt: &R, alloc: Global, last: u64) -> u64 {
+    let Ok((times, mut first)) = Timelines::open(alloc) else {
+        return 0;
+    };
     let left = first.split(&times);
     let right = first.split(&times);
     let shared = &times;
@@ -51,12 +54,11 @@ pub fn play<R: Threads>(rt: &R, alloc: Global, last: u64) -> Result<String, NoMe
     );
     first.join(&times, left);
     first.join(&times, right);
-    let rose = if left_rose && right_rose {
-        "rose"
+    if left_rose && right_rose {
+        let low = first.seen(&times, TimelineId(1));
+        let high = first.seen(&times, TimelineId(64));
+        low.saturating_add(high)
     } else {
-        "fell"
-    };
-    let low = first.seen(&times, TimelineId(1));
-    let high = first.seen(&times, TimelineId(64));
-    Ok(format!(in alloc; "{rose}, {low} and {high} at the end")?)
+        0
+    }
 }

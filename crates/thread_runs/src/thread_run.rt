@@ -3,10 +3,12 @@ ghost use Rattle.std.specs.Prelude.{◌≡◌, Some, IfOk};
 
 use crate::counter::Counter;
 use crate::lock_run::Run;
+use crate::words::{number, words};
 use crate::{signals_run, write_run};
 use sf_base::NoMemory;
 use sf_calls::{CallFault, CallLock, Pass};
 use std::alloc::Global;
+use std::io;
 use std::sync::Wait;
 use std::thread::{Threads, join};
 
@@ -78,40 +80,34 @@ fn has_one_call(counter: &Counter, first: Option<u64>, second: Option<u64>) -> b
     }
 }
 
-fn add_rounds<R: Threads + Wait + Sync>(
-    rt: &R,
-    alloc: Global,
-    rounds: u64,
-) -> Result<String, NoMemory> {
-    let mut shared = 0u64;
+/// How many of so many rounds made one call and handed the other back.
+fn add_rounds<R: Threads + Wait + Sync>(rt: &R, alloc: Global, rounds: u64) -> u64 {
+    let mut agreed = 0u64;
     for _ in 0..rounds {
-        let (counter, first, second) = add_both(rt, alloc)?;
-        if has_one_call(&counter, first, second) {
-            shared = shared.saturating_add(1);
+        if let Ok((counter, first, second)) = add_both(rt, alloc)
+            && has_one_call(&counter, first, second)
+        {
+            agreed = agreed.saturating_add(1);
         }
     }
-    Ok(format!(in alloc; "{shared} with one call made and one that came back")?)
+    agreed
 }
 
-pub fn play<R: Threads + Wait + Sync>(
+pub fn play<R: Print + Threads + Wait + Sync>(
     rt: &R,
     alloc: Global,
     lines: &[String],
-) -> Result<Vec<String>, NoMemory> {
-    let mut answers = Vec::new(alloc);
+) -> io::Result<()> {
     for line in lines {
-        let words: Vec<&str> = line.split_whitespace().collect(alloc)?;
-        let (word, count) = match *words {
-            [word, count] => (word, count.parse().unwrap_or(0)),
-            _ => ("", 0),
+        let [word, times, _, _] = words(line);
+        let times = number(times).unwrap_or(0);
+        let count = match word {
+            "signals" => signals_run::play(rt, alloc, times),
+            "writes" => write_run::play(rt, alloc, times),
+            "adds" => add_rounds(rt, alloc, times),
+            _ => 0,
         };
-        let answer = match word {
-            "signals" => signals_run::play(rt, alloc, count)?,
-            "writes" => write_run::play(rt, alloc, count)?,
-            "adds" => add_rounds(rt, alloc, count)?,
-            _ => String::from_str(alloc, "no call")?,
-        };
-        answers.push(format!(in alloc; "{line}: {answer}")?)?;
+        println!(rt; "{line}: {count}")?;
     }
-    Ok(answers)
+    Ok(())
 }

@@ -1,11 +1,14 @@
 //! Calls on timelines through a first seat and one that is split off it.
-ghost use Rattle.std.specs.Prelude.{◌≡◌, true};
+ghost use Rattle.std.specs.Prelude.{◌≡◌, ◌≤◌, true, IfSome};
 ghost use Rattle.std.specs.Option.{ForSome};
 
+use crate::answer::Answer;
 use crate::seat::Seat;
-use sf_base::{NoMemory, Seen, TimelineId};
+use crate::words::{number, words};
+use sf_base::TimelineId;
 use sf_times::{TimeSeat, Timelines};
 use std::alloc::Global;
+use std::io;
 
 #[derive(Clone, Copy)]
 enum Call {
@@ -17,61 +20,57 @@ enum Call {
 /// A call through one seat.
 #[derive(Clone, Copy)]
 enum Act {
-    Signal(u32, u64),
-    See(u32),
+    Signal(u64, u64),
+    See(u64),
     SeeAll,
 }
 
-fn call_of(words: &[&str]) -> Option<Call> {
-    Some(match *words {
-        ["split"] => Call::Split,
-        ["join"] => Call::Join,
-        ["all", seat] => Call::At(Seat::of(seat)?, Act::SeeAll),
-        ["see", seat, timeline] => Call::At(Seat::of(seat)?, Act::See(timeline.parse().ok()?)),
-        ["signal", seat, timeline, value] => Call::At(
-            Seat::of(seat)?,
-            Act::Signal(timeline.parse().ok()?, value.parse().ok()?),
-        ),
-        _ => return None,
-    })
-}
-
-/// The timelines that have risen, each with its value.
-fn risen(alloc: Global, seen: &Seen) -> Result<String, NoMemory> {
-    let mut text = String::from_str(alloc, "risen")?;
-    for place in 0..64 {
-        if seen.values[place] > 0 {
-            let point = format!(in alloc; " {}={}", place + 1, seen.values[place])?;
-            text.push_str(point.as_str())?;
+fn call_of(line: &str) -> Option<Call> {
+    let [word, seat, timeline, value] = words(line);
+    match word {
+        "split" => Some(Call::Split),
+        "join" => Some(Call::Join),
+        "all" => Some(Call::At(Seat::of(seat)?, Act::SeeAll)),
+        "see" => Some(Call::At(Seat::of(seat)?, Act::See(number(timeline)?))),
+        "signal" => {
+            let act = Act::Signal(number(timeline)?, number(value)?);
+            Some(Call::At(Seat::of(seat)?, act))
         }
+        _ => None,
     }
-    Ok(text)
 }
 
-fn apply(alloc: Global, times: &Timelines, seat: &mut TimeSeat, act: Act) -> Result<String, NoMemory>
+/// The timeline with this number, where it is 1 to 64.
+fn timeline(number: u64) -> Option<TimelineId>
+    ensures { IfSome result (λ t. (1 ≤ t.0) × (t.0 ≤ 64)) }
+{
+    if number >= 1 && number <= 64 {
+        Some(TimelineId(number as u32))
+    } else {
+        None
+    }
+}
+
+fn apply(times: &Timelines, seat: &mut TimeSeat, act: Act) -> Answer
     requires { seat.old.table ≡ times.now }
     ensures table { seat.new.table ≡ seat.old.table }
     ensures first { seat.new.knows.is_first ≡ seat.old.knows.is_first }
 {
     match act {
-        Act::Signal(timeline, value) => {
-            if timeline == 0 || timeline > 64 {
-                return Ok(String::from_str(alloc, "no timeline")?);
-            }
-            seat.signal(times, TimelineId(timeline), value);
-            Ok(String::from_str(alloc, "signalled")?)
+        Act::Signal(number, value) => {
+            let Some(id) = timeline(number) else {
+                return Answer::NoTimeline;
+            };
+            seat.signal(times, id, value);
+            Answer::Signalled
         }
-        Act::See(timeline) => {
-            if timeline == 0 || timeline > 64 {
-                return Ok(String::from_str(alloc, "no timeline")?);
-            }
-            let value = seat.seen(times, TimelineId(timeline));
-            Ok(format!(in alloc; "{value}")?)
+        Act::See(number) => {
+            let Some(id) = timeline(number) else {
+                return Answer::NoTimeline;
+            };
+            Answer::Value(seat.seen(times, id))
         }
-        Act::SeeAll => {
-            let seen = seat.see_all(times);
-            risen(alloc, &seen)
-        }
+        Act::SeeAll => Answer::Risen(seat.see_all(times)),
     }
 }
 
@@ -86,48 +85,58 @@ struct Run {
 }
 
 impl Run {
-    fn call(&mut self, alloc: Global, call: Call) -> Result<String, NoMemory> {
-        match call {
-            Call::Split => {
-                self.second = Some(self.first.split(&self.times));
-                Ok(String::from_str(alloc, "split")?)
+    fn split(&mut self) -> Answer {
+        self.second = Some(self.first.split(&self.times));
+        Answer::Split
+    }
+
+    fn join(&mut self) -> Answer {
+        match self.second.take() {
+            Some(second) => {
+                self.first.join(&self.times, second);
+                Answer::Joined
             }
-            Call::Join => match self.second.take() {
-                Some(second) => {
-                    self.first.join(&self.times, second);
-                    Ok(String::from_str(alloc, "joined")?)
-                }
-                None => Ok(String::from_str(alloc, "no seat")?),
-            },
-            Call::At(Seat::First, what) => apply(alloc, &self.times, &mut self.first, what),
-            Call::At(Seat::Second, what) => match self.second.take() {
-                Some(mut second) => {
-                    let text = apply(alloc, &self.times, &mut second, what)?;
-                    self.second = Some(second);
-                    Ok(text)
-                }
-                None => Ok(String::from_str(alloc, "no seat")?),
-            },
+            None => Answer::NoSeat,
+        }
+    }
+
+    fn on_second(&mut self, act: Act) -> Answer {
+        match self.second.take() {
+            Some(mut second) => {
+                let answer = apply(&self.times, &mut second, act);
+                self.second = Some(second);
+                answer
+            }
+            None => Answer::NoSeat,
+        }
+    }
+
+    fn call(&mut self, call: Call) -> Answer {
+        match call {
+            Call::Split => self.split(),
+            Call::Join => self.join(),
+            Call::At(Seat::First, act) => apply(&self.times, &mut self.first, act),
+            Call::At(Seat::Second, act) => self.on_second(act),
         }
     }
 }
 
-pub fn play(alloc: Global, calls: &[String]) -> Result<Vec<String>, NoMemory> {
-    let (times, first) = Timelines::open(alloc)?;
+pub fn play(rt: &impl Print, alloc: Global, calls: &[String]) -> io::Result<()> {
+    let Ok((times, first)) = Timelines::open(alloc) else {
+        return println!(rt; "out of memory");
+    };
     first.exact();
     let mut run = Run {
         times,
         first,
         second: None,
     };
-    let mut answers = Vec::new(alloc);
     for line in calls {
-        let words: Vec<&str> = line.split_whitespace().collect(alloc)?;
-        let answer = match call_of(&words) {
-            Some(call) => run.call(alloc, call)?,
-            None => String::from_str(alloc, "no call")?,
+        let answer = match call_of(line) {
+            Some(call) => run.call(call),
+            None => Answer::NoCall,
         };
-        answers.push(format!(in alloc; "{line}: {answer}")?)?;
+        println!(rt; "{line}: {answer}")?;
     }
-    Ok(answers)
+    Ok(())
 }

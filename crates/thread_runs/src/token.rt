@@ -2,19 +2,11 @@
 ghost use Rattle.std.specs.Prelude.{◌≡◌};
 ghost use Rattle.thread_runs.specs.Tokens.{table_of};
 
+use crate::answer::Answer;
 use crate::counted::Counted;
-use sf_base::NoMemory;
-use sf_turns::{Inside, Owed, TableName, Turn, TurnSeat};
-use std::alloc::Global;
+use crate::entered::Entered;
+use sf_turns::{Owed, TableName, Turn, TurnSeat};
 use std::marker::PhantomData;
-
-/// A turn that has entered, with the pixels that it found.
-#[derive(Drop)]
-pub struct Entered {
-    pub inside: Inside<Counted>,
-    pub pixels: Counted,
-    ghost found: { pixels.stamp ≡ inside.expects },
-}
 
 #[derive(Drop)]
 pub enum Token {
@@ -46,11 +38,11 @@ pub struct Held<B: TableName> {
 pub struct After<B: TableName> {
     pub kept: Option<Held<B>>,
     pub issued: Option<Held<B>>,
-    pub text: String,
+    pub answer: Answer,
 }
 
 impl<B: TableName> Held<B> {
-    fn of(token: Token) -> Held<B>
+    pub fn of(token: Token) -> Held<B>
         requires { table_of token ≡ B.table }
     {
         Held {
@@ -60,162 +52,159 @@ impl<B: TableName> Held<B> {
     }
 }
 
-fn kept<B: TableName>(alloc: Global, token: Token, text: &str) -> Result<After<B>, NoMemory>
-    requires { table_of token ≡ B.table }
+impl<B: TableName> After<B> {
+    fn kept(token: Token, answer: Answer) -> After<B>
+        requires { table_of token ≡ B.table }
+    {
+        After {
+            kept: Some(Held::of(token)),
+            issued: None,
+            answer,
+        }
+    }
+
+    fn gone(answer: Answer) -> After<B> {
+        After {
+            kept: None,
+            issued: None,
+            answer,
+        }
+    }
+}
+
+/// Issues the next turn.
+fn issue<B: TableName>(turn: Turn<Counted>, stamp: u64) -> After<B>
+    requires { turn.table ≡ B.table }
 {
-    Ok(After {
-        kept: Some(Held::of(token)),
-        issued: None,
-        text: String::from_str(alloc, text)?,
-    })
+    match turn.issue(stamp) {
+        Ok((owed, heir)) => {
+            let answer = Answer::Issued(
+                owed.number(),
+                *owed.promised(),
+                heir.number(),
+                *heir.expects(),
+            );
+            After {
+                kept: Some(Held::of(Token::Owed(owed))),
+                issued: Some(Held::of(Token::Turn(heir))),
+                answer,
+            }
+        }
+        Err((_, turn, _)) => After::kept(Token::Turn(turn), Answer::NoMemory),
+    }
 }
 
 /// A call on a turn that has not entered.
-fn on_turn<B: TableName>(
-    alloc: Global,
-    seat: &mut TurnSeat<Counted>,
-    turn: Turn<Counted>,
-    act: Act,
-) -> Result<After<B>, NoMemory>
+fn on_turn<B: TableName>(seat: &mut TurnSeat<Counted>, turn: Turn<Counted>, act: Act) -> After<B>
     requires own { turn.table ≡ B.table }
     requires seat { seat.old.table ≡ B.table }
     ensures table { seat.new.table ≡ seat.old.table }
     ensures first { seat.new.is_first ≡ seat.old.is_first }
 {
-    let mut turn = turn;
     match act {
         Act::Ready => {
-            let text = if turn.ready(seat) { "yes" } else { "no" };
-            kept(alloc, Token::Turn(turn), text)
+            let mut turn = turn;
+            let ready = turn.ready(seat);
+            After::kept(Token::Turn(turn), Answer::Ready(ready))
         }
         Act::Enter => match turn.enter(seat) {
             Ok((inside, pixels)) => {
-                let text = format!(in alloc; "found {}", pixels.stamp)?;
-                let entered = Entered { inside, pixels };
-                kept(alloc, Token::Entered(entered), text.as_str())
+                let found = pixels.stamp;
+                After::kept(
+                    Token::Entered(Entered { inside, pixels }),
+                    Answer::Found(found),
+                )
             }
-            Err(turn) => kept(alloc, Token::Turn(turn), "too early"),
+            Err(turn) => After::kept(Token::Turn(turn), Answer::TooEarly),
         },
-        Act::Issue(stamp) => {
-            let Ok((owed, heir)) = turn.issue(stamp) else {
-                return Err(NoMemory);
-            };
-            let text = format!(in alloc;
-                "turn {} of buffer {} will leave {}, turn {} expects {}",
-                owed.number(),
-                owed.buffer(),
-                owed.promised(),
-                heir.number(),
-                heir.expects()
-            )?;
-            Ok(After {
-                kept: Some(Held::of(Token::Owed(owed))),
-                issued: Some(Held::of(Token::Turn(heir))),
-                text,
-            })
-        }
-        Act::GiveUp => kept(alloc, Token::Turn(turn), "not entered"),
-        Act::Drop => Ok(After {
-            kept: None,
-            issued: None,
-            text: String::from_str(alloc, "dropped")?,
-        }),
+        Act::Issue(stamp) => issue(turn, stamp),
+        Act::GiveUp => After::kept(Token::Turn(turn), Answer::NotEntered),
+        Act::Drop => After::gone(Answer::Dropped),
     }
 }
 
-/// A call on a turn that has entered. Where it issues the next one, it leaves at once, with the
-/// stamp that it promised.
-fn on_entered<B: TableName>(
-    alloc: Global,
+/// Issues the next turn, and leaves at once with the stamp that was promised.
+fn issue_and_leave<B: TableName>(
     seat: &mut TurnSeat<Counted>,
     entered: Entered,
-    act: Act,
-) -> Result<After<B>, NoMemory>
+    stamp: u64,
+) -> After<B>
+    requires own { entered.inside.table ≡ B.table }
+    requires seat { seat.old.table ≡ B.table }
+    ensures table { seat.new.table ≡ seat.old.table }
+    ensures first { seat.new.is_first ≡ seat.old.is_first }
+{
+    let Entered { inside, mut pixels } = entered;
+    match inside.issue(stamp) {
+        Ok((busy, heir)) => {
+            pixels.stamp = stamp;
+            let left = *busy.promised();
+            busy.leave(seat, pixels);
+            let answer = Answer::LeftTo(left, heir.number());
+            After {
+                kept: None,
+                issued: Some(Held::of(Token::Turn(heir))),
+                answer,
+            }
+        }
+        Err((_, inside, _)) => {
+            After::kept(Token::Entered(Entered { inside, pixels }), Answer::NoMemory)
+        }
+    }
+}
+
+/// A call on a turn that has entered.
+fn on_entered<B: TableName>(seat: &mut TurnSeat<Counted>, entered: Entered, act: Act) -> After<B>
     requires own { entered.inside.table ≡ B.table }
     requires seat { seat.old.table ≡ B.table }
     ensures table { seat.new.table ≡ seat.old.table }
     ensures first { seat.new.is_first ≡ seat.old.is_first }
 {
     match act {
-        Act::Issue(stamp) => {
-            let Entered { inside, mut pixels } = entered;
-            let Ok((busy, heir)) = inside.issue(stamp) else {
-                return Err(NoMemory);
-            };
-            pixels.stamp = stamp;
-            busy.leave(seat, pixels);
-            let text = format!(in alloc; "left {}, turn {} expects it", stamp, heir.number())?;
-            Ok(After {
-                kept: None,
-                issued: Some(Held::of(Token::Turn(heir))),
-                text,
-            })
-        }
+        Act::Issue(stamp) => issue_and_leave(seat, entered, stamp),
         Act::GiveUp => {
             let Entered { inside, pixels } = entered;
-            let turn = inside.give_up(pixels);
-            kept(alloc, Token::Turn(turn), "gave up")
+            After::kept(Token::Turn(inside.give_up(pixels)), Answer::GaveUp)
         }
-        Act::Drop => Ok(After {
-            kept: None,
-            issued: None,
-            text: String::from_str(alloc, "dropped")?,
-        }),
-        Act::Ready | Act::Enter => kept(alloc, Token::Entered(entered), "has entered"),
+        Act::Drop => After::gone(Answer::Dropped),
+        Act::Ready => After::kept(Token::Entered(entered), Answer::HasEntered),
+        Act::Enter => After::kept(Token::Entered(entered), Answer::HasEntered),
     }
 }
 
-/// A call on a turn that is owed. Where it enters, it leaves at once, with the stamp that it
-/// promised.
-fn on_owed<B: TableName>(
-    alloc: Global,
-    seat: &mut TurnSeat<Counted>,
-    owed: Owed<Counted>,
-    act: Act,
-) -> Result<After<B>, NoMemory>
+/// Enters with a turn that is owed, and leaves at once with the stamp that it promised.
+fn pay<B: TableName>(seat: &mut TurnSeat<Counted>, owed: Owed<Counted>) -> After<B>
     requires own { owed.table ≡ B.table }
     requires seat { seat.old.table ≡ B.table }
     ensures table { seat.new.table ≡ seat.old.table }
     ensures first { seat.new.is_first ≡ seat.old.is_first }
 {
-    match act {
-        Act::Enter => match owed.enter(seat) {
-            Ok((busy, mut pixels)) => {
-                let found = pixels.stamp;
-                let left = *busy.promised();
-                pixels.stamp = left;
-                busy.leave(seat, pixels);
-                Ok(After {
-                    kept: None,
-                    issued: None,
-                    text: format!(in alloc; "found {found}, left {left}")?,
-                })
-            }
-            Err(owed) => kept(alloc, Token::Owed(owed), "too early"),
-        },
-        Act::Drop => Ok(After {
-            kept: None,
-            issued: None,
-            text: String::from_str(alloc, "dropped")?,
-        }),
-        _ => kept(alloc, Token::Owed(owed), "it is owed"),
+    match owed.enter(seat) {
+        Ok((busy, mut pixels)) => {
+            let found = pixels.stamp;
+            let left = *busy.promised();
+            pixels.stamp = left;
+            busy.leave(seat, pixels);
+            After::gone(Answer::Left(found, left))
+        }
+        Err(owed) => After::kept(Token::Owed(owed), Answer::TooEarly),
     }
 }
 
 /// A call on a token, through a seat of its table.
-pub fn apply<B: TableName>(
-    alloc: Global,
-    seat: &mut TurnSeat<Counted>,
-    held: Held<B>,
-    act: Act,
-) -> Result<After<B>, NoMemory>
+pub fn apply<B: TableName>(seat: &mut TurnSeat<Counted>, held: Held<B>, act: Act) -> After<B>
     requires { seat.old.table ≡ B.table }
     ensures table { seat.new.table ≡ seat.old.table }
     ensures first { seat.new.is_first ≡ seat.old.is_first }
 {
-    match held.token {
-        Token::Turn(turn) => on_turn(alloc, seat, turn, act),
-        Token::Entered(entered) => on_entered(alloc, seat, entered, act),
-        Token::Owed(owed) => on_owed(alloc, seat, owed, act),
+    let Held { token, of: _ } = held;
+    match token {
+        Token::Turn(turn) => on_turn(seat, turn, act),
+        Token::Entered(entered) => on_entered(seat, entered, act),
+        Token::Owed(owed) => match act {
+            Act::Enter => pay(seat, owed),
+            Act::Drop => After::gone(Answer::Dropped),
+            _ => After::kept(Token::Owed(owed), Answer::IsOwed),
+        },
     }
 }

@@ -2,13 +2,15 @@
 ghost use Rattle.std.specs.Prelude.{◌≡◌, true, length};
 ghost use Rattle.std.specs.Option.{ForSome};
 
+use crate::answer::Answer;
 use crate::counted::{Counted, Drops};
 use crate::seat::Seat;
-use crate::token::{Act, Held, Token, apply};
-use sf_base::NoMemory;
+use crate::token::{Act, After, Held, Token, apply};
+use crate::words::{number, words};
 use sf_turns::{Stock, TableName, TurnSeat, open_turns};
 use std::alloc::Global;
-use std::marker::{Brand, PhantomData};
+use std::io;
+use std::marker::Brand;
 use std::sync::Arc;
 use std::sync::atomic::{AtomicU64, Ordering};
 
@@ -24,26 +26,29 @@ enum Call {
     At(Seat, usize, Act),
 }
 
-fn act_of(words: &[&str]) -> Option<Act> {
-    Some(match *words {
-        ["ready"] => Act::Ready,
-        ["enter"] => Act::Enter,
-        ["give-up"] => Act::GiveUp,
-        ["issue", stamp] => Act::Issue(stamp.parse().ok()?),
-        ["drop"] => Act::Drop,
-        _ => return None,
-    })
+fn act_of(word: &str, stamp: &str) -> Option<Act> {
+    match word {
+        "ready" => Some(Act::Ready),
+        "enter" => Some(Act::Enter),
+        "give-up" => Some(Act::GiveUp),
+        "issue" => Some(Act::Issue(number(stamp)?)),
+        "drop" => Some(Act::Drop),
+        _ => None,
+    }
 }
 
-fn call_of(words: &[&str]) -> Option<Call> {
-    Some(match *words {
-        ["open", stamp] => Call::Open(stamp.parse().ok()?),
-        ["split"] => Call::Split,
-        ["join"] => Call::Join,
-        ["drops"] => Call::Drops,
-        [seat, token, ..] => Call::At(Seat::of(seat)?, token.parse().ok()?, act_of(&words[2..])?),
-        _ => return None,
-    })
+fn call_of(line: &str) -> Option<Call> {
+    let [word, second, third, fourth] = words(line);
+    match word {
+        "open" => Some(Call::Open(number(second)?)),
+        "split" => Some(Call::Split),
+        "join" => Some(Call::Join),
+        "drops" => Some(Call::Drops),
+        _ => {
+            let act = act_of(third, fourth)?;
+            Some(Call::At(Seat::of(word)?, number(second)? as usize, act))
+        }
+    }
 }
 
 /// The tokens of a run, each at the number that it got.
@@ -62,29 +67,32 @@ impl<B: TableName> Tokens<B> {
         }
     }
 
+    /// Puts a token back.
+    fn put(&mut self, number: usize, token: Option<Held<B>>) {
+        if number < self.places.len() {
+            self.places[number] = token;
+        }
+    }
+
     /// A call on a token, through the seat.
-    fn act(
-        &mut self,
-        alloc: Global,
-        seat: &mut TurnSeat<Counted>,
-        number: usize,
-        what: Act,
-    ) -> Result<String, NoMemory>
+    fn act(&mut self, seat: &mut TurnSeat<Counted>, number: usize, act: Act) -> Answer
         requires { seat.old.table ≡ B.table }
         ensures table { seat.new.table ≡ seat.old.table }
         ensures first { seat.new.is_first ≡ seat.old.is_first }
     {
         let Some(held) = self.take(number) else {
-            return Ok(String::from_str(alloc, "no token")?);
+            return Answer::NoToken;
         };
-        let after = apply(alloc, seat, held, what)?;
-        if number < self.places.len() {
-            self.places[number] = after.kept;
+        let After {
+            kept,
+            issued,
+            answer,
+        } = apply(seat, held, act);
+        self.put(number, kept);
+        if issued.is_some() && self.places.push(issued).is_err() {
+            return Answer::NoMemory;
         }
-        if let Some(issued) = after.issued {
-            self.places.push(Some(issued))?;
-        }
-        Ok(after.text)
+        answer
     }
 }
 
@@ -106,105 +114,116 @@ struct Run<B: TableName> {
 
 impl<B: TableName> Run<B> {
     /// A new buffer, from the stock.
-    fn open(&mut self, alloc: Global, stamp: u64) -> Result<String, NoMemory> {
+    fn open(&mut self, stamp: u64) -> Answer {
         if self.left == 0 {
-            return Ok(String::from_str(alloc, "no buffer is left")?);
+            return Answer::NoBuffer;
         }
-        let drops = Arc::try_clone(&self.drops)?;
-        let permit = self.stock.one()?;
+        let Ok(drops) = Arc::try_clone(&self.drops) else {
+            return Answer::NoMemory;
+        };
+        let Ok(permit) = self.stock.one() else {
+            return Answer::NoMemory;
+        };
         self.left -= 1;
         let buffer = permit.buffer();
         let Ok(turn) = permit.open(Counted { stamp, drops }) else {
-            return Err(NoMemory);
+            return Answer::NoMemory;
         };
-        let token = Held {
-            token: Token::Turn(turn),
-            of: PhantomData,
-        };
-        self.tokens.places.push(Some(token))?;
-        Ok(format!(in alloc; "buffer {buffer}")?)
+        let token = Some(Held::of(Token::Turn(turn)));
+        if self.tokens.places.push(token).is_err() {
+            return Answer::NoMemory;
+        }
+        Answer::Opened(buffer)
     }
 
-    fn split(&mut self, alloc: Global) -> Result<String, NoMemory> {
-        self.second = Some(self.first.split()?);
-        Ok(String::from_str(alloc, "split")?)
+    fn split(&mut self) -> Answer {
+        match self.first.split() {
+            Ok(second) => {
+                self.second = Some(second);
+                Answer::Split
+            }
+            Err(_) => Answer::NoMemory,
+        }
     }
 
-    fn join(&mut self, alloc: Global) -> Result<String, NoMemory> {
+    fn join(&mut self) -> Answer {
         match self.second.take() {
             Some(second) => {
                 self.first.join(second);
-                Ok(String::from_str(alloc, "joined")?)
+                Answer::Joined
             }
-            None => Ok(String::from_str(alloc, "no seat")?),
+            None => Answer::NoSeat,
         }
     }
 
-    fn on_second(&mut self, alloc: Global, number: usize, what: Act) -> Result<String, NoMemory> {
+    fn on_second(&mut self, number: usize, act: Act) -> Answer {
         match self.second.take() {
             Some(mut second) => {
-                let text = self.tokens.act(alloc, &mut second, number, what)?;
+                let answer = self.tokens.act(&mut second, number, act);
                 self.second = Some(second);
-                Ok(text)
+                answer
             }
-            None => Ok(String::from_str(alloc, "no seat")?),
+            None => Answer::NoSeat,
         }
     }
 
-    fn call(&mut self, alloc: Global, call: Call) -> Result<String, NoMemory> {
+    fn call(&mut self, call: Call) -> Answer {
         match call {
-            Call::Open(stamp) => self.open(alloc, stamp),
-            Call::Split => self.split(alloc),
-            Call::Join => self.join(alloc),
-            Call::Drops => Ok(format!(in alloc; "{}", self.drops.load(Ordering::SeqCst))?),
-            Call::At(Seat::First, number, what) => {
-                self.tokens.act(alloc, &mut self.first, number, what)
-            }
-            Call::At(Seat::Second, number, what) => self.on_second(alloc, number, what),
+            Call::Open(stamp) => self.open(stamp),
+            Call::Split => self.split(),
+            Call::Join => self.join(),
+            Call::Drops => Answer::Value(self.drops.load(Ordering::SeqCst)),
+            Call::At(Seat::First, number, act) => self.tokens.act(&mut self.first, number, act),
+            Call::At(Seat::Second, number, act) => self.on_second(number, act),
         }
     }
 }
 
 /// The calls on tokens of the table that B names.
 fn play_at<B: TableName>(
+    rt: &impl Print,
     alloc: Global,
     first: TurnSeat<Counted>,
     stock: Stock<Counted>,
-    left: u32,
     calls: &[String],
-) -> Result<Vec<String>, NoMemory>
+) -> io::Result<()>
     requires own { (first.table ≡ B.table) × (stock.table ≡ B.table) }
     requires leads { first.is_first ≡ true }
-    requires counted { length stock.buffers ≡ left }
+    requires counted { length stock.buffers ≡ BUFFERS }
 {
+    let Ok(drops) = Arc::new(alloc, AtomicU64::new(0)) else {
+        return println!(rt; "out of memory");
+    };
     let mut run: Run<B> = Run {
-        drops: Arc::new(alloc, AtomicU64::new(0))?,
+        drops,
         first,
         second: None,
         stock,
-        left,
+        left: BUFFERS,
         tokens: Tokens {
             places: Vec::new(alloc),
         },
     };
-    let mut answers = Vec::new(alloc);
     for line in calls {
-        let words: Vec<&str> = line.split_whitespace().collect(alloc)?;
-        let answer = match call_of(&words) {
-            Some(call) => run.call(alloc, call)?,
-            None => String::from_str(alloc, "no call")?,
+        let answer = match call_of(line) {
+            Some(call) => run.call(call),
+            None => Answer::NoCall,
         };
-        answers.push(format!(in alloc; "{line}: {answer}")?)?;
+        println!(rt; "{line}: {answer}")?;
     }
-    Ok(answers)
+    Ok(())
 }
 
 /// How many buffers the calls of a run may open.
 const BUFFERS: u32 = 2;
 
-pub fn play(alloc: Global, calls: &[String]) -> Result<Vec<String>, NoMemory> {
-    let (first, mut stock) = open_turns::<Counted>(alloc, BUFFERS + 1)?;
-    let mine = stock.cut(BUFFERS)?;
+pub fn play(rt: &impl Print, alloc: Global, calls: &[String]) -> io::Result<()> {
+    let Ok((first, mut stock)) = open_turns::<Counted>(alloc, BUFFERS + 1) else {
+        return println!(rt; "out of memory");
+    };
     first.exact();
-    play_at::<Brand>(alloc, first, mine, BUFFERS, calls)
+    match stock.cut(BUFFERS) {
+        Ok(mine) => play_at::<Brand>(rt, alloc, first, mine, calls),
+        Err(_) => println!(rt; "out of memory"),
+    }
 }

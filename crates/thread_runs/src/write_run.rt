@@ -138,12 +138,12 @@ fn write_and_read<R: Threads>(rt: &R, alloc: Global) -> Result<Option<u8>, NoMem
 }
 
 /// The same so often: how many of the readers found what was promised.
-pub fn play<R: Threads>(rt: &R, alloc: Global, rounds: u64) -> Result<String, NoMemory> {
+pub fn play<R: Threads>(rt: &R, alloc: Global, rounds: u64) -> u64 {
     let mut found = 0u64;
     for _ in 0..rounds {
-        if write_and_read(rt, alloc)? == Some(255) {
+        if let Ok(Some(255)) = write_and_read(rt, alloc) {
             found = found.saturating_add(1);
         }
     }
-    Ok(format!(in alloc; "{found} found the promised picture")?)
+    found
 }

@@ -1,9 +1,6 @@
-use Rattle.std.proofs.Common.{length, ◌-◌}
-use Rattle.sf_rows.specs.Channels.{PaintedPixels, colour_channel}
+use Rattle.sf_base.specs.Paint.{painted}
+use Rattle.sf_rows.specs.Pixels.{PaintedBelow}
 use Rattle.sf_rows.proofs.colour.blend_colour.Given as goal
 
-abbrev pub invariant-loop-at : goal.invariant-loop-at
-invariant-loop-at l = PaintedPixels l.fn.dst (colour_channel l.fn.dst l.fn.colour l.alpha) l.at l.dst
-
-abbrev pub decreases-loop-at : goal.decreases-loop-at
-decreases-loop-at l = length l.dst - l.at
+abbrev pub invariant-loop-k : goal.invariant-loop-k
+invariant-loop-k l = PaintedBelow l.fn.dst (λ k under. painted under l.fn.colour l.alpha) l.k l.dst

@@ -1,12 +1,14 @@
-use Rattle.std.proofs.Common.{◌+◌, ◌≤◌, length, arith}
-use Rattle.sf_rows.proofs.PixelLemmas.{opaque_step, opaque_pixels}
+use Rattle.std.proofs.Common.{ap}
+use Rattle.sf_base.specs.Bytes.{pixel_in}
+use Rattle.sf_base.specs.Paint.{painted}
+use Rattle.sf_base.specs.declared.pixel.Rgba.{Rgba}
+use Rattle.sf_rows.specs.Pixels.{opaque_pixel}
+use Rattle.sf_rows.proofs.PixelLemmas.{painted_next, opaque_pixels}
 use Rattle.sf_rows.proofs.opaque.blend_row_opaque.Goals as goal
 
-pub loop-at-preserved : goal.loop-at-preserved
-loop-at-preserved c =
-    let so = c.loop-at.invariant in
-    let room : c.loop-at.at + 4 ≤ length c.args.dst.now = omega (arith, c.loop-at-test.true, so.painted.len, so.whole) in
-    rw c.paint_pixel.ensures (opaque_step _ _ _ _ _ _ c.read_pixel.ensures so room)
+pub loop-k-init : goal.loop-k-init
+loop-k-init c = opaque_pixels _ _ _ _ _ c.blend_opaque_blocks-done.ensures
 
-pub returns-clause-each_pixel : goal.returns-clause-each_pixel
-returns-clause-each_pixel c = opaque_pixels _ _ _ _ _ c.loop-at.invariant (omega (arith, c.loop-at-test.false, c.loop-at.invariant.painted.len))
+pub loop-k-preserved : goal.loop-k-preserved
+unfolding opaque_pixel
+loop-k-preserved c = painted_next _ _ _ _ _ _ c.loop-k.invariant c.paint_pixel.ensures.size c.paint_pixel.ensures.one (ap (λ (source : Rgba). painted (pixel_in c.loop-k.dst c.loop-k.k) (opaque_pixel source) c.args.alpha) c.get_pixel.ensures)

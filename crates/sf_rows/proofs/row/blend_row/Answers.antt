@@ -1,12 +1,11 @@
-use Rattle.std.proofs.Common.{◌+◌, ◌≤◌, length, arith}
-use Rattle.sf_rows.proofs.PixelLemmas.{row_step, row_pixels}
+use Rattle.std.proofs.Common.{ap}
+use Rattle.sf_base.specs.Bytes.{pixel_in}
+use Rattle.sf_base.specs.Paint.{painted}
+use Rattle.sf_rows.proofs.PixelLemmas.{painted_next, row_pixels}
 use Rattle.sf_rows.proofs.row.blend_row.Goals as goal
 
-pub loop-at-preserved : goal.loop-at-preserved
-loop-at-preserved c =
-    let so = c.loop-at.invariant in
-    let room : c.loop-at.at + 4 ≤ length c.args.dst.now = omega (arith, c.loop-at-test.true, so.painted.len, so.whole) in
-    rw c.paint_pixel.ensures (row_step _ _ _ _ _ _ c.read_pixel.ensures so room)
+pub loop-k-init : goal.loop-k-init
+loop-k-init c = row_pixels _ _ _ _ _ c.blend_row_blocks-done.ensures
 
-pub returns-clause-each_pixel : goal.returns-clause-each_pixel
-returns-clause-each_pixel c = row_pixels _ _ _ _ _ c.loop-at.invariant (omega (arith, c.loop-at-test.false, c.loop-at.invariant.painted.len))
+pub loop-k-preserved : goal.loop-k-preserved
+loop-k-preserved c = painted_next _ _ _ _ _ _ c.loop-k.invariant c.paint_pixel.ensures.size c.paint_pixel.ensures.one (ap (λ source. painted (pixel_in c.loop-k.dst c.loop-k.k) source c.args.alpha) c.get_pixel.ensures)

@@ -1,0 +1,32 @@
+ghost use Rattle.std.specs.Prelude.{◌≡◌, ◌<◌, ◌≤◌, ℕ, pos, ◌&&◌};
+ghost use Rattle.sf_compose.specs.Painting.{is_in_area};
+ghost use Rattle.sf_base.specs.Geometry.{is_within};
+
+use sf_base::{Rect, clipped};
+
+// The points from one side on and before another, and from one edge on and before another. It is
+// empty where a side or an edge does not stand before the other.
+#[derive(Clone, Copy)]
+pub struct Area {
+    pub left: u32,
+    pub right: u32,
+    pub top: u32,
+    pub bottom: u32,
+}
+
+// The points of an area that a rectangle has.
+pub fn cut(area: Area, rect: &Rect) -> Area
+    ensures right { result.right ≤ area.right }
+    ensures bottom { result.bottom ≤ area.bottom }
+    ensures points { (x y : ℕ) → is_in_area result x y
+        ≡ (is_in_area area x y && (is_within rect.now.x rect.now.width (pos x) && is_within rect.now.y rect.now.height (pos y))) }
+{
+    let (left, right) = clipped(rect.x, rect.width, area.right);
+    let (top, bottom) = clipped(rect.y, rect.height, area.bottom);
+    Area {
+        left: left.max(area.left),
+        right,
+        top: top.max(area.top),
+        bottom,
+    }
+}

@@ -1,0 +1,16 @@
+ghost use Rattle.std.specs.Prelude.{◌≡◌, ℕ, List, pos};
+ghost use Rattle.sf_picture.specs.declared.picture.Picture.{Picture};
+ghost use Rattle.sf_view.specs.Stacks.{view_image};
+ghost use Rattle.sf_view.specs.Views.{ViewOf};
+ghost use Rattle.sf_compose.specs.Readings.{AreReadable, read_image};
+ghost use Rattle.sf_compose.specs.Sources.{HasSources};
+
+/// Where the contents hold the pictures that a view's layers show, whatever pictures the numbers
+/// stand for, they can be read, and what is read is the painter's image of the view.
+pub fn what_is_read_is_the_image()
+    ensures readable { (picture : ℕ → Picture) (view : ViewOf) (contents : List Picture) (sources : List ℕ) →
+        HasSources picture view contents sources → AreReadable contents view.drawn sources }
+    ensures image { (picture : ℕ → Picture) (view : ViewOf) (contents : List Picture) (sources : List ℕ) →
+        HasSources picture view contents sources →
+        (x y : ℕ) → read_image contents view sources x y ≡ view_image picture view (pos x) (pos y) }
+{}

@@ -1,0 +1,169 @@
+ghost use Rattle.std.specs.Prelude.{◌≡◌, ◌+◌, ◌-◌, ◌*◌, ◌<◌, ◌≤◌, ℕ, length, map, pos, true, ◌&&◌, ◌≤ℤ◌, ◌+ℤ◌, neg_ℤ};
+ghost use Rattle.sf_base.specs.Paint.{painted};
+ghost use Rattle.sf_compose.specs.Painting.{is_in_area, Paints, PaintsSpan};
+ghost use Rattle.sf_compose.specs.Readings.{AreReadable, IsReadable, under_drawn, under_one};
+ghost use Rattle.sf_compose.specs.Sources.{LiesIn};
+ghost use Rattle.sf_picture.specs.Pixels.{pixel_at};
+ghost use Rattle.sf_base.specs.Geometry.{is_within};
+ghost use Rattle.sf_view.specs.Contents.{is_in_content, source_of, unsigned};
+ghost use Rattle.sf_view.specs.Views.{is_in_clip};
+
+use crate::area::{Area, cut};
+use crate::contents::read;
+use crate::pixels::Pixels;
+use crate::spans::{paint_colour, paint_pixels};
+use sf_base::{Rect, Rgba};
+use sf_picture::Painted;
+use sf_view::{Content, Drawn, View};
+
+// Paints a colour over an area.
+pub fn paint_area(frame: &mut [u8], width: u32, area: Area, colour: Rgba, alpha: u8)
+    requires wide { area.right ≤ width }
+    requires room { 4 * (area.bottom * width) ≤ length frame.old }
+    ensures { Paints width (is_in_area area) (λ x y under. painted under colour alpha) frame.old frame.new }
+{
+    if area.left >= area.right || area.top >= area.bottom {
+        return;
+    }
+    for y in area.top..area.bottom {
+        let row = y as usize * width as usize;
+        paint_colour(
+            frame,
+            row + area.left as usize,
+            row + area.right as usize,
+            colour,
+            alpha,
+        );
+    }
+}
+
+// What a layer shows of a picture: a crop, whose corner stands at a place.
+#[derive(Clone, Copy)]
+struct Crop {
+    rect: Rect,
+    place: (i32, i32),
+    opaque: bool,
+    alpha: u8,
+}
+
+// The coordinate of a picture at a point, where the edge of a crop stands at a place.
+fn coordinate(at: u32, place: i32, edge: i32) -> usize
+    requires placed { place ≤ℤ pos at }
+    requires cropped { pos 0 ≤ℤ edge }
+    ensures { result ≡ unsigned ((pos at +ℤ neg_ℤ place) +ℤ edge) }
+{
+    (i64::from(at) - i64::from(place) + i64::from(edge)) as usize
+}
+
+// Paints the points of a row from one on and before another.
+fn paint_crop_row(
+    picture: &Painted,
+    crop: Crop,
+    frame: &mut [u8],
+    width: u32,
+    y: u32,
+    left: u32,
+    right: u32,
+)
+    requires crop { LiesIn picture.now crop.rect }
+    requires ordered { left < right }
+    requires first { is_within crop.place.0 crop.rect.width (pos left) ≡ true }
+    requires last { is_within crop.place.0 crop.rect.width (pos (right - 1)) ≡ true }
+    requires down { is_within crop.place.1 crop.rect.height (pos y) ≡ true }
+    requires room { 4 * (y * width + right) ≤ length frame.old }
+    ensures { PaintsSpan frame.old frame.new (y * width + left) (y * width + right) (λ i under.
+        painted under (source_of crop.opaque (pixel_at picture.now
+        (unsigned ((pos (i - y * width) +ℤ neg_ℤ crop.place.0) +ℤ crop.rect.x))
+        (unsigned ((pos y +ℤ neg_ℤ crop.place.1) +ℤ crop.rect.y)))) crop.alpha) }
+{
+    let column = coordinate(left, crop.place.0, crop.rect.x);
+    let row = coordinate(y, crop.place.1, crop.rect.y);
+    let from = row * picture.picture().width as usize + column;
+    let start = y as usize * width as usize;
+    paint_pixels(
+        frame,
+        start + left as usize,
+        start + right as usize,
+        picture.bytes(),
+        from,
+        crop.opaque,
+        crop.alpha,
+    );
+}
+
+// Paints a crop over an area that it covers.
+fn paint_crop(picture: &Painted, crop: Crop, frame: &mut [u8], width: u32, area: Area)
+    requires crop { LiesIn picture.now crop.rect }
+    requires inside { (x y : ℕ) → is_in_area area x y ≡ true
+        → (is_within crop.place.0 crop.rect.width (pos x) && is_within crop.place.1 crop.rect.height (pos y)) ≡ true }
+    requires wide { area.right ≤ width }
+    requires room { 4 * (area.bottom * width) ≤ length frame.old }
+    ensures { Paints width (is_in_area area) (λ x y under.
+        painted under (source_of crop.opaque (pixel_at picture.now
+        (unsigned ((pos x +ℤ neg_ℤ crop.place.0) +ℤ crop.rect.x))
+        (unsigned ((pos y +ℤ neg_ℤ crop.place.1) +ℤ crop.rect.y)))) crop.alpha) frame.old frame.new }
+{
+    if area.left >= area.right || area.top >= area.bottom {
+        return;
+    }
+    for y in area.top..area.bottom {
+        paint_crop_row(picture, crop, frame, width, y, area.left, area.right);
+    }
+}
+
+// Paints a drawn layer over the points of an area that are in its clip.
+fn paint_layer<C: Pixels>(
+    drawn: &Drawn,
+    contents: &[C],
+    source: u32,
+    frame: &mut [u8],
+    width: u32,
+    area: Area,
+)
+    requires readable { IsReadable (map C.picture contents.now) drawn.now.content source }
+    requires inside { (x y : ℕ) → is_in_clip drawn.now (pos x) (pos y) ≡ true → is_in_content drawn.now.content drawn.now.place (pos x) (pos y) ≡ true }
+    requires wide { area.right ≤ width }
+    requires room { 4 * (area.bottom * width) ≤ length frame.old }
+    ensures { Paints width (is_in_area area) (λ x y under.
+        under_one (map C.picture contents.now) (pos x) (pos y) under drawn.now source) frame.old frame.new }
+{
+    let area = cut(area, &drawn.clip);
+    match drawn.content {
+        Content::Colour(colour) => {
+            let colour = if drawn.opaque {
+                Rgba { a: 255, ..colour }
+            } else {
+                colour
+            };
+            paint_area(frame, width, area, colour, drawn.alpha);
+        }
+        Content::Buffer(shown) => {
+            let crop = Crop {
+                rect: shown.crop,
+                place: drawn.place,
+                opaque: drawn.opaque,
+                alpha: drawn.alpha,
+            };
+            paint_crop(read(contents, source), crop, frame, width, area);
+        }
+    }
+}
+
+// Paints the drawn layers of a view over an area, from the back.
+pub fn paint_layers<C: Pixels>(
+    view: &View,
+    contents: &[C],
+    sources: &[u32],
+    area: Area,
+    frame: &mut [u8],
+)
+    requires readable { AreReadable (map C.picture contents.now) view.now.drawn sources.now }
+    requires wide { area.right ≤ view.now.width }
+    requires room { 4 * (area.bottom * view.now.width) ≤ length frame.old }
+    ensures { Paints view.now.width (is_in_area area) (λ x y under.
+        under_drawn (map C.picture contents.now) (pos x) (pos y) under view.now.drawn sources.now) frame.old frame.new }
+{
+    for (drawn, source) in view.drawn.as_slice().iter().zip(sources) {
+        paint_layer(drawn, contents, *source, frame, view.width, area);
+    }
+}

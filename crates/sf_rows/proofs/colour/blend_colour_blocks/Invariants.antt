@@ -1,9 +1,0 @@
-use Rattle.std.proofs.Common.{length, ◌-◌}
-use Rattle.sf_rows.specs.Channels.{PaintedPixels, colour_channel}
-use Rattle.sf_rows.proofs.colour.blend_colour_blocks.Given as goal
-
-abbrev pub invariant-loop-dst : goal.invariant-loop-dst
-invariant-loop-dst l = PaintedPixels l.fn.dst (colour_channel l.fn.dst l.fn.colour l.alpha) l.at l.dst
-
-abbrev pub decreases-loop-dst : goal.decreases-loop-dst
-decreases-loop-dst l = length l.dst - l.at

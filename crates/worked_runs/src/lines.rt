@@ -1,0 +1,146 @@
+use crate::layout::{Layout, Tail, Width, layout_of};
+use std::io;
+
+// The bytes of a record's body that are not read yet.
+#[derive(Drop)]
+struct Body<'a> {
+    rest: &'a [u8],
+}
+
+fn cut() -> io::Error {
+    io::Error::from(io::ErrorKind::UnexpectedEof)
+}
+
+impl Body<'_> {
+    // The next number, whose highest byte comes first.
+    fn number(&mut self, width: Width) -> io::Result<u64> {
+        let Some((bytes, rest)) = self.rest.split_at_checked(width) else {
+            return Err(cut());
+        };
+        self.rest = rest;
+        let mut number = 0u64;
+        for byte in bytes {
+            number = number.wrapping_mul(256).wrapping_add(u64::from(*byte));
+        }
+        Ok(number)
+    }
+
+    fn push_numbers(&mut self, line: &mut String, widths: &[Width]) -> io::Result<()> {
+        for width in widths {
+            let number = self.number(*width)?;
+            write!(line, " {number}")?;
+        }
+        Ok(())
+    }
+
+    fn push_values(&mut self, line: &mut String) -> io::Result<()> {
+        for _ in 0..self.number(4)? {
+            self.push_numbers(line, &[8])?;
+        }
+        Ok(())
+    }
+
+    fn push_timelines(&mut self, line: &mut String) -> io::Result<()> {
+        for _ in 0..self.number(4)? {
+            let timeline = self.number(4)?;
+            let value = self.number(8)?;
+            write!(line, " {timeline}={value}")?;
+        }
+        Ok(())
+    }
+
+    fn push_entries(&mut self, line: &mut String, widths: &[Width]) -> io::Result<()> {
+        for _ in 0..self.number(4)? {
+            line.push_str(" |")?;
+            self.push_numbers(line, widths)?;
+        }
+        Ok(())
+    }
+
+    fn push_tail(&mut self, line: &mut String, tail: Tail) -> io::Result<()> {
+        match tail {
+            Tail::Nothing => Ok(()),
+            Tail::Values => self.push_values(line),
+            Tail::Timelines => self.push_timelines(line),
+            Tail::Entries(widths) => self.push_entries(line, widths),
+            Tail::Pixels => push_pixels(line, self.rest),
+        }
+    }
+}
+
+fn push_hex(line: &mut String, bytes: &[u8]) -> io::Result<()> {
+    for byte in bytes {
+        write!(line, "{byte:02x}")?;
+    }
+    Ok(())
+}
+
+fn push_run(line: &mut String, count: u64, pixel: &[u8]) -> io::Result<()> {
+    if count > 0 {
+        write!(line, " {count}*")?;
+        push_hex(line, pixel)?;
+    }
+    Ok(())
+}
+
+// Runs of equal pixels, all rows as one.
+fn push_pixels(line: &mut String, pixels: &[u8]) -> io::Result<()> {
+    let mut last: &[u8] = &[];
+    let mut count = 0u64;
+    for pixel in pixels.chunks(4) {
+        if pixel != last {
+            push_run(line, count, last)?;
+            last = pixel;
+            count = 0;
+        }
+        count = count.wrapping_add(1);
+    }
+    push_run(line, count, last)
+}
+
+fn push_record(text: &mut String, tag: &str, layout: Layout, body: &[u8]) -> io::Result<()> {
+    text.push_str(tag)?;
+    let mut body = Body { rest: body };
+    body.push_numbers(text, layout.head)?;
+    body.push_tail(text, layout.tail)?;
+    text.push_str("\n")?;
+    Ok(())
+}
+
+fn push_cut(text: &mut String, bytes: &[u8]) -> io::Result<()> {
+    text.push_str("CUT ")?;
+    push_hex(text, bytes)?;
+    text.push_str("\n")?;
+    Ok(())
+}
+
+// The tag, the body and what follows of the first record, if it is whole.
+fn split_record(bytes: &[u8]) -> Option<(&str, &[u8], &[u8])> {
+    let (tag, rest) = bytes.split_at_checked(4)?;
+    let mut head = Body { rest };
+    let length = head.number(4).ok()?;
+    let (body, rest) = head.rest.split_at_checked(length as usize)?;
+    Some((str::from_utf8(tag).ok()?, body, rest))
+}
+
+/// Appends the records as lines: the tag and the numbers of each; behind a bar each entry of a list;
+/// of a timeline its value behind `=`; of a frame's pixels the runs of equal ones, as `2*ff0000ff`.
+/// What is left of a cut record is `CUT` and its bytes.
+pub fn push_records(text: &mut String, bytes: &[u8]) -> io::Result<()> {
+    let mut rest = bytes;
+    for _ in 0..bytes.len() {
+        let Some((tag, body, after)) = split_record(rest) else {
+            break;
+        };
+        let Some(layout) = layout_of(tag) else {
+            break;
+        };
+        push_record(text, tag, layout, body)?;
+        rest = after;
+    }
+    if rest.is_empty() {
+        Ok(())
+    } else {
+        push_cut(text, rest)
+    }
+}

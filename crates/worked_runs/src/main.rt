@@ -1,0 +1,87 @@
+//! Plays each script of the folder that it is run in, over a source and a sink in memory, and prints
+//! the status of each run and its records in readable lines. The scripts come in the order of their
+//! names. Beside `NAME.sf` may lie
+//!
+//! - `NAME.lines`: a run for each line, which is put behind the script; a semicolon ends a line;
+//! - `NAME.fails`: a run for each line, as `read 2` or `write 5`, in which that call fails;
+//! - `NAME.words`: the words of the run, one a line;
+//! - `NAME.length`: how many bytes the script has, with a comment at its end;
+//! - `NAME.pieces`: the run reads and writes through a reader and a writer of std that move a few
+//!   bytes in a call and are often interrupted.
+//!
+//! Last it prints how many bytes the record of a long history has.
+#![tactic(auto)]
+
+mod case;
+mod layout;
+mod lines;
+mod pieces;
+mod sizes;
+
+use case::{Case, cases, names};
+use lines::push_records;
+use pieces::Halting;
+use sf_app::run;
+use sf_io::{Gate, MemSink, MemSource, OpenGate, ReadSource, WriteSink};
+use sizes::history_length;
+use std::alloc::Global;
+use std::io;
+use std::sync::Wait;
+use std::thread::Threads;
+
+/// More calls on a queue than a script can make.
+const LONG_HISTORY: u32 = 65_536;
+
+// What is printed of a run.
+fn shown(alloc: Global, title: &str, status: u8, records: &[u8]) -> io::Result<String> {
+    let mut text = format!(in alloc; "== {title} status {status}\n")?;
+    push_records(&mut text, records)?;
+    Ok(text)
+}
+
+fn in_memory<R: AllocGlobal + Threads + Wait + Sync>(rt: &R, case: Case) -> io::Result<String> {
+    let Case {
+        title,
+        script,
+        words,
+        failing_reads,
+        failing_writes,
+        ..
+    } = case;
+    let mut source = MemSource::new(script, failing_reads);
+    let mut sink = MemSink::new(rt.alloc(), failing_writes);
+    let status = run(rt, rt.alloc(), &words, &mut source, &mut sink, &OpenGate);
+    shown(rt.alloc(), title.as_str(), status, sink.bytes())
+}
+
+fn in_pieces<R: AllocGlobal + Threads + Wait + Sync>(rt: &R, case: Case) -> io::Result<String> {
+    let mut records = Vec::new(rt.alloc());
+    let mut source = ReadSource::new(Halting::new(case.script.as_slice()));
+    let mut sink = WriteSink::new(Halting::new(&mut records));
+    let status = run(
+        rt,
+        rt.alloc(),
+        &case.words,
+        &mut source,
+        &mut sink,
+        &OpenGate,
+    );
+    drop(sink);
+    shown(rt.alloc(), case.title.as_str(), status, &records)
+}
+
+fn main(rt: HostRuntime) -> io::Result<()> {
+    for name in names(&rt)? {
+        for case in cases(&rt, name.as_str())? {
+            let text = if case.in_pieces {
+                in_pieces(&rt, case)?
+            } else {
+                in_memory(&rt, case)?
+            };
+            print!(rt; "{text}")?;
+        }
+    }
+    OpenGate.pass(&rt, 1, 1);
+    let length = history_length(rt.alloc(), LONG_HISTORY)?;
+    println!(rt; "== a history of {LONG_HISTORY} calls: {length} bytes")
+}
