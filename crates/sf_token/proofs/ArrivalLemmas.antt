@@ -1,13 +1,10 @@
 -- What one call more adds to the arrivals.
-use Rattle.std.proofs.Common.{◌≡◌, ◌∙◌, sym, ap, ℕ, ◌+◌, ◌<◌, ◌≤◌, List, [], ◌∷◌, ◌++◌, length, map, reverse, refl, arith, length-append}
+use Rattle.std.proofs.Common.{◌≡◌, ◌∙◌, sym, ap, ℕ, ◌+◌, ◌<◌, List, [], ◌∷◌, ◌++◌, length, map, reverse, refl, arith, length-append}
 use Rattle.std.proofs.lemmas.List.{append-nil, length-map, map-append, reverse-append}
 use Rattle.std.proofs.lemmas.List.Elements.{All-nil, All-push}
-use Rattle.sf_calls.specs.declared.object.Entry.{Entry}
 use Rattle.sf_calls.specs.Histories.{entry}
 use Rattle.sf_txn.specs.Transactions.{Contents}
-use Rattle.sf_token.specs.declared.arrivals.ArriveCall.{ArriveCall}
 use Rattle.sf_token.specs.declared.arrivals.ArriveCall.TheVariants as call
-use Rattle.sf_token.specs.declared.arrivals.ArriveReply.{ArriveReply}
 use Rattle.sf_token.specs.declared.arrivals.ArriveReply.TheVariants as reply
 use Rattle.sf_token.specs.declared.arrivals.ArrvEntry.{ArrvEntry}
 use Rattle.sf_token.specs.Pending.{Arrival}

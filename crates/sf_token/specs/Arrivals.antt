@@ -2,7 +2,6 @@
 use Rattle.std.specs.Prelude.{◌≡◌, ℕ, ◌+◌, ◌≤◌, Bool, true, false, if◌then◌else◌, List, [], ◌∷◌, ◌++◌, map, length}
 use Rattle.std.specs.List.{All}
 use Rattle.std.specs.declared.snapshot.Snapshot.{Snapshot}
-use Rattle.sf_base.specs.declared.ids.ActorId.{ActorId}
 use Rattle.sf_calls.specs.Histories.{IsLegal, entry}
 use Rattle.sf_calls.specs.declared.object.Answer.{Answer}
 use Rattle.sf_calls.specs.declared.object.Answer.TheVariants.{Replies, Waits}

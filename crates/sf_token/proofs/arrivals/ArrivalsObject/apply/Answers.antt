@@ -1,4 +1,4 @@
-use Rattle.std.proofs.Common.{◌≡◌, ◌<◌, ◌+◌, ◌∙◌, sym, ap, ℕ, List, [], ◌∷◌, ◌++◌, map, reverse, length, arith}
+use Rattle.std.proofs.Common.{◌∙◌, ap, ◌∷◌, map, reverse, arith}
 use Rattle.sf_calls.specs.Histories.{entry}
 use Rattle.sf_token.specs.declared.arrivals.ArriveReply.TheVariants as reply
 use Rattle.sf_token.specs.Arrivals.{made, waiting}
