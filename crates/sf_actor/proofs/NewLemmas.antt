@@ -21,22 +21,22 @@ none-keeps : {A : Type 0} (P : A → Type 0) (n : ℕ) → All (IfThere P) (repl
 none-keeps P zero = All-nil (IfThere P)
 none-keeps P (suc n) = All-cons (IfThere P) None (replicate n None) tt (none-keeps P n)
 
-holds_nothing : (number : ActorId) → books_of (record { number = number; done = []; names = replicate 33 None; transactions = replicate 65 None }) ≡ no_books
+holds_nothing : (number : ActorId) → books_of (record { number = number; done = []; names = replicate 32 None; transactions = replicate 65 None }) ≡ no_books
 holds_nothing number =
-    ap (λ (names : List (Option Token)). record { names = names; transactions = map (option_map (map plain_operation)) (replicate 65 None) }) (none-seen token_of 33)
-    ∙ ap (λ (transactions : List (Option (List LayerEdit))). record { names = replicate 33 None; transactions = transactions }) (none-seen (map plain_operation) 65)
+    ap (λ (names : List (Option Token)). record { names = names; transactions = map (option_map (map plain_operation)) (replicate 65 None) }) (none-seen token_of 32)
+    ∙ ap (λ (transactions : List (Option (List LayerEdit))). record { names = replicate 32 None; transactions = transactions }) (none-seen (map plain_operation) 65)
 
-new_actor : (number : ActorId) → IsNew number (record { number = number; done = []; names = replicate 33 None; transactions = replicate 65 None })
+new_actor : (number : ActorId) → IsNew number (record { number = number; done = []; names = replicate 32 None; transactions = replicate 65 None })
 unfolding books_from
 new_actor number = record {
   named = refl;
   none = refl;
   is_actor = record { told = holds_nothing number };
-  keeps = λ pictures pasts. record { names = none-keeps (HoldingKeeps pictures pasts) 33; transactions = none-keeps (All (OperationKeeps pictures pasts)) 65 };
+  keeps = λ pictures pasts. record { names = none-keeps (HoldingKeeps pictures pasts) 32; transactions = none-keeps (All (OperationKeeps pictures pasts)) 65 };
 }
 
-pub IsNew-made : (number : ActorId) (done : List Done) (names : List (Option Holding)) (transactions : List (Option (List Operation))) → done ≡ [] → names ≡ replicate 33 None → transactions ≡ replicate 65 None → IsNew number (record { number = number; done = done; names = names; transactions = transactions })
+pub IsNew-made : (number : ActorId) (done : List Done) (names : List (Option Holding)) (transactions : List (Option (List Operation))) → done ≡ [] → names ≡ replicate 32 None → transactions ≡ replicate 65 None → IsNew number (record { number = number; done = done; names = names; transactions = transactions })
 IsNew-made number done names transactions e f g =
     subst (λ (ds : List Done). IsNew number (record { number = number; done = ds; names = names; transactions = transactions })) (sym e)
     (subst (λ (ns : List (Option Holding)). IsNew number (record { number = number; done = []; names = ns; transactions = transactions })) (sym f)
-    (subst (λ (ts : List (Option (List Operation))). IsNew number (record { number = number; done = []; names = replicate 33 None; transactions = ts })) (sym g) (new_actor number)))
+    (subst (λ (ts : List (Option (List Operation))). IsNew number (record { number = number; done = []; names = replicate 32 None; transactions = ts })) (sym g) (new_actor number)))

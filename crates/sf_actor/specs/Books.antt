@@ -52,9 +52,9 @@ pub record Books : Type 0 where
   pub names : List (Option Token)
   pub transactions : List (Option (List LayerEdit))
 
--- an actor has 32 names and 64 transaction numbers; they hold nothing at first
+-- an actor has 32 names and the transaction numbers up to 64; they hold nothing at first
 abbrev pub no_books : Books
-no_books = record { names = replicate 33 None; transactions = replicate 65 None }
+no_books = record { names = replicate 32 None; transactions = replicate 65 None }
 
 abbrev pub name_in : Books → ℕ → Option Token
 name_in books name = get_or books.names name None

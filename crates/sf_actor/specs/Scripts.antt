@@ -1,5 +1,5 @@
 -- What a step of a scene names: pictures and queues that are declared, and names and numbers that there are.
-use Rattle.std.specs.Prelude.{◌≡◌, ℕ, ◌≤◌, ◌==◌, Bool, true, if◌then◌else◌, List, [], ◌∷◌, map}
+use Rattle.std.specs.Prelude.{◌≡◌, ℕ, ◌<◌, ◌≤◌, ◌==◌, Bool, true, if◌then◌else◌, List, [], ◌∷◌, map}
 use Rattle.std.specs.List.{list_any}
 use Rattle.sf_picture.specs.declared.picture.Picture.{Picture}
 use Rattle.sf_script.specs.declared.scene.Step.{Step}
@@ -25,9 +25,11 @@ has_number number picture = picture.number == number
 abbrev pub has_picture : List Picture → ℕ → Bool
 has_picture pictures number = list_any (has_number number) pictures
 
+-- the place of a name among the 32 that an actor has
 abbrev pub IsName : ℕ → Type 0
-IsName name = name ≤ 32
+IsName name = name < 32
 
+-- the number of a transaction, of which an actor has 64; no transaction has the number 0
 abbrev pub IsNumber : ℕ → Type 0
 IsNumber number = number ≤ 64
 

@@ -58,7 +58,7 @@ impl Actor {
         Ok(Actor {
             number,
             done: Items::new(Vec::new(alloc)),
-            names: Table::new(alloc, 33)?,
+            names: Table::new(alloc, 32)?,
             transactions: Table::new(alloc, 65)?,
         })
     }

@@ -13,8 +13,10 @@ use Rattle.sf_slots.specs.Replies.{reply_after}
 use Rattle.sf_actor.specs.declared.done.Answered.{Answered}
 use Rattle.sf_actor.specs.declared.done.Done.{Done}
 use Rattle.sf_actor.specs.Pasts.{Asked, Past, is_past_of, reply_in, with_call, with_call_if, with_entry, entry_of}
+use Rattle.sf_actor.specs.Scripts.{picture_at}
 use Rattle.sf_actor.specs.Steps.{asked_by, books_after}
-use Rattle.sf_app.specs.Played.{IsHistory, IsMade, IsReleased, Made, Released, TellsReply, bare_past, entries_of, made_from, made_if, made_on, released_at, released_on}
+use Rattle.sf_script.specs.Scene.{SceneValue}
+use Rattle.sf_app.specs.Played.{IsCalledBy, IsHistory, IsMade, IsReleased, Made, Released, TellsReply, bare_past, entries_of, has_actor, made_from, made_if, made_on, may_call, released_at, released_on}
 use Rattle.sf_app.specs.Worlds.{compositor, release_of, released}
 use Rattle.sf_commit.specs.Stages.{FrameOf}
 
@@ -71,14 +73,11 @@ made_here : (queue place : ℕ) (given : Answered) (asked : Asked) → asked.0.0
 made_here queue place given asked is = ap (λ (b : Bool). cond b (let m : Made = record { step = place; asked = asked; answered = given } in m ∷ []) []) (eq-eqb asked.0.0 queue is)
 
 -- a step that makes no call on the queue
-history_past : (pictures : ℕ → Picture) (n : ℕ) (tale : List Done) (rel : List Released) (past : Past) (d : Done) (o : Option Asked) → asked_by pictures (books_after tale) d.step ≡ o
-    → made_on past.number (made_if (length tale + 1) d.answered o) ≡ [] → IsHistory pictures n tale rel past → IsHistory pictures n (tale ++ d ∷ []) rel past
-history_past pictures n tale rel past d o is none h = record {
-  legal = h.legal;
-  by_actor = subst (λ (l : List Made). AllZip IsMade l (entries_of n past))
-      (sym (made_on_more pictures past.number tale d o is ∙ ap (λ (l : List Made). made_on past.number (made_from pictures [] tale) ++ l) none ∙ append-nil _)) h.by_actor;
-  by_compositor = h.by_compositor;
-  by_none_else = h.by_none_else;
+calls_past : (pictures : ℕ → Picture) (n : ℕ) (tale : List Done) (past : Past) (d : Done) (o : Option Asked) → asked_by pictures (books_after tale) d.step ≡ o
+    → made_on past.number (made_if (length tale + 1) d.answered o) ≡ [] → IsCalledBy pictures n tale past → IsCalledBy pictures n (tale ++ d ∷ []) past
+calls_past pictures n tale past d o is none h = record {
+  entries = subst (λ (l : List Made). AllZip IsMade l (entries_of n past))
+      (sym (made_on_more pictures past.number tale d o is ∙ ap (λ (l : List Made). made_on past.number (made_from pictures [] tale) ++ l) none ∙ append-nil _)) h.entries;
 }
 
 either_left : (a b : Bool) → a ≡ true → (a || b) ≡ true
@@ -89,56 +88,67 @@ either_right : (a b : Bool) → b ≡ true → (a || b) ≡ true
 either_right true b e = refl
 either_right false b e = e
 
+-- a call of an actor on the queue
+history_call : (scene : SceneValue) (n : ℕ) (rel : List Released) (past : Past) (place : ℕ) (asked : Asked) (replied : PlainReply) → n ≢ 0 → has_actor scene n ≡ true
+    → replied ≡ reply_after past.width past.height past.calls (record { 0 = n }) asked.1 → IsHistory scene rel past → IsHistory scene rel (longer past (entry_by n place asked replied))
+history_call scene n rel past place asked replied apart known legal h =
+    let e = entry_by n place asked replied in
+    record {
+      legal = (legal, h.legal);
+      by_compositor = subst (λ (l : List Entry). AllZip IsReleased (released_on past.number rel) l) (sym (entries_by_other 0 past e apart)) h.by_compositor;
+      by_none_else = All-cons (λ (x : Entry). may_call scene x.caller.0 ≡ true) e past.calls (either_right (n == 0) (has_actor scene n) known) h.by_none_else;
+    }
+
 -- a step that makes a call on the queue
-history_call : (pictures : ℕ → Picture) (n : ℕ) (tale : List Done) (rel : List Released) (past : Past) (d : Done) (asked : Asked) (replied : PlainReply) → n ≢ 0
+calls_call : (pictures : ℕ → Picture) (n : ℕ) (tale : List Done) (past : Past) (d : Done) (asked : Asked) (replied : PlainReply)
     → asked_by pictures (books_after tale) d.step ≡ Some asked → asked.0.0 ≡ past.number → TellsReply d.answered replied
-    → replied ≡ reply_after past.width past.height past.calls (record { 0 = n }) asked.1
-    → IsHistory pictures n tale rel past → IsHistory pictures n (tale ++ d ∷ []) rel (longer past (entry_by n (length tale + 1) asked replied))
-history_call pictures n tale rel past d asked replied apart is here tells legal h =
+    → IsCalledBy pictures n tale past → IsCalledBy pictures n (tale ++ d ∷ []) (longer past (entry_by n (length tale + 1) asked replied))
+calls_call pictures n tale past d asked replied is here tells h =
     let e = entry_by n (length tale + 1) asked replied in
     let m : Made = record { step = length tale + 1; asked = asked; answered = d.answered } in
     let made : made_on past.number (made_from pictures [] (tale ++ d ∷ [])) ≡ made_on past.number (made_from pictures [] tale) ++ m ∷ [] =
     made_on_more pictures past.number tale d (Some asked) is ∙ ap (λ (l : List Made). made_on past.number (made_from pictures [] tale) ++ l) (made_here past.number (length tale + 1) d.answered asked here) in
     record {
-      legal = (legal, h.legal);
-      by_actor = subst (λ (l : List Made). AllZip IsMade l (entries_of n (longer past e))) (sym made)
+      entries = subst (λ (l : List Made). AllZip IsMade l (entries_of n (longer past e))) (sym made)
           (subst (λ (l : List Entry). AllZip IsMade (made_on past.number (made_from pictures [] tale) ++ m ∷ []) l) (sym (entries_by_own n past e refl))
-          (zip_push IsMade (made_on past.number (made_from pictures [] tale)) (entries_of n past) m e h.by_actor (record { step = refl; call = refl; reply = tells })));
-      by_compositor = subst (λ (l : List Entry). AllZip IsReleased (released_on past.number rel) l) (sym (entries_by_other 0 past e apart)) h.by_compositor;
-      by_none_else = All-cons (λ (x : Entry). (x.caller.0 == n || x.caller.0 == 0) ≡ true) e past.calls (either_left (n == n) (n == 0) (eq-eqb n n refl)) h.by_none_else;
+          (zip_push IsMade (made_on past.number (made_from pictures [] tale)) (entries_of n past) m e h.entries (record { step = refl; call = refl; reply = tells })));
     }
 
 released_on_more : (queue : ℕ) (rel : List Released) (r : Released) → released_on queue (rel ++ r ∷ []) ≡ released_on queue rel ++ cond (r.frame.0.0 == queue) (r ∷ []) []
 released_on_more queue rel r = filter-append (λ (x : Released). x.frame.0.0 == queue) rel (r ∷ [])
 
 -- a release of a frame of another queue
-history_elsewhere : (pictures : ℕ → Picture) (n : ℕ) (tale : List Done) (rel : List Released) (past : Past) (r : Released) → r.frame.0.0 ≢ past.number
-    → IsHistory pictures n tale rel past → IsHistory pictures n tale (rel ++ r ∷ []) past
-history_elsewhere pictures n tale rel past r ne h = record {
+history_elsewhere : (scene : SceneValue) (rel : List Released) (past : Past) (r : Released) → r.frame.0.0 ≢ past.number → IsHistory scene rel past → IsHistory scene (rel ++ r ∷ []) past
+history_elsewhere scene rel past r ne h = record {
   legal = h.legal;
-  by_actor = h.by_actor;
   by_compositor = subst (λ (l : List Released). AllZip IsReleased l (entries_of 0 past))
       (sym (released_on_more past.number rel r ∙ ap (λ (b : Bool). released_on past.number rel ++ cond b (r ∷ []) []) (ne_eqb r.frame.0.0 past.number ne) ∙ append-nil _)) h.by_compositor;
   by_none_else = h.by_none_else;
 }
 
 -- a release of a frame of the queue
-history_release : (pictures : ℕ → Picture) (n : ℕ) (tale : List Done) (rel : List Released) (past : Past) (number : ℕ) (frame : FrameOf) (replied : PlainReply) → n ≢ 0
+history_release : (scene : SceneValue) (rel : List Released) (past : Past) (number : ℕ) (frame : FrameOf) (replied : PlainReply)
     → frame.0.0 ≡ past.number → replied ≡ reply_after past.width past.height past.calls compositor (release_of frame).1
-    → IsHistory pictures n tale rel past → IsHistory pictures n tale (rel ++ released_at number frame ∷ []) (longer past (entry_by 0 number (release_of frame) replied))
-history_release pictures n tale rel past number frame replied apart here legal h =
+    → IsHistory scene rel past → IsHistory scene (rel ++ released_at number frame ∷ []) (longer past (entry_by 0 number (release_of frame) replied))
+history_release scene rel past number frame replied here legal h =
     let e = entry_by 0 number (release_of frame) replied in
     let r = released_at number frame in
     let on : released_on past.number (rel ++ r ∷ []) ≡ released_on past.number rel ++ r ∷ [] =
     released_on_more past.number rel r ∙ ap (λ (b : Bool). released_on past.number rel ++ cond b (r ∷ []) []) (eq-eqb frame.0.0 past.number here) in
     record {
       legal = (legal, h.legal);
-      by_actor = subst (λ (l : List Entry). AllZip IsMade (made_on past.number (made_from pictures [] tale)) l) (sym (entries_by_other n past e (λ (z : 0 ≡ n). apart (sym z)))) h.by_actor;
       by_compositor = subst (λ (l : List Released). AllZip IsReleased l (entries_of 0 (longer past e))) (sym on)
           (subst (λ (l : List Entry). AllZip IsReleased (released_on past.number rel ++ r ∷ []) l) (sym (entries_by_own 0 past e refl))
           (zip_push IsReleased (released_on past.number rel) (entries_of 0 past) r e h.by_compositor (record { step = refl; call = refl })));
-      by_none_else = All-cons (λ (x : Entry). (x.caller.0 == n || x.caller.0 == 0) ≡ true) e past.calls (either_right (0 == n) (0 == 0) refl) h.by_none_else;
+      by_none_else = All-cons (λ (x : Entry). may_call scene x.caller.0 ≡ true) e past.calls (either_left (0 == 0) (has_actor scene 0) refl) h.by_none_else;
     }
+
+-- a release is no call of an actor
+calls_release : (pictures : ℕ → Picture) (n : ℕ) (tale : List Done) (past : Past) (number : ℕ) (frame : FrameOf) (replied : PlainReply) → n ≢ 0
+    → IsCalledBy pictures n tale past → IsCalledBy pictures n tale (longer past (entry_by 0 number (release_of frame) replied))
+calls_release pictures n tale past number frame replied apart h =
+    let e = entry_by 0 number (release_of frame) replied in
+    record { entries = subst (λ (l : List Entry). AllZip IsMade (made_on past.number (made_from pictures [] tale)) l) (sym (entries_by_other n past e (λ (z : 0 ≡ n). apart (sym z)))) h.entries }
 
 -- the queues have different numbers
 abbrev pub AreApart : List Past → Type 0
@@ -219,52 +229,66 @@ pub bare-with : (queue : ℕ) (entry : Entry) (pasts : List Past) → map bare_p
 bare-with queue entry [] = refl
 bare-with queue entry (past ∷ pasts) = bare_case past pasts (with_entry queue entry pasts) entry (is_past_of queue past) (bare-with queue entry pasts)
 
--- what the calls so far are to the tale and the releases so far
-pub record AreTold (pictures : ℕ → Picture) (n : ℕ) (tale : List Done) (rel : List Released) (pasts : List Past) : Type 0 where
-  pub apart : AreApart pasts
-  pub told : n ≢ 0 → All (IsHistory pictures n tale rel) pasts
+-- where the scene has the actor, its number is not the compositor's
+abbrev pub IsNumbered : SceneValue → ℕ → Type 0
+IsNumbered scene n = has_actor scene n ≡ true → n ≢ 0
 
-every_past : (pictures : ℕ → Picture) (n : ℕ) (tale : List Done) (rel : List Released) (d : Done) → asked_by pictures (books_after tale) d.step ≡ None → (ps : List Past)
-    → All (IsHistory pictures n tale rel) ps → All (IsHistory pictures n (tale ++ d ∷ []) rel) ps
-every_past pictures n tale rel d is [] all = All-nil (IsHistory pictures n (tale ++ d ∷ []) rel)
-every_past pictures n tale rel d is (p ∷ ps) all =
-    All-cons (IsHistory pictures n (tale ++ d ∷ []) rel) p ps (history_past pictures n tale rel p d None is refl (All-head (IsHistory pictures n tale rel) p ps all))
-    (every_past pictures n tale rel d is ps (All-tail (IsHistory pictures n tale rel) p ps all))
+-- what the calls so far are to the tale of the actor of this number and to the releases so far
+pub record AreTold (scene : SceneValue) (n : ℕ) (tale : List Done) (rel : List Released) (pasts : List Past) : Type 0 where
+  pub apart : AreApart pasts
+  pub told : IsNumbered scene n → All (IsHistory scene rel) pasts
+  pub called : n ≢ 0 → All (IsCalledBy (picture_at scene.pictures) n tale) pasts
+
+every_past : (pictures : ℕ → Picture) (n : ℕ) (tale : List Done) (d : Done) → asked_by pictures (books_after tale) d.step ≡ None → (ps : List Past)
+    → All (IsCalledBy pictures n tale) ps → All (IsCalledBy pictures n (tale ++ d ∷ [])) ps
+every_past pictures n tale d is [] all = All-nil (IsCalledBy pictures n (tale ++ d ∷ []))
+every_past pictures n tale d is (p ∷ ps) all =
+    All-cons (IsCalledBy pictures n (tale ++ d ∷ [])) p ps (calls_past pictures n tale p d None is refl (All-head (IsCalledBy pictures n tale) p ps all))
+    (every_past pictures n tale d is ps (All-tail (IsCalledBy pictures n tale) p ps all))
 
 -- one more step
-pub told_step : (pictures : ℕ → Picture) (n : ℕ) (tale : List Done) (rel : List Released) (pasts : List Past) (d : Done) (o : Option Asked) → asked_by pictures (books_after tale) d.step ≡ o
-    → ((asked : Asked) → o ≡ Some asked → TellsReply d.answered (reply_in pasts (actor_id n) asked)) → AreTold pictures n tale rel pasts
-    → AreTold pictures n (tale ++ d ∷ []) rel (with_call_if pasts (actor_id n) (length tale + 1) o)
-told_step pictures n tale rel pasts d None is tells h = record {
+pub told_step : (scene : SceneValue) (n : ℕ) (tale : List Done) (rel : List Released) (pasts : List Past) (d : Done) (o : Option Asked) → has_actor scene n ≡ true
+    → asked_by (picture_at scene.pictures) (books_after tale) d.step ≡ o → ((asked : Asked) → o ≡ Some asked → TellsReply d.answered (reply_in pasts (actor_id n) asked))
+    → AreTold scene n tale rel pasts → AreTold scene n (tale ++ d ∷ []) rel (with_call_if pasts (actor_id n) (length tale + 1) o)
+told_step scene n tale rel pasts d None known is tells h = record {
   apart = h.apart;
-  told = λ ne. every_past pictures n tale rel d is pasts (h.told ne);
+  told = h.told;
+  called = λ ne. every_past (picture_at scene.pictures) n tale d is pasts (h.called ne);
 }
-told_step pictures n tale rel pasts d (Some asked) is tells h = record {
+told_step scene n tale rel pasts d (Some asked) known is tells h = record {
   apart = apart-with asked.0.0 _ pasts h.apart;
-  told = λ ne. with_call_told (IsHistory pictures n tale rel) (IsHistory pictures n (tale ++ d ∷ []) rel) (actor_id n) (length tale + 1) asked pasts h.apart
-      (λ past far one. history_past pictures n tale rel past d (Some asked) is (made_elsewhere past.number (length tale + 1) d.answered asked (λ (e : asked.0.0 ≡ past.number). far (sym e))) one)
-      (λ past near first one. history_call pictures n tale rel past d asked (reply_in pasts (actor_id n) asked) ne is (sym near) (tells asked refl) first one)
-      (h.told ne);
+  told = λ numbered. with_call_told (IsHistory scene rel) (IsHistory scene rel) (actor_id n) (length tale + 1) asked pasts h.apart
+      (λ past far one. one)
+      (λ past near first one. history_call scene n rel past (length tale + 1) asked (reply_in pasts (actor_id n) asked) (numbered known) known first one)
+      (h.told numbered);
+  called = λ ne. with_call_told (IsCalledBy (picture_at scene.pictures) n tale) (IsCalledBy (picture_at scene.pictures) n (tale ++ d ∷ [])) (actor_id n) (length tale + 1) asked pasts h.apart
+      (λ past far one. calls_past (picture_at scene.pictures) n tale past d (Some asked) is (made_elsewhere past.number (length tale + 1) d.answered asked (λ (e : asked.0.0 ≡ past.number). far (sym e))) one)
+      (λ past near first one. calls_call (picture_at scene.pictures) n tale past d asked (reply_in pasts (actor_id n) asked) is (sym near) (tells asked refl) one)
+      (h.called ne);
 }
 
 -- one more release
-told_release : (pictures : ℕ → Picture) (n : ℕ) (tale : List Done) (rel : List Released) (pasts : List Past) (number : ℕ) (frame : FrameOf) → AreTold pictures n tale rel pasts
-    → AreTold pictures n tale (rel ++ released_at number frame ∷ []) (with_call pasts compositor number (release_of frame))
-told_release pictures n tale rel pasts number frame h = record {
+told_release : (scene : SceneValue) (n : ℕ) (tale : List Done) (rel : List Released) (pasts : List Past) (number : ℕ) (frame : FrameOf) → AreTold scene n tale rel pasts
+    → AreTold scene n tale (rel ++ released_at number frame ∷ []) (with_call pasts compositor number (release_of frame))
+told_release scene n tale rel pasts number frame h = record {
   apart = apart-with frame.0.0 _ pasts h.apart;
-  told = λ ne. with_call_told (IsHistory pictures n tale rel) (IsHistory pictures n tale (rel ++ released_at number frame ∷ [])) compositor number (release_of frame) pasts h.apart
-      (λ past far one. history_elsewhere pictures n tale rel past (released_at number frame) (λ (e : frame.0.0 ≡ past.number). far (sym e)) one)
-      (λ past near first one. history_release pictures n tale rel past number frame (reply_in pasts compositor (release_of frame)) ne (sym near) first one)
-      (h.told ne);
+  told = λ numbered. with_call_told (IsHistory scene rel) (IsHistory scene (rel ++ released_at number frame ∷ [])) compositor number (release_of frame) pasts h.apart
+      (λ past far one. history_elsewhere scene rel past (released_at number frame) (λ (e : frame.0.0 ≡ past.number). far (sym e)) one)
+      (λ past near first one. history_release scene rel past number frame (reply_in pasts compositor (release_of frame)) (sym near) first one)
+      (h.told numbered);
+  called = λ ne. with_call_told (IsCalledBy (picture_at scene.pictures) n tale) (IsCalledBy (picture_at scene.pictures) n tale) compositor number (release_of frame) pasts h.apart
+      (λ past far one. one)
+      (λ past near first one. calls_release (picture_at scene.pictures) n tale past number frame (reply_in pasts compositor (release_of frame)) ne one)
+      (h.called ne);
 }
 
 -- the releases of a vsync
-pub told_releases : (pictures : ℕ → Picture) (n : ℕ) (tale : List Done) (rel : List Released) (pasts : List Past) (number : ℕ) (frames : List FrameOf) → AreTold pictures n tale rel pasts
-    → AreTold pictures n tale (rel ++ map (released_at number) frames) (released number pasts frames)
-told_releases pictures n tale rel pasts number [] h = subst (λ (l : List Released). AreTold pictures n tale l pasts) (sym (append-nil rel)) h
-told_releases pictures n tale rel pasts number (frame ∷ frames) h =
-    subst (λ (l : List Released). AreTold pictures n tale l (released number pasts (frame ∷ frames))) (append_assoc rel (released_at number frame ∷ []) (map (released_at number) frames))
-    (told_releases pictures n tale (rel ++ released_at number frame ∷ []) (with_call pasts compositor number (release_of frame)) number frames (told_release pictures n tale rel pasts number frame h))
+pub told_releases : (scene : SceneValue) (n : ℕ) (tale : List Done) (rel : List Released) (pasts : List Past) (number : ℕ) (frames : List FrameOf) → AreTold scene n tale rel pasts
+    → AreTold scene n tale (rel ++ map (released_at number) frames) (released number pasts frames)
+told_releases scene n tale rel pasts number [] h = subst (λ (l : List Released). AreTold scene n tale l pasts) (sym (append-nil rel)) h
+told_releases scene n tale rel pasts number (frame ∷ frames) h =
+    subst (λ (l : List Released). AreTold scene n tale l (released number pasts (frame ∷ frames))) (append_assoc rel (released_at number frame ∷ []) (map (released_at number) frames))
+    (told_releases scene n tale (rel ++ released_at number frame ∷ []) (with_call pasts compositor number (release_of frame)) number frames (told_release scene n tale rel pasts number frame h))
 
 pub bare-released : (number : ℕ) (pasts : List Past) (frames : List FrameOf) → map bare_past (released number pasts frames) ≡ map bare_past pasts
 bare-released number pasts [] = refl

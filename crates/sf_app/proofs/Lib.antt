@@ -16,3 +16,4 @@ pub mod PlayedLemmas
 pub mod NewLemmas
 pub mod MeaningLemmas
 pub mod UniqueLemmas
+pub mod CallerLemmas

@@ -17,7 +17,8 @@ use Rattle.sf_app.specs.Histories.{shown_past}
 use Rattle.sf_app.specs.Transactions.{Arrival, entry_of, replies_from, sent_from}
 use Rattle.sf_app.specs.Worlds.{Turn, World, bare_stage, done_now, idle, performed_if, start, step_of, vsync_of}
 use Rattle.sf_app.specs.Play.{IsPlay, Rounds, is_busy, last, more, ordered, picks_in, round_of, script_in}
-use Rattle.sf_app.specs.Played.{IsHistory, IsTale, Played, ShowImages, committed_by, committed_of, commits_in, released_from, replies_to, step_done, uncommitted, vsyncs_in}
+use Rattle.sf_record.specs.Fitting.{RecordFits}
+use Rattle.sf_app.specs.Played.{IsCalledBy, IsHistory, IsTale, Played, ShowImages, committed_by, committed_of, commits_in, released_from, replies_to, step_done, uncommitted, vsyncs_in}
 use Rattle.sf_app.proofs.ArrivalLemmas.{committed_by-commits_by, committed_from, none_uncommitted}
 use Rattle.sf_app.proofs.NewLemmas.{told_new}
 use Rattle.sf_app.proofs.PlayedLemmas.{meets_rounds, meets_start, meets_turns, pictures_of}
@@ -124,9 +125,14 @@ some_actors P [] h a p = λ k d lt. absurd (omega arith)
 some_actors P (s ∷ []) h a p = let low = (a 0 s (omega arith)).low in at_one P s (p (λ (z : s.number ≡ 0). absurd (omega (arith, z, low))))
 some_actors P (s ∷ t ∷ others) h a p = absurd (omega arith)
 
+numbered : (actors : List ActorScript) → All IsActor actors → list_any (λ (t : ActorScript). t.number == (script_in actors).number) actors ≡ true → (script_in actors).number ≢ 0
+unfolding script_in
+numbered [] a known = cc
+numbered (s ∷ others) a known = let low = (a 0 s (omega arith)).low in λ (z : s.number ≡ 0). absurd (omega (arith, z, low))
+
 -- the records of the play of a scene mean what a played run means
-pub play_means : (scene : SceneValue) (records : List Record) → IsWithinLimits scene → IsPlay scene records → Played scene records
-play_means scene records limits h =
+pub play_means : (scene : SceneValue) (records : List Record) → IsWithinLimits scene → All RecordFits records → IsPlay scene records → Played scene records
+play_means scene records limits fits h =
     let t = ordered scene in
     let script = script_in scene.actors in
     let n = script.number in
@@ -153,6 +159,7 @@ play_means scene records limits h =
       holds = [];
       stuck_at = [];
       order = h.in_order;
+      fits = fits;
       tale = tale;
       transactions = end.arrivals;
       pasts = end.pasts;
@@ -176,8 +183,8 @@ play_means scene records limits h =
       calls = record {
         queues = m.bare;
         shown = refl;
-        of_each = some_actors (λ (s : ActorScript). All (IsHistory (pictures_of scene) s.number tale (released_from end.arrivals bare_stage vs)) end.pasts) scene.actors one limits.actors
-            (λ apart. subst (λ (l : List Arrival). All (IsHistory (pictures_of scene) n tale (released_from l bare_stage vs)) end.pasts) (append-nil end.arrivals) (told.told apart));
+        of_each = subst (λ (l : List Arrival). All (IsHistory scene (released_from l bare_stage vs)) end.pasts) (append-nil end.arrivals) (told.told (numbered scene.actors limits.actors));
+        by_actors = some_actors (λ (s : ActorScript). All (IsCalledBy (pictures_of scene) s.number tale) end.pasts) scene.actors one limits.actors (λ apart. told.called apart);
       };
       commits = record {
         of_each_token = λ token. record {

@@ -8,7 +8,7 @@ use Rattle.sf_script.specs.Scene.{SceneValue, IsWithinLimits}
 use Rattle.sf_script.specs.declared.scene.QueueDecl.{QueueDecl}
 use Rattle.sf_actor.specs.Pasts.{Past}
 use Rattle.sf_app.specs.Play.{script_in}
-use Rattle.sf_app.specs.Played.{IsHistory, made_from}
+use Rattle.sf_app.specs.Played.{IsCalledBy, IsHistory, made_from}
 use Rattle.sf_app.specs.Worlds.{new_past, rising}
 use Rattle.sf_app.proofs.HistoryLemmas.{AreApart, AreTold}
 use Rattle.sf_app.proofs.PlayedLemmas.{pictures_of}
@@ -84,15 +84,20 @@ apart_from_here queues a (suc m) h =
     λ j c le. let f = high queues (a + 1) m j c le in λ same. absurd (omega (arith, e, f, same)))
 
 -- nothing is told of queues without calls
-nothing_told : (pictures : ℕ → Picture) (n : ℕ) (qs : List QueueDecl) → All (IsHistory pictures n [] []) (map new_past qs)
-unfolding made_from
-nothing_told pictures n [] = All-nil (IsHistory pictures n [] [])
-nothing_told pictures n (q ∷ qs) =
-    All-cons (IsHistory pictures n [] []) (new_past q) (map new_past qs) (record { legal = tt; by_actor = tt; by_compositor = tt; by_none_else = λ i d lt. absurd (omega arith) }) (nothing_told pictures n qs)
+nothing_told : (scene : SceneValue) (qs : List QueueDecl) → All (IsHistory scene []) (map new_past qs)
+nothing_told scene [] = All-nil (IsHistory scene [])
+nothing_told scene (q ∷ qs) =
+    All-cons (IsHistory scene []) (new_past q) (map new_past qs) (record { legal = tt; by_compositor = tt; by_none_else = λ i d lt. absurd (omega arith) }) (nothing_told scene qs)
 
-pub told_new : (scene : SceneValue) → IsWithinLimits scene → AreTold (pictures_of scene) (script_in scene.actors).number [] [] (map new_past (rising scene.queues))
+nothing_called : (pictures : ℕ → Picture) (n : ℕ) (qs : List QueueDecl) → All (IsCalledBy pictures n []) (map new_past qs)
+unfolding made_from
+nothing_called pictures n [] = All-nil (IsCalledBy pictures n [])
+nothing_called pictures n (q ∷ qs) = All-cons (IsCalledBy pictures n []) (new_past q) (map new_past qs) (record { entries = tt }) (nothing_called pictures n qs)
+
+pub told_new : (scene : SceneValue) → IsWithinLimits scene → AreTold scene (script_in scene.actors).number [] [] (map new_past (rising scene.queues))
 unfolding rising
 told_new scene limits = record {
   apart = apart_from_here scene.queues 1 16 limits.queues_differ;
-  told = λ ne. nothing_told (pictures_of scene) (script_in scene.actors).number (from_here scene.queues 1 16);
+  told = λ numbered. nothing_told scene (from_here scene.queues 1 16);
+  called = λ ne. nothing_called (pictures_of scene) (script_in scene.actors).number (from_here scene.queues 1 16);
 }

@@ -1,7 +1,7 @@
 -- The whole of a run from its parts, and its prefixes.
 use Rattle.std.proofs.Common.{◌≡◌, ℕ, ◌+◌, ◌<◌, ◌≤◌, ◌^◌, ◌-◌, ◌==◌, List, [], ◌∷◌, ◌++◌, true, false, ◌⊎◌, inl, inr, Option, All, length, map, refl, sym, ap, subst, ◌∙◌, append_assoc, arith}
 use Rattle.std.proofs.lemmas.List.{append-nil}
-use Rattle.std.proofs.lemmas.List.Elements.{All-from_get_or, All-get_or}
+use Rattle.std.proofs.lemmas.List.Elements.{All-append, All-cons, All-from_get_or, All-get_or}
 use Rattle.std.proofs.lemmas.Bool.{cases_Bool, eq-eqb, ne_eqb}
 use Rattle.std.proofs.KnownBytes.{Appends-trans}
 use Rattle.std.specs.Io.KnownBytes.{Appends}
@@ -19,12 +19,13 @@ use Rattle.sf_app.specs.Turns.{work_left}
 use Rattle.sf_app.specs.Bounds.{IsReady, IsSound}
 use Rattle.sf_record.specs.Records.{bytes_of, record_bytes}
 use Rattle.sf_record.specs.Events.{closing, events_records, opening, run_records}
+use Rattle.sf_record.specs.Fitting.{RecordFits}
 use Rattle.sf_app.specs.Histories.{shown_past}
 use Rattle.sf_app.specs.Transactions.{entry_of}
 use Rattle.sf_app.specs.Play.{IsPlay, Rounds, is_busy, last, more, ordered, picks_in, round_of, script_in, stepped, turn_of, turns_of}
-use Rattle.sf_app.specs.Runs.{CutRounds, CutRun, Wrote, WroteRounds, WroteRun, shown_bytes}
+use Rattle.sf_app.specs.Runs.{CutRounds, CutRun, Wrote, WroteEvents, WroteRounds, WroteRun, shown_bytes}
 use Rattle.sf_app.proofs.MeaningLemmas.{play_means}
-use Rattle.sf_app.proofs.RunLemmas.{bytes_more, bytes_of-append, none_shown, nothing_took, prefix_front, prefix_more, took_all}
+use Rattle.sf_app.proofs.RunLemmas.{bytes_of-append, events_more, none_shown, nothing_took, prefix_front, prefix_more, took_all}
 use Rattle.sf_app.proofs.RoundLemmas.{Ends, RoundLeaves, round_leaves, rounds_end, start_sound, step_leaves, step_vsyncs, turns_sound}
 
 few_steps : (actors : List ActorScript) → All IsActor actors → length (script_in actors).steps ≤ 4096
@@ -39,7 +40,7 @@ start_ready scene state e h = record { period = h.high_period; steps = few_steps
 -- rounds were written, and with those that are left they are the rounds from a state on
 pub record RoundsGoing (scene : SceneValue) (a b : Option (List ℕ)) (from state : World) : Type 0 where
   pub done : List Event
-  pub written : Appends a b (shown_bytes done)
+  pub written : WroteEvents a b done
   pub onward : (events : List Event) (end : World) → Rounds scene state events end → Rounds scene from (done ++ events) end
 
 pub RoundsGoing-start : (scene : SceneValue) (a : Option (List ℕ)) (state : World) → RoundsGoing scene a a state state
@@ -54,7 +55,7 @@ RoundsGoing-next scene a b c from state next h (q, e) busy =
     let es = (round_of scene state).events in
     record {
       done = h.done ++ es;
-      written = bytes_more a b c h.done es h.written q;
+      written = events_more a b c h.done es h.written q;
       onward = λ events end r. subst (λ (l : List Event). Rounds scene from l end) (sym (append_assoc h.done es events))
           (h.onward (es ++ events) end (more state es next events end (whole_turn next (round_of scene state) e) busy r));
     }
@@ -66,7 +67,7 @@ RoundsGoing-end scene a b c from state next h (q, e) idles =
     record {
       events = h.done ++ es;
       are_rounds = h.onward es next (last state es next (whole_turn next (round_of scene state) e) idles);
-      written = bytes_more a b c h.done es h.written q;
+      written = events_more a b c h.done es h.written q;
     }
 
 -- rounds from a state on begin with one round
@@ -124,7 +125,7 @@ unfolding round_of
 round_wrote scene a b c state mid next (p, e) q =
     let first = stepped scene state in
     let there : Wrote b c next (vsync_of scene first.world) = subst (λ (s : World). Wrote b c next (vsync_of scene s)) (sym e) q in
-    (bytes_more a b c first.events (vsync_of scene first.world).events p there.0, there.1)
+    (events_more a b c first.events (vsync_of scene first.world).events p there.0, there.1)
 
 pub round_cut_step : (scene : SceneValue) (a b : Option (List ℕ)) (state : World) → TookPrefix a b (shown_bytes (stepped scene state).events)
     → TookPrefix a b (shown_bytes (round_of scene state).events)
@@ -218,9 +219,9 @@ cut_rounds scene a b c d state mid s p q r =
     cut_by scene a d r.events r.end rounds (TookPrefix-front a d _ _ (TookPrefix-rest a b d (record_bytes (opening scene)) _ p (prefix_more b c d (ordered scene).events r.events t.0 r.written)))
 
 -- all but the closing records was written
-front_wrote : (scene : SceneValue) (a b c d : Option (List ℕ)) (mid : World) (events : List Event) → Appends a b (record_bytes (opening scene)) → Wrote b c mid (ordered scene) → Appends c d (shown_bytes events)
+front_wrote : (scene : SceneValue) (a b c d : Option (List ℕ)) (mid : World) (events : List Event) → Appends a b (record_bytes (opening scene)) → Wrote b c mid (ordered scene) → WroteEvents c d events
     → Appends a d (record_bytes (opening scene) ++ shown_bytes ((ordered scene).events ++ events))
-front_wrote scene a b c d mid events p (q, e) r = Appends-trans a b d (record_bytes (opening scene)) (shown_bytes ((ordered scene).events ++ events)) p (bytes_more b c d (ordered scene).events events q r)
+front_wrote scene a b c d mid events p (q, e) r = Appends-trans a b d (record_bytes (opening scene)) (shown_bytes ((ordered scene).events ++ events)) p (events_more b c d (ordered scene).events events q r).bytes
 
 -- a part of its closing records was written
 pub cut_closing : (scene : SceneValue) (a b c d e : Option (List ℕ)) (state mid end : World) → state ≡ start scene → Appends a b (record_bytes (opening scene))
@@ -231,19 +232,27 @@ cut_closing scene a b c d e state mid end s p q r f =
     let rounds : Rounds scene (ordered scene).world r.events end = subst (λ (x : World). Rounds scene x r.events end) (sym t.1) r.are_rounds in
     cut_by scene a e r.events end rounds (TookPrefix-rest a d e _ _ (front_wrote scene a b c d mid r.events p t r.written) f)
 
+-- all records of a run fit
+run_fits : (scene : SceneValue) (events : List Event) (arrivals : List ArrivalEntry) (histories : List QueueHistory) → RecordFits (opening scene) → All RecordFits (events_records events)
+    → All RecordFits (closing arrivals histories [] []) → All RecordFits (run_records scene events arrivals histories [] [])
+run_fits scene events arrivals histories first middle final =
+    All-append RecordFits (opening scene ∷ events_records events) (closing arrivals histories [] []) (All-cons RecordFits (opening scene) (events_records events) first middle) final
+
 -- all records of a run were written
-pub wrote_run : (scene : SceneValue) (a b c d e : Option (List ℕ)) (state mid end : World) → IsWithinLimits scene → state ≡ start scene → Appends a b (record_bytes (opening scene))
-    → Wrote b c mid (turns_of scene (idle state) (picks_in scene.order)) → WroteRounds scene c d mid end → Appends d e (bytes_of (closing (map entry_of end.arrivals) (map shown_past end.pasts) [] [])) → WroteRun scene a e
+pub wrote_run : (scene : SceneValue) (a b c d e : Option (List ℕ)) (state mid end : World) → IsWithinLimits scene → state ≡ start scene → Appends a b (record_bytes (opening scene)) → RecordFits (opening scene)
+    → Wrote b c mid (turns_of scene (idle state) (picks_in scene.order)) → WroteRounds scene c d mid end → Appends d e (bytes_of (closing (map entry_of end.arrivals) (map shown_past end.pasts) [] []))
+    → All RecordFits (closing (map entry_of end.arrivals) (map shown_past end.pasts) [] []) → WroteRun scene a e
 unfolding run_bytes
-wrote_run scene a b c d e state mid end limits s p q r f =
+wrote_run scene a b c d e state mid end limits s p first q r f final =
     let t : Wrote b c mid (ordered scene) = subst (λ (x : World). Wrote b c mid (turns_of scene (idle x) (picks_in scene.order))) s q in
     let rounds : Rounds scene (ordered scene).world r.events end = subst (λ (x : World). Rounds scene x r.events end) (sym t.1) r.are_rounds in
     let whole : Appends a e (run_bytes scene ((ordered scene).events ++ r.events) (map entry_of end.arrivals) (map shown_past end.pasts)) =
     Appends-trans a d e _ (bytes_of (closing (map entry_of end.arrivals) (map shown_past end.pasts) [] [])) (front_wrote scene a b c d mid r.events p t r.written) f in
+    let fits = run_fits scene ((ordered scene).events ++ r.events) (map entry_of end.arrivals) (map shown_past end.pasts) first (events_more b c d (ordered scene).events r.events t.0 r.written).fits final in
     record {
       records = run_records scene ((ordered scene).events ++ r.events) (map entry_of end.arrivals) (map shown_past end.pasts) [] [];
       is_play = play_by scene r.events end rounds;
-      means = play_means scene _ limits (play_by scene r.events end rounds);
+      means = play_means scene _ limits fits (play_by scene r.events end rounds);
       written = subst (Appends a e) (sym (run_bytes-is scene ((ordered scene).events ++ r.events) (map entry_of end.arrivals) (map shown_past end.pasts))) whole;
     }
 

@@ -1,12 +1,13 @@
 -- The play of a scene means what a played run means: a fact of the events so far and the world, kept by each turn.
-use Rattle.std.proofs.Common.{◌≡◌, ◌≢◌, ℕ, suc, ◌+◌, ◌-◌, ◌*◌, ◌<◌, ◌≤◌, ◌==◌, List, [], ◌∷◌, ◌++◌, Bool, true, false, cond, ◌⊎◌, inl, inr, Option, None, Some, All, length, map, take, slice_get, refl, sym, ap, subst, ◌∙◌, append_assoc, arith, length-append}
+use Rattle.std.proofs.Common.{◌≡◌, ◌≢◌, ℕ, suc, zero, ◌+◌, ◌-◌, ◌*◌, ◌<◌, ◌≤◌, ◌==◌, List, [], ◌∷◌, ◌++◌, Bool, true, false, cond, ◌⊎◌, inl, inr, Option, None, Some, All, length, map, take, slice_get, refl, sym, ap, subst, ◌∙◌, append_assoc, arith, length-append}
 use Rattle.std.proofs.lemmas.List.{append-nil}
 use Rattle.std.proofs.lemmas.List.Concat.{flat_map-append}
 use Rattle.std.proofs.lemmas.List.Elements.{All-push}
 use Rattle.std.proofs.lemmas.Bool.{cases_eq, eq-eqb, ne_eqb}
-use Rattle.std.specs.List.{range_with_len}
+use Rattle.std.specs.List.{list_any, range_with_len}
 use Rattle.sf_picture.specs.declared.picture.Picture.{Picture}
 use Rattle.sf_script.specs.Scene.{SceneValue}
+use Rattle.sf_script.specs.declared.scene.ActorScript.{ActorScript}
 use Rattle.sf_script.specs.declared.scene.QueueDecl.{QueueDecl}
 use Rattle.sf_script.specs.declared.scene.Step.{Step}
 use Rattle.sf_actor.specs.declared.done.Done.{Done}
@@ -41,7 +42,7 @@ pub record Meets (scene : SceneValue) (events : List Event) (world : World) : Ty
   pub commits : (later : List Arrival) → commits_in (vsyncs_in events) ≡ commits_by (world.arrivals ++ later) bare_stage (range_with_len 1 world.committed)
   pub stage : (later : List Arrival) → stage_by (world.arrivals ++ later) bare_stage (range_with_len 1 world.committed) ≡ world.stage
   pub bare : map bare_past world.pasts ≡ map new_past (rising scene.queues)
-  pub calls : (later : List Arrival) → AreTold (pictures_of scene) (script_in scene.actors).number world.done (released_from (world.arrivals ++ later) bare_stage (vsyncs_in events)) world.pasts
+  pub calls : (later : List Arrival) → AreTold scene (script_in scene.actors).number world.done (released_from (world.arrivals ++ later) bare_stage (vsyncs_in events)) world.pasts
   pub rise : RiseFrom 0 (map number_of_vsync (vsyncs_in events))
   pub highest : All (λ (v : VsyncReport). v.number ≤ world.vsyncs) (vsyncs_in events)
   pub expected : All (λ (v : VsyncReport). v.expected ≡ v.number * scene.period) (vsyncs_in events)
@@ -49,7 +50,7 @@ pub record Meets (scene : SceneValue) (events : List Event) (world : World) : Ty
   pub seen : All (λ (v : VsyncReport). v.timelines ≡ []) (vsyncs_in events)
   pub frames : (later : List Arrival) → ShowImages scene (world.arrivals ++ later) bare_stage (vsyncs_in events)
 
-pub meets_start : (scene : SceneValue) → AreTold (pictures_of scene) (script_in scene.actors).number [] [] (map new_past (rising scene.queues)) → Meets scene [] (start scene)
+pub meets_start : (scene : SceneValue) → AreTold scene (script_in scene.actors).number [] [] (map new_past (rising scene.queues)) → Meets scene [] (start scene)
 unfolding replies_in vsyncs_in commits_in commits_by stage_by replies_from sent_from released_from ShowImages AreAnswered
 meets_start scene told = record {
   replies = refl;
@@ -116,6 +117,13 @@ pub map-push : (xs : List Done) (d : Done) → map step_done (xs ++ d ∷ []) �
 map-push [] d = refl
 map-push (x ∷ xs) d = ap (λ (l : List Step). x.step ∷ l) (map-push xs d)
 
+-- an actor that has a step is one of the scene
+known_actor : (actors : List ActorScript) (k : ℕ) (s : Step) → slice_get (script_in actors).steps k ≡ Some s → list_any (λ (t : ActorScript). t.number == (script_in actors).number) actors ≡ true
+unfolding script_in
+known_actor [] zero s is = cc
+known_actor [] (suc k) s is = cc
+known_actor (t ∷ others) k s is = rw (eq-eqb t.number t.number refl) refl
+
 -- a step keeps it
 meets_performed : (scene : SceneValue) (es : List Event) (world : World) (s : Step) → slice_get (script_in scene.actors).steps (length world.done) ≡ Some s → Meets scene es world
     → Meets scene (es ++ (performed scene.pictures (script_in scene.actors).number world s).events) (performed scene.pictures (script_in scene.actors).number world s).world
@@ -139,10 +147,10 @@ meets_performed scene es world s is h =
       commits = λ later. ap commits_in (sym vs) ∙ h.commits (more ++ later) ∙ ap (λ (l : List Arrival). commits_by l bare_stage (range_with_len 1 world.committed)) (sym (apart later));
       stage = λ later. ap (λ (l : List Arrival). stage_by l bare_stage (range_with_len 1 world.committed)) (apart later) ∙ h.stage (more ++ later);
       bare = bare-if world.pasts (actor_id n) place (asked_by (pictures_of scene) (books_after world.done) s) ∙ h.bare;
-      calls = λ later. told_step (pictures_of scene) n world.done _ world.pasts d (asked_by (pictures_of scene) (books_after world.done) s) refl
+      calls = λ later. told_step scene n world.done _ world.pasts d (asked_by (pictures_of scene) (books_after world.done) s) (known_actor scene.actors (length world.done) s is) refl
           (λ asked e. tells_now (pictures_of scene) (books_after world.done) world.pasts (actor_id n) s asked e)
-          (subst (λ (l : List VsyncReport). AreTold (pictures_of scene) n world.done (released_from ((world.arrivals ++ more) ++ later) bare_stage l) world.pasts) vs
-          (subst (λ (l : List Arrival). AreTold (pictures_of scene) n world.done (released_from l bare_stage (vsyncs_in es)) world.pasts) (sym (apart later)) (h.calls (more ++ later))));
+          (subst (λ (l : List VsyncReport). AreTold scene n world.done (released_from ((world.arrivals ++ more) ++ later) bare_stage l) world.pasts) vs
+          (subst (λ (l : List Arrival). AreTold scene n world.done (released_from l bare_stage (vsyncs_in es)) world.pasts) (sym (apart later)) (h.calls (more ++ later))));
       rise = subst (λ (l : List VsyncReport). RiseFrom 0 (map number_of_vsync l)) vs h.rise;
       highest = subst (λ (l : List VsyncReport). All (λ (v : VsyncReport). v.number ≤ world.vsyncs) l) vs h.highest;
       expected = subst (λ (l : List VsyncReport). All (λ (v : VsyncReport). v.expected ≡ v.number * scene.period) l) vs h.expected;
@@ -239,8 +247,8 @@ meets_shown scene es state v apart h number expected seen commits frame =
       front = h.front;
       answered = h.answered;
       bare = bare-released (state.vsyncs + 1) state.pasts frames_gone ∙ h.bare;
-      calls = λ later. subst (λ (l : List Released). AreTold (pictures_of scene) n state.done l (released (state.vsyncs + 1) state.pasts frames_gone)) (sym (rel later))
-          (told_releases (pictures_of scene) n state.done (released_from (state.arrivals ++ later) bare_stage (vsyncs_in es)) state.pasts (state.vsyncs + 1) frames_gone (h.calls later));
+      calls = λ later. subst (λ (l : List Released). AreTold scene n state.done l (released (state.vsyncs + 1) state.pasts frames_gone)) (sym (rel later))
+          (told_releases scene n state.done (released_from (state.arrivals ++ later) bare_stage (vsyncs_in es)) state.pasts (state.vsyncs + 1) frames_gone (h.calls later));
       sent = h.sent;
       within = omega arith;
       commits = λ later. ap commits_in (sym vs) ∙ commits_in-append (vsyncs_in es) (v ∷ []) ∙ ap (λ (l : List Commit). commits_in (vsyncs_in es) ++ l) (one_commits v ∙ commits)

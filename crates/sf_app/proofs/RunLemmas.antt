@@ -1,7 +1,8 @@
 -- What was written so far in a run, and what is left.
-use Rattle.std.proofs.Common.{◌≡◌, ℕ, suc, List, [], ◌∷◌, ◌++◌, Option, Result, Ok, Err, OnOk, OnErr, refl, sym, ap, subst, ◌∙◌, append_assoc, replicate, ◌<◌, ◌≤◌, ◌+◌, ◌-◌, arith, length, get_or, drop}
+use Rattle.std.proofs.Common.{◌≡◌, ℕ, suc, List, [], ◌∷◌, ◌++◌, All, Option, Result, Ok, Err, OnOk, OnErr, refl, sym, ap, subst, ◌∙◌, append_assoc, replicate, ◌<◌, ◌≤◌, ◌+◌, ◌-◌, arith, length, get_or, drop}
 use Rattle.std.proofs.lemmas.List.{append-nil, drop_more, drop_all, take_all}
 use Rattle.std.proofs.lemmas.List.Concat.{flat_map-append}
+use Rattle.std.proofs.lemmas.List.Elements.{All-append, All-nil}
 use Rattle.std.proofs.KnownBytes.{Appends-trans, Appends-nil}
 use Rattle.std.specs.Io.KnownBytes.{Appends}
 use Rattle.sf_io.specs.Streams.{TookPrefix}
@@ -15,8 +16,9 @@ use Rattle.sf_app.specs.Worlds.{World, Turn, followed, idle}
 use Rattle.sf_app.specs.Turns.{IsTurn}
 use Rattle.sf_record.specs.Records.{bytes_of, record_bytes}
 use Rattle.sf_record.specs.Events.{event_records, events_records}
+use Rattle.sf_record.specs.Fitting.{RecordFits}
 use Rattle.sf_app.specs.Play.{picks_in, repeated, turn_of, turns_of}
-use Rattle.sf_app.specs.Runs.{Wrote, shown_bytes}
+use Rattle.sf_app.specs.Runs.{Wrote, WroteEvents, shown_bytes}
 
 pub bytes_of-append : (rs ss : List Record) → bytes_of (rs ++ ss) ≡ bytes_of rs ++ bytes_of ss
 unfolding bytes_of
@@ -34,44 +36,47 @@ unfolding events_records
 shown_bytes-one e = ap bytes_of (append-nil (event_records e))
 
 -- nothing is written for no event
-pub none_shown : (a : Option (List ℕ)) → Appends a a (shown_bytes [])
+pub none_shown : (a : Option (List ℕ)) → WroteEvents a a []
 unfolding events_records bytes_of
-none_shown a = Appends-nil a
+none_shown a = record { bytes = Appends-nil a; fits = All-nil RecordFits }
 
 -- nothing was written
 pub nothing_took : (a : Option (List ℕ)) (bs : List ℕ) → TookPrefix a a bs
 nothing_took a bs = (0, omega arith, Appends-nil a)
 
 -- more events were written
-pub bytes_more : (a b c : Option (List ℕ)) (es fs : List Event) → Appends a b (shown_bytes es) → Appends b c (shown_bytes fs) → Appends a c (shown_bytes (es ++ fs))
-bytes_more a b c es fs p q = subst (Appends a c) (sym (shown_bytes-append es fs)) (Appends-trans a b c (shown_bytes es) (shown_bytes fs) p q)
+pub events_more : (a b c : Option (List ℕ)) (es fs : List Event) → WroteEvents a b es → WroteEvents b c fs → WroteEvents a c (es ++ fs)
+events_more a b c es fs p q = record {
+  bytes = subst (Appends a c) (sym (shown_bytes-append es fs)) (Appends-trans a b c (shown_bytes es) (shown_bytes fs) p.bytes q.bytes);
+  fits = subst (All RecordFits) (sym (events_records-append es fs)) (All-append RecordFits (events_records es) (events_records fs) p.fits q.fits);
+}
 
 -- a whole is a prefix of itself
 pub took_all : (a b : Option (List ℕ)) (bs : List ℕ) → Appends a b bs → TookPrefix a b bs
 took_all a b bs p = (length bs, omega arith, subst (Appends a b) (sym (take_all (length bs) bs (omega arith))) p)
 
 -- a part of more events was written
-pub prefix_more : (a b c : Option (List ℕ)) (es fs : List Event) → Appends a b (shown_bytes es) → TookPrefix b c (shown_bytes fs) → TookPrefix a c (shown_bytes (es ++ fs))
-prefix_more a b c es fs p q = subst (TookPrefix a c) (sym (shown_bytes-append es fs)) (TookPrefix-rest a b c (shown_bytes es) (shown_bytes fs) p q)
+pub prefix_more : (a b c : Option (List ℕ)) (es fs : List Event) → WroteEvents a b es → TookPrefix b c (shown_bytes fs) → TookPrefix a c (shown_bytes (es ++ fs))
+prefix_more a b c es fs p q = subst (TookPrefix a c) (sym (shown_bytes-append es fs)) (TookPrefix-rest a b c (shown_bytes es) (shown_bytes fs) p.bytes q)
 
 pub prefix_front : (a b : Option (List ℕ)) (es fs : List Event) → TookPrefix a b (shown_bytes es) → TookPrefix a b (shown_bytes (es ++ fs))
 prefix_front a b es fs p = subst (TookPrefix a b) (sym (shown_bytes-append es fs)) (TookPrefix-front a b (shown_bytes es) (shown_bytes fs) p)
 
 -- a turn's event was written, or a part of it
-pub turn_wrote : (a b : Option (List ℕ)) (es : List Event) (state : World) (turn : Turn) → IsTurn es state turn → Appends a b (shown_bytes es) → Wrote a b state turn
-turn_wrote a b es state turn t p = (subst (λ (u : Turn). Appends a b (shown_bytes u.events)) (sym t) p, ap (λ (u : Turn). u.world) t)
+pub turn_wrote : (a b : Option (List ℕ)) (es : List Event) (state : World) (turn : Turn) → IsTurn es state turn → WroteEvents a b es → Wrote a b state turn
+turn_wrote a b es state turn t p = (subst (λ (u : Turn). WroteEvents a b u.events) (sym t) p, ap (λ (u : Turn). u.world) t)
 
 pub turn_cut : (a b : Option (List ℕ)) (es : List Event) (state : World) (turn : Turn) → IsTurn es state turn → TookPrefix a b (shown_bytes es) → TookPrefix a b (shown_bytes turn.events)
 turn_cut a b es state turn t p = subst (λ (u : Turn). TookPrefix a b (shown_bytes u.events)) (sym t) p
 
 -- two turns were written, or the first and a part of the second, or a part of the first
 pub both_wrote : (a b c : Option (List ℕ)) (mid next : World) (first second : Turn) → Wrote a b mid first → Wrote b c next second → Wrote a c next (followed first second)
-both_wrote a b c mid next first second (p, e) (q, f) = (bytes_more a b c first.events second.events p q, f)
+both_wrote a b c mid next first second (p, e) (q, f) = (events_more a b c first.events second.events p q, f)
 
 -- events were written, and with the turns of the picks that are left they are all
 pub record Going (scene : SceneValue) (a b : Option (List ℕ)) (state : World) (picks : List ℕ) (all : Turn) : Type 0 where
   pub done : List Event
-  pub written : Appends a b (shown_bytes done)
+  pub written : WroteEvents a b done
   pub same : turns_of scene (record { events = done; world = state }) picks ≡ all
 
 pub Going-start : (scene : SceneValue) (a : Option (List ℕ)) (state : World) (picks : List ℕ) → Going scene a a state picks (turns_of scene (idle state) picks)
@@ -106,13 +111,13 @@ Going-many scene a b c state next some picks others all h split (q, is) =
     let whole = ap (λ (l : List ℕ). turns_of scene (record { events = h.done; world = state }) l) split in
     record {
       done = h.done ++ t.events;
-      written = bytes_more a b c h.done t.events h.written q;
+      written = events_more a b c h.done t.events h.written q;
       same = sym there ∙ sym joined ∙ sym (turns_of-append scene (record { events = h.done; world = state }) picks others) ∙ sym whole ∙ h.same;
     }
 
 pub Going-end : (scene : SceneValue) (a b : Option (List ℕ)) (state : World) (picks : List ℕ) (all : Turn) → Going scene a b state picks all → picks ≡ [] → Wrote a b state all
 unfolding turns_of
-Going-end scene a b state [] all h e = (subst (λ (u : Turn). Appends a b (shown_bytes u.events)) h.same h.written, sym (ap (λ (u : Turn). u.world) h.same))
+Going-end scene a b state [] all h e = (subst (λ (u : Turn). WroteEvents a b u.events) h.same h.written, sym (ap (λ (u : Turn). u.world) h.same))
 Going-end scene a b state (x ∷ xs) all h e = cc
 
 -- what was written so far begins all
@@ -169,8 +174,18 @@ picks_in-end ps i h = ap picks_in (drop_all i ps h)
 pub one_bytes : (e : Event) (records : List Record) → records ≡ event_records e → bytes_of records ≡ shown_bytes (e ∷ [])
 one_bytes e records h = ap bytes_of h ∙ sym (shown_bytes-one e)
 
+one_fits : (e : Event) → All RecordFits (event_records e) → All RecordFits (events_records (e ∷ []))
+unfolding events_records
+one_fits e h = subst (All RecordFits) (sym (append-nil (event_records e))) h
+
+-- where the records of an event were written, the event was
+pub event_ok : (r : Result (Unit {0}) RunFault) (a b : Option (List ℕ)) (e : Event) (records : List Record) → records ≡ event_records e → OnOk r (Appends a b (bytes_of records)) → OnOk r (All RecordFits records)
+    → OnOk r (WroteEvents a b (e ∷ []))
+event_ok (Ok u) a b e records is p f = record { bytes = subst (Appends a b) (one_bytes e records is) p; fits = one_fits e (subst (All RecordFits) is f) }
+event_ok (Err fault) a b e records is p f = tt
+
 -- where the events of a turn were written, the turn was
-pub turn_ok : (r : Result (Unit {0}) RunFault) (a b : Option (List ℕ)) (es : List Event) (state : World) (turn : Turn) → IsTurn es state turn → OnOk r (Appends a b (shown_bytes es)) → OnOk r (Wrote a b state turn)
+pub turn_ok : (r : Result (Unit {0}) RunFault) (a b : Option (List ℕ)) (es : List Event) (state : World) (turn : Turn) → IsTurn es state turn → OnOk r (WroteEvents a b es) → OnOk r (Wrote a b state turn)
 turn_ok (Ok u) a b es state turn t p = turn_wrote a b es state turn t p
 turn_ok (Err e) a b es state turn t p = tt
 

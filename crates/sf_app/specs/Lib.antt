@@ -11,5 +11,6 @@ pub mod States
 pub mod Committing
 pub mod Runs
 pub mod Statuses
+pub mod Callers
 pub use Rattle.sf_io.specs.Causes
 pub use Rattle.sf_io.specs.Streams

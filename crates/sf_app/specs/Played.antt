@@ -29,6 +29,7 @@ use Rattle.sf_record.specs.declared.record.Record.{Record}
 use Rattle.sf_record.specs.declared.record.Reply.{Reply}
 use Rattle.sf_record.specs.declared.record.StuckEntry.{StuckEntry}
 use Rattle.sf_record.specs.Events.{run_records}
+use Rattle.sf_record.specs.Fitting.{RecordFits}
 use Rattle.sf_app.specs.Commits.{commits_by, frame_due, releases_by, stage_by}
 use Rattle.sf_app.specs.Histories.{shown_past}
 use Rattle.sf_commit.specs.Stages.{FrameOf, Stage}
@@ -150,13 +151,20 @@ pub record IsReleased (released : Released) (entry : Entry) : Type 0 where
 abbrev pub entries_of : ℕ → Past → List Entry
 entries_of caller past = filter (λ e. e.caller.0 == caller) (reverse past.calls)
 
--- a queue's calls: each reply is what the calls before it say; the calls of the actor are those of its tale, those of the
--- compositor are the releases of the vsyncs, and nobody else calls
-pub record IsHistory (pictures : ℕ → Picture) (actor : ℕ) (tale : List Done) (released : List Released) (past : Past) : Type 0 where
+-- a caller of queues: the compositor, which is 0, or an actor of the scene
+abbrev pub may_call : SceneValue → ℕ → Bool
+may_call scene caller = caller == 0 || has_actor scene caller
+
+-- a queue's calls, whether the scene has actors or not: each reply is what the calls before it say; those of the compositor
+-- are the releases of the vsyncs; and nobody calls but the compositor and the actors
+pub record IsHistory (scene : SceneValue) (released : List Released) (past : Past) : Type 0 where
   pub legal : AreReplies past.width past.height past.calls
-  pub by_actor : AllZip IsMade (made_on past.number (made_from pictures [] tale)) (entries_of actor past)
   pub by_compositor : AllZip IsReleased (released_on past.number released) (entries_of 0 past)
-  pub by_none_else : All (λ e. (e.caller.0 == actor || e.caller.0 == 0) ≡ true) past.calls
+  pub by_none_else : All (λ e. may_call scene e.caller.0 ≡ true) past.calls
+
+-- the calls of an actor on a queue are those of its tale, in order
+pub record IsCalledBy (pictures : ℕ → Picture) (actor : ℕ) (tale : List Done) (past : Past) : Type 0 where
+  pub entries : AllZip IsMade (made_on past.number (made_from pictures [] tale)) (entries_of actor past)
 
 abbrev pub bare_past : Past → Past
 bare_past past = record past { calls = [] }
@@ -166,7 +174,8 @@ bare_past past = record past { calls = [] }
 pub record AreHistories (scene : SceneValue) (tale : List Done) (released : List Released) (pasts : List Past) (histories : List QueueHistory) : Type 0 where
   pub queues : map bare_past pasts ≡ map new_past (rising scene.queues)
   pub shown : histories ≡ map shown_past pasts
-  pub of_each : All (λ script. All (IsHistory (picture_at scene.pictures) script.number tale released) pasts) scene.actors
+  pub of_each : All (IsHistory scene released) pasts
+  pub by_actors : All (λ script. All (IsCalledBy (picture_at scene.pictures) script.number tale) pasts) scene.actors
 
 -- Arrivals. Each actor's arrivals are the transactions that the steps of its tale send, in their order and with their
 -- tokens; and nobody else has an arrival.
@@ -239,7 +248,7 @@ pub record AreHeld (vsyncs : List VsyncReport) (arrivals : List ArrivalEntry) (h
 abbrev pub IsTaleOf : SceneValue → List Done → Type 0
 IsTaleOf scene tale = All (λ script. IsTale scene script tale) scene.actors
 
--- The records of a run in their order, and what they mean.
+-- The records of a run in their order, and what they mean. Each number fits its field, so that the bytes determine the records.
 pub record Played (scene : SceneValue) (records : List Record) : Type 0 where
   pub events : List Event
   pub arrived : List ArrivalEntry
@@ -247,6 +256,7 @@ pub record Played (scene : SceneValue) (records : List Record) : Type 0 where
   pub holds : List HeldEntry
   pub stuck_at : List StuckEntry
   pub order : records ≡ run_records scene events arrived histories holds stuck_at
+  pub fits : All RecordFits records
   pub tale : List Done
   pub transactions : List Arrival
   pub pasts : List Past

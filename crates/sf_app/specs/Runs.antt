@@ -1,5 +1,5 @@
 -- What was written to a sink of a run.
-use Rattle.std.specs.Prelude.{◌≡◌, ℕ, List, Option}
+use Rattle.std.specs.Prelude.{◌≡◌, ℕ, List, All, Option}
 use Rattle.std.specs.Io.KnownBytes.{Appends}
 use Rattle.sf_script.specs.Scene.{SceneValue}
 use Rattle.sf_record.specs.declared.event.Event.{Event}
@@ -7,6 +7,7 @@ use Rattle.sf_record.specs.declared.record.Record.{Record}
 use Rattle.sf_io.specs.Streams.{TookPrefix}
 use Rattle.sf_app.specs.Worlds.{Turn, World}
 use Rattle.sf_record.specs.Events.{events_records}
+use Rattle.sf_record.specs.Fitting.{RecordFits}
 use Rattle.sf_record.specs.Records.{bytes_of}
 use Rattle.sf_app.specs.Play.{Rounds, IsPlay}
 use Rattle.sf_app.specs.Played.{Played}
@@ -15,15 +16,20 @@ use Rattle.sf_app.specs.Played.{Played}
 abbrev pub shown_bytes : List Event → List ℕ
 shown_bytes events = bytes_of (events_records events)
 
+-- the records of events were written, and each of their numbers fits its field
+pub record WroteEvents (old new : Option (List ℕ)) (events : List Event) : Type 0 where
+  pub bytes : Appends old new (shown_bytes events)
+  pub fits : All RecordFits (events_records events)
+
 -- the records of a turn were written, and this world was left
 abbrev pub Wrote : Option (List ℕ) → Option (List ℕ) → World → Turn → Type 0
-Wrote old new world turn = Appends old new (shown_bytes turn.events) × (turn.world ≡ world)
+Wrote old new world turn = WroteEvents old new turn.events × (turn.world ≡ world)
 
 -- the records of rounds were written
 pub record WroteRounds (scene : SceneValue) (old new : Option (List ℕ)) (before now : World) : Type 0 where
   pub events : List Event
   pub are_rounds : Rounds scene before events now
-  pub written : Appends old new (shown_bytes events)
+  pub written : WroteEvents old new events
 
 -- the records of a run were written: those of the play of its scene, which mean what a played run means
 pub record WroteRun (scene : SceneValue) (old new : Option (List ℕ)) : Type 0 where

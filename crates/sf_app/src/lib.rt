@@ -15,5 +15,5 @@ mod state;
 mod step;
 mod vsync;
 
-pub use laws::one_play;
+pub use laws::{callers_are_known, one_play};
 pub use session::run;

@@ -4,11 +4,12 @@ ghost use Rattle.sf_io.specs.Causes.{Rose};
 ghost use Rattle.sf_io.specs.Streams.{TookPrefix};
 ghost use Rattle.sf_actor.specs.Plain.{past_of};
 ghost use Rattle.sf_record.specs.Events.{closing, opening};
+ghost use Rattle.sf_record.specs.Fitting.{RecordFits};
 ghost use Rattle.sf_record.specs.Records.{bytes_of, record_bytes};
 ghost use Rattle.sf_app.specs.Bounds.{Stays};
 ghost use Rattle.sf_app.specs.Histories.{shown_past};
 ghost use Rattle.sf_app.specs.Play.{picks_in, repeated, round_of, script_in, stepped, turn_of, turns_of};
-ghost use Rattle.sf_app.specs.Runs.{CutRounds, CutRun, Wrote, WroteRounds, WroteRun, shown_bytes};
+ghost use Rattle.sf_app.specs.Runs.{CutRounds, CutRun, Wrote, WroteEvents, WroteRounds, WroteRun, shown_bytes};
 ghost use Rattle.sf_app.specs.States.{IsRunning, world_of};
 ghost use Rattle.sf_app.specs.Turns.{shown};
 ghost use Rattle.sf_app.specs.Worlds.{idle, vsync_of};
@@ -29,7 +30,7 @@ use std::alloc::Global;
 
 // Writes the records of an event, if there is one.
 fn write_event<K: Sink>(alloc: Global, sink: &mut K, event: Option<Event>) -> Result<(), RunFault>
-    ensures ok { OnOk result (Appends (K.taken sink.old) (K.taken sink.new) (shown_bytes (shown event))) }
+    ensures ok { OnOk result (WroteEvents (K.taken sink.old) (K.taken sink.new) (shown event)) }
     ensures err { OnErr result (TookPrefix (K.taken sink.old) (K.taken sink.new) (shown_bytes (shown event))) }
     ensures later { K.faults sink.old ≤ K.faults sink.new }
     ensures failed { IsErrOf result RunFault.WriteFault → Rose (K.faults sink.old) (K.faults sink.new) }
@@ -268,6 +269,7 @@ fn closing_records(
 // Writes the records that end a run.
 fn write_closing<K: Sink>(alloc: Global, sink: &mut K, state: RunState) -> Result<(), RunFault>
     ensures ok { OnOk result (Appends (K.taken sink.old) (K.taken sink.new) (bytes_of (closing state.arrivals (map shown_past (map past_of state.desk)) [] []))) }
+    ensures fits { OnOk result (All RecordFits (closing state.arrivals (map shown_past (map past_of state.desk)) [] [])) }
     ensures err { OnErr result (TookPrefix (K.taken sink.old) (K.taken sink.new) (bytes_of (closing state.arrivals (map shown_past (map past_of state.desk)) [] []))) }
     ensures later { K.faults sink.old ≤ K.faults sink.new }
     ensures failed { IsErrOf result RunFault.WriteFault → Rose (K.faults sink.old) (K.faults sink.new) }
@@ -292,6 +294,7 @@ fn header(scene: &Scene) -> Record
 // Writes the record that opens a run.
 fn write_opening<K: Sink>(alloc: Global, sink: &mut K, scene: &Scene) -> Result<(), RunFault>
     ensures ok { OnOk result (Appends (K.taken sink.old) (K.taken sink.new) (record_bytes (opening scene.now))) }
+    ensures fits { OnOk result (RecordFits (opening scene.now)) }
     ensures err { OnErr result (TookPrefix (K.taken sink.old) (K.taken sink.new) (record_bytes (opening scene.now))) }
     ensures later { K.faults sink.old ≤ K.faults sink.new }
     ensures failed { IsErrOf result RunFault.WriteFault → Rose (K.faults sink.old) (K.faults sink.new) }

@@ -26,7 +26,7 @@ use Rattle.sf_view.specs.declared.content.Content.{Content}
 use Rattle.sf_view.specs.declared.content.Content.TheVariants as content
 use Rattle.sf_view.specs.declared.drawn.Drawn.{Drawn}
 use Rattle.sf_view.specs.Contents.{content_of, has_content}
-use Rattle.sf_view.specs.Image.{drawn_layers}
+use Rattle.sf_view.specs.Image.{drawn_in}
 use Rattle.sf_view.specs.Views.{Draws, ViewOf, Views}
 use Rattle.sf_commit.specs.declared.stage.ShownLease.{ShownLease}
 use Rattle.sf_commit.specs.Commits.{IsShown, IsStage, ShowsWith, StageOf, shown_by, showing_of, stage_of}
@@ -179,8 +179,8 @@ of_all_found P tree (id ∷ ids) all = by_layer (layer_of tree id) (of_found P i
     by_layer None one later = later
     by_layer (Some layer) one later = All-cons P layer (filter_map (layer_of tree) ids) one later
 
-pub drawn-has : (P : Layer → Type 0) (tree : List Layer) → All P tree → All P (drawn_layers tree)
-unfolding drawn_layers
+pub drawn-has : (P : Layer → Type 0) (tree : List Layer) → All P tree → All P (drawn_in tree (draw_order tree))
+unfolding drawn_in
 drawn-has P tree all = All-filter has_content P (filter_map (layer_of tree) (draw_order tree)) (of_all_found P tree (draw_order tree) all)
 
 abbrev content_by : Kind → Rgba → Option Shown → Option Content
@@ -221,4 +221,4 @@ stands_each shown tree width height (layer ∷ layers) (drawn ∷ more) all zip 
 
 -- each layer of a stage's view shows the frame that stands for it
 pub view-stands : (stage : StageOf) (width height : ℕ) (view : ViewOf) → IsStage (stage_of stage) → Views stage.layers width height view → All (HasFrame stage.shown) view.drawn
-view-stands stage width height view is views = stands_each stage.shown stage.layers width height (drawn_layers stage.layers) view.drawn (drawn-has (IsShown (map showing_of stage.shown)) stage.layers is.of_layers) views.drawn
+view-stands stage width height view is views = stands_each stage.shown stage.layers width height (drawn_in stage.layers (draw_order stage.layers)) view.drawn (drawn-has (IsShown (map showing_of stage.shown)) stage.layers is.of_layers) views.drawn

@@ -14,7 +14,8 @@ use Rattle.sf_layer.specs.declared.op.Op.{Op}
 use Rattle.sf_layer.specs.declared.op.Op.TheVariants as op
 use Rattle.sf_layer.specs.declared.parent.Parent.{Parent}
 use Rattle.sf_slots.specs.declared.calls.ReadToken.{ReadToken}
-use Rattle.sf_tree.specs.declared.cause.TheConstants.{UNKNOWN_LAYER, LAYER_EXISTS, PARENT_CYCLE, DRAW_CYCLE, TOO_MANY_LAYERS, WRONG_KIND, MOST_LAYERS}
+use Rattle.sf_tree.specs.declared.reject.Reject.{Reject}
+use Rattle.sf_tree.specs.declared.reject.Reject.TheVariants as reject
 use Rattle.sf_tree.specs.Changes.{after_from, changed, created, destroyed, edited, edited_layer, fits_kind, made_relative, new_layer, reparented, then_after, with_layer, without, without_steps_to}
 use Rattle.sf_tree.specs.Layers.{has_layer, has_parent, is_numbered, layer_of}
 use Rattle.sf_tree.specs.Steps.{all_steps, parent_steps, reaches_itself}
@@ -196,15 +197,15 @@ keeps_shown id queue token layers shown there found stage = record {
     by_number other false e none = find_with_other other (frame_for id queue token) shown e ∙ stage.of_none_else other none
 
 -- a change that could be made has no cause
-no_cause : {A : Type 0} (b : Bool) (cause : ℕ) (rest : Result A ℕ) (x : A) → (if b then Err cause else rest) ≡ Ok x → rest ≡ Ok x
+no_cause : {A : Type 0} (b : Bool) (cause : Reject) (rest : Result A Reject) (x : A) → (if b then Err cause else rest) ≡ Ok x → rest ≡ Ok x
 no_cause true cause rest x h = cc
 no_cause false cause rest x h = h
 
-no_cause_test : {A : Type 0} (b : Bool) (cause : ℕ) (rest : Result A ℕ) (x : A) → (if b then Err cause else rest) ≡ Ok x → b ≡ false
+no_cause_test : {A : Type 0} (b : Bool) (cause : Reject) (rest : Result A Reject) (x : A) → (if b then Err cause else rest) ≡ Ok x → b ≡ false
 no_cause_test true cause rest x h = cc
 no_cause_test false cause rest x h = refl
 
-same_layers : (a b : List Layer) → ◌≡◌ {A = Result (List Layer) ℕ} (Ok a) (Ok b) → a ≡ b
+same_layers : (a b : List Layer) → ◌≡◌ {A = Result (List Layer) Reject} (Ok a) (Ok b) → a ≡ b
 same_layers a b h = cc
 
 -- an operation that is no frame's: frames are shown by their leases alone
@@ -221,20 +222,20 @@ abbrev pub StageWith : List Showing → List Layer → Type 0
 StageWith shown layers = IsStage (record { layers = layers; shown = shown })
 
 module _ (layers : List Layer) (shown : List Showing) (id : LayerId) (next : List Layer) where
-  keeps_created : (kind : Kind) (parent : Parent) → created layers id kind parent ≡ Ok next → StageWith shown layers → StageWith shown next
+  keeps_created : (kind : Kind) (parent : Parent) → created 256 layers id kind parent ≡ Ok next → StageWith shown layers → StageWith shown next
   unfolding created
   keeps_created kind parent h stage =
-      let one = no_cause (not (has_parent layers parent)) UNKNOWN_LAYER (if has_layer layers id then Err LAYER_EXISTS else if nat_le MOST_LAYERS (length layers) then Err TOO_MANY_LAYERS else Ok (layers ++ new_layer id kind parent ∷ [])) next h in
-      let two = no_cause (has_layer layers id) LAYER_EXISTS (if nat_le MOST_LAYERS (length layers) then Err TOO_MANY_LAYERS else Ok (layers ++ new_layer id kind parent ∷ [])) next one in
-      let three = no_cause (nat_le MOST_LAYERS (length layers)) TOO_MANY_LAYERS (Ok (layers ++ new_layer id kind parent ∷ [])) next two in
-      let absent = no_cause_test (has_layer layers id) LAYER_EXISTS (if nat_le MOST_LAYERS (length layers) then Err TOO_MANY_LAYERS else Ok (layers ++ new_layer id kind parent ∷ [])) next one in
+      let one = no_cause (not (has_parent layers parent)) reject.UnknownLayer (if has_layer layers id then Err reject.LayerExists else if nat_le 256 (length layers) then Err reject.TooManyLayers else Ok (layers ++ new_layer id kind parent ∷ [])) next h in
+      let two = no_cause (has_layer layers id) reject.LayerExists (if nat_le 256 (length layers) then Err reject.TooManyLayers else Ok (layers ++ new_layer id kind parent ∷ [])) next one in
+      let three = no_cause (nat_le 256 (length layers)) reject.TooManyLayers (Ok (layers ++ new_layer id kind parent ∷ [])) next two in
+      let absent = no_cause_test (has_layer layers id) reject.LayerExists (if nat_le 256 (length layers) then Err reject.TooManyLayers else Ok (layers ++ new_layer id kind parent ∷ [])) next one in
       subst (StageWith shown) (same_layers _ _ three) (keeps_new id kind parent layers shown absent stage)
 
   keeps_destroyed : destroyed layers id ≡ Ok next → StageWith shown layers → StageWith (without_shown id.0 shown) next
   unfolding destroyed
   keeps_destroyed h stage = by_test (has_layer layers id) h
     where
-      by_test : (b : Bool) → (if b then Ok (without id layers) else Err UNKNOWN_LAYER) ≡ Ok next → StageWith (without_shown id.0 shown) next
+      by_test : (b : Bool) → (if b then Ok (without id layers) else Err reject.UnknownLayer) ≡ Ok next → StageWith (without_shown id.0 shown) next
       by_test true k = subst (StageWith (without_shown id.0 shown)) (same_layers _ _ k) (keeps_without id layers shown stage)
       by_test false k = cc
 
@@ -242,24 +243,24 @@ module _ (layers : List Layer) (shown : List Showing) (id : LayerId) (next : Lis
   unfolding reparented
   keeps_reparented parent h stage =
       let to = with_layer id (λ layer. record layer { parent = parent }) layers in
-      let one = no_cause (not (has_layer layers id && has_parent layers parent)) UNKNOWN_LAYER (if reaches_itself parent_steps to id then Err PARENT_CYCLE else if reaches_itself all_steps to id then Err DRAW_CYCLE else Ok to) next h in
-      let two = no_cause (reaches_itself parent_steps to id) PARENT_CYCLE (if reaches_itself all_steps to id then Err DRAW_CYCLE else Ok to) next one in
-      let three = no_cause (reaches_itself all_steps to id) DRAW_CYCLE (Ok to) next two in
+      let one = no_cause (not (has_layer layers id && has_parent layers parent)) reject.UnknownLayer (if reaches_itself parent_steps to id then Err reject.ParentCycle else if reaches_itself all_steps to id then Err reject.DrawCycle else Ok to) next h in
+      let two = no_cause (reaches_itself parent_steps to id) reject.ParentCycle (if reaches_itself all_steps to id then Err reject.DrawCycle else Ok to) next one in
+      let three = no_cause (reaches_itself all_steps to id) reject.DrawCycle (Ok to) next two in
       subst (StageWith shown) (same_layers _ _ three) (keeps_with id (λ layer. record layer { parent = parent }) (λ layer. refl) (λ layer. refl) layers shown stage)
 
   keeps_relative : (other : LayerId) (z : ℤ) → made_relative layers id other z ≡ Ok next → StageWith shown layers → StageWith shown next
   unfolding made_relative
   keeps_relative other z h stage =
       let to = with_layer id (λ layer. record layer { relative = Some other; z = z }) layers in
-      let one = no_cause (not (has_layer layers id && has_layer layers other)) UNKNOWN_LAYER (if reaches_itself all_steps to id then Err DRAW_CYCLE else Ok to) next h in
-      let two = no_cause (reaches_itself all_steps to id) DRAW_CYCLE (Ok to) next one in
+      let one = no_cause (not (has_layer layers id && has_layer layers other)) reject.UnknownLayer (if reaches_itself all_steps to id then Err reject.DrawCycle else Ok to) next h in
+      let two = no_cause (reaches_itself all_steps to id) reject.DrawCycle (Ok to) next one in
       subst (StageWith shown) (same_layers _ _ two) (keeps_with id (λ layer. record layer { relative = Some other; z = z }) (λ layer. refl) (λ layer. refl) layers shown stage)
 
   keeps_edited : (o : Op) → ((layer : Layer) → (edited o layer).number ≡ layer.number) → ((layer : Layer) → (edited o layer).shown ≡ layer.shown) → (found : Option Layer) → edited_layer layers id o found ≡ Ok next → StageWith shown layers → StageWith shown next
   keeps_edited o same_number same_shown None h stage = cc
   keeps_edited o same_number same_shown (Some layer) h stage = by_kind (fits_kind o layer.kind) h
     where
-      by_kind : (b : Bool) → (if b then Ok (with_layer id (edited o) layers) else Err WRONG_KIND) ≡ Ok next → StageWith shown next
+      by_kind : (b : Bool) → (if b then Ok (with_layer id (edited o) layers) else Err reject.WrongKind) ≡ Ok next → StageWith shown next
       by_kind true k = subst (StageWith shown) (same_layers _ _ k) (keeps_with id (edited o) same_number same_shown layers shown stage)
       by_kind false k = cc
 
@@ -267,12 +268,12 @@ module _ (layers : List Layer) (shown : List Showing) (id : LayerId) (next : Lis
   keeps_showing queue token None e h stage = cc
   keeps_showing queue token (Some layer) e h stage = by_kind (fits_kind (op.Show (shown_of queue token)) layer.kind) h
     where
-      by_kind : (b : Bool) → (if b then Ok (with_layer id (edited (op.Show (shown_of queue token))) layers) else Err WRONG_KIND) ≡ Ok next → StageWith (with_shown (frame_for id queue token) shown) next
+      by_kind : (b : Bool) → (if b then Ok (with_layer id (edited (op.Show (shown_of queue token))) layers) else Err reject.WrongKind) ≡ Ok next → StageWith (with_shown (frame_for id queue token) shown) next
       by_kind true k = subst (StageWith (with_shown (frame_for id queue token) shown)) (same_layers _ _ k) (keeps_shown id queue token layers shown layer e stage)
       by_kind false k = cc
 
   -- an operation that brings no buffer
-  keeps_op : (o : Op) → SetsNoFrame o → changed layers id o ≡ Ok next → StageWith shown layers → StageWith (shown_next shown (record { layer = id; edit = Sets o })) next
+  keeps_op : (o : Op) → SetsNoFrame o → changed 256 layers id o ≡ Ok next → StageWith shown layers → StageWith (shown_next shown (record { layer = id; edit = Sets o })) next
   keeps_op (op.Create kind parent) ready h stage = keeps_created kind parent h stage
   keeps_op op.Destroy ready h stage = keeps_destroyed h stage
   keeps_op (op.Reparent parent) ready h stage = keeps_reparented parent h stage
@@ -286,20 +287,21 @@ module _ (layers : List Layer) (shown : List Showing) (id : LayerId) (next : Lis
   keeps_op (op.Opaque opaque) ready h stage = keeps_edited (op.Opaque opaque) (λ layer. refl) (λ layer. refl) (layer_of layers id) h stage
   keeps_op (op.Colour colour) ready h stage = keeps_edited (op.Colour colour) (λ layer. refl) (λ layer. refl) (layer_of layers id) h stage
   keeps_op (op.Backpressure on) ready h stage = keeps_edited (op.Backpressure on) (λ layer. refl) (λ layer. refl) (layer_of layers id) h stage
+  keeps_op (op.Orient orient) ready h stage = keeps_edited (op.Orient orient) (λ layer. refl) (λ layer. refl) (layer_of layers id) h stage
 
-  keeps_edit : (e : PlainEdit) → SetsReady e → changed layers id (op_of e) ≡ Ok next → StageWith shown layers → StageWith (shown_next shown (record { layer = id; edit = e })) next
+  keeps_edit : (e : PlainEdit) → SetsReady e → changed 256 layers id (op_of e) ≡ Ok next → StageWith shown layers → StageWith (shown_next shown (record { layer = id; edit = e })) next
   keeps_edit (Sets o) ready h stage = keeps_op o ready h stage
   keeps_edit (Shows queue token) ready h stage = keeps_showing queue token (layer_of layers id) refl h stage
 
 abbrev pub IsFrameless : LayerEdit → Type 0
 IsFrameless edit = SetsReady edit.edit
 
-keeps_from : (number : ℕ) (edits : List LayerEdit) (layers : List Layer) (shown : List Showing) (next : List Layer) → All IsFrameless edits → after_from number layers (map operation_of edits) ≡ Ok next → StageWith shown layers → StageWith (shown_after shown edits) next
+keeps_from : (number : ℕ) (edits : List LayerEdit) (layers : List Layer) (shown : List Showing) (next : List Layer) → All IsFrameless edits → after_from 256 number layers (map operation_of edits) ≡ Ok next → StageWith shown layers → StageWith (shown_after shown edits) next
 keeps_from number [] layers shown next ready h stage = subst (StageWith shown) (let same : layers ≡ next = cc in same) stage
 keeps_from number (e ∷ es) layers shown next ready h stage =
-    by_change (λ mid stage_mid k. keeps_from (number + 1) es mid (shown_next shown e) next (All-tail IsFrameless e es ready) k stage_mid) (changed layers e.layer (op_of e.edit)) refl h
+    by_change (λ mid stage_mid k. keeps_from (number + 1) es mid (shown_next shown e) next (All-tail IsFrameless e es ready) k stage_mid) (changed 256 layers e.layer (op_of e.edit)) refl h
   where
-    by_change : ((mid : List Layer) → StageWith (shown_next shown e) mid → after_from (number + 1) mid (map operation_of es) ≡ Ok next → StageWith (shown_after (shown_next shown e) es) next) → (change : Result (List Layer) ℕ) → changed layers e.layer (op_of e.edit) ≡ change → then_after number change (λ mid. after_from (number + 1) mid (map operation_of es)) ≡ Ok next → StageWith (shown_after shown (e ∷ es)) next
+    by_change : ((mid : List Layer) → StageWith (shown_next shown e) mid → after_from 256 (number + 1) mid (map operation_of es) ≡ Ok next → StageWith (shown_after (shown_next shown e) es) next) → (change : Result (List Layer) Reject) → changed 256 layers e.layer (op_of e.edit) ≡ change → then_after number change (λ mid. after_from 256 (number + 1) mid (map operation_of es)) ≡ Ok next → StageWith (shown_after shown (e ∷ es)) next
     by_change later (Ok mid) made k = later mid (keeps_edit layers shown e.layer mid e.edit (All-head IsFrameless e es ready) made stage) k
     by_change later (Err cause) made k = cc
 

@@ -7,7 +7,7 @@ use Rattle.sf_layer.specs.declared.layer.Layer.{Layer}
 use Rattle.sf_layer.specs.declared.op.Op.{Op}
 use Rattle.sf_layer.specs.declared.op.Op.TheVariants as op
 use Rattle.sf_slots.specs.declared.calls.ReadToken.{ReadToken}
-use Rattle.sf_tree.specs.Changes.{Rejection, after}
+use Rattle.sf_tree.specs.Changes.{Rejection, after_from}
 use Rattle.sf_actor.specs.Books.{LayerEdit, PlainEdit, Sets, Shows, op_of}
 use Rattle.sf_view.specs.Contents.{unsigned}
 use Rattle.sf_record.specs.declared.record.CommittedBuffer.{CommittedBuffer}
@@ -99,9 +99,9 @@ buffers_in (edit ∷ edits) = buffer_of edit.layer edit.edit ++ buffers_in edits
 abbrev pub operation_of : LayerEdit → LayerId × Op
 operation_of edit = (edit.layer, op_of edit.edit)
 
--- the tree after a transaction, or the operation that is rejected, and why
+-- the layers after a transaction, of which there can be 256, or the operation that is rejected, and why
 unfoldable pub tried : List Layer → List LayerEdit → Result (List Layer) Rejection
-tried layers edits = after layers (map operation_of edits)
+tried layers edits = after_from 256 1 layers (map operation_of edits)
 
 -- the layers and their frames after a transaction: a rejected one changes nothing
 abbrev pub stage_or : Stage → List LayerEdit → Result (List Layer) Rejection → Stage

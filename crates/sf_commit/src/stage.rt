@@ -40,13 +40,14 @@ pub struct Stage {
 }
 
 impl Model for Stage {
+    ghost use Rattle.std.specs.Prelude.{◌≡◌};
     ghost use Rattle.sf_commit.specs.Commits.{IsStage, StageOf, stage_of};
 
     ghost Value = { StageOf };
 
-    ghost view = { λ s. record { layers = s.tree; shown = s.shown.items } };
+    ghost view = { λ s. record { layers = s.tree.layers; shown = s.shown.items } };
 
-    ghost invariant = { λ s. IsStage (stage_of (record { layers = s.tree; shown = s.shown.items })) };
+    ghost invariant = { λ s. IsStage (stage_of (record { layers = s.tree.layers; shown = s.shown.items })) × (s.tree.most ≡ 256) };
 }
 
 impl Stage {

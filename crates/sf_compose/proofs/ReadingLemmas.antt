@@ -45,9 +45,9 @@ pub readable_at : (contents : List Picture) (layers : List Drawn) (sources : Lis
 readable_at contents layers sources i d e r h = at_place contents layers sources r.all i d e h
 
 -- a pixel of a source is one of the picture
-pixel_of-source : (picture : ℕ → Picture) (contents : List Picture) (shows : Content) (source : ℕ) (place : ℤ × ℤ) (x y : ℤ) → HasSource picture contents shows source → pixel_of (λ _. content_at contents source) shows place x y ≡ pixel_of picture shows place x y
-pixel_of-source picture contents (content.Colour _) source place x y s = refl
-pixel_of-source picture contents (content.Buffer shown) source place x y s = rw (content_at-source picture contents shown source s) refl
+pixel_of-source : (picture : ℕ → Picture) (contents : List Picture) (shows : Content) (source orient : ℕ) (place : ℤ × ℤ) (x y : ℤ) → HasSource picture contents shows source → pixel_of (λ _. content_at contents source) shows orient place x y ≡ pixel_of picture shows orient place x y
+pixel_of-source picture contents (content.Colour _) source orient place x y s = refl
+pixel_of-source picture contents (content.Buffer shown) source orient place x y s = rw (content_at-source picture contents shown source s) refl
 
 under-same : (picture : ℕ → Picture) (contents : List Picture) (x y : ℤ) (layers : List Drawn) (sources : List ℕ) → AllZip (λ drawn source. HasSource picture contents drawn.content source) layers sources → (under : Rgba) → under_drawn contents x y under layers sources ≡ under_stack picture x y under (map sheet_of (filter (λ drawn. is_in_clip drawn x y) layers))
 under-same picture contents x y [] [] all under = refl
@@ -57,7 +57,7 @@ under-same picture contents x y (d ∷ ds) (s ∷ ss) all under =
     by_test (is_in_clip d x y) refl (under-same picture contents x y ds ss all.1)
   where
     by_test : (b : Bool) → is_in_clip d x y ≡ b → ((u : Rgba) → under_drawn contents x y u ds ss ≡ under_stack picture x y u (map sheet_of (filter (λ drawn. is_in_clip drawn x y) ds))) → under_drawn contents x y under (d ∷ ds) (s ∷ ss) ≡ under_stack picture x y under (map sheet_of (filter (λ drawn. is_in_clip drawn x y) (d ∷ ds)))
-    by_test true t rest = rw (t, pixel_of-source picture contents d.content s d.place x y all.0) (rest _)
+    by_test true t rest = rw (t, pixel_of-source picture contents d.content s d.orient d.place x y all.0) (rest _)
     by_test false t rest = rw t (rest under)
 
 -- what is read is the image of the view

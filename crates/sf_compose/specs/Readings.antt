@@ -38,7 +38,7 @@ pub record AreReadable (contents : List Picture) (layers : List Drawn) (sources 
 -- the pixel of a drawn layer, where it shows the content at this place
 abbrev pub pixel_from : List Picture → Drawn → ℕ → ℤ → ℤ → Rgba
 pixel_from contents drawn source x y =
-    source_of drawn.opaque (pixel_of (λ _. content_at contents source) drawn.content drawn.place x y)
+    source_of drawn.opaque (pixel_of (λ _. content_at contents source) drawn.content drawn.orient drawn.place x y)
 
 -- a pixel under a drawn layer, or as it is where the layer's clip lacks the point
 abbrev pub under_one : List Picture → ℤ → ℤ → Rgba → Drawn → ℕ → Rgba

@@ -111,6 +111,17 @@ fn paint_crop(picture: &Painted, crop: Crop, frame: &mut [u8], width: u32, area:
     }
 }
 
+// A colour as its layer shows it: the alpha of an opaque layer's counts as 255.
+fn seen_colour(colour: Rgba, opaque: bool) -> Rgba
+    ensures { result ≡ source_of opaque colour }
+{
+    if opaque {
+        Rgba { a: 255, ..colour }
+    } else {
+        colour
+    }
+}
+
 // Paints a drawn layer over the points of an area that are in its clip.
 fn paint_layer<C: Pixels>(
     drawn: &Drawn,
@@ -121,7 +132,8 @@ fn paint_layer<C: Pixels>(
     area: Area,
 )
     requires readable { IsReadable (map C.picture contents.now) drawn.now.content source }
-    requires inside { (x y : ℕ) → is_in_clip drawn.now (pos x) (pos y) ≡ true → is_in_content drawn.now.content drawn.now.place (pos x) (pos y) ≡ true }
+    requires upright { drawn.now.orient ≡ 0 }
+    requires inside { (x y : ℕ) → is_in_clip drawn.now (pos x) (pos y) ≡ true → is_in_content drawn.now.content drawn.now.orient drawn.now.place (pos x) (pos y) ≡ true }
     requires wide { area.right ≤ width }
     requires room { 4 * (area.bottom * width) ≤ length frame.old }
     ensures { Paints width (is_in_area area) (λ x y under.
@@ -130,11 +142,7 @@ fn paint_layer<C: Pixels>(
     let area = cut(area, &drawn.clip);
     match drawn.content {
         Content::Colour(colour) => {
-            let colour = if drawn.opaque {
-                Rgba { a: 255, ..colour }
-            } else {
-                colour
-            };
+            let colour = seen_colour(colour, drawn.opaque);
             paint_area(frame, width, area, colour, drawn.alpha);
         }
         Content::Buffer(shown) => {

@@ -18,3 +18,4 @@ kind_of (op.Opaque _) = 8
 kind_of (op.Colour _) = 9
 kind_of (op.Backpressure _) = 10
 kind_of (op.Show _) = 11
+kind_of (op.Orient _) = 12

@@ -1,7 +1,9 @@
--- The ranges of positions and crops.
-use Rattle.std.specs.Prelude.{ℕ, ◌<◌, ◌≤◌, ℤ, pos, negsuc, ◌≤ℤ◌, ◌+ℤ◌, Some}
+-- The ranges of positions, crops and orientations.
+use Rattle.std.specs.Prelude.{◌<◌, ◌≤◌, ℤ, pos, negsuc, ◌≤ℤ◌, Some}
+use Rattle.sf_base.specs.Geometry.{LiesWithin}
 use Rattle.sf_base.specs.declared.geometry.Rect.{Rect}
 use Rattle.sf_base.specs.declared.ids.LayerId.{LayerId}
+use Rattle.sf_layer.specs.declared.orient.TheConstants.{GREATEST_ORIENTATION}
 use Rattle.sf_layer.specs.declared.op.Op.{Op}
 use Rattle.sf_layer.specs.declared.op.Op.TheVariants as op
 
@@ -17,21 +19,12 @@ pub record IsCrop (crop : Rect) : Type 0 where
   pub width : crop.width ≤ 16384
   pub height : crop.height ≤ 16384
 
--- so many pixels from there on lie within 512 pixels
-pub record IsInside (from : ℤ) (size : ℕ) : Type 0 where
-  pub low : pos 0 ≤ℤ from
-  pub high : (from +ℤ pos size) ≤ℤ pos 512
-
--- the crop of a shown buffer lies within the greatest buffer, 512 x 512
-pub record IsInsideBuffer (crop : Rect) : Type 0 where
-  pub across : IsInside crop.x crop.width
-  pub down : IsInside crop.y crop.height
-
--- the positions and crops that an operation brings are in their ranges
+-- positions, crops and orientations that an operation brings are in their ranges
 abbrev pub IsInRange : Op → Type 0
 IsInRange (op.Position x y) = IsCoordinate x × IsCoordinate y
 IsInRange (op.Crop (Some crop)) = IsCrop crop
-IsInRange (op.Show shown) = IsInsideBuffer shown.crop
+IsInRange (op.Show shown) = LiesWithin shown.crop 512 512
+IsInRange (op.Orient orient) = orient ≤ GREATEST_ORIENTATION
 IsInRange _ = Unit {0}
 
 -- an operation on a layer of a number, which is 1 or more

@@ -3,6 +3,7 @@ ghost use Rattle.sf_layer.specs.Kinds.{kind_of};
 ghost use Rattle.sf_layer.specs.Ranges.{IsCoordinate, IsCrop, IsInRange};
 
 use crate::kind::Kind;
+use crate::orient::GREATEST_ORIENTATION;
 use crate::parent::Parent;
 use crate::shown::Shown;
 use sf_base::{LayerId, Rect, Rgba};
@@ -39,6 +40,9 @@ pub enum Op {
     Backpressure(bool),
     /// Sets what a buffer layer shows. The crop lies within 512 x 512.
     Show(Shown),
+    /// Sets how the layer's buffer is turned, 0 to `GREATEST_ORIENTATION`. It may be set on any
+    /// layer, and changes nothing on one that shows no buffer.
+    Orient(u8),
 }
 
 impl Op {
@@ -60,10 +64,11 @@ impl Op {
             Op::Colour(..) => 9,
             Op::Backpressure(..) => 10,
             Op::Show(..) => 11,
+            Op::Orient(..) => 12,
         }
     }
 
-    /// Whether positions and crops are in their ranges.
+    /// Whether positions, crops and an orientation are in their ranges.
     pub fn is_in_range(&self) -> bool
         ensures { IsTrue result ↔ IsInRange self.now }
     {
@@ -71,21 +76,30 @@ impl Op {
             Op::Position(x, y) => is_coordinate(*x) && is_coordinate(*y),
             Op::Crop(Some(crop)) => is_crop(crop),
             Op::Show(shown) => shown.is_in_range(),
+            Op::Orient(orient) => *orient <= GREATEST_ORIENTATION,
             _ => true,
         }
     }
 }
 
+// How far positions and crops' corners lie at most, in pixels to each side.
+const FARTHEST: i32 = 16_384;
+// How wide and high a layer's crop is at most, in pixels.
+const GREATEST_CROP: u32 = 16_384;
+
 // Whether it is a position or a crop's corner.
 fn is_coordinate(at: i32) -> bool
     ensures { IsTrue result ↔ IsCoordinate at }
 {
-    -16_384 <= at && at <= 16_384
+    -FARTHEST <= at && at <= FARTHEST
 }
 
 // Whether it is a layer's crop.
 fn is_crop(crop: &Rect) -> bool
     ensures { IsTrue result ↔ IsCrop crop.now }
 {
-    is_coordinate(crop.x) && is_coordinate(crop.y) && crop.width <= 16_384 && crop.height <= 16_384
+    is_coordinate(crop.x)
+        && is_coordinate(crop.y)
+        && crop.width <= GREATEST_CROP
+        && crop.height <= GREATEST_CROP
 }

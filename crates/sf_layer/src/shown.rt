@@ -1,5 +1,5 @@
 ghost use Rattle.std.specs.Prelude.{IsTrue, ◌↔◌};
-ghost use Rattle.sf_layer.specs.Ranges.{IsInside, IsInsideBuffer};
+ghost use Rattle.sf_base.specs.Geometry.{IsWithin, LiesWithin};
 
 use sf_base::{QueueId, Rect};
 
@@ -16,15 +16,18 @@ pub struct Shown {
 impl Shown {
     /// Whether the crop lies within the greatest buffer, 512 x 512 pixels.
     pub fn is_in_range(&self) -> bool
-        ensures { IsTrue result ↔ IsInsideBuffer self.now.crop }
+        ensures { IsTrue result ↔ LiesWithin self.now.crop 512 512 }
     {
         is_inside(self.crop.x, self.crop.width) && is_inside(self.crop.y, self.crop.height)
     }
 }
 
-// Whether a row or column of so many pixels from there on lies within 512 pixels.
-fn is_inside(from: i32, size: u32) -> bool
-    ensures { IsTrue result ↔ IsInside from size }
+// How wide and high a buffer is at most, in pixels.
+const GREATEST_BUFFER: u32 = 512;
+
+// Whether so many pixels from there on lie within the side of the greatest buffer.
+fn is_inside(from: i32, extent: u32) -> bool
+    ensures { IsTrue result ↔ IsWithin from extent 512 }
 {
-    0 <= from && from <= 512 && size <= 512 && from + size as i32 <= 512
+    0 <= from && extent <= GREATEST_BUFFER && from as u32 <= GREATEST_BUFFER - extent
 }

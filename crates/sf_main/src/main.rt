@@ -4,8 +4,12 @@
 
 use sf_app::run;
 use sf_io::{OpenGate, ReadSource, WriteSink};
+use std::io::ErrorKind;
 use std::process::ExitCode;
 use std::{env, io};
+
+#[cfg(test)]
+mod tests;
 
 const HELP: &str = "\
 sf_main plays a script of the compositor.
@@ -19,6 +23,15 @@ status: 0 the script was played; 1 wrong words; 2 the script is no scene; 3 read
 4 writing failed; 5 out of memory";
 
 const VERSION: &str = "sf_main 0.1.0";
+
+/// The status where the words are wrong; a word that is no text is.
+const WRONG_WORDS: u8 = 1;
+
+/// The status where what was to be written could not be.
+const WRITE_FAILED: u8 = 4;
+
+/// The status where memory is wanting.
+const NO_MEMORY: u8 = 5;
 
 // The line on standard error for a status other than 0.
 fn message(status: u8) -> &'static str {
@@ -43,6 +56,15 @@ fn about(words: &[String]) -> Option<&'static str> {
     }
 }
 
+// The status where the words could not be read.
+fn status_without_words(error: &io::Error) -> u8 {
+    if error.kind() == ErrorKind::OutOfMemory {
+        NO_MEMORY
+    } else {
+        WRONG_WORDS
+    }
+}
+
 fn words(rt: &HostRuntime) -> io::Result<Vec<String>> {
     let mut words = Vec::new(rt.alloc());
     for word in env::args(rt)?.skip(1) {
@@ -56,7 +78,7 @@ fn main(rt: HostRuntime) -> ExitCode {
         Ok(words) => match about(&words) {
             Some(text) => match println!(rt; "{}", text) {
                 Ok(()) => return ExitCode::from(0),
-                Err(_) => 4,
+                Err(_) => WRITE_FAILED,
             },
             None => {
                 let mut source = ReadSource::new(rt.reader());
@@ -64,7 +86,7 @@ fn main(rt: HostRuntime) -> ExitCode {
                 run(&rt, rt.alloc(), &words, &mut source, &mut sink, &OpenGate)
             }
         },
-        Err(_) => 1,
+        Err(error) => status_without_words(&error),
     };
     if status != 0 {
         let _ = eprintln!(rt; "{}", message(status));

@@ -1,1 +1,3 @@
 pub mod WriteLemmas
+pub mod ReadingLemmas
+pub mod FitLemmas

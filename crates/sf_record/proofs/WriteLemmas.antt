@@ -1,10 +1,13 @@
 -- What was written so far, and what is left to write.
-use Rattle.std.proofs.Common.{◌≡◌, ℕ, List, [], ◌++◌, Option, sym, ap, subst, ◌∙◌, append_assoc, ◌<◌, ◌+◌, length, drop, get_or}
-use Rattle.std.proofs.lemmas.List.{append-nil, drop_more}
+use Rattle.std.proofs.Common.{◌≡◌, ℕ, List, [], ◌∷◌, ◌++◌, All, Option, sym, ap, subst, ◌∙◌, append_assoc, ◌<◌, ◌+◌, length, drop, take, get_or}
+use Rattle.std.proofs.lemmas.List.{append-nil, drop_more, take_more}
+use Rattle.std.proofs.lemmas.List.Concat.{flat_map-append}
+use Rattle.std.proofs.lemmas.List.Elements.{All-push}
 use Rattle.std.proofs.KnownBytes.{Appends-trans}
 use Rattle.std.specs.Io.KnownBytes.{Appends}
 use Rattle.sf_io.specs.Streams.{TookPrefix}
 use Rattle.sf_io.proofs.StreamLemmas.{TookPrefix-rest, TookPrefix-front}
+use Rattle.sf_record.specs.Fitting.{RecordFits}
 use Rattle.sf_record.specs.Records.{bytes_of, record_bytes}
 use Rattle.sf_record.specs.declared.record.Record.{Record}
 
@@ -36,3 +39,18 @@ write_next a b c rs i r h is w p = WrittenOf-more a b c (record_bytes r) (bytes_
 pub write_cut : (a b c : Option (List ℕ)) (rs : List Record) (i : ℕ) (r : Record) → i < length rs → r ≡ get_or rs i r → WrittenOf a b (bytes_of (drop i rs)) (bytes_of rs)
     → TookPrefix b c (record_bytes r) → TookPrefix a c (bytes_of rs)
 write_cut a b c rs i r h is w p = WrittenOf-prefix a b c (record_bytes r) (bytes_of (drop (i + 1) rs)) (bytes_of rs) (subst (λ (l : List ℕ). WrittenOf a b l (bytes_of rs)) (bytes_of-next rs i r h is) w) p
+
+-- the bytes of one more record
+bytes_of-front : (rs : List Record) (i : ℕ) (r : Record) → i < length rs → r ≡ get_or rs i r → bytes_of (take (i + 1) rs) ≡ bytes_of (take i rs) ++ record_bytes r
+unfolding bytes_of
+bytes_of-front rs i r h is =
+    ap bytes_of (take_more rs i r h) ∙ flat_map-append record_bytes (take i rs) (get_or rs i r ∷ [])
+    ∙ ap (λ (x : Record). bytes_of (take i rs) ++ (record_bytes x ++ [])) (sym is) ∙ ap (λ (l : List ℕ). bytes_of (take i rs) ++ l) (append-nil (record_bytes r))
+
+pub first_more : (a b c : Option (List ℕ)) (rs : List Record) (i : ℕ) (r : Record) → i < length rs → r ≡ get_or rs i r → Appends a b (bytes_of (take i rs)) → Appends b c (record_bytes r)
+    → Appends a c (bytes_of (take (i + 1) rs))
+first_more a b c rs i r h is p q = subst (Appends a c) (sym (bytes_of-front rs i r h is)) (Appends-trans a b c (bytes_of (take i rs)) (record_bytes r) p q)
+
+pub fit_next : (rs : List Record) (i : ℕ) (r : Record) → i < length rs → r ≡ get_or rs i r → All RecordFits (take i rs) → RecordFits r → All RecordFits (take (i + 1) rs)
+fit_next rs i r h is all one =
+    subst (All RecordFits) (sym (take_more rs i r h ∙ ap (λ (x : Record). take i rs ++ x ∷ []) (sym is))) (All-push RecordFits (take i rs) r all one)

@@ -1,2 +1,4 @@
 pub mod Records
 pub mod Events
+pub mod Fitting
+pub mod Reading

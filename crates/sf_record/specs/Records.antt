@@ -1,5 +1,6 @@
 -- The bytes of records. All numbers are written with their highest byte first.
-use Rattle.std.specs.Prelude.{ℕ, List, [], ◌∷◌, ◌++◌, length, codes}
+use Rattle.std.specs.Prelude.{ℕ, ◌≤◌, List, [], ◌∷◌, ◌++◌, Option, length, codes, take}
+use Rattle.std.specs.Io.KnownBytes.{Appends}
 use Rattle.std.specs.List.{flat_map}
 use Rattle.byteorder.specs.Endian.{big_bytes}
 use Rattle.sf_io.specs.Streams.{framed}
@@ -73,3 +74,7 @@ record_bytes r = framed (tag_of r) (body_of r)
 
 unfoldable pub bytes_of : List Record → List ℕ
 bytes_of records = flat_map record_bytes records
+
+-- a sink took the first of these records, whole
+abbrev pub AppendsFirst : Option (List ℕ) → Option (List ℕ) → List Record → Type 0
+AppendsFirst old new records = (n : ℕ) × (n ≤ length records) × Appends old new (bytes_of (take n records))

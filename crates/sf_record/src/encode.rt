@@ -1,22 +1,25 @@
-ghost use Rattle.std.specs.Prelude.{◌≡◌, ◌<◌, ◌≤◌, ◌^◌, ◌++◌, ◌∷◌, [], List, ℕ, length, OnOk, OnErr, IfOk, IsErrOf};
+ghost use Rattle.std.specs.Prelude.{◌≡◌, ◌<◌, ◌≤◌, ◌^◌, ◌++◌, ◌∷◌, [], All, List, ℕ, length, OnOk, OnErr, IfOk, IsErrOf};
 ghost use Rattle.std.specs.Io.KnownBytes.{Appends};
 ghost use Rattle.std.specs.List.{flat_map};
 ghost use Rattle.sf_io.specs.Causes.{Rose};
 ghost use Rattle.sf_io.specs.Streams.{TookPrefix};
-ghost use Rattle.sf_record.specs.Records.{arrival_bytes, body_of, buffer_bytes, bytes_of, held_bytes, history_entry_bytes, list_bytes, record_bytes, stuck_bytes, tag_of, timeline_bytes, u32_bytes, u64_bytes};
+ghost use Rattle.sf_record.specs.Fitting.{ArrivalFits, BufferFits, CallFits, CommitFits, FaultFits, Fits32, Fits64, FrameFits, HeldFits, HistoryFits, ListFits, RecordFits, ReplyFits, SceneFits, StuckFits, TimelineFits, VsyncFits};
+ghost use Rattle.sf_record.specs.Records.{AppendsFirst, arrival_bytes, body_of, buffer_bytes, bytes_of, held_bytes, history_entry_bytes, list_bytes, record_bytes, stuck_bytes, tag_of, timeline_bytes, u32_bytes, u64_bytes};
 
 use crate::record::{
-    ArrivalEntry, Commit, CommittedBuffer, HeldEntry, HistoryEntry, QueueHistory, Record, Reply,
-    SceneHeader, StuckEntry, TimelineValue, VsyncHeader,
+    ArrivalEntry, Commit, CommittedBuffer, Frame, HeldEntry, HistoryEntry, QueueHistory, Record,
+    Reply, SceneHeader, StuckEntry, TimelineValue, VsyncHeader,
 };
 use byteorder::{BigEndian, ByteOrder};
 use sf_base::NoMemory;
 use sf_io::{Sink, put};
+use sf_script::ScriptFault;
 use std::alloc::Global;
 
 #[tactic(auto, unfolding(crate::specs::Records::u32_bytes))]
 fn push_u32(out: &mut Vec<u8>, n: u32) -> Result<(), NoMemory>
-    ensures { OnOk result (out.new.items ≡ out.old.items ++ u32_bytes n) }
+    ensures ok { OnOk result (out.new.items ≡ out.old.items ++ u32_bytes n) }
+    ensures fits { OnOk result (Fits32 n) }
 {
     let mut buf = [0u8; 4];
     BigEndian::write_u32(&mut buf, n);
@@ -26,7 +29,8 @@ fn push_u32(out: &mut Vec<u8>, n: u32) -> Result<(), NoMemory>
 
 #[tactic(auto, unfolding(crate::specs::Records::u64_bytes))]
 fn push_u64(out: &mut Vec<u8>, n: u64) -> Result<(), NoMemory>
-    ensures { OnOk result (out.new.items ≡ out.old.items ++ u64_bytes n) }
+    ensures ok { OnOk result (out.new.items ≡ out.old.items ++ u64_bytes n) }
+    ensures fits { OnOk result (Fits64 n) }
 {
     let mut buf = [0u8; 8];
     BigEndian::write_u64(&mut buf, n);
@@ -39,13 +43,19 @@ trait Encode {
     /// The bytes of the item.
     ghost bytes: { Self → List ℕ };
 
+    /// Each number of the item fits its field.
+    ghost fits: { Self → Type 0 };
+
     /// Appends the item's bytes.
     fn push(&self, out: &mut Vec<u8>) -> Result<(), NoMemory>
-        ensures { OnOk result (out.new.items ≡ out.old.items ++ bytes self.now) };
+        ensures ok { OnOk result (out.new.items ≡ out.old.items ++ bytes self.now) }
+        ensures fits { OnOk result (fits self.now) };
 }
 
 impl Encode for u64 {
     ghost bytes = { u64_bytes };
+
+    ghost fits = { Fits64 };
 
     fn push(&self, out: &mut Vec<u8>) -> Result<(), NoMemory> {
         push_u64(out, *self)
@@ -55,6 +65,8 @@ impl Encode for u64 {
 impl Encode for TimelineValue {
     ghost bytes = { timeline_bytes };
 
+    ghost fits = { TimelineFits };
+
     fn push(&self, out: &mut Vec<u8>) -> Result<(), NoMemory> {
         push_u32(out, self.timeline)?;
         push_u64(out, self.value)
@@ -63,6 +75,8 @@ impl Encode for TimelineValue {
 
 impl Encode for CommittedBuffer {
     ghost bytes = { buffer_bytes };
+
+    ghost fits = { BufferFits };
 
     fn push(&self, out: &mut Vec<u8>) -> Result<(), NoMemory> {
         push_u32(out, self.layer)?;
@@ -79,6 +93,8 @@ impl Encode for CommittedBuffer {
 impl Encode for ArrivalEntry {
     ghost bytes = { arrival_bytes };
 
+    ghost fits = { ArrivalFits };
+
     fn push(&self, out: &mut Vec<u8>) -> Result<(), NoMemory> {
         push_u32(out, self.actor)?;
         push_u32(out, self.step)?;
@@ -88,6 +104,8 @@ impl Encode for ArrivalEntry {
 
 impl Encode for HistoryEntry {
     ghost bytes = { history_entry_bytes };
+
+    ghost fits = { CallFits };
 
     fn push(&self, out: &mut Vec<u8>) -> Result<(), NoMemory> {
         push_u32(out, self.caller)?;
@@ -102,6 +120,8 @@ impl Encode for HistoryEntry {
 impl Encode for HeldEntry {
     ghost bytes = { held_bytes };
 
+    ghost fits = { HeldFits };
+
     fn push(&self, out: &mut Vec<u8>) -> Result<(), NoMemory> {
         push_u32(out, self.arrival)?;
         push_u32(out, self.hold)?;
@@ -113,6 +133,8 @@ impl Encode for HeldEntry {
 impl Encode for StuckEntry {
     ghost bytes = { stuck_bytes };
 
+    ghost fits = { StuckFits };
+
     fn push(&self, out: &mut Vec<u8>) -> Result<(), NoMemory> {
         push_u32(out, self.actor)?;
         push_u32(out, self.step)
@@ -121,7 +143,8 @@ impl Encode for StuckEntry {
 
 // The items, one after another.
 fn push_all<T: Encode>(out: &mut Vec<u8>, items: &[T]) -> Result<(), NoMemory>
-    ensures { OnOk result (out.new.items ≡ out.old.items ++ flat_map T.bytes items.now) }
+    ensures ok { OnOk result (out.new.items ≡ out.old.items ++ flat_map T.bytes items.now) }
+    ensures fits { OnOk result (All T.fits items.now) }
 {
     let mut rest = items;
     while let [item, after @ ..] = rest {
@@ -134,7 +157,8 @@ fn push_all<T: Encode>(out: &mut Vec<u8>, items: &[T]) -> Result<(), NoMemory>
 // A list: how many items it has, and the items.
 #[tactic(auto, unfolding(crate::specs::Records::list_bytes))]
 fn push_list<T: Encode>(out: &mut Vec<u8>, items: &[T]) -> Result<(), NoMemory>
-    ensures { OnOk result (out.new.items ≡ out.old.items ++ list_bytes T.bytes items.now) }
+    ensures ok { OnOk result (out.new.items ≡ out.old.items ++ list_bytes T.bytes items.now) }
+    ensures fits { OnOk result (ListFits T.fits items.now) }
 {
     match u32::try_from(items.len()) {
         Ok(count) => {
@@ -164,7 +188,8 @@ fn tag(shown: &Record) -> [u8; 4]
 }
 
 fn push_scene(out: &mut Vec<u8>, scene: &SceneHeader) -> Result<(), NoMemory>
-    ensures { OnOk result (out.new.items ≡ out.old.items ++ (u32_bytes scene.now.version ++ u32_bytes scene.now.width ++ u32_bytes scene.now.height ++ u64_bytes scene.now.period)) }
+    ensures ok { OnOk result (out.new.items ≡ out.old.items ++ (u32_bytes scene.now.version ++ u32_bytes scene.now.width ++ u32_bytes scene.now.height ++ u64_bytes scene.now.period)) }
+    ensures fits { OnOk result (SceneFits scene.now) }
 {
     push_u32(out, scene.version)?;
     push_u32(out, scene.width)?;
@@ -173,7 +198,8 @@ fn push_scene(out: &mut Vec<u8>, scene: &SceneHeader) -> Result<(), NoMemory>
 }
 
 fn push_reply(out: &mut Vec<u8>, reply: &Reply) -> Result<(), NoMemory>
-    ensures { OnOk result (out.new.items ≡ out.old.items ++ (u32_bytes reply.now.actor ++ u32_bytes reply.now.step ++ u32_bytes reply.now.status ++ list_bytes u64_bytes reply.now.values)) }
+    ensures ok { OnOk result (out.new.items ≡ out.old.items ++ (u32_bytes reply.now.actor ++ u32_bytes reply.now.step ++ u32_bytes reply.now.status ++ list_bytes u64_bytes reply.now.values)) }
+    ensures fits { OnOk result (ReplyFits reply.now) }
 {
     push_u32(out, reply.actor)?;
     push_u32(out, reply.step)?;
@@ -182,7 +208,8 @@ fn push_reply(out: &mut Vec<u8>, reply: &Reply) -> Result<(), NoMemory>
 }
 
 fn push_vsync(out: &mut Vec<u8>, vsync: &VsyncHeader) -> Result<(), NoMemory>
-    ensures { OnOk result (out.new.items ≡ out.old.items ++ (u32_bytes vsync.now.number ++ u64_bytes vsync.now.expected ++ list_bytes timeline_bytes vsync.now.timelines)) }
+    ensures ok { OnOk result (out.new.items ≡ out.old.items ++ (u32_bytes vsync.now.number ++ u64_bytes vsync.now.expected ++ list_bytes timeline_bytes vsync.now.timelines)) }
+    ensures fits { OnOk result (VsyncFits vsync.now) }
 {
     push_u32(out, vsync.number)?;
     push_u64(out, vsync.expected)?;
@@ -190,7 +217,8 @@ fn push_vsync(out: &mut Vec<u8>, vsync: &VsyncHeader) -> Result<(), NoMemory>
 }
 
 fn push_commit(out: &mut Vec<u8>, commit: &Commit) -> Result<(), NoMemory>
-    ensures { OnOk result (out.new.items ≡ out.old.items ++ (u32_bytes commit.now.token ++ u32_bytes commit.now.arrival ++ u32_bytes commit.now.result ++ u32_bytes commit.now.operation ++ list_bytes buffer_bytes commit.now.buffers)) }
+    ensures ok { OnOk result (out.new.items ≡ out.old.items ++ (u32_bytes commit.now.token ++ u32_bytes commit.now.arrival ++ u32_bytes commit.now.result ++ u32_bytes commit.now.operation ++ list_bytes buffer_bytes commit.now.buffers)) }
+    ensures fits { OnOk result (CommitFits commit.now) }
 {
     push_u32(out, commit.token)?;
     push_u32(out, commit.arrival)?;
@@ -199,17 +227,37 @@ fn push_commit(out: &mut Vec<u8>, commit: &Commit) -> Result<(), NoMemory>
     push_list(out, commit.buffers.as_slice())
 }
 
+fn push_frame(out: &mut Vec<u8>, frame: &Frame) -> Result<(), NoMemory>
+    ensures ok { OnOk result (out.new.items ≡ out.old.items ++ (u32_bytes frame.now.number ++ frame.now.pixels)) }
+    ensures fits { OnOk result (Fits32 (length out.new.items) → FrameFits frame.now) }
+{
+    push_u32(out, frame.number)?;
+    out.extend_from_slice(frame.pixels.as_slice())?;
+    Ok(())
+}
+
 fn push_history(out: &mut Vec<u8>, history: &QueueHistory) -> Result<(), NoMemory>
-    ensures { OnOk result (out.new.items ≡ out.old.items ++ (u32_bytes history.now.queue ++ list_bytes history_entry_bytes history.now.entries)) }
+    ensures ok { OnOk result (out.new.items ≡ out.old.items ++ (u32_bytes history.now.queue ++ list_bytes history_entry_bytes history.now.entries)) }
+    ensures fits { OnOk result (HistoryFits history.now) }
 {
     push_u32(out, history.queue)?;
     push_list(out, history.entries.as_slice())
 }
 
+fn push_fault(out: &mut Vec<u8>, fault: &ScriptFault) -> Result<(), NoMemory>
+    ensures ok { OnOk result (out.new.items ≡ out.old.items ++ (u32_bytes fault.now.line ++ u32_bytes fault.now.word ++ u32_bytes fault.now.cause)) }
+    ensures fits { OnOk result (FaultFits fault.now) }
+{
+    push_u32(out, fault.line)?;
+    push_u32(out, fault.word)?;
+    push_u32(out, fault.cause)
+}
+
 // The body of a record.
 #[tactic(auto, unfolding(crate::specs::Records::body_of))]
 fn body(alloc: Global, shown: &Record) -> Result<Vec<u8>, NoMemory>
-    ensures { IfOk result (λ v. v.items ≡ body_of shown.now) }
+    ensures ok { IfOk result (λ v. v.items ≡ body_of shown.now) }
+    ensures fits { IfOk result (λ v. Fits32 (length v.items) → RecordFits shown.now) }
 {
     let mut out = Vec::new(alloc);
     match shown {
@@ -217,20 +265,13 @@ fn body(alloc: Global, shown: &Record) -> Result<Vec<u8>, NoMemory>
         Record::Repl(reply) => push_reply(&mut out, reply)?,
         Record::Vsyn(vsync) => push_vsync(&mut out, vsync)?,
         Record::Comm(commit) => push_commit(&mut out, commit)?,
-        Record::Fram(frame) => {
-            push_u32(&mut out, frame.number)?;
-            out.extend_from_slice(frame.pixels.as_slice())?;
-        }
+        Record::Fram(frame) => push_frame(&mut out, frame)?,
         Record::Arrv(arrivals) => push_list(&mut out, arrivals.as_slice())?,
         Record::Hist(history) => push_history(&mut out, history)?,
         Record::Hold(held) => push_list(&mut out, held.as_slice())?,
         Record::Stuk(stuck) => push_list(&mut out, stuck.as_slice())?,
         Record::Done => {}
-        Record::Sflt(fault) => {
-            push_u32(&mut out, fault.line)?;
-            push_u32(&mut out, fault.word)?;
-            push_u32(&mut out, fault.cause)?;
-        }
+        Record::Sflt(fault) => push_fault(&mut out, fault)?,
     }
     Ok(out)
 }
@@ -245,12 +286,15 @@ pub enum RunFault {
     NoMemory,
 }
 
-/// Writes a record. After a fault the sink has a prefix of it. A record with a list of more than
-/// 2^32 - 1 items, or with a body of more bytes, is answered as want of memory.
+/// Writes a record. After a fault the sink has a prefix of it, after want of memory none of it. A
+/// record with a list of more than 2^32 - 1 items, or with a body of more bytes, is answered as want
+/// of memory; so each number of a record that is written fits its field.
 #[tactic(auto, unfolding(crate::specs::Records::record_bytes))]
 pub fn write_record<K: Sink>(alloc: Global, sink: &mut K, shown: &Record) -> Result<(), RunFault>
     ensures ok { OnOk result (Appends (K.taken sink.old) (K.taken sink.new) (record_bytes shown.now)) }
+    ensures fits { OnOk result (RecordFits shown.now) }
     ensures err { OnErr result (TookPrefix (K.taken sink.old) (K.taken sink.new) (record_bytes shown.now)) }
+    ensures nothing { IsErrOf result RunFault.NoMemory → sink.new ≡ sink.old }
     ensures later { K.faults sink.old ≤ K.faults sink.new }
     ensures failed { IsErrOf result RunFault.WriteFault → Rose (K.faults sink.old) (K.faults sink.new) }
 {
@@ -267,12 +311,15 @@ pub fn write_record<K: Sink>(alloc: Global, sink: &mut K, shown: &Record) -> Res
     }
 }
 
-/// Writes records in order. After a fault the sink has a prefix of their bytes. A record that is
-/// too long, as in [`write_record`], is answered as want of memory.
+/// Writes records in order. After a fault the sink has a prefix of their bytes, after want of memory
+/// whole records alone. A record that is too long, as in [`write_record`], is answered as want of
+/// memory.
 #[tactic(auto, unfolding(crate::specs::Records::bytes_of))]
 pub fn write_all<K: Sink>(alloc: Global, sink: &mut K, records: &[Record]) -> Result<(), RunFault>
     ensures ok { OnOk result (Appends (K.taken sink.old) (K.taken sink.new) (bytes_of records.now)) }
+    ensures fits { OnOk result (All RecordFits records.now) }
     ensures err { OnErr result (TookPrefix (K.taken sink.old) (K.taken sink.new) (bytes_of records.now)) }
+    ensures whole { IsErrOf result RunFault.NoMemory → AppendsFirst (K.taken sink.old) (K.taken sink.new) records.now }
     ensures later { K.faults sink.old ≤ K.faults sink.new }
     ensures failed { IsErrOf result RunFault.WriteFault → Rose (K.faults sink.old) (K.faults sink.new) }
 {

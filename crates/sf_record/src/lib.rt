@@ -4,12 +4,12 @@
 
 mod encode;
 mod event;
+mod laws;
 mod record;
-#[cfg(test)]
-mod tests;
 
 pub use encode::{RunFault, write_all, write_record};
 pub use event::{Event, VsyncReport, records};
+pub use laws::{bytes_determine_records, records_are_read_back};
 pub use record::{
     ArrivalEntry, Commit, CommittedBuffer, Frame, HeldEntry, HistoryEntry, QueueHistory, Record,
     Reply, SceneHeader, StuckEntry, TimelineValue, VsyncHeader,

@@ -35,13 +35,14 @@ impl<T: Drop> From<AllocFailed<T>> for LineFault {
     }
 }
 
-/// Where a script has a fault, and which. Until the places are told, all are 0, but a script that
-/// is too long has the cause 9.
+/// Where a script has a fault, and which. A script that is right, but has forms that are not played
+/// yet, has all 0; one that is too long has line 0, word 0 and cause 9.
 #[derive(Clone, Copy, Debug, PartialEq, Eq)]
 pub struct ScriptFault {
-    /// The number of the line, from 1.
+    /// The number of the line, from 1; one past the last where the script ends too early.
     pub line: u32,
-    /// The number of the word in its line, from 1.
+    /// The number of the word in its line, from 1; one past the last where a word is missing, and
+    /// 0 where the fault is of the line.
     pub word: u32,
     /// The number of the cause.
     pub cause: u32,

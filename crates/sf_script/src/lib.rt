@@ -18,6 +18,3 @@ mod summary;
 pub use fault::{ParseFault, ScriptFault};
 pub use scene::{ActorScript, Change, Pick, QueueDecl, Scene, Step};
 pub use script::{LONGEST_SCRIPT, parse};
-
-#[cfg(test)]
-mod tests;

@@ -7,7 +7,8 @@ ghost use Rattle.sf_script.specs.Memory.{GivesUnless};
 ghost use Rattle.sf_script.specs.declared.line.Line.TheVariants as line;
 ghost use Rattle.sf_script.specs.declared.fault.ParseFault.TheVariants.{Script};
 ghost use Rattle.sf_script.specs.Script.{actors_of, fills_of, form_at, is_skipped, line_at, lines_at, order_of, picks_of, pictures_of, queues_of, scene_of, scene_with, script_of, steps_of, words_at};
-ghost use Rattle.sf_script.specs.Parse.{GivesScene, at_no_place, parsed_of};
+ghost use Rattle.sf_grammar.specs.Parse as grammar;
+ghost use Rattle.sf_script.specs.Parse.{GivesScene, TellsFault, at_no_place, fault_told, parsed_of};
 
 use crate::before::Before;
 use crate::declarations::{actor_line, fill_line, header_line, picture_line, queue_line};
@@ -97,9 +98,9 @@ fn skips(line: &[u8]) -> bool
     }
 }
 
-/// All lines but those that are skipped.
+// All lines but those that are skipped.
 #[tactic(auto, unfolding(crate::specs::Script::lines_at))]
-pub fn all_lines(alloc: Global, bytes: &[u8]) -> Result<Before, LineFault>
+fn all_lines(alloc: Global, bytes: &[u8]) -> Result<Before, LineFault>
     ensures given { GivesUnless (λ x. x) result (lines_at [] (lines_of bytes.now)) }
     ensures few { IfOk result (λ lines. length (order_of lines) ≤ length bytes.now) }
 {
@@ -271,7 +272,7 @@ fn whole_script(alloc: Global, bytes: &[u8]) -> Result<Scene, LineFault>
 /// The longest script, in bytes.
 pub const LONGEST_SCRIPT: usize = 1_048_576;
 
-// A fault whose place is not told.
+// A fault of this cause, which has no place.
 fn placeless(cause: u32) -> ParseFault
     ensures { result ≡ Script (at_no_place cause) }
 {
@@ -282,8 +283,27 @@ fn placeless(cause: u32) -> ParseFault
     })
 }
 
-/// The scene that a script spells, or that it is none. More than 1,048,576 bytes are none, with
-/// cause 9; any other fault has cause 0 so far.
+// The fault of bytes that are no scene of the forms that are played: the one that the whole
+// grammar finds, or that there is none.
+fn refusal(alloc: Global, bytes: &[u8]) -> ParseFault
+    ensures { TellsFault result (fault_told (grammar.parsed_of bytes.now)) }
+{
+    match sf_grammar::parse(alloc, bytes) {
+        Ok(_) => placeless(0),
+        Err(sf_grammar::ParseFault::NoMemory) => ParseFault::NoMemory,
+        Err(sf_grammar::ParseFault::Script(fault)) => {
+            ParseFault::Script(ScriptFault {
+                line: fault.line,
+                word: fault.word,
+                cause: fault.cause,
+            })
+        }
+    }
+}
+
+/// The scene that a script spells, or that it is none: the place and the cause of its first fault.
+/// A script whose scene has forms that are not played yet is refused with line 0, word 0 and cause
+/// 0, and one of more than 1,048,576 bytes with 0, 0 and 9.
 #[tactic(auto, unfolding(crate::specs::Parse::parsed_of))]
 pub fn parse(alloc: Global, bytes: &[u8]) -> Result<Scene, ParseFault>
     ensures { GivesScene result (parsed_of bytes.now) }
@@ -294,6 +314,6 @@ pub fn parse(alloc: Global, bytes: &[u8]) -> Result<Scene, ParseFault>
     match whole_script(alloc, bytes) {
         Ok(scene) => Ok(scene),
         Err(LineFault::NoMemory) => Err(ParseFault::NoMemory),
-        Err(LineFault::Word(_)) => Err(placeless(0)),
+        Err(LineFault::Word(_)) => Err(refusal(alloc, bytes)),
     }
 }

@@ -1,6 +1,6 @@
 -- Lists of the places of the layers that are drawn with each layer.
-use Rattle.std.proofs.Common.{◌≡◌, ℕ, zero, suc, ◌+◌, ◌-◌, ◌<◌, ◌≤◌, ◌≢◌, Bool, true, false, cond, not, List, [], ◌∷◌, ◌++◌, length, get_or, map, take, Option, Some, None, refl, ap, ◌∙◌, sym, subst, arith, append-nil, append_assoc, length-set, rules}
-use Rattle.std.specs.List.{All, AllZip, filter, flat_map, slice_get, slice_set}
+use Rattle.std.proofs.Common.{◌≡◌, ℕ, zero, suc, ◌+◌, ◌-◌, ◌<◌, ◌≤◌, ◌≢◌, Bool, true, false, List, [], ◌∷◌, ◌++◌, length, get_or, map, take, Some, None, refl, ap, ◌∙◌, sym, subst, arith, append-nil, append_assoc, length-set}
+use Rattle.std.specs.List.{All, filter, flat_map, slice_get, slice_set}
 use Rattle.std.specs.Prelude.{eqb, ◌==◌}
 use Rattle.std.proofs.lemmas.Bool.{eqb-true, eq-eqb}
 use Rattle.std.proofs.lemmas.List.{length-map, get_or-map, get_or-set_same, get_or-set_other, take_all}
@@ -10,13 +10,12 @@ use Rattle.sf_base.specs.declared.ids.LayerId.{LayerId}
 use Rattle.sf_layer.specs.declared.layer.Layer.{Layer}
 use Rattle.sf_layer.specs.declared.parent.Parent.{Parent}
 use Rattle.sf_layer.specs.declared.parent.Parent.TheVariants as parent
-use Rattle.sf_tree.specs.DrawOrder.{draw, draw_parent, drawn_with, is_behind, is_same}
+use Rattle.sf_tree.specs.DrawOrder.{draw, draw_parent, drawn_with, is_same}
 use Rattle.sf_tree.specs.Kept.{IsDistinct}
 use Rattle.sf_tree.specs.Known.{AtPlaces, IsBelow, is_on_side}
-use Rattle.sf_tree.specs.Layers.{is_numbered, layer_of, place_of, has_layer}
-use Rattle.sf_tree.proofs.Keeping.{found_itself}
-use Rattle.sf_tree.proofs.Lookups.{is_numbered-place, layer_of-none}
-use Rattle.sf_tree.proofs.Places.{place_of_same}
+use Rattle.sf_tree.specs.Layers.{index_of}
+use Rattle.sf_tree.proofs.Lookups.{is_numbered-place}
+use Rattle.sf_tree.proofs.Places.{index_of_same}
 use Rattle.sf_tree.proofs.ShowLemmas.{inside_from_slice_get}
 use Rattle.std.proofs.lemmas.Option.{get_or_from_slice_get}
 
@@ -58,18 +57,18 @@ all_taken tree (p ∷ ps) [] i at h = absurd at
 all_taken tree (p ∷ ps) (l ∷ ls) zero at h = absurd (omega arith)
 all_taken tree (p ∷ ps) (l ∷ ls) (suc i) at h = ap (λ xs. l ∷ xs) (all_taken tree ps ls i at.1 (omega arith))
 
-other_number : (tree : List Layer) (id : LayerId) (k : ℕ) (layer : Layer) → IsDistinct tree → slice_get tree k ≡ Some layer → (place_of tree id ≡ Some k → ⊥) → (id.0 == layer.number.0) ≡ false
+other_number : (tree : List Layer) (id : LayerId) (k : ℕ) (layer : Layer) → IsDistinct tree → slice_get tree k ≡ Some layer → (index_of tree id ≡ Some k → ⊥) → (id.0 == layer.number.0) ≡ false
 other_number tree id k layer distinct at apart = by_test (id.0 == layer.number.0) refl
   where
     inside : k < length tree
     inside = inside_from_slice_get tree k layer at
 
-    here : place_of tree layer.number ≡ Some k
-    here = subst (λ (l : Layer). place_of tree l.number ≡ Some k) (get_or_from_slice_get tree k layer layer at) (distinct k layer inside)
+    here : index_of tree layer.number ≡ Some k
+    here = subst (λ (l : Layer). index_of tree l.number ≡ Some k) (get_or_from_slice_get tree k layer layer at) (distinct k layer inside)
 
     by_test : (b : Bool) → (id.0 == layer.number.0) ≡ b → (id.0 == layer.number.0) ≡ false
     by_test false e = e
-    by_test true e = absurd (apart (place_of_same tree id layer.number e ∙ here))
+    by_test true e = absurd (apart (index_of_same tree id layer.number e ∙ here))
 
 -- a layer that is drawn with no layer of the tree
 pub IsBelow-other : (tree xs : List Layer) (layer : Layer) (lists : List (List ℕ)) → ((k : ℕ) (with : Layer) → slice_get tree k ≡ Some with → is_same (draw_parent layer) (parent.Layer with.number) ≡ false) → IsBelow tree xs lists → IsBelow tree (xs ++ layer ∷ []) lists
@@ -79,7 +78,7 @@ IsBelow-other tree xs layer lists other b = record {
 }
 
 -- a layer that is drawn with the one at a place
-pub IsBelow-push : (tree xs : List Layer) (layer : Layer) (lists : List (List ℕ)) (id : LayerId) (w place : ℕ) → IsDistinct tree → draw_parent layer ≡ parent.Layer id → place_of tree id ≡ Some w → slice_get tree place ≡ Some layer → w < length lists → IsBelow tree xs lists → IsBelow tree (xs ++ layer ∷ []) (slice_set lists w (get_or lists w [] ++ place ∷ []))
+pub IsBelow-push : (tree xs : List Layer) (layer : Layer) (lists : List (List ℕ)) (id : LayerId) (w place : ℕ) → IsDistinct tree → draw_parent layer ≡ parent.Layer id → index_of tree id ≡ Some w → slice_get tree place ≡ Some layer → w < length lists → IsBelow tree xs lists → IsBelow tree (xs ++ layer ∷ []) (slice_set lists w (get_or lists w [] ++ place ∷ []))
 IsBelow-push tree xs layer lists id w place distinct with_id e at inside b = record {
   size = length-set lists w _ ∙ b.size;
   lists = λ k with there. by_place k with there (eqb k w) refl;
@@ -102,7 +101,7 @@ IsBelow-push tree xs layer lists id w place distinct with_id e at inside b = rec
         let no : is_same (draw_parent layer) (parent.Layer with.number) ≡ false = rw with_id other in
         rw (get_or-set_other lists w k (get_or lists w [] ++ place ∷ []) [] apart, drawn_with-no (parent.Layer with.number) xs layer no) (b.lists k with there)
 
-pub not_in_tree : (tree : List Layer) (id : LayerId) (k : ℕ) (with : Layer) → IsDistinct tree → place_of tree id ≡ None → slice_get tree k ≡ Some with → (id.0 == with.number.0) ≡ false
+pub not_in_tree : (tree : List Layer) (id : LayerId) (k : ℕ) (with : Layer) → IsDistinct tree → index_of tree id ≡ None → slice_get tree k ≡ Some with → (id.0 == with.number.0) ≡ false
 not_in_tree tree id k with distinct none at = other_number tree id k with distinct at (λ f. let both : None ≡ Some k = sym none ∙ f in cc)
 
 -- nothing was drawn with any layer yet

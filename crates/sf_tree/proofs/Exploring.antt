@@ -1,20 +1,20 @@
 -- The two steps from a layer that a search has reached.
 use Rattle.std.proofs.Common.{◌≡◌, ℕ, zero, suc, ◌+◌, ◌<◌, ◌≤◌, Bool, true, false, List, [], ◌∷◌, ◌++◌, length, get_or, Option, Some, None, refl, ap, ◌∙◌, sym, subst, arith, inl, inr, ◌⊎◌, append-nil, append_assoc, add-one}
 use Rattle.std.specs.List.{AllByRecursion, Contains, list_any, slice_get}
-use Rattle.std.specs.Prelude.{◌==◌, ◌||◌, eqb, IfSome, IsSomeAnd, option_to_list}
-use Rattle.std.proofs.lemmas.Bool.{eqb-true, eq-eqb, cases_lt}
+use Rattle.std.specs.Prelude.{◌==◌, ◌||◌, IfSome, IsSomeAnd, option_to_list}
+use Rattle.std.proofs.lemmas.Bool.{eq-eqb, cases_lt}
 use Rattle.std.proofs.Math.ListN.{get_or-append}
 use Rattle.std.proofs.lemmas.List.Elements.{Contains-append_left}
 use Rattle.sf_base.specs.declared.ids.LayerId.{LayerId}
 use Rattle.sf_layer.specs.declared.layer.Layer.{Layer}
 use Rattle.sf_tree.specs.declared.cycles.Along.{Along}
 use Rattle.sf_tree.specs.declared.cycles.Along.TheVariants as along
-use Rattle.sf_tree.specs.Layers.{layer_of, place_of}
+use Rattle.sf_tree.specs.Layers.{layer_of, index_of}
 use Rattle.sf_tree.specs.Steps.{steps_of, reaches, to_parent}
-use Rattle.sf_tree.specs.Search.{GoesOn, Grows, IsExplored, IsFollowed, IsReached, IsSearch, relative_along, steps_along}
+use Rattle.sf_tree.specs.Search.{Grows, IsExplored, IsFollowed, IsReached, IsSearch, relative_along, steps_along}
 use Rattle.sf_tree.proofs.Lookups.{layer_of-place}
 use Rattle.sf_tree.proofs.Searching.{mark_count-le}
-use Rattle.sf_tree.proofs.Reaching.{reaches-le, reaches-step, reaches-more}
+use Rattle.sf_tree.proofs.Reaching.{reaches-step, reaches-more}
 
 steps_along-two : (a : Along) (layer : Layer) → steps_along a layer ≡ to_parent layer.parent ++ option_to_list (relative_along a layer)
 steps_along-two along.Parents layer = sym (append-nil (to_parent layer.parent))
@@ -24,7 +24,7 @@ steps_along-two along.All layer = refl
 pub record HasSteps (a : Along) (tree : List Layer) (from : LayerId) (one two : Option LayerId) : Type 0 where
   pub are : steps_of (steps_along a) (layer_of tree from) ≡ option_to_list one ++ option_to_list two
 
-pub HasSteps-place : (a : Along) (tree : List Layer) (from : LayerId) (place : ℕ) (layer : Layer) (one two : Option LayerId) → Some place ≡ place_of tree from → slice_get tree place ≡ Some layer → option_to_list one ≡ to_parent layer.parent → two ≡ relative_along a layer → HasSteps a tree from one two
+pub HasSteps-place : (a : Along) (tree : List Layer) (from : LayerId) (place : ℕ) (layer : Layer) (one two : Option LayerId) → Some place ≡ index_of tree from → slice_get tree place ≡ Some layer → option_to_list one ≡ to_parent layer.parent → two ≡ relative_along a layer → HasSteps a tree from one two
 HasSteps-place a tree from place layer one two e at p r = record {
   are = rw (layer_of-place tree from place (sym e), at, p, r) (steps_along-two a layer);
 }
@@ -68,7 +68,7 @@ pub IsFollowed-grows : (tree : List Layer) (first : LayerId) (old new : List Lay
 IsFollowed-grows tree first old new None g h = tt
 IsFollowed-grows tree first old new (Some id) g h = record { other = h.other; noted = by_noted h.noted }
   where
-    by_noted : (place_of tree id ≡ None) ⊎ Contains old id → (place_of tree id ≡ None) ⊎ Contains new id
+    by_noted : (index_of tree id ≡ None) ⊎ Contains old id → (index_of tree id ≡ None) ⊎ Contains new id
     by_noted (inl e) = inl e
     by_noted (inr at) = inr (rw g.1 (Contains-append_left old g.0 id at))
 

@@ -31,8 +31,8 @@ CanGoBack-noted changes next undo None layers first none is one can same =
 CanGoBack-noted changes next undo (Some before) layers first none is one can same = cc
 
 -- one more operation was done
-pub after_from-step : (i : ℕ) (operations : List (LayerId × Op)) (d : LayerId × Op) (xs next : List Layer) → i < length operations → changed xs (get_or operations i d).0 (get_or operations i d).1 ≡ Ok next → after_from (i + 1 + 1) next (drop (i + 1) operations) ≡ after_from (i + 1) xs (drop i operations)
-after_from-step i operations d xs next h e =
+pub after_from-step : (most i : ℕ) (operations : List (LayerId × Op)) (d : LayerId × Op) (xs next : List Layer) → i < length operations → changed most xs (get_or operations i d).0 (get_or operations i d).1 ≡ Ok next → after_from most (i + 1 + 1) next (drop (i + 1) operations) ≡ after_from most (i + 1) xs (drop i operations)
+after_from-step most i operations d xs next h e =
     let one : i + 1 ≡ suc i = omega arith in
-    let whole : after_from (i + 1) xs (drop i operations) ≡ after_from (i + 1 + 1) next (drop (suc i) operations) = rw (drop-cons operations i d h, e) refl in
-    subst (λ (k : ℕ). after_from (i + 1 + 1) next (drop k operations) ≡ after_from (i + 1) xs (drop i operations)) (sym one) (sym whole)
+    let whole : after_from most (i + 1) xs (drop i operations) ≡ after_from most (i + 1 + 1) next (drop (suc i) operations) = rw (drop-cons operations i d h, e) refl in
+    subst (λ (k : ℕ). after_from most (i + 1 + 1) next (drop k operations) ≡ after_from most (i + 1) xs (drop i operations)) (sym one) (sym whole)

@@ -1,42 +1,43 @@
 -- What every tree keeps, operation by operation.
-use Rattle.std.proofs.Common.{◌≡◌, ℕ, zero, suc, ◌+◌, ◌<◌, ◌≤◌, ◌≢◌, Bool, true, false, not, cond, ◌&&◌, List, [], ◌∷◌, ◌++◌, length, get_or, map, Option, Some, None, is_some, Result, Ok, Err, refl, ap, ◌∙◌, sym, subst, arith, inl, inr, ◌⊎◌, length-append, length-set, ℤ, pos, rules}
-use Rattle.std.specs.List.{All, AllPairs, filter, find, position, position_or_len, slice_get, slice_set, list_any}
-use Rattle.std.specs.Prelude.{◌==◌, ◌||◌, eqb, nat_le, nat_lt, if◌then◌else◌, IfSome, option_to_list}
+use Rattle.std.proofs.Common.{◌≡◌, ℕ, ◌+◌, ◌<◌, ◌≤◌, ◌≢◌, Bool, true, false, not, cond, List, [], ◌∷◌, ◌++◌, length, get_or, map, Option, Some, None, is_some, refl, ap, ◌∙◌, sym, subst, arith, inl, inr, ◌⊎◌, length-append, length-set, pos, rules}
+use Rattle.std.specs.List.{All, AllPairs, filter, find, slice_get, slice_set}
+use Rattle.std.specs.Prelude.{◌==◌, eqb, if◌then◌else◌, IfSome}
 use Rattle.std.proofs.lemmas.Bool.{eqb-true, eq-eqb, lt-ltb}
 use Rattle.std.proofs.lemmas.List.{length-map, get_or-map, get_or-set_same, get_or-set_other}
-use Rattle.std.proofs.lemmas.List.Elements.{All-filter, All-map, All-push, All-set, All-weaker}
+use Rattle.std.proofs.lemmas.List.Elements.{All-filter, All-map, All-push, All-set}
 use Rattle.std.proofs.lemmas.List.Folds.{position_or_len-set}
 use Rattle.std.proofs.lemmas.List.Kept.{AllPairs-filter}
 use Rattle.std.proofs.lemmas.List.Quantifiers.{position-Some}
-use Rattle.std.proofs.lemmas.List.Recursion.{found_set_other}
 use Rattle.std.proofs.lemmas.List.Sums.{length-filter, count_by-le-length, position_or_len_is}
 use Rattle.std.proofs.lemmas.Option.{get_or_from_slice_get, slice_get-get_or}
 use Rattle.sf_base.specs.declared.ids.LayerId.{LayerId}
-use Rattle.sf_layer.specs.Ranges.{IsInRange, IsOperation, IsCoordinate}
+use Rattle.sf_layer.specs.Ranges.{IsInRange, IsCoordinate}
 use Rattle.sf_layer.specs.declared.kind.Kind.{Kind}
+use Rattle.sf_layer.specs.declared.kind.Kind.TheVariants as kind
 use Rattle.sf_layer.specs.declared.layer.Layer.{Layer}
 use Rattle.sf_layer.specs.declared.op.Op.{Op}
 use Rattle.sf_layer.specs.declared.op.Op.TheVariants as op
 use Rattle.sf_layer.specs.declared.parent.Parent.{Parent}
 use Rattle.sf_layer.specs.declared.parent.Parent.TheVariants as parent
-use Rattle.sf_tree.specs.declared.cause.TheConstants.{MOST_LAYERS}
-use Rattle.sf_tree.specs.Changes.{new_layer, with_layer, without, without_steps_to, parent_without, relative_without, edited}
-use Rattle.sf_tree.specs.Kept.{HasNoCycle, IsDistinct, IsLayerInRange, IsRanked, IsTied, IsTree}
+use Rattle.sf_tree.specs.Changes.{new_layer, without, without_steps_to, parent_without, relative_without, edited, fits_kind}
+use Rattle.sf_tree.specs.Kept.{HasNoCycle, IsDistinct, IsLayerInRange, IsOfKind, IsRanked, IsTied, IsTree}
 use Rattle.sf_tree.specs.Known.{IsBounded}
-use Rattle.sf_tree.specs.Layers.{is_numbered, layer_of, place_of, has_layer, has_parent}
+use Rattle.sf_tree.specs.Layers.{is_numbered, layer_of, index_of, has_layer, has_parent}
 use Rattle.sf_tree.proofs.Edits.{edited_number}
-use Rattle.sf_tree.proofs.Lookups.{has_layer-place, layer_of-place, place_of-absent}
-use Rattle.sf_tree.proofs.Places.{IsDistinct-push, place_of_inside, place_of_push}
-use Rattle.sf_tree.proofs.Ranks.{All-layer_of, layer_of-number, bounded_rank, is_there}
+use Rattle.sf_tree.proofs.Lookups.{has_layer-place, layer_of-place, index_of-absent}
+use Rattle.sf_tree.proofs.Places.{IsDistinct-push, index_of_push}
+use Rattle.sf_tree.proofs.Ranks.{bounded_rank}
 
-pub IsTree_nil : IsTree []
-IsTree_nil = record {
+pub IsTree_nil : (most : ℕ) → most ≤ 9216 → IsTree most []
+IsTree_nil most limit = record {
+  limit = limit;
   few = omega arith;
   numbered = λ k d h. absurd (omega arith);
   distinct = λ k d h. absurd (omega arith);
   tied = λ k d h. absurd (omega arith);
   no_cycle = record { rank = λ n. 0; ranked = λ k d h. absurd (omega arith) };
   in_range = λ k d h. absurd (omega arith);
+  of_kind = λ k d h. absurd (omega arith);
 }
 
 -- each layer is found by its number
@@ -57,13 +58,13 @@ IsTied-stays old new layer stays t = record { parent = by_parent layer.parent t.
     by_relative (Some id) h = stays id h
 
 -- a layer was added: the others are still there
-has_layer-push : (xs : List Layer) (y : Layer) → place_of xs y.number ≡ None → (id : LayerId) → has_layer xs id ≡ true → has_layer (xs ++ y ∷ []) id ≡ true
-has_layer-push xs y new id h = has_layer-place (xs ++ y ∷ []) id ∙ (rw (place_of_push xs y new id) (by_test (eqb y.number.0 id.0)))
+has_layer-push : (xs : List Layer) (y : Layer) → index_of xs y.number ≡ None → (id : LayerId) → has_layer xs id ≡ true → has_layer (xs ++ y ∷ []) id ≡ true
+has_layer-push xs y new id h = has_layer-place (xs ++ y ∷ []) id ∙ (rw (index_of_push xs y new id) (by_test (eqb y.number.0 id.0)))
   where
-    was : is_some (place_of xs id) ≡ true
+    was : is_some (index_of xs id) ≡ true
     was = sym (has_layer-place xs id) ∙ h
 
-    by_test : (b : Bool) → is_some (cond b (Some (length xs)) (place_of xs id)) ≡ true
+    by_test : (b : Bool) → is_some (cond b (Some (length xs)) (index_of xs id)) ≡ true
     by_test true = refl
     by_test false = was
 
@@ -78,21 +79,23 @@ other_than_new xs id new h out = by_test (eqb id.0 new.0) refl
         let clash : true ≡ false = sym there ∙ out in cc
 
 -- `create`
-pub IsTree-created : (xs : List Layer) (id : LayerId) (kind : Kind) (p : Parent) → IsTree xs → length xs < MOST_LAYERS → 0 < id.0 → has_layer xs id ≡ false → has_parent xs p ≡ true → IsTree (xs ++ new_layer id kind p ∷ [])
-IsTree-created xs id kind p t room one out there = record {
+pub IsTree-created : (most : ℕ) (xs : List Layer) (id : LayerId) (kind : Kind) (p : Parent) → IsTree most xs → length xs < most → 0 < id.0 → has_layer xs id ≡ false → has_parent xs p ≡ true → IsTree most (xs ++ new_layer id kind p ∷ [])
+IsTree-created most xs id kind p t room one out there = record {
+  limit = t.limit;
   few = rw (length-append xs (y ∷ [])) (omega arith);
   numbered = All-push (λ layer. 0 < layer.number.0) xs y t.numbered one;
   distinct = IsDistinct-push xs y t.distinct new;
   tied = All-push (IsTied (xs ++ y ∷ [])) xs y (λ k d h. IsTied-stays xs (xs ++ y ∷ []) (get_or xs k d) (has_layer-push xs y new) (t.tied k d h)) (IsTied-stays xs (xs ++ y ∷ []) y (has_layer-push xs y new) (record { parent = there; relative = tt }));
   no_cycle = record { rank = up; ranked = All-push (IsRanked up) xs y olds (record { parent = λ s e. above s (rw e at there); relative = λ s e. cc }) };
-  in_range = All-push IsLayerInRange xs y t.in_range (record { x = origin; y = origin; crop = tt; shown = tt });
+  in_range = All-push IsLayerInRange xs y t.in_range (record { x = origin; y = origin; crop = tt; shown = tt; orient = omega arith });
+  of_kind = All-push IsOfKind xs y t.of_kind (record { colour = λ h. refl; shown = λ h. refl });
 }
   where
     y : Layer
     y = new_layer id kind p
 
-    new : place_of xs id ≡ None
-    new = place_of-absent xs id out
+    new : index_of xs id ≡ None
+    new = index_of-absent xs id out
 
     origin : IsCoordinate (pos 0)
     origin = record { low = search rules; high = search rules }
@@ -122,25 +125,27 @@ IsTree-created xs id kind p t room one out there = record {
         lower s there less = rw (at_old s there, at_old (get_or xs k d).number itself) less
 
 -- a layer got another state in place
-pub place_of-set : (xs : List Layer) (place : ℕ) (layer y : Layer) → slice_get xs place ≡ Some layer → y.number ≡ layer.number → (id : LayerId) → place_of (slice_set xs place y) id ≡ place_of xs id
-place_of-set xs place layer y at number id =
+pub index_of-set : (xs : List Layer) (place : ℕ) (layer y : Layer) → slice_get xs place ≡ Some layer → y.number ≡ layer.number → (id : LayerId) → index_of (slice_set xs place y) id ≡ index_of xs id
+index_of-set xs place layer y at number id =
     rw (position_or_len-set (is_numbered id) xs place y layer (ap (λ (n : LayerId). n.0 == id.0) number ∙ ap (is_numbered id) (sym (get_or_from_slice_get xs place layer layer at))), length-set xs place y) refl
 
-pub IsTree-set : (xs : List Layer) (place : ℕ) (layer y : Layer) → IsTree xs → place < length xs → slice_get xs place ≡ Some layer → y.number ≡ layer.number → IsTied xs y → IsLayerInRange y → HasNoCycle (slice_set xs place y) → IsTree (slice_set xs place y)
-IsTree-set xs place layer y t inside at number tied range no_cycle = record {
+pub IsTree-set : (most : ℕ) (xs : List Layer) (place : ℕ) (layer y : Layer) → IsTree most xs → place < length xs → slice_get xs place ≡ Some layer → y.number ≡ layer.number → IsTied xs y → IsLayerInRange y → IsOfKind y → HasNoCycle (slice_set xs place y) → IsTree most (slice_set xs place y)
+IsTree-set most xs place layer y t inside at number tied range of_kind no_cycle = record {
+  limit = t.limit;
   few = rw (length-set xs place y) t.few;
   numbered = All-set (λ layer. 0 < layer.number.0) xs place y (rw number (rw (get_or_from_slice_get xs place layer layer at) at (t.numbered place layer inside))) t.numbered;
   distinct = distinct;
   tied = All-set (IsTied next) xs place y (IsTied-stays xs next y stays tied) (λ k d h. IsTied-stays xs next (get_or xs k d) stays (t.tied k d h));
   no_cycle = no_cycle;
   in_range = All-set IsLayerInRange xs place y range t.in_range;
+  of_kind = All-set IsOfKind xs place y of_kind t.of_kind;
 }
   where
     next : List Layer
     next = slice_set xs place y
 
-    same : (id : LayerId) → place_of next id ≡ place_of xs id
-    same = place_of-set xs place layer y at number
+    same : (id : LayerId) → index_of next id ≡ index_of xs id
+    same = index_of-set xs place layer y at number
 
     stays : (id : LayerId) → has_layer xs id ≡ true → has_layer next id ≡ true
     stays id h = has_layer-place next id ∙ (ap is_some (same id) ∙ (sym (has_layer-place xs id) ∙ h))
@@ -151,12 +156,12 @@ IsTree-set xs place layer y t inside at number tied range no_cycle = record {
         low : k < length xs
         low = rw (length-set xs place y) at h
 
-        by_place : (b : Bool) → eqb k place ≡ b → place_of next (get_or next k d).number ≡ Some k
+        by_place : (b : Bool) → eqb k place ≡ b → index_of next (get_or next k d).number ≡ Some k
         by_place true e =
             let at_place : k ≡ place = eqb-true k place e in
             let number_there : (get_or next place d).number ≡ layer.number = ap (λ (l : Layer). l.number) (get_or-set_same xs place y d inside) ∙ number in
-            let first : place_of xs layer.number ≡ Some place = rw (get_or_from_slice_get xs place layer layer at) at (t.distinct place layer inside) in
-            subst (λ (j : ℕ). place_of next (get_or next j d).number ≡ Some j) (sym at_place) (ap (λ (n : LayerId). place_of next n) number_there ∙ (same layer.number ∙ first))
+            let first : index_of xs layer.number ≡ Some place = rw (get_or_from_slice_get xs place layer layer at) at (t.distinct place layer inside) in
+            subst (λ (j : ℕ). index_of next (get_or next j d).number ≡ Some j) (sym at_place) (ap (λ (n : LayerId). index_of next n) number_there ∙ (same layer.number ∙ first))
         by_place false e =
             let apart : k ≢ place = λ p. let clash : true ≡ false = sym (eq-eqb k place p) ∙ e in cc in
             rw (get_or-set_other xs place k y d apart) (same (get_or xs k d).number ∙ t.distinct k d low)
@@ -228,14 +233,16 @@ IsRanked-without rank id layer r = record { parent = λ s e. by_parent layer.par
         by_test false h = r.relative s (e ∙ h)
 
 -- `destroy`
-pub IsTree-destroyed : (xs : List Layer) (id : LayerId) → IsTree xs → IsTree (without id xs)
-IsTree-destroyed xs id t = record {
+pub IsTree-destroyed : (most : ℕ) (xs : List Layer) (id : LayerId) → IsTree most xs → IsTree most (without id xs)
+IsTree-destroyed most xs id t = record {
+  limit = t.limit;
   few = rw (length-map kept (without_steps_to id), length-filter stays xs) (omega (arith, count_by-le-length stays xs, t.few));
   numbered = All-map (λ layer. 0 < layer.number.0) (without_steps_to id) kept (All-filter stays (λ layer. 0 < layer.number.0) xs t.numbered);
   distinct = distinct_from_pairs (without id xs) (pairs-without id kept (AllPairs-filter (λ (a b : Layer). (a.number.0 == b.number.0) ≡ false) stays xs (pairs_from_distinct xs t.distinct)));
   tied = All-map (IsTied (without id xs)) (without_steps_to id) kept (All-filter stays (λ layer. IsTied (without id xs) (without_steps_to id layer)) xs (λ k d h. IsTied-without xs id (get_or xs k d) (t.tied k d h)));
   no_cycle = record { rank = t.no_cycle.rank; ranked = All-map (IsRanked t.no_cycle.rank) (without_steps_to id) kept (All-filter stays (λ layer. IsRanked t.no_cycle.rank (without_steps_to id layer)) xs (λ k d h. IsRanked-without t.no_cycle.rank id (get_or xs k d) (t.no_cycle.ranked k d h))) };
-  in_range = All-map IsLayerInRange (without_steps_to id) kept (All-filter stays (λ layer. IsLayerInRange (without_steps_to id layer)) xs (λ k d h. let r = t.in_range k d h in record { x = r.x; y = r.y; crop = r.crop; shown = r.shown }));
+  in_range = All-map IsLayerInRange (without_steps_to id) kept (All-filter stays (λ layer. IsLayerInRange (without_steps_to id layer)) xs (λ k d h. let r = t.in_range k d h in record { x = r.x; y = r.y; crop = r.crop; shown = r.shown; orient = r.orient }));
+  of_kind = All-map IsOfKind (without_steps_to id) kept (All-filter stays (λ layer. IsOfKind (without_steps_to id layer)) xs (λ k d h. let r = t.of_kind k d h in record { colour = r.colour; shown = r.shown }));
 }
   where
     stays : Layer → Bool
@@ -259,6 +266,7 @@ edited-kept (op.Opaque _) layer = refl
 edited-kept (op.Colour _) layer = refl
 edited-kept (op.Backpressure _) layer = refl
 edited-kept (op.Show _) layer = refl
+edited-kept (op.Orient _) layer = refl
 
 edited-relative : (operation : Op) (layer : Layer) → ((edited operation layer).relative ≡ layer.relative) ⊎ ((edited operation layer).relative ≡ None)
 edited-relative (op.Create _ _) layer = inl refl
@@ -274,26 +282,55 @@ edited-relative (op.Opaque _) layer = inl refl
 edited-relative (op.Colour _) layer = inl refl
 edited-relative (op.Backpressure _) layer = inl refl
 edited-relative (op.Show _) layer = inl refl
+edited-relative (op.Orient _) layer = inl refl
 
 edited-in_range : (operation : Op) (layer : Layer) → IsInRange operation → IsLayerInRange layer → IsLayerInRange (edited operation layer)
 edited-in_range (op.Create _ _) layer o r = r
 edited-in_range op.Destroy layer o r = r
 edited-in_range (op.Reparent _) layer o r = r
-edited-in_range (op.Z _) layer o r = record { x = r.x; y = r.y; crop = r.crop; shown = r.shown }
+edited-in_range (op.Z _) layer o r = record { x = r.x; y = r.y; crop = r.crop; shown = r.shown; orient = r.orient }
 edited-in_range (op.Relative _ _) layer o r = r
-edited-in_range (op.Position _ _) layer o r = record { x = o.0; y = o.1; crop = r.crop; shown = r.shown }
-edited-in_range (op.Crop None) layer o r = record { x = r.x; y = r.y; crop = tt; shown = r.shown }
-edited-in_range (op.Crop (Some _)) layer o r = record { x = r.x; y = r.y; crop = o; shown = r.shown }
-edited-in_range (op.Alpha _) layer o r = record { x = r.x; y = r.y; crop = r.crop; shown = r.shown }
-edited-in_range (op.Hidden _) layer o r = record { x = r.x; y = r.y; crop = r.crop; shown = r.shown }
-edited-in_range (op.Opaque _) layer o r = record { x = r.x; y = r.y; crop = r.crop; shown = r.shown }
-edited-in_range (op.Colour _) layer o r = record { x = r.x; y = r.y; crop = r.crop; shown = r.shown }
-edited-in_range (op.Backpressure _) layer o r = record { x = r.x; y = r.y; crop = r.crop; shown = r.shown }
-edited-in_range (op.Show _) layer o r = record { x = r.x; y = r.y; crop = r.crop; shown = o }
+edited-in_range (op.Position _ _) layer o r = record { x = o.0; y = o.1; crop = r.crop; shown = r.shown; orient = r.orient }
+edited-in_range (op.Crop None) layer o r = record { x = r.x; y = r.y; crop = tt; shown = r.shown; orient = r.orient }
+edited-in_range (op.Crop (Some _)) layer o r = record { x = r.x; y = r.y; crop = o; shown = r.shown; orient = r.orient }
+edited-in_range (op.Alpha _) layer o r = record { x = r.x; y = r.y; crop = r.crop; shown = r.shown; orient = r.orient }
+edited-in_range (op.Hidden _) layer o r = record { x = r.x; y = r.y; crop = r.crop; shown = r.shown; orient = r.orient }
+edited-in_range (op.Opaque _) layer o r = record { x = r.x; y = r.y; crop = r.crop; shown = r.shown; orient = r.orient }
+edited-in_range (op.Colour _) layer o r = record { x = r.x; y = r.y; crop = r.crop; shown = r.shown; orient = r.orient }
+edited-in_range (op.Backpressure _) layer o r = record { x = r.x; y = r.y; crop = r.crop; shown = r.shown; orient = r.orient }
+edited-in_range (op.Show _) layer o r = record { x = r.x; y = r.y; crop = r.crop; shown = o; orient = r.orient }
+edited-in_range (op.Orient _) layer o r = record { x = r.x; y = r.y; crop = r.crop; shown = r.shown; orient = o }
 
-pub IsTree-edited : (xs : List Layer) (place : ℕ) (layer : Layer) (operation : Op) → IsTree xs → place < length xs → slice_get xs place ≡ Some layer → IsInRange operation → IsTree (slice_set xs place (edited operation layer))
-IsTree-edited xs place layer operation t inside at o =
-    IsTree-set xs place layer (edited operation layer) t inside at (edited_number operation layer) tied (edited-in_range operation layer o (at_layer IsLayerInRange t.in_range))
+-- an edit that fits the kind of its layer
+edited-of_kind : (operation : Op) (layer : Layer) → fits_kind operation layer.kind ≡ true → IsOfKind layer → IsOfKind (edited operation layer)
+edited-of_kind (op.Create _ _) layer fits r = r
+edited-of_kind op.Destroy layer fits r = r
+edited-of_kind (op.Reparent _) layer fits r = r
+edited-of_kind (op.Z _) layer fits r = record { colour = r.colour; shown = r.shown }
+edited-of_kind (op.Relative _ _) layer fits r = r
+edited-of_kind (op.Position _ _) layer fits r = record { colour = r.colour; shown = r.shown }
+edited-of_kind (op.Crop _) layer fits r = record { colour = r.colour; shown = r.shown }
+edited-of_kind (op.Alpha _) layer fits r = record { colour = r.colour; shown = r.shown }
+edited-of_kind (op.Hidden _) layer fits r = record { colour = r.colour; shown = r.shown }
+edited-of_kind (op.Opaque _) layer fits r = record { colour = r.colour; shown = r.shown }
+edited-of_kind (op.Colour colour) layer fits r = record { colour = λ other. absurd (other (is_colour layer.kind fits)); shown = r.shown }
+  where
+    is_colour : (k : Kind) → fits_kind (op.Colour colour) k ≡ true → k ≡ kind.Colour
+    is_colour kind.Container h = cc
+    is_colour kind.Colour h = refl
+    is_colour kind.Buffer h = cc
+edited-of_kind (op.Backpressure _) layer fits r = record { colour = r.colour; shown = r.shown }
+edited-of_kind (op.Show shown) layer fits r = record { colour = r.colour; shown = λ other. absurd (other (is_buffer layer.kind fits)) }
+  where
+    is_buffer : (k : Kind) → fits_kind (op.Show shown) k ≡ true → k ≡ kind.Buffer
+    is_buffer kind.Container h = cc
+    is_buffer kind.Colour h = cc
+    is_buffer kind.Buffer h = refl
+edited-of_kind (op.Orient _) layer fits r = record { colour = r.colour; shown = r.shown }
+
+pub IsTree-edited : (most : ℕ) (xs : List Layer) (place : ℕ) (layer : Layer) (operation : Op) → IsTree most xs → place < length xs → slice_get xs place ≡ Some layer → IsInRange operation → fits_kind operation layer.kind ≡ true → IsTree most (slice_set xs place (edited operation layer))
+IsTree-edited most xs place layer operation t inside at o fits =
+    IsTree-set most xs place layer (edited operation layer) t inside at (edited_number operation layer) tied (edited-in_range operation layer o (at_layer IsLayerInRange t.in_range)) (edited-of_kind operation layer fits (at_layer IsOfKind t.of_kind))
     (record { rank = t.no_cycle.rank; ranked = All-set (IsRanked t.no_cycle.rank) xs place (edited operation layer) ranked t.no_cycle.ranked })
   where
     at_layer : (P : Layer → Type 0) → All P xs → P layer

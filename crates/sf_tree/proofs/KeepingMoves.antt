@@ -1,7 +1,7 @@
 -- What every tree keeps where a layer hangs or is drawn elsewhere.
-use Rattle.std.proofs.Common.{◌≡◌, ℕ, zero, suc, ◌+◌, ◌<◌, ◌≤◌, Bool, true, false, cond, List, [], ◌∷◌, ◌++◌, length, get_or, Option, Some, None, is_some, refl, ap, ◌∙◌, sym, subst, arith, inl, inr, ◌⊎◌, length-set, ℤ}
-use Rattle.std.specs.List.{All, find, list_any, slice_get, slice_set}
-use Rattle.std.specs.Prelude.{◌==◌, ◌||◌, eqb, IfSome, option_to_list}
+use Rattle.std.proofs.Common.{◌≡◌, ℕ, ◌<◌, Bool, true, false, List, length, Some, None, refl, ap, ◌∙◌, sym, subst, arith, inl, inr, length-set, ℤ}
+use Rattle.std.specs.List.{All, find, slice_get, slice_set}
+use Rattle.std.specs.Prelude.{◌==◌, eqb}
 use Rattle.std.proofs.lemmas.Bool.{eqb-true, eq-eqb}
 use Rattle.std.proofs.lemmas.List.{get_or-set_same}
 use Rattle.std.proofs.lemmas.List.Elements.{All-set}
@@ -11,14 +11,14 @@ use Rattle.sf_base.specs.declared.ids.LayerId.{LayerId}
 use Rattle.sf_layer.specs.declared.layer.Layer.{Layer}
 use Rattle.sf_layer.specs.declared.parent.Parent.{Parent}
 use Rattle.sf_layer.specs.declared.parent.Parent.TheVariants as parent
-use Rattle.sf_tree.specs.Kept.{HasNoCycle, IsLayerInRange, IsRanked, IsTied, IsTree}
+use Rattle.sf_tree.specs.Kept.{IsLayerInRange, IsOfKind, IsRanked, IsTied, IsTree}
 use Rattle.sf_tree.specs.Known.{IsBounded}
-use Rattle.sf_tree.specs.Layers.{is_numbered, layer_of, place_of, has_layer, has_parent}
-use Rattle.sf_tree.specs.Steps.{all_steps, reaches, reaches_itself, to_parent}
-use Rattle.sf_tree.proofs.Keeping.{IsTree-set, found_itself, place_of-set}
+use Rattle.sf_tree.specs.Layers.{is_numbered, layer_of, index_of, has_layer, has_parent}
+use Rattle.sf_tree.specs.Steps.{all_steps, reaches_itself, to_parent}
+use Rattle.sf_tree.proofs.Keeping.{IsTree-set, found_itself, index_of-set}
 use Rattle.sf_tree.proofs.Lookups.{is_numbered-place, layer_of-place}
 use Rattle.sf_tree.proofs.Moving.{HasNoCycle-moved, StepsTo, in_last, not_under}
-use Rattle.sf_tree.proofs.Places.{place_of_inside}
+use Rattle.sf_tree.proofs.Places.{index_of_inside}
 use Rattle.sf_tree.proofs.Ranks.{bounded_rank, is_there}
 
 eqb_flip : (a b : ℕ) → eqb a b ≡ false → eqb b a ≡ false
@@ -29,10 +29,10 @@ eqb_flip a b e = by_test (eqb b a) refl
     by_test true p = let clash : true ≡ false = sym (eq-eqb a b (sym (eqb-true b a p))) ∙ e in cc
 
 -- a layer that steps to another one newly and does not reach itself
-pub IsTree-stepping : (xs : List Layer) (id t : LayerId) (place : ℕ) (layer y : Layer) → IsTree xs → place_of xs id ≡ Some place → slice_get xs place ≡ Some layer → y.number ≡ layer.number → IsTied xs y → IsLayerInRange y → StepsTo layer y t → has_layer xs t ≡ true → reaches_itself all_steps (slice_set xs place y) id ≡ false → IsTree (slice_set xs place y)
+pub IsTree-stepping : (most : ℕ) (xs : List Layer) (id t : LayerId) (place : ℕ) (layer y : Layer) → IsTree most xs → index_of xs id ≡ Some place → slice_get xs place ≡ Some layer → y.number ≡ layer.number → IsTied xs y → IsLayerInRange y → IsOfKind y → StepsTo layer y t → has_layer xs t ≡ true → reaches_itself all_steps (slice_set xs place y) id ≡ false → IsTree most (slice_set xs place y)
 unfolding reaches_itself
-IsTree-stepping xs id t place layer y tree e at number tied range steps there clear =
-    IsTree-set xs place layer y tree inside at number tied range
+IsTree-stepping most xs id t place layer y tree e at number tied range of_kind steps there clear =
+    IsTree-set most xs place layer y tree inside at number tied range of_kind
     (HasNoCycle-moved xs low.0 id t place layer y (found_itself xs tree.distinct) low.1 (layer_of-place xs id place e ∙ at) number steps
     (not_under xs next low.0 id t y (length-set xs place y) (omega (arith, inside)) (low.1.bounded t target.0 target.1) here steps.there elsewhere clear))
   where
@@ -40,7 +40,7 @@ IsTree-stepping xs id t place layer y tree e at number tied range steps there cl
     next = slice_set xs place y
 
     inside : place < length xs
-    inside = place_of_inside xs id place e
+    inside = index_of_inside xs id place e
 
     low : (rank : ℕ → ℕ) × IsBounded xs rank
     low = bounded_rank xs tree.tied tree.no_cycle
@@ -49,7 +49,7 @@ IsTree-stepping xs id t place layer y tree e at number tied range steps there cl
     target = is_there xs t there
 
     here : layer_of next id ≡ Some y
-    here = layer_of-place next id place (place_of-set xs place layer y at number id ∙ e) ∙ (slice_get-get_or next place y (rw (length-set xs place y) inside) ∙ ap Some (get_or-set_same xs place y y inside))
+    here = layer_of-place next id place (index_of-set xs place layer y at number id ∙ e) ∙ (slice_get-get_or next place y (rw (length-set xs place y) inside) ∙ ap Some (get_or-set_same xs place y y inside))
 
     is_id : is_numbered id layer ≡ true
     is_id = is_numbered-place xs id place layer e at
@@ -63,11 +63,11 @@ IsTree-stepping xs id t place layer y tree e at number tied range steps there cl
 at_place : (P : Layer → Type 0) (xs : List Layer) (place : ℕ) (layer : Layer) → All P xs → place < length xs → slice_get xs place ≡ Some layer → P layer
 at_place P xs place layer all inside at = subst P (get_or_from_slice_get xs place layer layer at) (all place layer inside)
 
-pub IsTree-reparented : (xs : List Layer) (id : LayerId) (p : Parent) (place : ℕ) (layer : Layer) → IsTree xs → place_of xs id ≡ Some place → slice_get xs place ≡ Some layer → has_parent xs p ≡ true → reaches_itself all_steps (slice_set xs place (record layer { parent = p })) id ≡ false → IsTree (slice_set xs place (record layer { parent = p }))
-IsTree-reparented xs id p place layer tree e at there clear = by_parent p refl
+pub IsTree-reparented : (most : ℕ) (xs : List Layer) (id : LayerId) (p : Parent) (place : ℕ) (layer : Layer) → IsTree most xs → index_of xs id ≡ Some place → slice_get xs place ≡ Some layer → has_parent xs p ≡ true → reaches_itself all_steps (slice_set xs place (record layer { parent = p })) id ≡ false → IsTree most (slice_set xs place (record layer { parent = p }))
+IsTree-reparented most xs id p place layer tree e at there clear = by_parent p refl
   where
     inside : place < length xs
-    inside = place_of_inside xs id place e
+    inside = index_of_inside xs id place e
 
     y : Layer
     y = record layer { parent = p }
@@ -76,19 +76,22 @@ IsTree-reparented xs id p place layer tree e at there clear = by_parent p refl
     tied = record { parent = there; relative = (at_place (IsTied xs) xs place layer tree.tied inside at).relative }
 
     range : IsLayerInRange y
-    range = let r = at_place IsLayerInRange xs place layer tree.in_range inside at in record { x = r.x; y = r.y; crop = r.crop; shown = r.shown }
+    range = let r = at_place IsLayerInRange xs place layer tree.in_range inside at in record { x = r.x; y = r.y; crop = r.crop; shown = r.shown; orient = r.orient }
+
+    of_kind : IsOfKind y
+    of_kind = let r = at_place IsOfKind xs place layer tree.of_kind inside at in record { colour = r.colour; shown = r.shown }
 
     ranked : IsRanked tree.no_cycle.rank layer
     ranked = at_place (IsRanked tree.no_cycle.rank) xs place layer tree.no_cycle.ranked inside at
 
-    loose : ((s : LayerId) → p ≡ parent.Layer s → ⊥) → IsTree (slice_set xs place y)
-    loose none = IsTree-set xs place layer y tree inside at refl tied range (record { rank = tree.no_cycle.rank; ranked = All-set (IsRanked tree.no_cycle.rank) xs place y (record { parent = λ s h. absurd (none s h); relative = λ s h. ranked.relative s h }) tree.no_cycle.ranked })
+    loose : ((s : LayerId) → p ≡ parent.Layer s → ⊥) → IsTree most (slice_set xs place y)
+    loose none = IsTree-set most xs place layer y tree inside at refl tied range of_kind (record { rank = tree.no_cycle.rank; ranked = All-set (IsRanked tree.no_cycle.rank) xs place y (record { parent = λ s h. absurd (none s h); relative = λ s h. ranked.relative s h }) tree.no_cycle.ranked })
 
-    by_parent : (q : Parent) → p ≡ q → IsTree (slice_set xs place y)
+    by_parent : (q : Parent) → p ≡ q → IsTree most (slice_set xs place y)
     by_parent parent.Root q = loose (λ s h. cc)
     by_parent parent.Nothing q = loose (λ s h. cc)
     by_parent (parent.Layer t) q =
-        IsTree-stepping xs id t place layer y tree e at refl tied range
+        IsTree-stepping most xs id t place layer y tree e at refl tied range of_kind
         (record {
           parent = λ s h. inr (let same : parent.Layer s ≡ parent.Layer t = sym h ∙ q in cc);
           relative = λ s h. inl h;
@@ -96,11 +99,12 @@ IsTree-reparented xs id p place layer tree e at there clear = by_parent p refl
         })
         (rw q at there) clear
 
-pub IsTree-related : (xs : List Layer) (id t : LayerId) (z : ℤ) (place : ℕ) (layer : Layer) → IsTree xs → place_of xs id ≡ Some place → slice_get xs place ≡ Some layer → has_layer xs t ≡ true → reaches_itself all_steps (slice_set xs place (record layer { relative = Some t; z = z })) id ≡ false → IsTree (slice_set xs place (record layer { relative = Some t; z = z }))
-IsTree-related xs id t z place layer tree e at there clear =
-    IsTree-stepping xs id t place layer y tree e at refl
+pub IsTree-related : (most : ℕ) (xs : List Layer) (id t : LayerId) (z : ℤ) (place : ℕ) (layer : Layer) → IsTree most xs → index_of xs id ≡ Some place → slice_get xs place ≡ Some layer → has_layer xs t ≡ true → reaches_itself all_steps (slice_set xs place (record layer { relative = Some t; z = z })) id ≡ false → IsTree most (slice_set xs place (record layer { relative = Some t; z = z }))
+IsTree-related most xs id t z place layer tree e at there clear =
+    IsTree-stepping most xs id t place layer y tree e at refl
     (record { parent = (at_place (IsTied xs) xs place layer tree.tied inside at).parent; relative = there })
-    (let r = at_place IsLayerInRange xs place layer tree.in_range inside at in record { x = r.x; y = r.y; crop = r.crop; shown = r.shown })
+    (let r = at_place IsLayerInRange xs place layer tree.in_range inside at in record { x = r.x; y = r.y; crop = r.crop; shown = r.shown; orient = r.orient })
+    (let r = at_place IsOfKind xs place layer tree.of_kind inside at in record { colour = r.colour; shown = r.shown })
     (record {
       parent = λ s h. inl h;
       relative = λ s h. inr (let same : Some s ≡ Some t = sym h in cc);
@@ -109,7 +113,7 @@ IsTree-related xs id t z place layer tree e at there clear =
     there clear
   where
     inside : place < length xs
-    inside = place_of_inside xs id place e
+    inside = index_of_inside xs id place e
 
     y : Layer
     y = record layer { relative = Some t; z = z }

@@ -8,6 +8,7 @@ pub mod Exploring
 pub mod Ranks
 pub mod Keeping
 pub mod Moving
+pub mod NoCycles
 pub mod KeepingMoves
 pub mod KeepingAll
 pub mod ShowLemmas

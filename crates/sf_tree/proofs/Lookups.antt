@@ -1,21 +1,19 @@
 -- A layer of a list, by its number and by its place.
-use Rattle.std.proofs.Common.{◌≡◌, ℕ, zero, suc, ◌+◌, ◌-◌, ◌<◌, ◌≤◌, ◌≢◌, Bool, true, false, not, cond, List, [], ◌∷◌, ◌++◌, length, get_or, take, map, Option, Some, None, is_some, refl, ap, ◌∙◌, sym, subst, arith, length-append, length-take, inl, inr, ◌⊎◌}
-use Rattle.std.specs.List.{All, find, position, position_or_len, filter, slice_get, slice_set}
-use Rattle.std.specs.Prelude.{nat_lt, ◌==◌, eqb, if◌then◌else◌}
+use Rattle.std.proofs.Common.{◌≡◌, ℕ, zero, suc, ◌<◌, ◌≤◌, ◌≢◌, Bool, true, false, not, cond, List, [], ◌∷◌, length, get_or, take, map, Option, Some, None, is_some, refl, ap, ◌∙◌, sym, arith, length-take}
+use Rattle.std.specs.List.{All, slice_get, slice_set}
+use Rattle.std.specs.Prelude.{nat_lt, if◌then◌else◌}
 use Rattle.std.proofs.lemmas.List.{get_or-take}
 use Rattle.std.proofs.lemmas.List.Folds.{find_at}
-use Rattle.std.proofs.lemmas.List.Sums.{prefix_len-le-length, position_or_len_is, fails_before_first}
 use Rattle.std.proofs.lemmas.List.Quantifiers.{position-Some}
-use Rattle.std.proofs.lemmas.List.Elements.{All-take, All-filter, All-map, All-weaker, All-tail, All-head}
+use Rattle.std.proofs.lemmas.List.Elements.{All-filter, All-map}
 use Rattle.std.proofs.lemmas.Option.{slice_get_past, get_or_from_slice_get}
-use Rattle.std.proofs.lemmas.Bool.{eqb-true, eq-eqb, cases_lt}
 use Rattle.std.proofs.lemmas.Grind.{common_steps}
 use Rattle.sf_base.specs.declared.ids.LayerId.{LayerId}
 use Rattle.sf_layer.specs.declared.layer.Layer.{Layer}
 use Rattle.sf_tree.specs.Changes.{with_layer, without, without_steps_to}
 use Rattle.sf_tree.specs.Kept.{IsDistinct}
-use Rattle.sf_tree.specs.Layers.{is_numbered, layer_of, place_of, has_layer}
-use Rattle.sf_tree.proofs.Places.{place_of_same, place_of_inside}
+use Rattle.sf_tree.specs.Layers.{is_numbered, layer_of, index_of, has_layer}
+use Rattle.sf_tree.proofs.Places.{index_of_same, index_of_inside}
 
 some_is : (n l k : ℕ) → cond (nat_lt n l) (Some n) None ≡ Some k → n ≡ k
 some_is n l k h = grind (arith, common_steps)
@@ -24,39 +22,39 @@ none_is : (n l : ℕ) → cond (nat_lt n l) (Some n) None ≡ None → l ≤ n
 none_is n l h = grind (arith, common_steps)
 
 -- the layer of a number stands at its place
-pub layer_of-place : (xs : List Layer) (id : LayerId) (k : ℕ) → place_of xs id ≡ Some k → layer_of xs id ≡ slice_get xs k
+pub layer_of-place : (xs : List Layer) (id : LayerId) (k : ℕ) → index_of xs id ≡ Some k → layer_of xs id ≡ slice_get xs k
 layer_of-place xs id k e = find_at (is_numbered id) xs ∙ ap (slice_get xs) (some_is _ _ k e)
 
-pub layer_of-none : (xs : List Layer) (id : LayerId) → place_of xs id ≡ None → layer_of xs id ≡ None
+pub layer_of-none : (xs : List Layer) (id : LayerId) → index_of xs id ≡ None → layer_of xs id ≡ None
 layer_of-none xs id e = find_at (is_numbered id) xs ∙ slice_get_past xs _ (none_is _ _ e)
 
-pub has_layer-place : (xs : List Layer) (id : LayerId) → has_layer xs id ≡ is_some (place_of xs id)
-has_layer-place xs id = by_place (place_of xs id) refl
+pub has_layer-place : (xs : List Layer) (id : LayerId) → has_layer xs id ≡ is_some (index_of xs id)
+has_layer-place xs id = by_place (index_of xs id) refl
   where
     there : (ys : List Layer) (k : ℕ) → k < length ys → is_some (slice_get ys k) ≡ true
     there [] k h = absurd (omega arith)
     there (y ∷ ys) zero h = refl
     there (y ∷ ys) (suc k) h = there ys k (omega arith)
 
-    by_place : (o : Option ℕ) → place_of xs id ≡ o → has_layer xs id ≡ is_some (place_of xs id)
+    by_place : (o : Option ℕ) → index_of xs id ≡ o → has_layer xs id ≡ is_some (index_of xs id)
     by_place None e = rw (layer_of-none xs id e, e) refl
-    by_place (Some k) e = rw (layer_of-place xs id k e, e) (there xs k (place_of_inside xs id k e))
+    by_place (Some k) e = rw (layer_of-place xs id k e, e) (there xs k (index_of_inside xs id k e))
 
-pub place_of-absent : (xs : List Layer) (id : LayerId) → has_layer xs id ≡ false → place_of xs id ≡ None
-place_of-absent xs id h = by_place (place_of xs id) refl
+pub index_of-absent : (xs : List Layer) (id : LayerId) → has_layer xs id ≡ false → index_of xs id ≡ None
+index_of-absent xs id h = by_place (index_of xs id) refl
   where
-    by_place : (o : Option ℕ) → place_of xs id ≡ o → place_of xs id ≡ None
+    by_place : (o : Option ℕ) → index_of xs id ≡ o → index_of xs id ≡ None
     by_place None e = e
     by_place (Some k) e = let clash : true ≡ false = sym (rw e at (has_layer-place xs id)) ∙ h in cc
 
 -- a layer that has the number is the one that is found
-pub numbered_alone : (xs : List Layer) (id : LayerId) (p k : ℕ) (d : Layer) → IsDistinct xs → place_of xs id ≡ Some p → k < length xs → k ≢ p → is_numbered id (get_or xs k d) ≡ false
+pub numbered_alone : (xs : List Layer) (id : LayerId) (p k : ℕ) (d : Layer) → IsDistinct xs → index_of xs id ≡ Some p → k < length xs → k ≢ p → is_numbered id (get_or xs k d) ≡ false
 numbered_alone xs id p k d distinct e inside other = by_test (is_numbered id (get_or xs k d)) refl
   where
     by_test : (b : Bool) → is_numbered id (get_or xs k d) ≡ b → is_numbered id (get_or xs k d) ≡ false
     by_test false t = t
     by_test true t =
-        let found : Some k ≡ Some p = sym (distinct k d inside) ∙ (place_of_same xs (get_or xs k d).number id t ∙ e) in
+        let found : Some k ≡ Some p = sym (distinct k d inside) ∙ (index_of_same xs (get_or xs k d).number id t ∙ e) in
         let same : k ≡ p = cc in absurd (other same)
 
 map_none : {X : Type 0} (q : X → Bool) (f : X → X) (xs : List X) → ((k : ℕ) (d : X) → k < length xs → q (get_or xs k d) ≡ false) → map (λ x. if q x then f x else x) xs ≡ xs
@@ -71,26 +69,26 @@ map_one q f (y ∷ ys) (suc p) x at passes others =
     rw (others 0 y (omega arith) (omega arith)) (ap (λ zs. y ∷ zs) (map_one q f ys p x at passes (λ k d i other. others (suc k) d (omega arith) (λ same. other (omega arith)))))
 
 -- the layer at the place of a number has the number
-pub is_numbered-place : (xs : List Layer) (id : LayerId) (p : ℕ) (layer : Layer) → place_of xs id ≡ Some p → slice_get xs p ≡ Some layer → is_numbered id layer ≡ true
+pub is_numbered-place : (xs : List Layer) (id : LayerId) (p : ℕ) (layer : Layer) → index_of xs id ≡ Some p → slice_get xs p ≡ Some layer → is_numbered id layer ≡ true
 is_numbered-place xs id p layer e at = rw (get_or_from_slice_get xs p layer layer at) at ((position-Some (is_numbered id) xs p layer e).1)
 
 -- an edit by number is an edit at the place
-pub with_layer-place : (xs : List Layer) (id : LayerId) (f : Layer → Layer) (p : ℕ) (layer : Layer) → IsDistinct xs → place_of xs id ≡ Some p → slice_get xs p ≡ Some layer → with_layer id f xs ≡ slice_set xs p (f layer)
+pub with_layer-place : (xs : List Layer) (id : LayerId) (f : Layer → Layer) (p : ℕ) (layer : Layer) → IsDistinct xs → index_of xs id ≡ Some p → slice_get xs p ≡ Some layer → with_layer id f xs ≡ slice_set xs p (f layer)
 with_layer-place xs id f p layer distinct e at =
     map_one (is_numbered id) f xs p layer at (is_numbered-place xs id p layer e at) (λ k d inside other. numbered_alone xs id p k d distinct e inside other)
 
-place_of-unnumbered : (xs : List Layer) (id : LayerId) (d : Layer) → All (λ layer. is_numbered id layer ≡ false) xs → place_of xs id ≡ None
-place_of-unnumbered xs id d h = by_place (place_of xs id) refl
+index_of-unnumbered : (xs : List Layer) (id : LayerId) (d : Layer) → All (λ layer. is_numbered id layer ≡ false) xs → index_of xs id ≡ None
+index_of-unnumbered xs id d h = by_place (index_of xs id) refl
   where
-    by_place : (o : Option ℕ) → place_of xs id ≡ o → place_of xs id ≡ None
+    by_place : (o : Option ℕ) → index_of xs id ≡ o → index_of xs id ≡ None
     by_place None e = e
     by_place (Some k) e =
-        let clash : true ≡ false = sym ((position-Some (is_numbered id) xs k d e).1) ∙ h k d (place_of_inside xs id k e) in cc
+        let clash : true ≡ false = sym ((position-Some (is_numbered id) xs k d e).1) ∙ h k d (index_of_inside xs id k e) in cc
 
 -- no layer that stays has the number of a later one
-pub place_of-without : (xs : List Layer) (id : LayerId) (i : ℕ) (d : Layer) → IsDistinct xs → i < length xs → place_of (without id (take i xs)) (get_or xs i d).number ≡ None
-place_of-without xs id i d distinct inside =
-    place_of-unnumbered _ number d (All-map (λ layer. is_numbered number layer ≡ false) (without_steps_to id) _ (All-filter (λ layer. not (is_numbered id layer)) (λ layer. is_numbered number layer ≡ false) (take i xs) before))
+pub index_of-without : (xs : List Layer) (id : LayerId) (i : ℕ) (d : Layer) → IsDistinct xs → i < length xs → index_of (without id (take i xs)) (get_or xs i d).number ≡ None
+index_of-without xs id i d distinct inside =
+    index_of-unnumbered _ number d (All-map (λ layer. is_numbered number layer ≡ false) (without_steps_to id) _ (All-filter (λ layer. not (is_numbered id layer)) (λ layer. is_numbered number layer ≡ false) (take i xs) before))
   where
     number : LayerId
     number = (get_or xs i d).number
@@ -100,4 +98,4 @@ place_of-without xs id i d distinct inside =
         let low : k < i = omega (arith, length-take {A = Layer}, h) in
         rw (get_or-take i xs k e low) ((position-Some (is_numbered number) xs i e (distinct i d inside)).2 k low)
 
-pub ruleset lookups = (layer_of-none, layer_of-place, has_layer-place, place_of-absent, with_layer-place, is_numbered-place)
+pub ruleset lookups = (layer_of-none, layer_of-place, has_layer-place, index_of-absent, with_layer-place, is_numbered-place)

@@ -1,22 +1,22 @@
 -- Rankings after a layer got another step.
-use Rattle.std.proofs.Common.{◌≡◌, ℕ, zero, suc, ◌+◌, ◌-◌, ◌<◌, ◌≤◌, ◌≢◌, Bool, true, false, cond, List, [], ◌∷◌, ◌++◌, length, get_or, Option, Some, None, refl, ap, ◌∙◌, sym, subst, arith, inl, inr, ◌⊎◌, add-one, is_some}
-use Rattle.std.specs.List.{All, list_any, slice_get, slice_set, find}
-use Rattle.std.specs.Prelude.{◌==◌, ◌||◌, eqb, nat_lt, IfSome, option_to_list}
-use Rattle.std.proofs.lemmas.Bool.{eqb-true, eq-eqb, cases_lt, ltb-true, lt-ltb}
-use Rattle.std.proofs.lemmas.List.Elements.{All-set, All-weaker}
+use Rattle.std.proofs.Common.{◌≡◌, ℕ, zero, suc, ◌+◌, ◌<◌, Bool, true, false, cond, List, [], ◌∷◌, ◌++◌, length, get_or, Option, Some, None, refl, ◌∙◌, sym, subst, arith, inl, inr, ◌⊎◌}
+use Rattle.std.specs.List.{list_any, slice_set}
+use Rattle.std.specs.Prelude.{◌==◌, ◌||◌, option_to_list}
+use Rattle.std.proofs.lemmas.Bool.{eqb-true, eq-eqb}
+use Rattle.std.proofs.lemmas.List.Elements.{All-set}
 use Rattle.sf_base.specs.declared.ids.LayerId.{LayerId}
 use Rattle.sf_layer.specs.declared.layer.Layer.{Layer}
 use Rattle.sf_layer.specs.declared.parent.Parent.{Parent}
 use Rattle.sf_layer.specs.declared.parent.Parent.TheVariants as parent
-use Rattle.sf_tree.specs.Kept.{HasNoCycle, IsRanked, IsTied}
+use Rattle.sf_tree.specs.Kept.{HasNoCycle, IsRanked}
 use Rattle.sf_tree.specs.Known.{IsBounded}
-use Rattle.sf_tree.specs.Layers.{is_numbered, layer_of, place_of, has_layer}
+use Rattle.sf_tree.specs.Layers.{layer_of}
 use Rattle.sf_tree.specs.Steps.{all_steps, steps_of, reaches, to_parent}
 use Rattle.sf_tree.proofs.Ranks.{All-layer_of, layer_of-number}
 use Rattle.sf_tree.proofs.Reaching.{any_weaker, reaches-step, reaches-first, reaches-le}
 
 -- the numbers of the steps of a layer rank lower
-step_rank : (rank : ℕ → ℕ) (layer : Layer) (n : LayerId) → IsRanked rank layer → list_any (λ s. s.0 == n.0) (all_steps layer) ≡ true → rank n.0 < rank layer.number.0
+pub step_rank : (rank : ℕ → ℕ) (layer : Layer) (n : LayerId) → IsRanked rank layer → list_any (λ s. s.0 == n.0) (all_steps layer) ≡ true → rank n.0 < rank layer.number.0
 step_rank rank layer n r h = by_parent layer.parent refl h
   where
     same : (s : LayerId) → (s.0 == n.0) ≡ true → rank s.0 < rank layer.number.0 → rank n.0 < rank layer.number.0

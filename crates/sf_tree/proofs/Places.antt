@@ -1,10 +1,9 @@
 -- Where layers of a list are found, as the list grows and shrinks at its end.
-use Rattle.std.proofs.Common.{◌≡◌, ℕ, ◌+◌, ◌-◌, ◌<◌, ◌≤◌, Bool, true, false, cond, List, [], ◌∷◌, ◌++◌, length, get_or, take, Option, Some, None, is_some, refl, ap, ◌∙◌, sym, subst, arith, length-append, inl, inr, ◌⊎◌}
+use Rattle.std.proofs.Common.{◌≡◌, ℕ, ◌+◌, ◌-◌, ◌<◌, ◌≤◌, Bool, true, false, cond, List, [], ◌∷◌, ◌++◌, length, get_or, take, Option, Some, None, is_some, refl, ap, ◌∙◌, sym, arith, length-append, inl, inr, ◌⊎◌}
 use Rattle.std.specs.List.{position, position_or_len}
 use Rattle.std.specs.Prelude.{nat_lt, ◌==◌, eqb}
 use Rattle.std.proofs.lemmas.List.Folds.{position_or_len_push}
 use Rattle.std.proofs.lemmas.List.Sums.{prefix_len-le-length}
-use Rattle.std.proofs.lemmas.List.Quantifiers.{position-Some}
 use Rattle.std.proofs.lemmas.Grind.{common_steps}
 use Rattle.std.proofs.lemmas.Bool.{eqb-true, eq-eqb, cases_lt}
 use Rattle.std.specs.BTreeMap.{BTreeMap, get, is_at}
@@ -16,7 +15,7 @@ use Rattle.sf_base.specs.declared.ids.LayerId.{LayerId}
 use Rattle.sf_layer.specs.declared.layer.Layer.{Layer}
 use Rattle.sf_tree.specs.Index.{IsIndexed}
 use Rattle.sf_tree.specs.Kept.{IsDistinct}
-use Rattle.sf_tree.specs.Layers.{is_numbered, place_of}
+use Rattle.sf_tree.specs.Layers.{is_numbered, index_of}
 
 at_end : (n l : ℕ) (b : Bool) → n ≤ l → cond (nat_lt (cond (n == l) (l + cond b 0 1) n) (l + 1)) (Some (cond (n == l) (l + cond b 0 1) n)) None ≡ cond (is_some (cond (nat_lt n l) (Some n) None)) (cond (nat_lt n l) (Some n) None) (cond b (Some l) None)
 at_end n l true h = grind (arith, common_steps)
@@ -27,62 +26,62 @@ pub position_push : {X : Type 0} (p : X → Bool) (xs : List X) (y : X) → posi
 position_push p xs y = rw (position_or_len_push p xs y, length-append xs (y ∷ [])) (at_end (position_or_len p xs) (length xs) (p y) (prefix_len-le-length _ xs))
 
 -- numbers alone tell where a layer is found
-pub place_of_same : (xs : List Layer) (a b : LayerId) → eqb a.0 b.0 ≡ true → place_of xs a ≡ place_of xs b
-place_of_same xs a b e =
-    let number : ℕ → LayerId = λ n. record { 0 = n } in ap (λ n. place_of xs (number n)) (eqb-true a.0 b.0 e)
+pub index_of_same : (xs : List Layer) (a b : LayerId) → eqb a.0 b.0 ≡ true → index_of xs a ≡ index_of xs b
+index_of_same xs a b e =
+    let number : ℕ → LayerId = λ n. record { 0 = n } in ap (λ n. index_of xs (number n)) (eqb-true a.0 b.0 e)
 
 or_none : (o : Option ℕ) → cond (is_some o) o None ≡ o
 or_none None = refl
 or_none (Some k) = refl
 
 -- a layer of a new number at the end is found there, and the others where they were
-pub place_of_push : (xs : List Layer) (y : Layer) → place_of xs y.number ≡ None → (id : LayerId) → place_of (xs ++ y ∷ []) id ≡ cond (eqb y.number.0 id.0) (Some (length xs)) (place_of xs id)
-place_of_push xs y new id = rw position_push (by_number (y.number.0 == id.0) refl)
+pub index_of_push : (xs : List Layer) (y : Layer) → index_of xs y.number ≡ None → (id : LayerId) → index_of (xs ++ y ∷ []) id ≡ cond (eqb y.number.0 id.0) (Some (length xs)) (index_of xs id)
+index_of_push xs y new id = rw position_push (by_number (y.number.0 == id.0) refl)
   where
-    by_number : (b : Bool) → (y.number.0 == id.0) ≡ b → cond (is_some (place_of xs id)) (place_of xs id) (cond (y.number.0 == id.0) (Some (length xs)) None) ≡ cond (y.number.0 == id.0) (Some (length xs)) (place_of xs id)
-    by_number true e = rw (e, sym (place_of_same xs y.number id e) ∙ new) refl
-    by_number false e = rw e (or_none (place_of xs id))
+    by_number : (b : Bool) → (y.number.0 == id.0) ≡ b → cond (is_some (index_of xs id)) (index_of xs id) (cond (y.number.0 == id.0) (Some (length xs)) None) ≡ cond (y.number.0 == id.0) (Some (length xs)) (index_of xs id)
+    by_number true e = rw (e, sym (index_of_same xs y.number id e) ∙ new) refl
+    by_number false e = rw e (or_none (index_of xs id))
 
 some_inside : (n l k : ℕ) → cond (nat_lt n l) (Some n) None ≡ Some k → k < l
 some_inside n l k h = grind (arith, common_steps)
 
-pub place_of_inside : (xs : List Layer) (id : LayerId) (k : ℕ) → place_of xs id ≡ Some k → k < length xs
-place_of_inside xs id k e = some_inside _ _ k e
+pub index_of_inside : (xs : List Layer) (id : LayerId) (k : ℕ) → index_of xs id ≡ Some k → k < length xs
+index_of_inside xs id k e = some_inside _ _ k e
 
 is_at_number : (a b : ℕ) → is_at (nat_cmp a) b ≡ eqb a b
 is_at_number a b = grind (arith, common_steps)
 
 -- a list with a layer of a new number at its end
-pub IsDistinct-push : (xs : List Layer) (y : Layer) → IsDistinct xs → place_of xs y.number ≡ None → IsDistinct (xs ++ y ∷ [])
+pub IsDistinct-push : (xs : List Layer) (y : Layer) → IsDistinct xs → index_of xs y.number ≡ None → IsDistinct (xs ++ y ∷ [])
 IsDistinct-push xs y distinct new place d inside = by_place (cases_lt place (length xs))
   where
-    old : (b : Bool) (id : LayerId) → eqb y.number.0 id.0 ≡ b → place_of xs id ≡ Some place → cond (eqb y.number.0 id.0) (Some (length xs)) (place_of xs id) ≡ Some place
-    old true id e h = let clash : None ≡ Some place = sym (sym (place_of_same xs y.number id e) ∙ new) ∙ h in cc
+    old : (b : Bool) (id : LayerId) → eqb y.number.0 id.0 ≡ b → index_of xs id ≡ Some place → cond (eqb y.number.0 id.0) (Some (length xs)) (index_of xs id) ≡ Some place
+    old true id e h = let clash : None ≡ Some place = sym (sym (index_of_same xs y.number id e) ∙ new) ∙ h in cc
     old false id e h = rw e h
 
-    by_place : (place < length xs) ⊎ (length xs ≤ place) → place_of (xs ++ y ∷ []) (get_or (xs ++ y ∷ []) place d).number ≡ Some place
-    by_place (inl before) = rw (get_or-append xs (y ∷ []) d place before, place_of_push xs y new (get_or xs place d).number) (old _ _ refl (distinct place d before))
+    by_place : (place < length xs) ⊎ (length xs ≤ place) → index_of (xs ++ y ∷ []) (get_or (xs ++ y ∷ []) place d).number ≡ Some place
+    by_place (inl before) = rw (get_or-append xs (y ∷ []) d place before, index_of_push xs y new (get_or xs place d).number) (old _ _ refl (distinct place d before))
     by_place (inr last) =
         let at : place ≡ length xs = omega (arith, length-append xs (y ∷ []), inside) in
-        rw (at, get_or-append_seam xs y [] d, place_of_push xs y new y.number, eq-eqb y.number.0 y.number.0 refl) refl
+        rw (at, get_or-append_seam xs y [] d, index_of_push xs y new y.number, eq-eqb y.number.0 y.number.0 refl) refl
 
-pub IsIndexed-push : (xs : List Layer) (y : Layer) (m n : BTreeMap ℕ ℕ) → IsIndexed xs m → place_of xs y.number ≡ None → ((q : ℕ) → get nat_cmp n q ≡ cond (is_at (nat_cmp y.number.0) q) (Some (length xs)) (get nat_cmp m q)) → IsIndexed (xs ++ y ∷ []) n
+pub IsIndexed-push : (xs : List Layer) (y : Layer) (m n : BTreeMap ℕ ℕ) → IsIndexed xs m → index_of xs y.number ≡ None → ((q : ℕ) → get nat_cmp n q ≡ cond (is_at (nat_cmp y.number.0) q) (Some (length xs)) (get nat_cmp m q)) → IsIndexed (xs ++ y ∷ []) n
 IsIndexed-push xs y m n old new put = record {
-  found = λ q. put q ∙ (rw (is_at_number y.number.0 q, old.found q) (sym (place_of_push xs y new (record { 0 = q }))));
+  found = λ q. put q ∙ (rw (is_at_number y.number.0 q, old.found q) (sym (index_of_push xs y new (record { 0 = q }))));
   distinct = IsDistinct-push xs y old.distinct new;
 }
 
 -- a list without the layer at its end
-last_is_new : (xs : List Layer) (y : Layer) → IsDistinct (xs ++ y ∷ []) → place_of xs y.number ≡ None
-last_is_new xs y distinct = by_place (place_of xs y.number) refl
+last_is_new : (xs : List Layer) (y : Layer) → IsDistinct (xs ++ y ∷ []) → index_of xs y.number ≡ None
+last_is_new xs y distinct = by_place (index_of xs y.number) refl
   where
-    last : place_of (xs ++ y ∷ []) y.number ≡ Some (length xs)
+    last : index_of (xs ++ y ∷ []) y.number ≡ Some (length xs)
     last = rw (get_or-append_seam xs y [] y) at (distinct (length xs) y (omega (arith, length-append xs (y ∷ []))))
 
-    by_place : (o : Option ℕ) → place_of xs y.number ≡ o → o ≡ None
+    by_place : (o : Option ℕ) → index_of xs y.number ≡ o → o ≡ None
     by_place None e = refl
     by_place (Some k) e =
-        let inside : k < length xs = place_of_inside xs y.number k e in
+        let inside : k < length xs = index_of_inside xs y.number k e in
         let same : Some k ≡ Some (length xs) = sym (rw e at (position_push (is_numbered y.number) xs y)) ∙ last in
         let equal : k ≡ length xs = cc in
         absurd (omega arith)
@@ -90,24 +89,24 @@ last_is_new xs y distinct = by_place (place_of xs y.number) refl
 pub IsDistinct-pop : (xs : List Layer) (y : Layer) → IsDistinct (xs ++ y ∷ []) → IsDistinct xs
 IsDistinct-pop xs y distinct place d inside = by_number (eqb y.number.0 (get_or xs place d).number.0) refl
   where
-    was : cond (eqb y.number.0 (get_or xs place d).number.0) (Some (length xs)) (place_of xs (get_or xs place d).number) ≡ Some place
-    was = rw (get_or-append xs (y ∷ []) d place inside, place_of_push xs y (last_is_new xs y distinct) (get_or xs place d).number) at (distinct place d (omega (arith, length-append xs (y ∷ []))))
+    was : cond (eqb y.number.0 (get_or xs place d).number.0) (Some (length xs)) (index_of xs (get_or xs place d).number) ≡ Some place
+    was = rw (get_or-append xs (y ∷ []) d place inside, index_of_push xs y (last_is_new xs y distinct) (get_or xs place d).number) at (distinct place d (omega (arith, length-append xs (y ∷ []))))
 
-    by_number : (b : Bool) → eqb y.number.0 (get_or xs place d).number.0 ≡ b → place_of xs (get_or xs place d).number ≡ Some place
+    by_number : (b : Bool) → eqb y.number.0 (get_or xs place d).number.0 ≡ b → index_of xs (get_or xs place d).number ≡ Some place
     by_number true e = let same : Some (length xs) ≡ Some place = rw e at was in let equal : length xs ≡ place = cc in absurd (omega arith)
     by_number false e = rw e at was
 
 pub IsIndexed-pop : (xs : List Layer) (y : Layer) (m n : BTreeMap ℕ ℕ) → IsIndexed (xs ++ y ∷ []) m → ((q : ℕ) → get nat_cmp n q ≡ cond (is_at (nat_cmp y.number.0) q) None (get nat_cmp m q)) → IsIndexed xs n
 IsIndexed-pop xs y m n old gone = record {
-  found = λ q. gone q ∙ (rw (is_at_number y.number.0 q, old.found q, place_of_push xs y new (record { 0 = q })) (by_number q (eqb y.number.0 q) refl));
+  found = λ q. gone q ∙ (rw (is_at_number y.number.0 q, old.found q, index_of_push xs y new (record { 0 = q })) (by_number q (eqb y.number.0 q) refl));
   distinct = IsDistinct-pop xs y old.distinct;
 }
   where
-    new : place_of xs y.number ≡ None
+    new : index_of xs y.number ≡ None
     new = last_is_new xs y old.distinct
 
-    by_number : (q : ℕ) (b : Bool) → eqb y.number.0 q ≡ b → cond (eqb y.number.0 q) None (cond (eqb y.number.0 q) (Some (length xs)) (place_of xs (record { 0 = q }))) ≡ place_of xs (record { 0 = q })
-    by_number q true e = rw e (sym (sym (place_of_same xs y.number (record { 0 = q }) e) ∙ new))
+    by_number : (q : ℕ) (b : Bool) → eqb y.number.0 q ≡ b → cond (eqb y.number.0 q) None (cond (eqb y.number.0 q) (Some (length xs)) (index_of xs (record { 0 = q }))) ≡ index_of xs (record { 0 = q })
+    by_number q true e = rw e (sym (sym (index_of_same xs y.number (record { 0 = q }) e) ∙ new))
     by_number q false e = rw e refl
 
 -- a layer that came to the end of the list and went, while the index stayed

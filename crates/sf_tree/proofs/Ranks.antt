@@ -1,17 +1,14 @@
 -- Rankings of layers by which every step leads lower.
-use Rattle.std.proofs.Common.{◌≡◌, ℕ, zero, suc, ◌+◌, ◌<◌, ◌≤◌, ◌≢◌, Bool, true, false, cond, List, [], ◌∷◌, ◌++◌, length, get_or, Option, Some, None, refl, ap, ◌∙◌, sym, subst, arith, inl, inr, ◌⊎◌, add-one, is_some}
-use Rattle.std.specs.List.{All, list_any, slice_get, find}
-use Rattle.std.specs.Prelude.{◌==◌, ◌||◌, eqb, nat_lt, IfSome, option_to_list}
-use Rattle.std.proofs.lemmas.Bool.{eqb-true, eq-eqb, cases_lt, ltb-true, lt-ltb}
-use Rattle.std.proofs.lemmas.List.Elements.{All-head, All-tail, All-weaker}
+use Rattle.std.proofs.Common.{◌≡◌, ℕ, ◌+◌, ◌<◌, ◌≤◌, Bool, true, false, cond, List, [], ◌∷◌, length, Option, Some, None, refl, ap, ◌∙◌, sym, subst, arith, is_some}
+use Rattle.std.specs.List.{All}
+use Rattle.std.specs.Prelude.{nat_lt}
+use Rattle.std.proofs.lemmas.Bool.{eqb-true, ltb-true, lt-ltb}
+use Rattle.std.proofs.lemmas.List.Elements.{All-head, All-tail}
 use Rattle.sf_base.specs.declared.ids.LayerId.{LayerId}
 use Rattle.sf_layer.specs.declared.layer.Layer.{Layer}
-use Rattle.sf_layer.specs.declared.parent.Parent.{Parent}
-use Rattle.sf_layer.specs.declared.parent.Parent.TheVariants as parent
 use Rattle.sf_tree.specs.Kept.{HasNoCycle, IsRanked, IsTied}
 use Rattle.sf_tree.specs.Known.{IsBounded}
-use Rattle.sf_tree.specs.Layers.{is_numbered, layer_of, place_of, has_layer}
-use Rattle.sf_tree.specs.Steps.{all_steps, steps_of, reaches, to_parent}
+use Rattle.sf_tree.specs.Layers.{is_numbered, layer_of, has_layer}
 
 -- a layer that is found is one of the tree, and has the number
 pub All-layer_of : (P : Layer → Type 0) (tree : List Layer) (id : LayerId) (layer : Layer) → All P tree → layer_of tree id ≡ Some layer → P layer

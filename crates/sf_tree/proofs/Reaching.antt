@@ -1,11 +1,11 @@
 -- Ways from layer to layer.
-use Rattle.std.proofs.Common.{◌≡◌, ℕ, zero, suc, ◌+◌, ◌<◌, ◌≤◌, Bool, true, false, List, [], ◌∷◌, length, get_or, Option, Some, None, refl, ap, ◌∙◌, sym, subst, arith, inl, inr, ◌⊎◌}
+use Rattle.std.proofs.Common.{◌≡◌, ℕ, zero, suc, ◌<◌, ◌≤◌, Bool, true, false, List, [], ◌∷◌, length, get_or, None, refl, sym, subst, arith, inl, inr, ◌⊎◌}
 use Rattle.std.specs.List.{AllByRecursion, Contains, list_any}
-use Rattle.std.specs.Prelude.{◌==◌, ◌||◌, eqb}
-use Rattle.std.proofs.lemmas.Bool.{eqb-true, eq-eqb}
+use Rattle.std.specs.Prelude.{◌==◌, ◌||◌}
+use Rattle.std.proofs.lemmas.Bool.{eqb-true}
 use Rattle.sf_base.specs.declared.ids.LayerId.{LayerId}
 use Rattle.sf_layer.specs.declared.layer.Layer.{Layer}
-use Rattle.sf_tree.specs.Layers.{layer_of, place_of}
+use Rattle.sf_tree.specs.Layers.{layer_of, index_of}
 use Rattle.sf_tree.specs.Steps.{steps_of, reaches}
 use Rattle.sf_tree.specs.Search.{IsExplored, IsFollowed}
 use Rattle.sf_tree.proofs.Lookups.{layer_of-none}
@@ -79,7 +79,7 @@ reaches-more steps tree (suc k) a b c r h =
     onward ih next r = to_right (next.0 == c.0) _ (by_test ih next (next.0 == b.0) refl r)
 
 -- nothing is reached from a layer that is not there
-pub reaches-unknown : (steps : Layer → List LayerId) (tree : List Layer) (k : ℕ) (a b : LayerId) → place_of tree a ≡ None → reaches steps tree k a b ≡ false
+pub reaches-unknown : (steps : Layer → List LayerId) (tree : List Layer) (k : ℕ) (a b : LayerId) → index_of tree a ≡ None → reaches steps tree k a b ≡ false
 unfolding reaches
 reaches-unknown steps tree zero a b e = refl
 reaches-unknown steps tree (suc k) a b e = rw (layer_of-none tree a e) refl
@@ -94,7 +94,7 @@ reaches-explored steps tree first found all (suc j) id at =
     here : IsExplored steps tree first found id
     here = subst (λ (x : LayerId). IsExplored steps tree first found x) at.2 (all at.0 id at.1)
 
-    by_noted : ((x : LayerId) → Contains found x → reaches steps tree j x first ≡ false) → (x : LayerId) → (place_of tree x ≡ None) ⊎ Contains found x → reaches steps tree j x first ≡ false
+    by_noted : ((x : LayerId) → Contains found x → reaches steps tree j x first ≡ false) → (x : LayerId) → (index_of tree x ≡ None) ⊎ Contains found x → reaches steps tree j x first ≡ false
     by_noted ih x (inl e) = reaches-unknown steps tree j x first e
     by_noted ih x (inr at) = ih x at
 

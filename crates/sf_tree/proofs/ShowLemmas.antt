@@ -9,9 +9,9 @@ use Rattle.sf_base.specs.declared.ids.LayerId.{LayerId}
 use Rattle.sf_layer.specs.declared.layer.Layer.{Layer}
 use Rattle.sf_layer.specs.declared.parent.Parent.{Parent}
 use Rattle.sf_layer.specs.declared.parent.Parent.TheVariants as parent
-use Rattle.sf_tree.specs.Kept.{IsRanked, IsTree}
+use Rattle.sf_tree.specs.Kept.{HasNoCycle, IsDistinct, IsRanked, IsTied}
 use Rattle.sf_tree.specs.Known.{IsBounded, IsKnown, Outranks}
-use Rattle.sf_tree.specs.Layers.{layer_of, place_of}
+use Rattle.sf_tree.specs.Layers.{layer_of, index_of}
 use Rattle.sf_tree.specs.Showing.{parent_passes, passes, relative_passes, shows, shows_within}
 use Rattle.sf_tree.proofs.Keeping.{found_itself}
 use Rattle.sf_tree.proofs.Lookups.{has_layer-place, layer_of-place}
@@ -111,8 +111,8 @@ Outranks-relative tree layer m id steps o e f = record {
 pub Outranks-le : (tree : List Layer) (layer : Layer) (j k : ℕ) → Outranks tree layer j → j ≤ k → Outranks tree layer k
 Outranks-le tree layer j k o h = record { rank = o.rank; bounded = o.bounded; found = o.found; low = omega (arith, o.low) }
 
-pub Outranks-tree : (tree : List Layer) (place : ℕ) (layer : Layer) → IsTree tree → slice_get tree place ≡ Some layer → Outranks tree layer (length tree)
-Outranks-tree tree place layer t at = record {
+pub Outranks-tree : (tree : List Layer) (place : ℕ) (layer : Layer) → IsDistinct tree → All (IsTied tree) tree → HasNoCycle tree → slice_get tree place ≡ Some layer → Outranks tree layer (length tree)
+Outranks-tree tree place layer distinct tied no_cycle at = record {
   rank = low.0;
   bounded = low.1;
   found = found;
@@ -120,16 +120,16 @@ Outranks-tree tree place layer t at = record {
 }
   where
     low : (rank : ℕ → ℕ) × IsBounded tree rank
-    low = bounded_rank tree t.tied t.no_cycle
+    low = bounded_rank tree tied no_cycle
 
     inside : place < length tree
     inside = inside_from_slice_get tree place layer at
 
     found : layer_of tree layer.number ≡ Some layer
-    found = subst (λ (l : Layer). layer_of tree l.number ≡ Some l) (get_or_from_slice_get tree place layer layer at) (found_itself tree t.distinct place layer inside)
+    found = subst (λ (l : Layer). layer_of tree l.number ≡ Some l) (get_or_from_slice_get tree place layer layer at) (found_itself tree distinct place layer inside)
 
 -- a layer of a number that has a place
-pub at_found : (tree : List Layer) (id : LayerId) (place : ℕ) → Some place ≡ place_of tree id → (layer : Layer) × (layer_of tree id ≡ Some layer) × (slice_get tree place ≡ Some layer)
+pub at_found : (tree : List Layer) (id : LayerId) (place : ℕ) → Some place ≡ index_of tree id → (layer : Layer) × (layer_of tree id ≡ Some layer) × (slice_get tree place ≡ Some layer)
 at_found tree id place e =
     let there = is_there tree id (has_layer-place tree id ∙ ap is_some (sym e)) in
     (there.0, there.1, sym (layer_of-place tree id place (sym e)) ∙ there.1)

@@ -1,11 +1,11 @@
 -- Layers sorted by z in a map of keys of z and place.
-use Rattle.std.proofs.Common.{◌≡◌, ℕ, zero, suc, ◌+◌, ◌<◌, ◌≤◌, Bool, true, false, cond, List, [], ◌∷◌, length, get_or, drop, map, Option, Some, None, refl, ap, ◌∙◌, sym, subst, arith, ℤ, ◌<ℤ◌, ◌-◌, drop-cons, Result, Ok, Err}
+use Rattle.std.proofs.Common.{◌≡◌, ℕ, zero, suc, ◌+◌, ◌<◌, ◌≤◌, Bool, true, false, cond, List, [], ◌∷◌, length, get_or, drop, map, Some, refl, ap, ◌∙◌, sym, subst, arith, ℤ, ◌<ℤ◌, ◌-◌, drop-cons, Result, Ok, Err}
 use Rattle.std.specs.Cmp.{int_cmp_is, int_ranks}
 use Rattle.std.specs.List.{AllZip, filter, slice_get}
 use Rattle.std.specs.BTreeMap.{insert_entry}
 use Rattle.std.proofs.Common.{Ordering}
 use Rattle.std.specs.declared.cmp.Ordering.TheVariants.{Less, Equal, Greater}
-use Rattle.std.specs.Ordering.{int_cmp, nat_cmp, ordering_then, match_ordering, MatchOrdering}
+use Rattle.std.specs.Ordering.{int_cmp, nat_cmp, ordering_then, match_ordering}
 use Rattle.std.specs.Prelude.{int_lt, if◌then◌else◌, nat_lt, IfOk, OnOk}
 use Rattle.std.proofs.lemmas.Bool.{lt-ltb}
 use Rattle.std.proofs.lemmas.List.{get_or-map}

@@ -3,7 +3,8 @@ use Rattle.std.specs.Prelude.{◌≡◌, ℕ, if◌then◌else◌, List, Option,
 use Rattle.sf_base.specs.declared.ids.LayerId.{LayerId}
 use Rattle.sf_base.specs.declared.memory.NoMemory.{NoMemory}
 use Rattle.sf_layer.specs.declared.layer.Layer.{Layer}
-use Rattle.sf_tree.specs.declared.cause.TheConstants.{PARENT_CYCLE, DRAW_CYCLE}
+use Rattle.sf_tree.specs.declared.reject.Reject.{Reject}
+use Rattle.sf_tree.specs.declared.reject.Reject.TheVariants as reject
 use Rattle.sf_tree.specs.declared.changes.ChangeFault.{ChangeFault}
 use Rattle.sf_tree.specs.declared.changes.ChangeFault.TheVariants as fault
 use Rattle.sf_tree.specs.declared.journal.Undo.{Undo}
@@ -12,20 +13,20 @@ use Rattle.sf_tree.specs.Journal.{undone, CanUndo}
 use Rattle.sf_tree.specs.Steps.{parent_steps, all_steps, reaches_itself}
 
 -- the change was made and can be taken back, or it has this cause; after a fault the layers are as they were
-abbrev pub IsChange : Result Undo ChangeFault → List Layer → List Layer → Result (List Layer) ℕ → Type 0
+abbrev pub IsChange : Result Undo ChangeFault → List Layer → List Layer → Result (List Layer) Reject → Type 0
 IsChange (Ok undo) old new change = (change ≡ Ok new) × CanUndo undo new × (undone undo new ≡ old)
 IsChange (Err (fault.Rejected cause)) old new change = (change ≡ Err cause) × (new ≡ old)
 IsChange (Err fault.NoMemory) old new change = new ≡ old
 
 -- why a layer cannot hang where it hangs, if it cannot
-abbrev pub draw_cause : List Layer → LayerId → Option ℕ
-draw_cause tree id = if reaches_itself all_steps tree id then Some DRAW_CYCLE else None
+abbrev pub draw_cause : List Layer → LayerId → Option Reject
+draw_cause tree id = if reaches_itself all_steps tree id then Some reject.DrawCycle else None
 
-abbrev pub parent_cause : List Layer → LayerId → Option ℕ
-parent_cause tree id = if reaches_itself parent_steps tree id then Some PARENT_CYCLE else draw_cause tree id
+abbrev pub parent_cause : List Layer → LayerId → Option Reject
+parent_cause tree id = if reaches_itself parent_steps tree id then Some reject.ParentCycle else draw_cause tree id
 
 -- the layer at a place stays as it is, or is as before where a cause was found or none could be sought
-abbrev pub Settles : Result (Option ℕ) NoMemory → Result Undo ChangeFault → List Layer → List Layer → ℕ → Layer → Type 0
+abbrev pub Settles : Result (Option Reject) NoMemory → Result Undo ChangeFault → List Layer → List Layer → ℕ → Layer → Type 0
 Settles (Ok None) result old new place before = (result ≡ Ok (undo.Edited place before)) × (new ≡ old)
 Settles (Ok (Some cause)) result old new place before = (result ≡ Err (fault.Rejected cause)) × (new ≡ slice_set old place before)
 Settles (Err _) result old new place before = (result ≡ Err fault.NoMemory) × (new ≡ slice_set old place before)

@@ -8,7 +8,10 @@ use Rattle.sf_layer.specs.declared.op.Op.{Op}
 use Rattle.sf_layer.specs.declared.op.Op.TheVariants as op
 use Rattle.sf_layer.specs.declared.parent.Parent.{Parent}
 use Rattle.sf_layer.specs.declared.parent.Parent.TheVariants as parent
-use Rattle.sf_tree.specs.declared.cause.TheConstants.{UNKNOWN_LAYER, LAYER_EXISTS, PARENT_CYCLE, DRAW_CYCLE, TOO_MANY_LAYERS, WRONG_KIND, MOST_LAYERS}
+use Rattle.sf_tree.specs.declared.reject.Reject.{Reject}
+use Rattle.sf_tree.specs.declared.reject.Reject.TheVariants as reject
+use Rattle.sf_tree.specs.Rejects.{number_of}
+use Rattle.sf_tree.specs.Trees.{TreeOf}
 use Rattle.sf_tree.specs.Layers.{is_numbered, layer_of, has_layer, has_parent}
 use Rattle.sf_tree.specs.Steps.{parent_steps, all_steps, reaches_itself}
 
@@ -29,6 +32,7 @@ new_layer id kind parent =
       backpressure = false;
       colour = record { r = 0; g = 0; b = 0; a = 255 };
       shown = None;
+      orient = 0;
     }
 
 -- the tree with an edit of the layer of this number
@@ -64,6 +68,7 @@ edited (op.Opaque opaque) layer = record layer { opaque = opaque }
 edited (op.Colour colour) layer = record layer { colour = colour }
 edited (op.Backpressure backpressure) layer = record layer { backpressure = backpressure }
 edited (op.Show shown) layer = record layer { shown = Some shown }
+edited (op.Orient orient) layer = record layer { orient = orient }
 edited _ layer = layer
 
 -- a colour is for colour layers, a buffer for buffer layers
@@ -74,61 +79,65 @@ fits_kind (op.Show _) kind.Buffer = true
 fits_kind (op.Show _) _ = false
 fits_kind _ _ = true
 
--- `create`: the new layer is the last
-unfoldable pub created : List Layer → LayerId → Kind → Parent → Result (List Layer) ℕ
-created tree id kind parent =
-    if not (has_parent tree parent) then Err UNKNOWN_LAYER else
-    if has_layer tree id then Err LAYER_EXISTS else
-    if nat_le MOST_LAYERS (length tree) then Err TOO_MANY_LAYERS else
+-- `create`: the new layer is the last, unless there are as many as there can be
+unfoldable pub created : ℕ → List Layer → LayerId → Kind → Parent → Result (List Layer) Reject
+created most tree id kind parent =
+    if not (has_parent tree parent) then Err reject.UnknownLayer else
+    if has_layer tree id then Err reject.LayerExists else
+    if nat_le most (length tree) then Err reject.TooManyLayers else
     Ok (tree ++ new_layer id kind parent ∷ [])
 
 -- `destroy`
-unfoldable pub destroyed : List Layer → LayerId → Result (List Layer) ℕ
-destroyed tree id = if has_layer tree id then Ok (without id tree) else Err UNKNOWN_LAYER
+unfoldable pub destroyed : List Layer → LayerId → Result (List Layer) Reject
+destroyed tree id = if has_layer tree id then Ok (without id tree) else Err reject.UnknownLayer
 
 -- `reparent`: what the layer is relative to stays
-unfoldable pub reparented : List Layer → LayerId → Parent → Result (List Layer) ℕ
+unfoldable pub reparented : List Layer → LayerId → Parent → Result (List Layer) Reject
 reparented tree id parent =
     let next = with_layer id (λ layer. record layer { parent = parent }) tree in
-    if not (has_layer tree id && has_parent tree parent) then Err UNKNOWN_LAYER else
-    if reaches_itself parent_steps next id then Err PARENT_CYCLE else
-    if reaches_itself all_steps next id then Err DRAW_CYCLE else Ok next
+    if not (has_layer tree id && has_parent tree parent) then Err reject.UnknownLayer else
+    if reaches_itself parent_steps next id then Err reject.ParentCycle else
+    if reaches_itself all_steps next id then Err reject.DrawCycle else Ok next
 
 -- `relative`
-unfoldable pub made_relative : List Layer → LayerId → LayerId → ℤ → Result (List Layer) ℕ
+unfoldable pub made_relative : List Layer → LayerId → LayerId → ℤ → Result (List Layer) Reject
 made_relative tree id other z =
     let next = with_layer id (λ layer. record layer { relative = Some other; z = z }) tree in
-    if not (has_layer tree id && has_layer tree other) then Err UNKNOWN_LAYER else
-    if reaches_itself all_steps next id then Err DRAW_CYCLE else Ok next
+    if not (has_layer tree id && has_layer tree other) then Err reject.UnknownLayer else
+    if reaches_itself all_steps next id then Err reject.DrawCycle else Ok next
 
-abbrev pub edited_layer : List Layer → LayerId → Op → Option Layer → Result (List Layer) ℕ
-edited_layer tree id operation None = Err UNKNOWN_LAYER
+abbrev pub edited_layer : List Layer → LayerId → Op → Option Layer → Result (List Layer) Reject
+edited_layer tree id operation None = Err reject.UnknownLayer
 edited_layer tree id operation (Some layer) =
-    if fits_kind operation layer.kind then Ok (with_layer id (edited operation) tree) else Err WRONG_KIND
+    if fits_kind operation layer.kind then Ok (with_layer id (edited operation) tree) else Err reject.WrongKind
 
--- the tree after an operation on the layer of this number, or the first cause, by number, to reject it
-abbrev pub changed : List Layer → LayerId → Op → Result (List Layer) ℕ
-changed tree id (op.Create kind parent) = created tree id kind parent
-changed tree id op.Destroy = destroyed tree id
-changed tree id (op.Reparent parent) = reparented tree id parent
-changed tree id (op.Relative other z) = made_relative tree id other z
-changed tree id operation = edited_layer tree id operation (layer_of tree id)
+-- the layers after an operation on the layer of this number, where there can be so many, or the first cause, by number, to reject it
+abbrev pub changed : ℕ → List Layer → LayerId → Op → Result (List Layer) Reject
+changed most tree id (op.Create kind parent) = created most tree id kind parent
+changed most tree id op.Destroy = destroyed tree id
+changed most tree id (op.Reparent parent) = reparented tree id parent
+changed most tree id (op.Relative other z) = made_relative tree id other z
+changed most tree id operation = edited_layer tree id operation (layer_of tree id)
 
 -- which operation was rejected, from 1, and why
 pub record Rejection : Type 0 where
   pub cause : ℕ
   pub op : ℕ
 
-abbrev pub then_after : ℕ → Result (List Layer) ℕ → (List Layer → Result (List Layer) Rejection) → Result (List Layer) Rejection
+abbrev pub then_after : ℕ → Result (List Layer) Reject → (List Layer → Result (List Layer) Rejection) → Result (List Layer) Rejection
 then_after number (Ok tree) rest = rest tree
-then_after number (Err cause) rest = Err (record { cause = cause; op = number })
+then_after number (Err cause) rest = Err (record { cause = number_of cause; op = number })
 
--- the tree after operations in order of which the first has this number, or the first that is rejected
-abbrev pub after_from : ℕ → List Layer → List (LayerId × Op) → Result (List Layer) Rejection
-after_from number tree [] = Ok tree
-after_from number tree (operation ∷ operations) =
-    then_after number (changed tree operation.0 operation.1) (λ next. after_from (number + 1) next operations)
+-- the layers after operations in order of which the first has this number, or the first that is rejected
+abbrev pub after_from : ℕ → ℕ → List Layer → List (LayerId × Op) → Result (List Layer) Rejection
+after_from most number layers [] = Ok layers
+after_from most number layers (operation ∷ operations) =
+    then_after number (changed most layers operation.0 operation.1) (λ next. after_from most (number + 1) next operations)
+
+abbrev pub with_layers : TreeOf → Result (List Layer) Rejection → Result TreeOf Rejection
+with_layers tree (Ok layers) = Ok (record tree { layers = layers })
+with_layers tree (Err rejection) = Err rejection
 
 -- the tree after all operations, in order, or the first that is rejected
-abbrev pub after : List Layer → List (LayerId × Op) → Result (List Layer) Rejection
-after tree operations = after_from 1 tree operations
+abbrev pub after : TreeOf → List (LayerId × Op) → Result TreeOf Rejection
+after tree operations = with_layers tree (after_from tree.most 1 tree.layers operations)

@@ -1,5 +1,5 @@
 -- The order in which the layers that show are drawn.
-use Rattle.std.specs.Prelude.{ℕ, zero, suc, ◌==◌, Bool, true, false, not, if◌then◌else◌, List, [], ◌∷◌, ◌++◌, length, filter, Option, Some, None, ℤ, pos}
+use Rattle.std.specs.Prelude.{ℕ, zero, suc, ◌==◌, Bool, true, false, not, if◌then◌else◌, List, [], ◌∷◌, ◌++◌, length, filter, Option, Some, None, pos}
 use Rattle.std.specs.List.{flat_map}
 use Rattle.std.specs.Prelude.{int_lt}
 use Rattle.sf_base.specs.declared.ids.LayerId.{LayerId}

@@ -1,5 +1,5 @@
 -- Taking changes back.
-use Rattle.std.specs.Prelude.{◌≡◌, ℕ, ◌-◌, ◌<◌, List, [], ◌∷◌, length, take, slice_set, slice_index_or, Option, unwrap_or}
+use Rattle.std.specs.Prelude.{◌≡◌, ◌-◌, ◌<◌, List, [], ◌∷◌, length, take, slice_set, slice_index_or, unwrap_or}
 use Rattle.sf_layer.specs.declared.layer.Layer.{Layer}
 use Rattle.sf_tree.specs.declared.journal.Journal.{Journal}
 use Rattle.sf_tree.specs.declared.journal.Undo.{Undo}

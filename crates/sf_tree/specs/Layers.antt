@@ -1,5 +1,5 @@
 -- The layers of a tree, in the order of their creation, and how one is found by its number.
-use Rattle.std.specs.Prelude.{ℕ, ◌==◌, Bool, true, false, List, Option, None, is_some}
+use Rattle.std.specs.Prelude.{ℕ, ◌==◌, Bool, true, List, Option, None, is_some}
 use Rattle.std.specs.List.{find, position}
 use Rattle.sf_base.specs.declared.ids.LayerId.{LayerId}
 use Rattle.sf_layer.specs.declared.layer.Layer.{Layer}
@@ -15,8 +15,8 @@ abbrev pub layer_of : List Layer → LayerId → Option Layer
 layer_of tree id = find (is_numbered id) tree
 
 -- its place in the order of creation
-abbrev pub place_of : List Layer → LayerId → Option ℕ
-place_of tree id = position (is_numbered id) tree
+abbrev pub index_of : List Layer → LayerId → Option ℕ
+index_of tree id = position (is_numbered id) tree
 
 abbrev pub has_layer : List Layer → LayerId → Bool
 has_layer tree id = is_some (layer_of tree id)

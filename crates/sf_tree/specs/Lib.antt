@@ -1,4 +1,6 @@
 pub mod Layers
+pub mod Trees
+pub mod Rejects
 pub mod Steps
 pub mod Changes
 pub mod Showing

@@ -6,7 +6,7 @@ use Rattle.sf_layer.specs.declared.layer.Layer.{Layer}
 use Rattle.sf_tree.specs.declared.cycles.Along.{Along}
 use Rattle.sf_tree.specs.declared.cycles.Along.TheVariants as along
 use Rattle.sf_tree.specs.Steps.{parent_steps, all_steps, steps_of, reaches}
-use Rattle.sf_tree.specs.Layers.{layer_of, place_of}
+use Rattle.sf_tree.specs.Layers.{layer_of, index_of}
 
 abbrev pub steps_along : Along → Layer → List LayerId
 steps_along along.Parents layer = parent_steps layer
@@ -30,13 +30,13 @@ mark_count (false ∷ marks) = mark_count marks
 pub record IsSearch (steps : Layer → List LayerId) (tree : List Layer) (first : LayerId) (found : List LayerId) (marks : List Bool) : Type 0 where
   pub marked : length marks ≡ length tree
   pub counted : mark_count marks ≡ length found
-  pub known : (id : LayerId) (place : ℕ) → place_of tree id ≡ Some place → slice_index_or marks place false ≡ true → Contains found id
+  pub known : (id : LayerId) (place : ℕ) → index_of tree id ≡ Some place → slice_index_or marks place false ≡ true → Contains found id
   pub reached : (k : ℕ) (d : LayerId) → k < length found → IsReached steps tree first k (slice_index_or found k d)
 
 -- a step does not lead to the first layer, and what it leads to was found, if it is in the tree
 pub record IsFollowed (tree : List Layer) (first : LayerId) (found : List LayerId) (next : LayerId) : Type 0 where
   pub other : (next.0 == first.0) ≡ false
-  pub noted : (place_of tree next ≡ None) ⊎ Contains found next
+  pub noted : (index_of tree next ≡ None) ⊎ Contains found next
 
 -- all steps from a layer were followed
 abbrev pub IsExplored : (Layer → List LayerId) → List Layer → LayerId → List LayerId → LayerId → Type 0

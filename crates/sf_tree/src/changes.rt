@@ -3,12 +3,10 @@ ghost use Rattle.sf_tree.specs.Changes.{changed, created, destroyed, edited, edi
 ghost use Rattle.sf_tree.specs.Layers.{layer_of};
 ghost use Rattle.sf_tree.specs.ChangeAnswers.{draw_cause, IsChange, parent_cause, Settles};
 
-use crate::cause::{
-    DRAW_CYCLE, LAYER_EXISTS, MOST_LAYERS, PARENT_CYCLE, TOO_MANY_LAYERS, UNKNOWN_LAYER, WRONG_KIND,
-};
 use crate::cycles::{Along, reaches_itself};
 use crate::journal::Undo;
 use crate::layers::Layers;
+use crate::reject::Reject;
 use sf_base::{LayerId, NoMemory, Rgba};
 use sf_layer::{Kind, Layer, Op, Parent};
 use std::alloc::Global;
@@ -16,7 +14,7 @@ use std::alloc::Global;
 // Why a change was not made.
 #[derive(Clone, Copy, Debug, PartialEq, Eq)]
 pub enum ChangeFault {
-    Rejected(u32),
+    Rejected(Reject),
     NoMemory,
 }
 
@@ -42,21 +40,28 @@ fn new_layer(number: LayerId, kind: Kind, parent: Parent) -> Layer
             a: 255,
         },
         shown: None,
+        orient: 0,
     }
 }
 
 #[tactic(auto, using(crate::proofs::Lookups::lookups), unfolding(crate::specs::Changes::created))]
-fn create(layers: &mut Layers, id: LayerId, kind: Kind, parent: Parent) -> Result<Undo, ChangeFault>
-    ensures { IsChange result layers.old layers.new (created layers.old id kind parent) }
+fn create(
+    layers: &mut Layers,
+    most: u32,
+    id: LayerId,
+    kind: Kind,
+    parent: Parent,
+) -> Result<Undo, ChangeFault>
+    ensures { IsChange result layers.old layers.new (created most layers.old id kind parent) }
 {
     if !layers.has_parent(parent) {
-        return Err(ChangeFault::Rejected(UNKNOWN_LAYER));
+        return Err(ChangeFault::Rejected(Reject::UnknownLayer));
     }
     if layers.has(id) {
-        return Err(ChangeFault::Rejected(LAYER_EXISTS));
+        return Err(ChangeFault::Rejected(Reject::LayerExists));
     }
-    if layers.len() >= MOST_LAYERS {
-        return Err(ChangeFault::Rejected(TOO_MANY_LAYERS));
+    if layers.len() >= most as usize {
+        return Err(ChangeFault::Rejected(Reject::TooManyLayers));
     }
     match layers.push(new_layer(id, kind, parent)) {
         Ok(()) => Ok(Undo::Created),
@@ -69,7 +74,7 @@ fn destroy(alloc: Global, layers: &mut Layers, id: LayerId) -> Result<Undo, Chan
     ensures { IsChange result layers.old layers.new (destroyed layers.old id) }
 {
     if !layers.has(id) {
-        return Err(ChangeFault::Rejected(UNKNOWN_LAYER));
+        return Err(ChangeFault::Rejected(Reject::UnknownLayer));
     }
     match layers.without(alloc, id) {
         Ok(rest) => Ok(Undo::Destroyed(std::mem::replace(layers, rest))),
@@ -104,6 +109,7 @@ fn edited(op: &Op, layer: Layer) -> Layer
         Op::Colour(colour) => layer.colour = colour,
         Op::Backpressure(backpressure) => layer.backpressure = backpressure,
         Op::Show(shown) => layer.shown = Some(shown),
+        Op::Orient(orient) => layer.orient = orient,
         Op::Create(..) | Op::Destroy | Op::Reparent(..) | Op::Relative(..) => {}
     }
     layer
@@ -113,33 +119,33 @@ fn edited(op: &Op, layer: Layer) -> Layer
 fn edit(layers: &mut Layers, id: LayerId, op: &Op) -> Result<Undo, ChangeFault>
     ensures { IsChange result layers.old layers.new (edited_layer layers.old id op.now (layer_of layers.old id)) }
 {
-    let Some(place) = layers.place_of(id) else {
-        return Err(ChangeFault::Rejected(UNKNOWN_LAYER));
+    let Some(place) = layers.index_of(id) else {
+        return Err(ChangeFault::Rejected(Reject::UnknownLayer));
     };
     let layer = layers.at(place);
     if !fits_kind(op, layer.kind) {
-        return Err(ChangeFault::Rejected(WRONG_KIND));
+        return Err(ChangeFault::Rejected(Reject::WrongKind));
     }
     layers.set(place, edited(op, layer));
     Ok(Undo::Edited(place, layer))
 }
 
 // Why a layer cannot hang where it hangs now, if it cannot.
-fn parent_fault(alloc: Global, layers: &Layers, id: LayerId) -> Result<Option<u32>, NoMemory>
+fn parent_fault(alloc: Global, layers: &Layers, id: LayerId) -> Result<Option<Reject>, NoMemory>
     ensures { IfOk result (λ cause. cause ≡ parent_cause layers.now id) }
 {
     if reaches_itself(alloc, layers, id, Along::Parents)? {
-        return Ok(Some(PARENT_CYCLE));
+        return Ok(Some(Reject::ParentCycle));
     }
     draw_fault(alloc, layers, id)
 }
 
 // Why a layer cannot be drawn with what it is drawn with now, if it cannot.
-fn draw_fault(alloc: Global, layers: &Layers, id: LayerId) -> Result<Option<u32>, NoMemory>
+fn draw_fault(alloc: Global, layers: &Layers, id: LayerId) -> Result<Option<Reject>, NoMemory>
     ensures { IfOk result (λ cause. cause ≡ draw_cause layers.now id) }
 {
     if reaches_itself(alloc, layers, id, Along::All)? {
-        return Ok(Some(DRAW_CYCLE));
+        return Ok(Some(Reject::DrawCycle));
     }
     Ok(None)
 }
@@ -149,7 +155,7 @@ fn settle(
     layers: &mut Layers,
     place: usize,
     before: Layer,
-    fault: Result<Option<u32>, NoMemory>,
+    fault: Result<Option<Reject>, NoMemory>,
 ) -> Result<Undo, ChangeFault>
     requires inside { place < length layers.old }
     requires same { (slice_index_or layers.old place before).number ≡ before.number }
@@ -193,11 +199,11 @@ fn reparent(
 ) -> Result<Undo, ChangeFault>
     ensures { IsChange result layers.old layers.new (reparented layers.old id parent) }
 {
-    let Some(place) = layers.place_of(id) else {
-        return Err(ChangeFault::Rejected(UNKNOWN_LAYER));
+    let Some(place) = layers.index_of(id) else {
+        return Err(ChangeFault::Rejected(Reject::UnknownLayer));
     };
     if !layers.has_parent(parent) {
-        return Err(ChangeFault::Rejected(UNKNOWN_LAYER));
+        return Err(ChangeFault::Rejected(Reject::UnknownLayer));
     }
     let before = layers.at(place);
     layers.set(place, with_parent(before, parent));
@@ -214,11 +220,11 @@ fn relate(
 ) -> Result<Undo, ChangeFault>
     ensures { IsChange result layers.old layers.new (made_relative layers.old id other z) }
 {
-    let Some(place) = layers.place_of(id) else {
-        return Err(ChangeFault::Rejected(UNKNOWN_LAYER));
+    let Some(place) = layers.index_of(id) else {
+        return Err(ChangeFault::Rejected(Reject::UnknownLayer));
     };
     if !layers.has(other) {
-        return Err(ChangeFault::Rejected(UNKNOWN_LAYER));
+        return Err(ChangeFault::Rejected(Reject::UnknownLayer));
     }
     let before = layers.at(place);
     layers.set(place, with_relative(before, other, z));
@@ -227,11 +233,17 @@ fn relate(
 }
 
 // Does one operation in place, and tells how it is taken back.
-pub fn change(alloc: Global, layers: &mut Layers, id: LayerId, op: &Op) -> Result<Undo, ChangeFault>
-    ensures { IsChange result layers.old layers.new (changed layers.old id op.now) }
+pub fn change(
+    alloc: Global,
+    layers: &mut Layers,
+    most: u32,
+    id: LayerId,
+    op: &Op,
+) -> Result<Undo, ChangeFault>
+    ensures { IsChange result layers.old layers.new (changed most layers.old id op.now) }
 {
     match *op {
-        Op::Create(kind, parent) => create(layers, id, kind, parent),
+        Op::Create(kind, parent) => create(layers, most, id, kind, parent),
         Op::Destroy => destroy(alloc, layers, id),
         Op::Reparent(parent) => reparent(alloc, layers, id, parent),
         Op::Relative(other, z) => relate(alloc, layers, id, other, z),

@@ -1,7 +1,7 @@
 ghost use Rattle.std.specs.Prelude.{◌≡◌, ℕ, ◌+◌, ◌<◌, ◌∷◌, [], List, length, true, false, IfOk, IfSome, IsSomeAnd, option_to_list, slice_index_or};
 ghost use Rattle.sf_base.specs.declared.ids.LayerId.{LayerId as LayerIdValue};
 ghost use Rattle.sf_layer.specs.declared.layer.Layer.{Layer as LayerValue};
-ghost use Rattle.sf_tree.specs.Layers.{place_of};
+ghost use Rattle.sf_tree.specs.Layers.{index_of};
 ghost use Rattle.sf_tree.specs.Steps.{reaches, reaches_itself, to_parent};
 ghost use Rattle.sf_tree.specs.Search.{GoesOn, Grows, IsExplored, IsSearch, relative_along, steps_along};
 
@@ -54,7 +54,7 @@ impl Search {
         first: LayerId,
         place: usize,
     ) -> Result<Search, NoMemory>
-        requires { place_of layers.now first ≡ Some place }
+        requires { index_of layers.now first ≡ Some place }
         ensures search { IfOk result (λ search. (steps : LayerValue → List LayerIdValue) → IsSearch steps layers.now first search.found.items search.marks.items) }
         ensures first { IfOk result (λ search. search.found.items ≡ first ∷ []) }
     {
@@ -83,7 +83,7 @@ impl Search {
         if next.0 == first.0 {
             return Ok(true);
         }
-        let Some(place) = layers.place_of(next) else {
+        let Some(place) = layers.index_of(next) else {
             return Ok(false);
         };
         if self.marks[place] {
@@ -111,7 +111,7 @@ impl Search {
         ensures explored { result ≡ Ok false → (d : LayerIdValue) → IsExplored (steps_along along) layers.now first self.new.found.items (slice_index_or self.old.found.items index d) }
     {
         let from = self.found[index];
-        let Some(place) = layers.place_of(from) else {
+        let Some(place) = layers.index_of(from) else {
             return Ok(false);
         };
         let layer = layers.at(place);
@@ -132,7 +132,7 @@ pub fn reaches_itself(
 ) -> Result<bool, NoMemory>
     ensures { IfOk result (λ back. back ≡ reaches_itself (steps_along along) layers.now id) }
 {
-    let Some(place) = layers.place_of(id) else {
+    let Some(place) = layers.index_of(id) else {
         return Ok(false);
     };
     let mut search = Search::from(alloc, layers, id, place)?;

@@ -1,5 +1,5 @@
 ghost use Rattle.std.specs.Prelude.{◌≡◌, ◌<◌, ◌-◌, ◌++◌, ◌∷◌, [], List, length, take, IfOk, OnOk, OnErr, slice_get, slice_set, slice_index_or};
-ghost use Rattle.sf_tree.specs.Layers.{place_of, has_layer, has_parent};
+ghost use Rattle.sf_tree.specs.Layers.{index_of, has_layer, has_parent};
 ghost use Rattle.sf_tree.specs.Changes.{without, without_steps_to};
 ghost use Rattle.sf_tree.specs.Kept.{IsDistinct};
 
@@ -51,8 +51,8 @@ impl Layers {
         self.list.len()
     }
 
-    pub fn place_of(&self, id: LayerId) -> Option<usize>
-        ensures place { result ≡ place_of self.now id }
+    pub fn index_of(&self, id: LayerId) -> Option<usize>
+        ensures place { result ≡ index_of self.now id }
         ensures distinct { IsDistinct self.now }
     {
         self.places.get(&id.0).copied()
@@ -80,12 +80,12 @@ impl Layers {
     pub fn has(&self, id: LayerId) -> bool
         ensures { result ≡ has_layer self.now id }
     {
-        self.place_of(id).is_some()
+        self.index_of(id).is_some()
     }
 
     // The layer is the newest then.
     pub fn push(&mut self, layer: Layer) -> Result<(), NoMemory>
-        requires { place_of self.old layer.number ≡ None }
+        requires { index_of self.old layer.number ≡ None }
         ensures ok { OnOk result (self.new ≡ self.old ++ layer ∷ []) }
         ensures err { OnErr result (self.new ≡ self.old) }
     {

@@ -3,16 +3,16 @@
 #![tactic(auto)]
 
 mod apply;
-pub mod cause;
 mod changes;
 mod cycles;
 mod journal;
+mod laws;
 mod layers;
 mod order;
+mod reject;
 mod showing;
-#[cfg(test)]
-mod tests;
 mod tree;
 
 pub use apply::ApplyFault;
+pub use laws::no_layer_reaches_itself;
 pub use tree::Tree;

@@ -4,7 +4,7 @@ ghost use Rattle.std.specs.List.{All, flat_map};
 ghost use Rattle.sf_layer.specs.declared.layer.Layer.{Layer as LayerValue};
 ghost use Rattle.sf_layer.specs.declared.parent.Parent.TheVariants as parent;
 ghost use Rattle.sf_tree.specs.DrawOrder.{draw, draw_order, draw_parent, drawn_with, is_behind};
-ghost use Rattle.sf_tree.specs.Kept.{IsTree};
+ghost use Rattle.sf_tree.specs.Kept.{HasNoCycle, IsDistinct, IsTied};
 ghost use Rattle.sf_tree.specs.Known.{AtPlaces, is_on_side, IsBelow, IsSortedBelow, showing};
 ghost use Rattle.sf_tree.specs.Showing.{shows};
 
@@ -72,7 +72,7 @@ impl Below {
                 self.roots.push(place)?;
                 Ok(())
             }
-            Parent::Layer(id) => match layers.place_of(id) {
+            Parent::Layer(id) => match layers.index_of(id) {
                 Some(with) => self.push(with, place),
                 None => Ok(()),
             },
@@ -169,7 +169,9 @@ fn draw_side(
 
 // The layers that show, from the back.
 pub fn draw_order(alloc: Global, layers: &Layers) -> Result<Vec<LayerId>, NoMemory>
-    requires { IsTree layers.now }
+    requires distinct { IsDistinct layers.now }
+    requires tied { All (IsTied layers.now) layers.now }
+    requires no_cycle { HasNoCycle layers.now }
     ensures { IfOk result (λ order. order.items ≡ draw_order layers.now) }
 {
     let flags = showing(alloc, layers)?;

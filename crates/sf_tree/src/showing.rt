@@ -1,6 +1,7 @@
 ghost use Rattle.std.specs.Prelude.{◌≡◌, ◌+◌, ◌<◌, ◌&&◌, not, length, map, IfOk, slice_get};
+ghost use Rattle.std.specs.List.{All};
 ghost use Rattle.sf_layer.specs.declared.layer.Layer.{Layer as LayerValue};
-ghost use Rattle.sf_tree.specs.Kept.{IsTree};
+ghost use Rattle.sf_tree.specs.Kept.{HasNoCycle, IsDistinct, IsTied};
 ghost use Rattle.sf_tree.specs.Layers.{layer_of};
 ghost use Rattle.sf_tree.specs.Showing.{parent_passes, passes, relative_passes, shows};
 ghost use Rattle.sf_tree.specs.Known.{IsKnown, Outranks};
@@ -12,7 +13,9 @@ use std::alloc::Global;
 
 // Whether the layers show, by place.
 pub fn showing(alloc: Global, layers: &Layers) -> Result<Vec<bool>, NoMemory>
-    requires { IsTree layers.now }
+    requires distinct { IsDistinct layers.now }
+    requires tied { All (IsTied layers.now) layers.now }
+    requires no_cycle { HasNoCycle layers.now }
     ensures { IfOk result (λ list. list.items ≡ map (shows layers.now) layers.now) }
 {
     let mut known = vec![in alloc; None; layers.len()]?;
@@ -72,7 +75,7 @@ fn layer_shows(layers: &Layers, known: &mut [Option<bool>], id: LayerId, steps: 
     ensures shown { result ≡ passes (shows layers.now) (layer_of layers.now id) }
     ensures known { IsKnown layers.now known.new }
 {
-    match layers.place_of(id) {
+    match layers.index_of(id) {
         Some(place) => show(layers, known, place, steps - 1),
         None => false,
     }

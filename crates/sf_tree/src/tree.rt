@@ -5,7 +5,7 @@ ghost use Rattle.sf_tree.specs.Answers.{IsRejection};
 ghost use Rattle.sf_tree.specs.Changes.{after};
 ghost use Rattle.sf_tree.specs.DrawOrder.{draw_order};
 ghost use Rattle.sf_tree.specs.Kept.{IsTree};
-ghost use Rattle.sf_tree.specs.Layers.{layer_of};
+ghost use Rattle.sf_tree.specs.Layers.{index_of, layer_of};
 
 use crate::apply::{ApplyFault, apply_all};
 use crate::layers::Layers;
@@ -15,42 +15,55 @@ use sf_layer::{Layer, Op};
 use std::alloc::Global;
 use std::marker::Model;
 
-/// The layers, in the order of their creation. No two have one number, parents and relative
-/// layers are in the tree, and no layer reaches itself by steps to parents and relative layers.
+// How many layers fill a tree that has no limit of its own.
+const MOST_LAYERS: u32 = 256;
+
+/// The layers, in the order of their creation, and how many there can be, at most 9,216. No two
+/// have one number, parents and relative layers are in the tree, and no layer reaches itself by
+/// steps to parents and relative layers. What is no colour layer has the colour that it began with,
+/// and what is no buffer layer shows nothing.
 #[derive(Drop)]
 pub struct Tree {
     alloc: Global,
+    most: u32,
     layers: Layers,
 }
 
 impl Model for Tree {
-    ghost use Rattle.std.specs.Prelude.{List};
-    ghost use Rattle.sf_layer.specs.declared.layer.Layer.{Layer};
+    ghost use Rattle.sf_tree.specs.Trees.{TreeOf};
     ghost use Rattle.sf_tree.specs.Kept.{IsTree};
 
-    ghost Value = { List Layer };
+    ghost Value = { TreeOf };
 
-    ghost view = { λ s. s.layers };
+    ghost view = { λ s. record { layers = s.layers; most = s.most } };
 
-    ghost invariant = { λ s. IsTree s.layers };
+    ghost invariant = { λ s. IsTree s.most s.layers };
 }
 
 impl Tree {
-    /// A tree without layers.
-    #[tactic(auto, using(crate::proofs::Keeping::IsTree_nil))]
+    /// A tree without layers, for at most 256.
     pub fn new(alloc: Global) -> Result<Tree, NoMemory>
-        ensures { IfOk result (λ tree. tree ≡ []) }
+        ensures { IfOk result (λ tree. tree ≡ record { layers = []; most = 256 }) }
+    {
+        Tree::with_limit(alloc, MOST_LAYERS)
+    }
+
+    /// A tree without layers, for at most so many, which are at most 9,216.
+    pub fn with_limit(alloc: Global, most: u32) -> Result<Tree, NoMemory>
+        requires { most ≤ 9216 }
+        ensures { IfOk result (λ tree. tree ≡ record { layers = []; most = most }) }
     {
         Ok(Tree {
             alloc,
+            most,
             layers: Layers::new(alloc),
         })
     }
 
     /// All layers, in the order of their creation.
     pub fn layers(&self) -> &[Layer]
-        ensures value { result.now ≡ self.now }
-        ensures kept { IsTree self.now }
+        ensures value { result.now ≡ self.now.layers }
+        ensures kept { IsTree self.now.most self.now.layers }
     {
         self.layers.as_slice()
     }
@@ -58,19 +71,27 @@ impl Tree {
     /// The layer of a number, if it is in the tree.
     #[tactic(auto, using(crate::proofs::Lookups::lookups))]
     pub fn layer(&self, id: LayerId) -> Option<Layer>
-        ensures value { result ≡ layer_of self.now id }
-        ensures kept { IsTree self.now }
+        ensures value { result ≡ layer_of self.now.layers id }
+        ensures kept { IsTree self.now.most self.now.layers }
     {
-        match self.layers.place_of(id) {
+        match self.layers.index_of(id) {
             Some(place) => Some(self.layers.at(place)),
             None => None,
         }
     }
 
+    /// Where the layer of a number stands among the layers, if it is in the tree.
+    pub fn index_of(&self, id: LayerId) -> Option<usize>
+        ensures value { result ≡ index_of self.now.layers id }
+        ensures kept { IsTree self.now.most self.now.layers }
+    {
+        self.layers.index_of(id)
+    }
+
     /// Does all operations, in order, or none of them: then it tells the first that is rejected,
     /// from 1, and the first cause, by number, to reject it. There are at most 4,294,967,295
-    /// operations, each on a layer of a number of 1 or more, with positions and crops in their
-    /// ranges.
+    /// operations, each on a layer of a number of 1 or more, with positions, crops and
+    /// orientations in their ranges.
     pub fn apply(&mut self, ops: &[(LayerId, Op)]) -> Result<(), ApplyFault>
         requires few { length ops.now ≤ 4294967295 }
         requires in_range { All IsOperation ops.now }
@@ -78,12 +99,12 @@ impl Tree {
         ensures rejected { IfErr result (IsRejection (after self.old ops.now)) }
         ensures err { OnErr result (self.new ≡ self.old) }
     {
-        apply_all(self.alloc, &mut self.layers, ops)
+        apply_all(self.alloc, &mut self.layers, self.most, ops)
     }
 
     /// The numbers of the layers that show, in the order in which they are drawn, from the back.
     pub fn draw_order(&self) -> Result<Vec<LayerId>, NoMemory>
-        ensures { IfOk result (λ order. order.items ≡ draw_order self.now) }
+        ensures { IfOk result (λ order. order.items ≡ draw_order self.now.layers) }
     {
         order::draw_order(self.alloc, &self.layers)
     }

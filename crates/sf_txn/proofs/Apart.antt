@@ -27,6 +27,7 @@ cumulative_by_kind (op.Opaque _) = refl
 cumulative_by_kind (op.Colour _) = refl
 cumulative_by_kind (op.Backpressure _) = refl
 cumulative_by_kind (op.Show _) = refl
+cumulative_by_kind (op.Orient _) = refl
 
 by_numbers : (c l k : Bool) → (not c && (l && k)) ≡ true → (c ≡ false) × (l ≡ true) × (k ≡ true)
 by_numbers false true true h = (refl, refl, refl)

@@ -5,19 +5,29 @@ use Rattle.std.specs.Prelude.{ℤ}
 use Rattle.std.proofs.lemmas.Int.{ints}
 use Rattle.std.proofs.lemmas.List.Elements.{All-head, All-push, All-tail}
 use Rattle.sf_base.specs.declared.ids.LayerId.{LayerId}
-use Rattle.sf_layer.specs.Ranges.{IsInside, IsOperation}
+use Rattle.sf_layer.specs.Ranges.{IsOperation}
+use Rattle.sf_base.specs.Geometry.{IsWithin, LiesWithin}
+use Rattle.sf_base.specs.declared.geometry.Rect.{Rect}
+use Rattle.sf_picture.specs.Pixels.{HasSize}
+use Rattle.sf_picture.specs.declared.picture.Picture.{Picture}
 use Rattle.sf_layer.specs.declared.op.Op.{Op}
 use Rattle.sf_layer.specs.declared.op.Op.TheVariants as op
 use Rattle.sf_layer.specs.declared.shown.Shown.{Shown}
-use Rattle.sf_txn.specs.Buffers.{Buffer, IsWithin}
+use Rattle.sf_txn.specs.Buffers.{Buffer}
 use Rattle.sf_txn.specs.Transactions.{Contents, IsTransaction, merged, replaces, set, set_buffer, show_op, shown_by, shows, shows_of, with_buffer, with_buffers, with_op, with_ops, without_first}
 use Rattle.sf_txn.proofs.Apart.{stay-with_op, stay-with_ops}
 use Rattle.sf_txn.proofs.Firsts.{All-without_first, length-without_first}
 use Rattle.sf_txn.proofs.Showing.{is_plain, plain_from_none, shows_none, shows_one, shows-with-plain, shows-with-show}
 
 -- a picture is not larger than the greatest buffer
-pub inside_of : (from : ℤ) (extent size : ℕ) → IsWithin from extent size → size ≤ 512 → IsInside from extent
-inside_of from extent size h few = record { low = h.low; high = omega (arith, ints, h.high, few) }
+within_more : (start : ℤ) (extent size more : ℕ) → IsWithin start extent size → size ≤ more → IsWithin start extent more
+within_more start extent size more h few = record { low = h.low; high = omega (arith, ints, h.high, few) }
+
+pub within_greatest : (crop : Rect) (picture : Picture) → LiesWithin crop picture.width picture.height → HasSize picture → LiesWithin crop 512 512
+within_greatest crop picture h size = record {
+  across = within_more _ _ _ 512 h.across size.narrow;
+  down = within_more _ _ _ 512 h.down size.low;
+}
 
 pub length-with_op : (ops : List (LayerId × Op)) (operation : LayerId × Op) → length (with_op ops operation) ≤ length ops + 1
 length-with_op ops operation = omega (arith, length-append {A = LayerId × Op}, length-without_first (replaces operation) ops)

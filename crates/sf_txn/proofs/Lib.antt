@@ -2,3 +2,4 @@ pub mod Firsts
 pub mod Apart
 pub mod Showing
 pub mod Keeping
+pub mod Looking

@@ -30,6 +30,7 @@ shows_none (op.Opaque _) layer h = refl
 shows_none (op.Colour _) layer h = refl
 shows_none (op.Backpressure _) layer h = refl
 shows_none (op.Show _) layer h = cc
+shows_none (op.Orient _) layer h = refl
 
 pub plain_from_none : (o : Op) (layer : LayerId) → shows_of o layer ≡ [] → is_plain o ≡ true
 plain_from_none (op.Create _ _) layer h = refl
@@ -45,6 +46,7 @@ plain_from_none (op.Opaque _) layer h = refl
 plain_from_none (op.Colour _) layer h = refl
 plain_from_none (op.Backpressure _) layer h = refl
 plain_from_none (op.Show _) layer h = cc
+plain_from_none (op.Orient _) layer h = refl
 
 pub shows_one : (o : Op) → is_plain o ≡ false → (shown : Shown) × (o ≡ op.Show shown)
 shows_one (op.Show shown) h = (shown, refl)
@@ -60,6 +62,7 @@ shows_one (op.Hidden _) h = absurd (true≢false h)
 shows_one (op.Opaque _) h = absurd (true≢false h)
 shows_one (op.Colour _) h = absurd (true≢false h)
 shows_one (op.Backpressure _) h = absurd (true≢false h)
+shows_one (op.Orient _) h = absurd (true≢false h)
 
 -- by its kind
 pub plain_by_kind : (o : Op) → is_plain o ≡ not (kind_of o == 11)
@@ -76,6 +79,7 @@ plain_by_kind (op.Opaque _) = refl
 plain_by_kind (op.Colour _) = refl
 plain_by_kind (op.Backpressure _) = refl
 plain_by_kind (op.Show _) = refl
+plain_by_kind (op.Orient _) = refl
 
 pub shows-append : (xs ys : List (LayerId × Op)) → shows (xs ++ ys) ≡ shows xs ++ shows ys
 shows-append [] ys = refl

@@ -1,5 +1,6 @@
 -- What a transaction shows of a buffer.
-use Rattle.std.specs.Prelude.{◌≡◌, ℕ, ℤ, pos, ◌≤ℤ◌, ◌+ℤ◌}
+use Rattle.std.specs.Prelude.{◌≡◌}
+use Rattle.sf_base.specs.Geometry.{LiesWithin}
 use Rattle.sf_base.specs.declared.fences.Fence.{Fence}
 use Rattle.sf_base.specs.declared.ids.LayerId.{LayerId}
 use Rattle.sf_layer.specs.declared.shown.Shown.{Shown}
@@ -13,14 +14,8 @@ pub record Buffer (L : Type 0) : Type 0 where
   pub fence : Fence
   pub lease : L
 
--- so many pixels from there on lie within a size
-pub record IsWithin (from : ℤ) (extent size : ℕ) : Type 0 where
-  pub low : pos 0 ≤ℤ from
-  pub high : (from +ℤ pos extent) ≤ℤ pos size
-
 -- what is shown names the picture, and its crop lies inside
 pub record Shows (shown : Shown) (picture : Picture) : Type 0 where
   pub number : shown.picture ≡ picture.number
-  pub across : IsWithin shown.crop.x shown.crop.width picture.width
-  pub down : IsWithin shown.crop.y shown.crop.height picture.height
+  pub crop : LiesWithin shown.crop picture.width picture.height
   pub size : HasSize picture

@@ -1,3 +1,4 @@
+pub mod Counts
 pub mod Leases
 pub mod Buffers
 pub mod Transactions

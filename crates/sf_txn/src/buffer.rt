@@ -24,3 +24,21 @@ impl<L: Lease> Model for BufferOp<L> {
 
     ghost invariant = { λ b. Shows b.shown (L.picture b.lease) };
 }
+
+impl<L: Lease> BufferOp<L> {
+    ghost use Rattle.std.specs.Prelude.{◌≡◌, [], ◌↔◌, IsTrue};
+    ghost use Rattle.sf_txn.specs.Leases.{IsEyeAfter, IsLookedBuffer, IsShownTo};
+
+    /// Whether the write of the buffer has ended, as one look of its lease through the eye shows
+    /// it: exactly where the eye knows it then. The eye fits the lease.
+    pub fn look(&mut self, eye: &mut L::Eye) -> bool
+        requires { L.fits (L.mark eye.old) self.old.lease }
+        ensures shown { L.shown self.new.lease ≡ result }
+        ensures known { IsTrue result ↔ L.knows eye.new self.new.lease }
+        ensures looked { IsLookedBuffer L.Lease self.old self.new }
+        ensures told { IsShownTo L.Lease eye.old eye.new self.new.lease }
+        ensures eye { IsEyeAfter L.Lease eye.old eye.new [] }
+    {
+        self.lease.drawn(eye)
+    }
+}

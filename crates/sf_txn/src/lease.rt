@@ -1,6 +1,6 @@
 ghost use Rattle.std.specs.Prelude.{◌≡◌, ℕ, ◌++◌, ◌∷◌, [], ◌↔◌, Bool, true, List, IfOk, IfErr, IsTrue};
 ghost use Rattle.sf_picture.specs.declared.picture.Picture.{Picture as PictureValue};
-ghost use Rattle.sf_txn.specs.Leases.{HasRisen};
+ghost use Rattle.sf_txn.specs.Counts.{HasRisen};
 
 use sf_base::NoMemory;
 use sf_picture::Painted;
@@ -65,13 +65,13 @@ pub trait Lease: Sized {
 
     ghost closing_fits: { Self.Mark → Self.Closing → Type 0 };
 
-    /// Whether the buffer's write has ended, as one look through the eye shows it. Once it is true,
-    /// it stays true through this eye.
+    /// Whether the buffer's write has ended, as one look through the eye shows it: exactly where the
+    /// eye knows it then. Once it is true, it stays true through this eye.
     fn drawn(&mut self, eye: &mut Self::Eye) -> bool
         requires { fits (mark eye.old) self.old }
         ensures shown { shown self.new ≡ result }
         ensures looks { HasRisen (looks self.old) (looks self.new) }
-        ensures known { IsTrue result → knows eye.new self.new }
+        ensures known { IsTrue result ↔ knows eye.new self.new }
         ensures still { knows eye.old self.old → IsTrue result }
         ensures exact { is_exact (mark eye.old) ≡ true → result ≡ tells (ends eye.old) (end self.old) }
         ensures plain { plain self.new ≡ plain self.old }

@@ -6,11 +6,8 @@
 mod buffer;
 mod lease;
 mod lists;
+mod look;
 mod merge;
-#[cfg(test)]
-mod page;
-#[cfg(test)]
-mod tests;
 mod transaction;
 
 pub use buffer::BufferOp;

@@ -14,7 +14,8 @@ use std::marker::Model;
 /// desired present time and barriers. An operation takes the place of an earlier one of its kind
 /// for its layer, but for `create` and `destroy`, so no two others of a kind are for one layer. The
 /// operations that show buffers are the buffers, in order. There are at most 4,294,967,295
-/// operations, each on a layer of a number of 1 or more, with positions and crops in their ranges.
+/// operations, each on a layer of a number of 1 or more, with positions, crops and orientations in
+/// their ranges.
 #[derive(Drop)]
 pub struct Transaction<L: Lease> {
     pub(crate) alloc: Global,
@@ -151,8 +152,8 @@ impl<L: Lease + Drop> Transaction<L> {
     }
 
     /// Sets an operation that shows no buffer. It goes last, and an earlier one of its kind for its
-    /// layer goes, but for `create` and `destroy`. The layer's number is 1 or more, and positions
-    /// and crops are in their ranges. Want of memory changes nothing.
+    /// layer goes, but for `create` and `destroy`. The layer's number is 1 or more, and positions,
+    /// crops and orientations are in their ranges. Want of memory changes nothing.
     pub fn set(&mut self, layer: LayerId, op: Op) -> Result<(), NoMemory>
         requires plain { shows_of op layer ≡ [] }
         requires in_range { IsOperation (layer, op) }

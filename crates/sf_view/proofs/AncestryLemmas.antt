@@ -1,12 +1,13 @@
 -- Ancestors, step by step.
-use Rattle.std.proofs.Common.{◌≡◌, ℕ, zero, suc, ◌-◌, ◌<◌, ◌≤◌, List, [], ◌∷◌, ◌++◌, length, Option, Some, None, refl, ap, ◌∙◌, sym, subst, arith, append_assoc}
+use Rattle.std.proofs.Common.{◌≡◌, ℕ, zero, suc, ◌-◌, ◌+◌, ◌<◌, ◌≤◌, List, [], ◌∷◌, ◌++◌, length, Option, Some, None, refl, ap, ◌∙◌, sym, arith, append_assoc}
 use Rattle.std.specs.List.{All}
-use Rattle.std.proofs.lemmas.List.Elements.{All-cons}
 use Rattle.sf_layer.specs.declared.layer.Layer.{Layer}
 use Rattle.sf_layer.specs.declared.parent.Parent.{Parent}
 use Rattle.sf_layer.specs.declared.parent.Parent.TheVariants as parent
 use Rattle.sf_tree.specs.Layers.{layer_of, parent_layer}
-use Rattle.sf_tree.specs.Kept.{IsLayerInRange, IsTree}
+use Rattle.sf_tree.specs.Kept.{IsRanked}
+use Rattle.sf_tree.specs.Known.{Outranks}
+use Rattle.sf_tree.proofs.ShowLemmas.{Outranks-parent}
 use Rattle.sf_tree.proofs.Ranks.{All-layer_of, layer_of-number}
 use Rattle.sf_base.specs.declared.ids.LayerId.{LayerId}
 use Rattle.sf_view.specs.Ancestry.{ancestry, ancestry_within, and_above}
@@ -32,33 +33,66 @@ length-ancestry_within tree (suc steps) layer = omega (arith, above (parent_laye
     above None ih = omega arith
     above (Some l) ih = ih l
 
--- what is true of the layers of a tree is true of a layer's ancestors
-pub All-ancestry_within : (P : Layer → Type 0) (tree : List Layer) → ((p : Parent) (l : Layer) → parent_layer tree p ≡ Some l → P l) → (steps : ℕ) (layer : Layer) → P layer → All P (ancestry_within tree steps layer)
-All-ancestry_within P tree found zero layer one = λ k d h. absurd (omega arith)
-All-ancestry_within P tree found (suc steps) layer one = All-cons P layer _ one (above (parent_layer tree layer.parent) refl (All-ancestry_within P tree found steps))
+-- what lies above a parent
+above_agree : (tree : List Layer) (f g : Layer → List Layer) (p : Parent) → ((id : LayerId) (layer : Layer) → p ≡ parent.Layer id → layer_of tree id ≡ Some layer → f layer ≡ g layer) → and_above f (parent_layer tree p) ≡ and_above g (parent_layer tree p)
+above_agree tree f g parent.Root h = refl
+above_agree tree f g parent.Nothing h = refl
+above_agree tree f g (parent.Layer id) h = by_layer (layer_of tree id) refl
   where
-    above : (o : Option Layer) → parent_layer tree layer.parent ≡ o → ((l : Layer) → P l → All P (ancestry_within tree steps l)) → All P (and_above (ancestry_within tree steps) o)
-    above None e ih = λ k d h. absurd (omega arith)
-    above (Some l) e ih = ih l (found layer.parent l e)
+    by_layer : (o : Option Layer) → layer_of tree id ≡ o → and_above f o ≡ and_above g o
+    by_layer None e = refl
+    by_layer (Some layer) e = h id layer refl e
 
--- a layer of a tree and its ancestors are few, and in their ranges
-pub ancestry-few : (tree : List Layer) (layer : Layer) → IsTree tree → length (ancestry tree layer) ≤ 65535
-unfolding ancestry
-ancestry-few tree layer t = omega (arith, length-ancestry_within tree (length tree) layer, t.few)
-
-pub ancestry-in_range : (tree : List Layer) (layer : Layer) → IsTree tree → layer_of tree layer.number ≡ Some layer → All IsLayerInRange (ancestry tree layer)
-unfolding ancestry
-ancestry-in_range tree layer t found = All-ancestry_within IsLayerInRange tree parents (length tree) layer (All-layer_of IsLayerInRange tree layer.number layer t.in_range found)
+-- the rank of a layer is steps enough
+ancestry_within-enough : (tree : List Layer) (rank : ℕ → ℕ) (j k : ℕ) (layer : Layer) → All (IsRanked rank) tree → IsRanked rank layer → rank layer.number.0 < j → rank layer.number.0 < k → ancestry_within tree j layer ≡ ancestry_within tree k layer
+ancestry_within-enough tree rank zero k layer all r low high = absurd (omega arith)
+ancestry_within-enough tree rank (suc j) zero layer all r low high = absurd (omega arith)
+ancestry_within-enough tree rank (suc j) (suc k) layer all r low high =
+    ap (λ xs. layer ∷ xs) (above_agree tree (ancestry_within tree j) (ancestry_within tree k) layer.parent (λ id m e f. onward id m f (r.parent id e) (ancestry_within-enough tree rank j k m)))
   where
-    parents : (p : Parent) (l : Layer) → parent_layer tree p ≡ Some l → IsLayerInRange l
-    parents parent.Root l e = cc
-    parents parent.Nothing l e = cc
-    parents (parent.Layer id) l e = All-layer_of IsLayerInRange tree id l t.in_range e
+    onward : (id : LayerId) (m : Layer) → layer_of tree id ≡ Some m → rank id.0 < rank layer.number.0 → (All (IsRanked rank) tree → IsRanked rank m → rank m.number.0 < j → rank m.number.0 < k → ancestry_within tree j m ≡ ancestry_within tree k m) → ancestry_within tree j m ≡ ancestry_within tree k m
+    onward id m f less ih =
+        let same : rank m.number.0 ≡ rank id.0 = ap rank (layer_of-number tree id m f) in
+        ih all (All-layer_of (IsRanked rank) tree id m all f) (omega arith) (omega arith)
+
+-- a layer's ancestry is the layer and the ancestry of its parent
+pub ancestry-is : (tree : List Layer) (layer : Layer) (steps : ℕ) → Outranks tree layer steps → ancestry tree layer ≡ layer ∷ and_above (ancestry tree) (parent_layer tree layer.parent)
+unfolding ancestry
+ancestry-is tree layer steps o = by_length (length tree) refl
+  where
+    inside : o.rank layer.number.0 < length tree
+    inside = o.bounded.bounded layer.number layer o.found
+
+    r : IsRanked o.rank layer
+    r = All-layer_of (IsRanked o.rank) tree layer.number layer o.bounded.ranked o.found
+
+    by_length : (n : ℕ) → length tree ≡ n → ancestry_within tree n layer ≡ layer ∷ and_above (ancestry_within tree n) (parent_layer tree layer.parent)
+    by_length zero e = absurd (omega (arith, inside))
+    by_length (suc n) e = ap (λ xs. layer ∷ xs) (above_agree tree (ancestry_within tree n) (ancestry_within tree (suc n)) layer.parent (λ id m p f. onward id m f (r.parent id p)))
+      where
+        onward : (id : LayerId) (m : Layer) → layer_of tree id ≡ Some m → o.rank id.0 < o.rank layer.number.0 → ancestry_within tree n m ≡ ancestry_within tree (suc n) m
+        onward id m f less =
+            let same : o.rank m.number.0 ≡ o.rank id.0 = ap o.rank (layer_of-number tree id m f) in
+            ancestry_within-enough tree o.rank n (suc n) m o.bounded.ranked (All-layer_of (IsRanked o.rank) tree id m o.bounded.ranked f) (omega (arith, inside)) (omega (arith, inside))
+
+-- a layer and its ancestors are no more than the tree has layers
+pub ancestry-few : (tree : List Layer) (layer : Layer) → length (ancestry tree layer) ≤ length tree
+unfolding ancestry
+ancestry-few tree layer = length-ancestry_within tree (length tree) layer
+
+pub above-few : (tree : List Layer) (o : Option Layer) → length (and_above (ancestry tree) o) ≤ length tree
+above-few tree None = omega arith
+above-few tree (Some layer) = ancestry-few tree layer
 
 pub none_left : (tree : List Layer) (next : Option Layer) → and_above (ancestry_within tree 0) next ≡ []
 none_left tree None = refl
 none_left tree (Some layer) = refl
 
--- a layer that was found by a number is found by its own
-pub found_again : (tree : List Layer) (id : LayerId) (layer : Layer) → layer_of tree id ≡ Some layer → layer_of tree layer.number ≡ Some layer
-found_again tree id layer e = subst (λ (n : ℕ). layer_of tree (record { 0 = n }) ≡ Some layer) (sym (layer_of-number tree id layer e)) e
+-- what a layer hangs from needs one step less
+pub hangs : (tree : List Layer) (layer above : Layer) (steps : ℕ) → Outranks tree layer (steps + 1) → parent_layer tree layer.parent ≡ Some above → Outranks tree above steps
+hangs tree layer above steps o e = by_parent layer.parent refl e
+  where
+    by_parent : (p : Parent) → layer.parent ≡ p → parent_layer tree p ≡ Some above → Outranks tree above steps
+    by_parent parent.Root q e = cc
+    by_parent parent.Nothing q e = cc
+    by_parent (parent.Layer id) q e = Outranks-parent tree layer above id steps o q e

@@ -1,4 +1,4 @@
-pub mod SpanLemmas
+pub mod IntervalLemmas
 pub mod AncestryLemmas
 pub mod PlacementLemmas
 pub mod ViewLemmas

@@ -1,6 +1,7 @@
 -- A layer and its ancestors: where it lies, how opaque it is drawn, and to what it is cut.
-use Rattle.std.specs.Prelude.{ℕ, zero, suc, Bool, true, ◌&&◌, List, [], ◌∷◌, length, Option, Some, None, ℤ, pos, ◌+ℤ◌, int_le, int_lt}
+use Rattle.std.specs.Prelude.{ℕ, zero, suc, Bool, true, ◌&&◌, List, [], ◌∷◌, length, Option, Some, None, ℤ, pos, ◌+ℤ◌}
 use Rattle.sf_base.specs.Blend.{product}
+use Rattle.sf_base.specs.Geometry.{is_within}
 use Rattle.sf_base.specs.declared.geometry.Rect.{Rect}
 use Rattle.sf_layer.specs.declared.layer.Layer.{Layer}
 use Rattle.sf_tree.specs.Layers.{parent_layer}
@@ -26,10 +27,6 @@ place_of (layer ∷ above) = ((place_of above).0 +ℤ layer.position.0, (place_o
 abbrev pub alpha_of : List Layer → ℕ
 alpha_of [] = 255
 alpha_of (layer ∷ above) = product (alpha_of above) layer.alpha
-
--- a coordinate lies in so many pixels from there on
-abbrev pub is_within : ℤ → ℕ → ℤ → Bool
-is_within start extent at = int_le start at && int_lt at (start +ℤ pos extent)
 
 -- a point lies in a crop, if there is one, that was moved to a place
 abbrev pub is_in_crop : ℤ × ℤ → Option Rect → ℤ → ℤ → Bool

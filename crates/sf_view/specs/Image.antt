@@ -1,6 +1,7 @@
 -- The image of a layer tree, one point at a time.
 use Rattle.std.specs.Prelude.{ℕ, Bool, false, ◌&&◌, if◌then◌else◌, List, [], ◌∷◌, filter, filter_map, Option, Some, None, ℤ}
 use Rattle.sf_base.specs.Paint.{painted}
+use Rattle.sf_base.specs.declared.ids.LayerId.{LayerId}
 use Rattle.sf_base.specs.declared.pixel.Rgba.{Rgba}
 use Rattle.sf_layer.specs.declared.layer.Layer.{Layer}
 use Rattle.sf_picture.specs.declared.picture.Picture.{Picture}
@@ -10,9 +11,9 @@ use Rattle.sf_view.specs.declared.content.Content.{Content}
 use Rattle.sf_view.specs.Ancestry.{alpha_of, ancestry, is_in_crops, place_of}
 use Rattle.sf_view.specs.Contents.{content_of, has_content, is_in_content, pixel_of, source_of}
 
--- the layers that are drawn, from the back: those of the draw order that have content
-unfoldable pub drawn_layers : List Layer → List Layer
-drawn_layers tree = filter has_content (filter_map (layer_of tree) (draw_order tree))
+-- the layers of a tree that are drawn in an order: those of these numbers that have content
+unfoldable pub drawn_in : List Layer → List LayerId → List Layer
+drawn_in tree order = filter has_content (filter_map (layer_of tree) order)
 
 -- a layer's place and its alpha, from the root down
 abbrev pub layer_place : List Layer → Layer → ℤ × ℤ
@@ -21,19 +22,19 @@ layer_place tree layer = place_of (ancestry tree layer)
 abbrev pub layer_alpha : List Layer → Layer → ℕ
 layer_alpha tree layer = alpha_of (ancestry tree layer)
 
-abbrev pub is_in_some : Option Content → ℤ × ℤ → ℤ → ℤ → Bool
-is_in_some None place x y = false
-is_in_some (Some content) place x y = is_in_content content place x y
+abbrev pub is_in_some : Option Content → ℕ → ℤ × ℤ → ℤ → ℤ → Bool
+is_in_some None orient place x y = false
+is_in_some (Some content) orient place x y = is_in_content content orient place x y
 
 -- a point is in a layer where it is in the crop of the layer and of each ancestor that has one, and in its content
 abbrev pub is_in_layer : List Layer → Layer → ℤ → ℤ → Bool
 is_in_layer tree layer x y =
-    is_in_crops (ancestry tree layer) x y && is_in_some (content_of layer) (layer_place tree layer) x y
+    is_in_crops (ancestry tree layer) x y && is_in_some (content_of layer) layer.orient (layer_place tree layer) x y
 
 abbrev pub paint_content : (ℕ → Picture) → List Layer → Layer → ℤ → ℤ → Rgba → Option Content → Rgba
 paint_content picture tree layer x y under None = under
 paint_content picture tree layer x y under (Some content) =
-    painted under (source_of layer.opaque (pixel_of picture content (layer_place tree layer) x y)) (layer_alpha tree layer)
+    painted under (source_of layer.opaque (pixel_of picture content layer.orient (layer_place tree layer) x y)) (layer_alpha tree layer)
 
 -- a pixel under the layers of a list, from the back; the point is in some of them
 abbrev pub under_layers : (ℕ → Picture) → List Layer → ℤ → ℤ → Rgba → List Layer → Rgba
@@ -47,6 +48,10 @@ under_layers picture tree x y under (layer ∷ layers) =
 abbrev pub opaque_black : Rgba
 opaque_black = record { r = 0; g = 0; b = 0; a = 255 }
 
--- the image of a tree at a point, where each buffer holds the picture of the number that is shown
+-- the image at a point of the layers of an order, where each buffer holds the picture of the number that is shown
+unfoldable pub image_in : (ℕ → Picture) → List Layer → List LayerId → ℤ → ℤ → Rgba
+image_in picture tree order x y = under_layers picture tree x y opaque_black (drawn_in tree order)
+
+-- the image of a tree: that of its draw order
 unfoldable pub image : (ℕ → Picture) → List Layer → ℤ → ℤ → Rgba
-image picture tree x y = under_layers picture tree x y opaque_black (drawn_layers tree)
+image picture tree x y = image_in picture tree (draw_order tree) x y

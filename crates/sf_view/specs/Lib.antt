@@ -1,9 +1,10 @@
 pub mod Ancestry
+pub mod Boxes
 pub mod Contents
 pub mod Image
 pub mod Views
 pub mod Stacks
-pub mod Spans
+pub mod Intervals
 pub mod Clips
 pub mod Placements
 pub use Rattle.sf_tree.specs.Layers

@@ -17,9 +17,17 @@ pub record Sheet : Type 0 where
   pub alpha : ℕ
   pub opaque : Bool
   pub content : Content
+  pub orient : ℕ
 
 abbrev pub sheet_of : Drawn → Sheet
-sheet_of drawn = record { layer = drawn.layer; place = drawn.place; alpha = drawn.alpha; opaque = drawn.opaque; content = drawn.content }
+sheet_of drawn = record {
+  layer = drawn.layer;
+  place = drawn.place;
+  alpha = drawn.alpha;
+  opaque = drawn.opaque;
+  content = drawn.content;
+  orient = drawn.orient;
+}
 
 -- the drawn layers whose clip has the point, from the back
 unfoldable pub stack : ViewOf → ℤ → ℤ → List Sheet
@@ -29,7 +37,7 @@ stack view x y = map sheet_of (filter (λ drawn. is_in_clip drawn x y) view.draw
 abbrev pub under_stack : (ℕ → Picture) → ℤ → ℤ → Rgba → List Sheet → Rgba
 under_stack picture x y under [] = under
 under_stack picture x y under (sheet ∷ sheets) =
-    under_stack picture x y (painted under (source_of sheet.opaque (pixel_of picture sheet.content sheet.place x y)) sheet.alpha) sheets
+    under_stack picture x y (painted under (source_of sheet.opaque (pixel_of picture sheet.content sheet.orient sheet.place x y)) sheet.alpha) sheets
 
 -- the image of a view at a point
 unfoldable pub view_image : (ℕ → Picture) → ViewOf → ℤ → ℤ → Rgba

@@ -14,4 +14,6 @@ pub struct Drawn {
     /// Whether the alpha of the content's own pixels counts as 255.
     pub opaque: bool,
     pub content: Content,
+    /// How its buffer's crop is turned, as a layer's orientation says.
+    pub orient: u8,
 }

@@ -3,17 +3,17 @@
 //! image is painted from it.
 #![tactic(auto)]
 
-mod ancestry;
+mod ancestors;
 mod content;
 mod drawn;
+mod interval;
 mod laws;
 mod placement;
-mod span;
-#[cfg(test)]
-mod tests;
+mod placing;
 mod view;
 
+pub use ancestors::ancestry;
 pub use content::Content;
 pub use drawn::Drawn;
-pub use laws::a_view_has_the_image_of_its_tree;
-pub use view::{View, view_of};
+pub use laws::a_view_has_the_image_of_its_order;
+pub use view::{View, view_in_order, view_of};

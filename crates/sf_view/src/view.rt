@@ -1,23 +1,26 @@
-ghost use Rattle.std.specs.Prelude.{◌≡◌, IfOk, pos, ◌≤ℤ◌};
-ghost use Rattle.sf_tree.specs.Kept.{IsTree};
-ghost use Rattle.sf_tree.specs.Layers.{layer_of};
+ghost use Rattle.std.specs.Prelude.{◌≡◌, ◌≤◌, IfOk, List, pos, ◌≤ℤ◌};
+ghost use Rattle.sf_layer.specs.declared.layer.Layer.{Layer as LayerValue};
+ghost use Rattle.sf_tree.specs.Kept.{IsLayerInRange};
+ghost use Rattle.sf_view.specs.Ancestry.{ancestry};
 ghost use Rattle.sf_view.specs.Clips.{IsClipOf};
 ghost use Rattle.sf_view.specs.Contents.{content_of};
-ghost use Rattle.sf_view.specs.Views.{Draws, IsClip, IsDisplay, Views};
+ghost use Rattle.sf_view.specs.Placements.{IsPlaced, IsPlacement};
+ghost use Rattle.sf_view.specs.Views.{Draws, IsClip, IsDisplay, Views, ViewsInOrder};
 
-use crate::ancestry::ancestry;
 use crate::content::{Content, content_of};
 use crate::drawn::Drawn;
-use crate::placement::{cut_to_content, place_layer};
-use crate::span::Span;
-use sf_base::{Items, NoMemory, Rect};
-use sf_layer::Layer;
+use crate::interval::Interval;
+use crate::placement::{Placement, cut_to_content};
+use crate::placing::{layer_at, place};
+use sf_base::{Items, LayerId, NoMemory, Rect};
+use sf_layer::{GREATEST_ORIENTATION, Layer};
 use sf_tree::Tree;
 use std::alloc::Global;
 use std::marker::Model;
 
 /// What a display shows of a layer tree. Its width and height are 1 to 1,024 pixels, and each clip
-/// lies in the display and in what its layer shows.
+/// lies in the display and in what its layer shows; every orientation is at most
+/// `GREATEST_ORIENTATION`.
 #[derive(Drop)]
 pub struct View {
     pub width: u32,
@@ -37,7 +40,8 @@ impl Model for View {
 }
 
 // A clip of these pixels, which is empty where there are none.
-fn clip_of(across: Span, down: Span) -> Rect
+#[tactic(auto, unfolding(sf_base::specs::Geometry::covers))]
+fn clip_of(across: Interval, down: Interval) -> Rect
     requires left { pos 0 ≤ℤ across.from }
     requires top { pos 0 ≤ℤ down.from }
     ensures { IsClipOf across down result }
@@ -60,57 +64,67 @@ fn clip_of(across: Span, down: Span) -> Rect
     }
 }
 
-// A layer with this content, as the display draws it.
-fn draw_layer(
-    alloc: Global,
-    tree: &Tree,
-    layer: &Layer,
-    content: Content,
-    width: u32,
-    height: u32,
-) -> Result<Drawn, NoMemory>
-    requires display { IsDisplay width height }
+// A layer with this content and placement, as the display draws it.
+fn draw_layer(layer: &Layer, content: Content, at: Placement, width: u32, height: u32) -> Drawn
     requires content { Some content ≡ content_of layer.now }
-    requires kept { IsTree tree.now }
-    requires found { layer_of tree.now layer.now.number ≡ Some layer.now }
-    ensures draws { IfOk result (Draws tree.now width height layer.now) }
-    ensures clip { IfOk result (IsClip width height) }
+    requires in_range { IsLayerInRange layer.now }
+    requires placed { IsPlacement width height at }
+    ensures draws { (tree : List LayerValue) → IsPlaced width height (ancestry tree layer.now) at → Draws tree width height layer.now result }
+    ensures clip { IsClip width height result }
+    ensures orient { result.orient ≤ GREATEST_ORIENTATION }
 {
-    let list = ancestry(alloc, tree, *layer)?;
-    let at = place_layer(&list, width, height);
-    let shown = cut_to_content(at, &content);
-    Ok(Drawn {
+    let shown = cut_to_content(at, &content, layer.orient);
+    Drawn {
         layer: layer.number,
         clip: clip_of(shown.across, shown.down),
         place: (at.x, at.y),
         alpha: at.alpha,
         opaque: layer.opaque,
         content,
-    })
+        orient: layer.orient,
+    }
 }
 
-/// The view of a tree on a display of this size, 1 to 1,024 pixels wide and high: each layer of
-/// the draw order that shows a colour or a buffer, once and in order. A point of the display is in
-/// a layer's clip exactly where it is in the crops of the layer and of its ancestors and in what
-/// the layer shows.
-pub fn view_of(alloc: Global, tree: &Tree, width: u32, height: u32) -> Result<View, NoMemory>
+/// The view of the layers of a tree that an order names, from the back, on a display of this size,
+/// 1 to 1,024 pixels wide and high: each that shows a colour or a buffer, in order. A number of no
+/// layer is passed over. A point of the display is in a layer's clip exactly where it is in the
+/// crops of the layer and of its ancestors and in what the layer shows.
+pub fn view_in_order(
+    alloc: Global,
+    tree: &Tree,
+    order: &[LayerId],
+    width: u32,
+    height: u32,
+) -> Result<View, NoMemory>
     requires { IsDisplay width height }
-    ensures { IfOk result (Views tree.now width height) }
+    ensures { IfOk result (ViewsInOrder tree.now.layers order.now width height) }
 {
+    let count = tree.layers().len();
+    let mut found = vec![in alloc; None; count]?;
     let mut drawn = Vec::new(alloc);
-    let order = tree.draw_order()?;
-    for id in &order {
-        let Some(layer) = tree.layer(*id) else {
+    for id in order {
+        let Some(index) = tree.index_of(*id) else {
             continue;
         };
+        let layer = layer_at(tree, index);
         let Some(content) = content_of(&layer) else {
             continue;
         };
-        drawn.push(draw_layer(alloc, tree, &layer, content, width, height)?)?;
+        let at = place(tree, &mut found, width, height, index, count);
+        drawn.push(draw_layer(&layer, content, at, width, height))?;
     }
     Ok(View {
         width,
         height,
         drawn: Items::new(drawn),
     })
+}
+
+/// The view of a whole tree: that of its draw order, in which each layer that shows stands once.
+pub fn view_of(alloc: Global, tree: &Tree, width: u32, height: u32) -> Result<View, NoMemory>
+    requires { IsDisplay width height }
+    ensures { IfOk result (Views tree.now.layers width height) }
+{
+    let order = tree.draw_order()?;
+    view_in_order(alloc, tree, &order, width, height)
 }

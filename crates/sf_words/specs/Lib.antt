@@ -1,3 +1,4 @@
+pub mod Causes
 pub mod Text
 pub mod Numbers
 pub mod Reading

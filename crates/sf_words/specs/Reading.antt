@@ -1,9 +1,10 @@
 -- Reading a line from its first word on: a value and the words after it, or the fault of the
 -- leftmost word that is wrong.
-use Rattle.std.specs.Prelude.{◌≡◌, ℕ, nat_le, ◌&&◌, if◌then◌else◌, Bool, List, [], ◌∷◌, length, Option, None, Some, Result, Ok, Err}
+use Rattle.std.specs.Prelude.{◌≡◌, ℕ, ◌==◌, ℤ, if◌then◌else◌, Bool, List, [], ◌∷◌, length, Option, None, Some, Result, Ok, Err}
 use Rattle.std.specs.Str.{bytes_eq}
 use Rattle.sf_words.specs.Text.{Text}
-use Rattle.sf_words.specs.Numbers.{decimal_of}
+pub use Rattle.sf_words.specs.Numbers.{in_range}
+use Rattle.sf_words.specs.Numbers.{decimal_of, signed_of}
 use Rattle.sf_words.specs.declared.fault.Cause.{Cause}
 use Rattle.sf_words.specs.declared.fault.Cause.TheVariants.{BadWord, MissingWord, ExtraWord, UnknownWord}
 use Rattle.sf_words.specs.declared.fault.WordFault.{WordFault}
@@ -45,17 +46,25 @@ unfoldable pub word_at : List Text → Read Text
 word_at [] = wrong 0 MissingWord
 word_at (word ∷ words) = Ok (word, words)
 
--- a value in a range
-abbrev pub in_range : ℕ → ℕ → Option ℕ → Option ℕ
-in_range low high None = None
-in_range low high (Some n) = if nat_le low n && nat_le n high then Some n else None
-
 -- a number in a range
 unfoldable pub number_at : ℕ → ℕ → List Text → Read ℕ
 number_at low high words = do
   word ← word_at words
   n ← good (length words) (in_range low high (decimal_of word.0))
   Ok (n, word.1)
+
+-- a number down to `-below` and up to `above`
+unfoldable pub signed_at : ℕ → ℕ → List Text → Read ℤ
+signed_at below above words = do
+  word ← word_at words
+  z ← good (length words) (signed_of below above word.0)
+  Ok (z, word.1)
+
+-- 0 or 1, for no and yes
+unfoldable pub flag_at : List Text → Read Bool
+flag_at words = do
+  number ← number_at 0 1 words
+  Ok (number.0 == 1, number.1)
 
 -- a fixed word
 unfoldable pub fixed_at : Text → List Text → Read (Unit {0})

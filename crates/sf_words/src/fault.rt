@@ -1,3 +1,6 @@
+ghost use Rattle.std.specs.Prelude.{◌≡◌};
+ghost use Rattle.sf_words.specs.Causes.{number_of};
+
 /// What is wrong with a word.
 #[derive(Clone, Copy, Debug, PartialEq, Eq)]
 pub enum Cause {
@@ -23,6 +26,27 @@ pub enum Cause {
     Unended,
     /// Another version of the format.
     WrongVersion,
+}
+
+impl Cause {
+    /// The cause's number, by which records tell it.
+    pub fn number(self) -> u32
+        ensures { result ≡ number_of self }
+    {
+        match self {
+            Cause::NotUtf8 => 1,
+            Cause::UnknownWord => 2,
+            Cause::BadWord => 3,
+            Cause::MissingWord => 4,
+            Cause::ExtraWord => 5,
+            Cause::OutOfOrder => 6,
+            Cause::Undefined => 7,
+            Cause::Twice => 8,
+            Cause::Limit => 9,
+            Cause::Unended => 10,
+            Cause::WrongVersion => 11,
+        }
+    }
 }
 
 /// A fault in a line, told by how many words there are from the wrong one on: none where a word is

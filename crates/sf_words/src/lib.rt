@@ -14,9 +14,7 @@ pub use colours::colour;
 pub use fault::{Cause, WordFault};
 pub use names::name;
 pub use reading::{
-    count_words, demand, end, fixed, is, number_within, number32, number64, word, wrong,
+    count_words, demand, end, fixed, flag, is, number_within, number32, number64, signed, word,
+    wrong,
 };
 pub use text::{next_line, next_word, trim};
-
-#[cfg(test)]
-mod tests;

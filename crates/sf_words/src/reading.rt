@@ -1,9 +1,9 @@
-ghost use Rattle.std.specs.Prelude.{◌≡◌, ◌≤◌, length, IfOk, IfSome};
+ghost use Rattle.std.specs.Prelude.{◌≡◌, ◌≤◌, ◌≤ℤ◌, pos, neg_ℤ, length, IfOk, IfSome};
 ghost use Rattle.std.specs.Str.{bytes_eq};
 ghost use Rattle.sf_words.specs.Text.{words_of};
-ghost use Rattle.sf_words.specs.Numbers.{decimal_of};
+ghost use Rattle.sf_words.specs.Numbers.{decimal_of, signed_of};
 ghost use Rattle.sf_words.specs.Reading as reading;
-ghost use Rattle.sf_words.specs.Reading.{Gives, end_at, fixed_at, in_range, number_at, word_at};
+ghost use Rattle.sf_words.specs.Reading.{Gives, end_at, fixed_at, flag_at, in_range, number_at, signed_at, word_at};
 
 use crate::fault::{Cause, WordFault};
 use crate::numbers::decimal;
@@ -97,6 +97,53 @@ pub fn number32(line: &[u8], low: u32, high: u32) -> Result<(u32, &[u8]), WordFa
 {
     let (n, rest) = number64(line, u64::from(low), u64::from(high))?;
     Ok((n as u32, rest))
+}
+
+// The number down to `-below` and up to `above` that a word gives.
+#[tactic(auto, unfolding(crate::specs::Numbers::signed_of))]
+fn signed_within(word: &[u8], below: u32, above: u32) -> Option<i32>
+    requires low { below ≤ 2147483648 }
+    requires high { above ≤ 2147483647 }
+    ensures given { result ≡ signed_of below above word.now }
+    ensures low { IfSome result (λ z. neg_ℤ (pos below) ≤ℤ z) }
+    ensures high { IfSome result (λ z. z ≤ℤ pos above) }
+{
+    match word {
+        [b'-', digits @ ..] => {
+            let n = number_within(digits, 0, u64::from(below))?;
+            Some(-(n as i64) as i32)
+        }
+        [_, ..] => {
+            let n = number_within(word, 0, u64::from(above))?;
+            Some(n as i32)
+        }
+        [] => None,
+    }
+}
+
+/// A number down to `-below` and up to `above`, and what is left of the line behind it.
+#[tactic(auto, unfolding(crate::specs::Reading::signed_at))]
+pub fn signed(line: &[u8], below: u32, above: u32) -> Result<(i32, &[u8]), WordFault>
+    requires low { below ≤ 2147483648 }
+    requires high { above ≤ 2147483647 }
+    ensures given { Gives (λ x. (x.0, words_of x.1.now)) result (signed_at below above (words_of line.now)) }
+    ensures low { IfOk result (λ x. neg_ℤ (pos below) ≤ℤ x.0) }
+    ensures high { IfOk result (λ x. x.0 ≤ℤ pos above) }
+{
+    let (word, rest) = word(line)?;
+    match signed_within(word, below, above) {
+        Some(z) => Ok((z, rest)),
+        None => Err(wrong(line, Cause::BadWord)),
+    }
+}
+
+/// A flag, 0 or 1, and what is left of the line behind it.
+#[tactic(auto, unfolding(crate::specs::Reading::flag_at))]
+pub fn flag(line: &[u8]) -> Result<(bool, &[u8]), WordFault>
+    ensures { Gives (λ x. (x.0, words_of x.1.now)) result (flag_at (words_of line.now)) }
+{
+    let (number, rest) = number32(line, 0, 1)?;
+    Ok((number == 1, rest))
 }
 
 /// What is left of a line behind this word, with which it has to begin.

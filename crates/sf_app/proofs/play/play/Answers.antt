@@ -1,7 +1,12 @@
-use Rattle.std.proofs.Common.{◌≡◌, ◌≤◌, ◌∙◌, List, All, ap, arith, length, subst, sym}
+use Rattle.std.proofs.Common.{◌≡◌, ◌≤◌, ◌∙◌, List, [], All, ap, arith, length, map, subst, sym}
 use Rattle.sf_script.specs.Scene.{SceneValue}
 use Rattle.sf_script.specs.declared.scene.Pick.{Pick}
 use Rattle.sf_app.proofs.PlayLemmas.{all_times, cut_closing, cut_none, cut_opening, cut_order, cut_rounds, wrote_run}
+use Rattle.sf_record.specs.declared.record.ArrivalEntry.{ArrivalEntry}
+use Rattle.sf_record.specs.Events.{closing}
+use Rattle.sf_record.specs.Fitting.{RecordFits}
+use Rattle.sf_app.specs.Histories.{shown_past}
+use Rattle.sf_app.specs.States.{world_of}
 use Rattle.sf_app.specs.Worlds.{World}
 use Rattle.sf_app.proofs.play.play.Goals as goal
 
@@ -46,7 +51,8 @@ returns-in-Err-play_rounds-clause-err g c =
 pub returns-in-Ok-write_closing-clause-ok : goal.returns-in-Ok-write_closing-clause-ok
 returns-in-Ok-write_closing-clause-ok g c =
     let o : c.as_slice.result.now ≡ c.args.scene.now.order = c.as_slice.ensures ∙ ap (λ (s : SceneValue). s.order) c.scene.view_is in
-    wrote_run _ _ _ _ _ _ _ _ _ c.pixels-pixels.ensures.limits c.in-Ok.ensures.start c.in-Ok-write_opening.ensures.ok (rw o at c.in-Ok-play_order.ensures.ok) c.in-Ok-play_rounds.ensures.ok (rw c.in-Ok-play_rounds.ensures.running.entries at c.in-Ok-write_closing.ensures.ok)
+    let fits = subst (λ (l : List ArrivalEntry). All RecordFits (closing l (map shown_past (world_of c.play_rounds.new.state).pasts) [] [])) c.in-Ok-play_rounds.ensures.running.entries c.in-Ok-write_closing.ensures.fits in
+    wrote_run _ _ _ _ _ _ _ _ _ c.pixels-pixels.ensures.limits c.in-Ok.ensures.start c.in-Ok-write_opening.ensures.ok c.in-Ok-write_opening.ensures.fits (rw o at c.in-Ok-play_order.ensures.ok) c.in-Ok-play_rounds.ensures.ok (rw c.in-Ok-play_rounds.ensures.running.entries at c.in-Ok-write_closing.ensures.ok) fits
 
 pub returns-in-Err-write_closing-clause-err : goal.returns-in-Err-write_closing-clause-err
 returns-in-Err-write_closing-clause-err g c =

@@ -1,8 +1,14 @@
-use Rattle.std.proofs.Common.{List, OnErr, ◌∙◌, subst}
+use Rattle.std.proofs.Common.{All, List, OnErr, OnOk, ◌∙◌, subst}
 use Rattle.sf_io.specs.Streams.{TookPrefix}
 use Rattle.sf_record.specs.declared.record.Record.{Record}
+use Rattle.sf_record.specs.Fitting.{RecordFits}
 use Rattle.sf_record.specs.Records.{bytes_of}
 use Rattle.sf_app.proofs.play.write_closing.Goals as goal
+
+pub returns-in-Ok-clause-fits : goal.returns-in-Ok-clause-fits
+returns-in-Ok-clause-fits g c =
+    let e = rw c.queues.ensures at c.in-Ok.ensures in
+    subst (λ (l : List Record). OnOk c.write_all.result (All RecordFits l)) (c.deref.ensures.value ∙ e) c.write_all.ensures.fits
 
 pub returns-in-Ok-clause-err : goal.returns-in-Ok-clause-err
 returns-in-Ok-clause-err g c =

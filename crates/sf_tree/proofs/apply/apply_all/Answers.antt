@@ -1,4 +1,4 @@
-use Rattle.std.proofs.Common.{◌≡◌, sym, ap, ◌∙◌, refl, arith, subst, List}
+use Rattle.std.proofs.Common.{◌≡◌, sym, ap, ◌∙◌, arith, subst, List}
 use Rattle.sf_layer.specs.declared.layer.Layer.{Layer}
 use Rattle.sf_tree.specs.Journal.{GoesBack, undone}
 use Rattle.sf_tree.proofs.JournalLemmas.{after_from-step}
@@ -17,6 +17,6 @@ returns-in-Err-clause-err c =
 pub loop-operation-preserved : goal.loop-operation-preserved
 loop-operation-preserved c = record {
   back = c.in-Ok-remember.ensures.ok c.change.new.layers c.args.layers.now c.in-Ok.ensures.1 (subst (λ (xs : List Layer). GoesBack c.loop-operation.journal xs c.args.layers.now) (sym c.in-Ok.ensures.2) c.loop-operation.invariant.back);
-  same = after_from-step c.loop-operation.operation-index c.args.ops.now _ c.loop-operation.layers c.change.new.layers c.loop-operation-test.true c.in-Ok.ensures.0 ∙ c.loop-operation.invariant.same;
+  same = after_from-step c.args.most c.loop-operation.operation-index c.args.ops.now _ c.loop-operation.layers c.change.new.layers c.loop-operation-test.true c.in-Ok.ensures.0 ∙ c.loop-operation.invariant.same;
   counted = omega arith;
 }

@@ -1,5 +1,5 @@
-use Rattle.std.proofs.Common.{◌≡◌, Some, arith, sym, ap, ◌∙◌, refl}
-use Rattle.sf_tree.specs.Changes.{edited, edited_layer}
+use Rattle.std.proofs.Common.{arith, sym, ap, ◌∙◌}
+use Rattle.sf_tree.specs.Changes.{edited}
 use Rattle.sf_tree.proofs.Edits.{IsEdit, edit_at, edited_number, edited_layer-fits}
 use Rattle.sf_tree.proofs.changes.edit.Goals as goal
 

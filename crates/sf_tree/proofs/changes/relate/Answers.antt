@@ -1,7 +1,7 @@
-use Rattle.std.proofs.Common.{◌≡◌, Some, None, sym, ap, ◌∙◌, refl, arith, false, true, ◌&&◌, Bool, w32}
+use Rattle.std.proofs.Common.{◌≡◌, Some, sym, ap, ◌∙◌, refl, arith, false, true, ◌&&◌, Bool, w32}
 use Rattle.std.proofs.lemmas.Int.{to_z-of_z}
 use Rattle.sf_layer.specs.declared.layer.Layer.{Layer}
-use Rattle.sf_tree.specs.Layers.{has_layer, has_parent}
+use Rattle.sf_tree.specs.Layers.{has_layer}
 use Rattle.sf_tree.proofs.Edits.{IsEdit, edit_at, made_relative-settled, made_relative-unknown, has_layer-absent}
 use Rattle.sf_tree.proofs.changes.relate.Goals as goal
 
@@ -10,7 +10,7 @@ and_false true c e = e
 and_false false c e = refl
 
 pub returns-in_default : goal.returns-in_default
-returns-in_default c = (made_relative-unknown c.args.layers.now c.args.id c.args.other c.args.z (rw (has_layer-absent c.args.layers.now c.args.id (sym c.place_of.ensures.place ∙ c.in_default.is)) refl), refl)
+returns-in_default c = (made_relative-unknown c.args.layers.now c.args.id c.args.other c.args.z (rw (has_layer-absent c.args.layers.now c.args.id (sym c.index_of.ensures.place ∙ c.in_default.is)) refl), refl)
 
 pub returns-then-not-has : goal.returns-then-not-has
 returns-then-not-has c = (made_relative-unknown c.args.layers.now c.args.id c.args.other c.args.z (and_false (has_layer c.args.layers.now c.args.id) _ (sym c.has.ensures ∙ grind arith)), refl)

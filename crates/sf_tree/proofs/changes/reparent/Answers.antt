@@ -1,6 +1,6 @@
-use Rattle.std.proofs.Common.{◌≡◌, Some, None, sym, ap, ◌∙◌, refl, arith, false, true, ◌&&◌, Bool}
+use Rattle.std.proofs.Common.{◌≡◌, sym, ap, ◌∙◌, refl, arith, false, true, ◌&&◌, Bool}
 use Rattle.sf_layer.specs.declared.layer.Layer.{Layer}
-use Rattle.sf_tree.specs.Layers.{has_layer, has_parent}
+use Rattle.sf_tree.specs.Layers.{has_layer}
 use Rattle.sf_tree.proofs.Edits.{IsEdit, edit_at, reparented-settled, reparented-unknown, has_layer-absent}
 use Rattle.sf_tree.proofs.changes.reparent.Goals as goal
 
@@ -9,7 +9,7 @@ and_false true c e = e
 and_false false c e = refl
 
 pub returns-in_default : goal.returns-in_default
-returns-in_default c = (reparented-unknown c.args.layers.now c.args.id c.args.parent (rw (has_layer-absent c.args.layers.now c.args.id (sym c.place_of.ensures.place ∙ c.in_default.is)) refl), refl)
+returns-in_default c = (reparented-unknown c.args.layers.now c.args.id c.args.parent (rw (has_layer-absent c.args.layers.now c.args.id (sym c.index_of.ensures.place ∙ c.in_default.is)) refl), refl)
 
 pub returns-then-not-has_parent : goal.returns-then-not-has_parent
 returns-then-not-has_parent c = (reparented-unknown c.args.layers.now c.args.id c.args.parent (and_false (has_layer c.args.layers.now c.args.id) _ (sym c.has_parent.ensures ∙ grind arith)), refl)

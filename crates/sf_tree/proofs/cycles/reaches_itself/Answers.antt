@@ -7,7 +7,7 @@ use Rattle.sf_tree.proofs.cycles.reaches_itself.Goals as goal
 
 pub returns-in_default : goal.returns-in_default
 unfolding reaches_itself
-returns-in_default c = sym (reaches-unknown (steps_along c.args.along) c.args.layers.now (length c.args.layers.now) c.args.id c.args.id (sym c.place_of.ensures.place ∙ c.in_default.is))
+returns-in_default c = sym (reaches-unknown (steps_along c.args.along) c.args.layers.now (length c.args.layers.now) c.args.id c.args.id (sym c.index_of.ensures.place ∙ c.in_default.is))
 
 pub loop-index-init : goal.loop-index-init
 loop-index-init c = record {

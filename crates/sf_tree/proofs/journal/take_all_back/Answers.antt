@@ -1,4 +1,4 @@
-use Rattle.std.proofs.Common.{◌≡◌, Some, sym, ap, ◌∙◌, refl}
+use Rattle.std.proofs.Common.{sym, ◌∙◌}
 use Rattle.sf_tree.proofs.JournalLemmas.{back-push, CanGoBack-pop}
 use Rattle.sf_tree.proofs.journal.take_all_back.Goals as goal
 

@@ -1,5 +1,4 @@
-use Rattle.std.proofs.Common.{◌≡◌, ◌<◌, ◌+◌, ◌-◌, ◌*◌, Some, true, false, sym, ap, ◌∙◌, refl, subst, List, ◌++◌, ◌∷◌, [], map, take, length, arith}
-use Rattle.std.specs.List.{filter, flat_map, slice_get}
+use Rattle.std.proofs.Common.{◌≡◌, ◌<◌, ◌+◌, Some, sym, ◌∙◌, subst, ◌++◌, ◌∷◌, [], take, arith}
 use Rattle.sf_layer.specs.declared.layer.Layer.{Layer}
 use Rattle.sf_layer.specs.declared.parent.Parent.TheVariants as parent
 use Rattle.sf_tree.specs.DrawOrder.{draw, drawn_with}

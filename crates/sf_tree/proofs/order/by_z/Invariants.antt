@@ -1,4 +1,4 @@
-use Rattle.std.proofs.Common.{◌≡◌, ◌≤◌, drop, length}
+use Rattle.std.proofs.Common.{◌≤◌, drop, length}
 use Rattle.std.specs.List.{AllZip, filter}
 use Rattle.sf_tree.specs.DrawOrder.{in_z_order}
 use Rattle.sf_tree.specs.Known.{IsEntry}

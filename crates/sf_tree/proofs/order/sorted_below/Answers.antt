@@ -1,4 +1,4 @@
-use Rattle.std.proofs.Common.{◌≡◌, ◌<◌, ◌+◌, Some, sym, ap, ◌∙◌, refl, subst, List, ◌++◌, ◌∷◌, [], map, take, length, arith}
+use Rattle.std.proofs.Common.{◌≡◌, ◌+◌, ◌∙◌, subst, List, ◌++◌, ◌∷◌, [], map, take}
 use Rattle.std.proofs.lemmas.List.{length-map}
 use Rattle.sf_layer.specs.declared.layer.Layer.{Layer}
 use Rattle.sf_tree.specs.Known.{IsSortedBelow, showing}

@@ -1,10 +1,9 @@
-use Rattle.std.proofs.Common.{◌≡◌, ◌<◌, ◌≤◌, ◌+◌, ◌-◌, ◌*◌, Some, Bool, true, false, not, ◌&&◌, sym, ap, ◌∙◌, refl, arith, rules, subst}
+use Rattle.std.proofs.Common.{◌≡◌, ◌≤◌, ◌+◌, ◌-◌, Some, sym, ◌∙◌, refl, arith, subst}
 use Rattle.sf_layer.specs.declared.layer.Layer.{Layer}
 use Rattle.sf_tree.specs.Known.{IsKnown, Outranks}
-use Rattle.sf_tree.specs.Layers.{layer_of}
-use Rattle.sf_tree.specs.Showing.{passes, shows}
+use Rattle.sf_tree.specs.Showing.{shows}
 use Rattle.sf_tree.proofs.Lookups.{layer_of-none, layer_of-place}
-use Rattle.sf_tree.proofs.Places.{place_of_inside}
+use Rattle.sf_tree.proofs.Places.{index_of_inside}
 use Rattle.sf_tree.proofs.ShowLemmas.{shows-is, Outranks-parent, Outranks-relative, Outranks-le, at_found, IsKnown-set}
 use Rattle.sf_tree.proofs.showing.+show.Goals as goal
 use Rattle.sf_tree.proofs.showing.+show.Goals.{decide-in-Root, decide-in-Layer, decide-in-Nothing}
@@ -29,7 +28,7 @@ layer_shows-show-requires t c =
     let at = at_found c.args.layers.now c.args.id c.in-Some.place c.in-Some.ensures.place in
     let o : Outranks c.args.layers.now at.0 c.args.steps = c.requires.steps at.0 at.1 in
     let some : 1 ≤ c.args.steps = omega (arith, o.low) in
-    (omega arith, (place_of_inside c.args.layers.now c.args.id c.in-Some.place (sym c.in-Some.ensures.place), (c.requires.known, λ layer e. Outranks-le c.args.layers.now layer c.args.steps (c.args.steps - 1 + 1) (c.requires.steps layer (layer_of-place c.args.layers.now c.args.id c.in-Some.place (sym c.in-Some.ensures.place) ∙ e)) (omega arith))))
+    (omega arith, (index_of_inside c.args.layers.now c.args.id c.in-Some.place (sym c.in-Some.ensures.place), (c.requires.known, λ layer e. Outranks-le c.args.layers.now layer c.args.steps (c.args.steps - 1 + 1) (c.requires.steps layer (layer_of-place c.args.layers.now c.args.id c.in-Some.place (sym c.in-Some.ensures.place) ∙ e)) (omega arith))))
 
 pub layer_shows-returns-in-Some-clause-shown : goal.layer_shows-returns-in-Some-clause-shown
 layer_shows-returns-in-Some-clause-shown t c =

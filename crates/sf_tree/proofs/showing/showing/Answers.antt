@@ -1,11 +1,11 @@
-use Rattle.std.proofs.Common.{◌≡◌, ◌<◌, ◌+◌, length, sym, ap, ◌∙◌, refl, arith, ◌++◌, ◌∷◌, []}
+use Rattle.std.proofs.Common.{◌<◌, ◌+◌, length, sym, ◌∙◌, refl, arith}
 use Rattle.sf_tree.proofs.ShowLemmas.{Outranks-le, Outranks-tree, written_back, layer_at, map-take-more}
 use Rattle.sf_tree.specs.Showing.{shows}
 use Rattle.sf_tree.proofs.showing.showing.Goals as goal
 
 pub show-requires-clause-steps : goal.show-requires-clause-steps
 show-requires-clause-steps c layer at =
-    Outranks-le c.args.layers.now layer _ (c.len-in-loop-place.result + 1) (Outranks-tree c.args.layers.now c.loop-place.place layer c.requires at) (omega (arith, c.len-in-loop-place.ensures))
+    Outranks-le c.args.layers.now layer _ (c.len-in-loop-place.result + 1) (Outranks-tree c.args.layers.now c.loop-place.place layer c.requires.distinct c.requires.tied c.requires.no_cycle at) (omega (arith, c.len-in-loop-place.ensures))
 
 pub loop-place-preserved : goal.loop-place-preserved
 loop-place-preserved c =

@@ -1,5 +1,4 @@
 use Rattle.std.proofs.Common.{◌≡◌, ◌∙◌, sym, ap, subst, Some, None, set, true}
-use Rattle.sf_picture.specs.Pixels.{HasSize}
 use Rattle.sf_picture.specs.declared.picture.Picture.{Picture}
 use Rattle.sf_script.specs.declared.scene.Step.TheVariants as step
 use Rattle.sf_surface.specs.Leases.{WriteLeaseOf, drawn_with, is_size_of}
@@ -14,12 +13,9 @@ use Rattle.sf_actor.specs.Moves.{Changes}
 use Rattle.sf_actor.specs.Scripts.{picture_at}
 use Rattle.sf_actor.proofs.FillingLemmas.{draw-changes, held-actor}
 use Rattle.sf_actor.proofs.HoldingLemmas.{keeps-name, keeps-with_held, name_in-held, with_held}
-use Rattle.sf_actor.proofs.PictureLemmas.{picture_numbered, picture_sized}
+use Rattle.sf_actor.proofs.PictureLemmas.{picture_numbered}
 use Rattle.sf_actor.proofs.RefusalLemmas.{draw_open, fits_lent}
 use Rattle.sf_actor.proofs.actor.Actor.draw.Goals as goal
-
-pub copy-requires : goal.copy-requires
-copy-requires c = record { size = subst HasSize (sym c.picture_of.ensures) (picture_sized c.args.pictures.now c.args.picture c.requires.sized c.requires.known) }
 
 pub take_lent-lease-requires : goal.take_lent-lease-requires
 take_lent-lease-requires c = (draw_open (picture_at c.args.pictures.now) (books_of c.args.self.now) c.args.name c.args.picture c.requires.allowed).0

@@ -1,14 +1,13 @@
-use Rattle.std.proofs.Common.{◌≡◌, ◌<◌, sym, ap, ◌∙◌, refl, arith, Ok, false, get_or, length, length-append}
-use Rattle.sf_base.specs.declared.ids.LayerId.{LayerId}
+use Rattle.std.proofs.Common.{◌≡◌, ◌<◌, sym, ap, ◌∙◌, refl, arith, Ok, get_or, length, length-append}
 use Rattle.sf_tree.specs.Search.{steps_along, relative_along, GoesOn, Grows}
 use Rattle.sf_tree.proofs.Lookups.{layer_of-none}
-use Rattle.sf_tree.proofs.Exploring.{HasSteps, HasSteps-place, first_way, second_way, way_back, IsFollowed-grows, IsExplored-both, Grows-trans, any_default}
+use Rattle.sf_tree.proofs.Exploring.{HasSteps, HasSteps-place, first_way, second_way, way_back, IsFollowed-grows, IsExplored-both, any_default}
 use Rattle.sf_tree.proofs.cycles.Search.explore.Goals as goal
 
 pub returns-in_default-clause-explored : goal.returns-in_default-clause-explored
 returns-in_default-clause-explored c _ d =
     let from : get_or c.args.self.now.found.items c.args.index d ≡ c.index-from.result.now = any_default c.args.self.now.found.items c.args.index d c.index-from.result.now c.requires.inside ∙ sym c.index-from.ensures in
-    rw (from, layer_of-none c.args.layers.now c.index-from.result.now (sym c.place_of.ensures.place ∙ c.in_default.is)) tt
+    rw (from, layer_of-none c.args.layers.now c.index-from.result.now (sym c.index_of.ensures.place ∙ c.in_default.is)) tt
 
 pub returns-then-branch-clause-back : goal.returns-then-branch-clause-back
 returns-then-branch-clause-back c _ =

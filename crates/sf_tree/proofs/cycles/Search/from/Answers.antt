@@ -1,4 +1,3 @@
-use Rattle.std.proofs.Common.{◌≡◌, sym, ap, ◌∙◌, refl}
 use Rattle.sf_tree.proofs.Searching.{IsSearch-start}
 use Rattle.sf_tree.proofs.cycles.Search.from.Goals as goal
 

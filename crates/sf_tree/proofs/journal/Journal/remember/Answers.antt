@@ -1,4 +1,4 @@
-use Rattle.std.proofs.Common.{◌≡◌, sym, ap, ◌∙◌, refl}
+use Rattle.std.proofs.Common.{sym, ◌∙◌}
 use Rattle.sf_tree.proofs.JournalLemmas.{CanGoBack-noted}
 use Rattle.sf_tree.proofs.journal.Journal.remember.Goals as goal
 

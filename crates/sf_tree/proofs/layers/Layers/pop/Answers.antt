@@ -1,4 +1,4 @@
-use Rattle.std.proofs.Common.{◌≡◌, refl, sym, ◌∙◌, ap}
+use Rattle.std.proofs.Common.{sym}
 use Rattle.sf_tree.proofs.Places.{IsIndexed-pop}
 use Rattle.sf_tree.proofs.layers.Layers.pop.Goals as goal
 

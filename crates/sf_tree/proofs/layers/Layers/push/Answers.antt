@@ -1,4 +1,4 @@
-use Rattle.std.proofs.Common.{◌≡◌, refl, sym, ◌∙◌, ap, length}
+use Rattle.std.proofs.Common.{◌≡◌, ◌∙◌, length}
 use Rattle.sf_tree.proofs.Places.{IsIndexed-push, IsIndexed-undone}
 use Rattle.sf_tree.proofs.layers.Layers.push.Goals as goal
 

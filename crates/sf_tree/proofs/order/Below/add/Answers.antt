@@ -1,11 +1,9 @@
-use Rattle.std.proofs.Common.{◌≡◌, ◌<◌, Some, None, true, false, sym, ap, ◌∙◌, refl, subst, List, ◌++◌, ◌∷◌, [], map, length, arith}
+use Rattle.std.proofs.Common.{◌≡◌, ◌<◌, Some, sym, ap, ◌∙◌, refl, map, length}
 use Rattle.std.proofs.lemmas.List.{length-map}
-use Rattle.sf_layer.specs.declared.layer.Layer.{Layer}
 use Rattle.sf_layer.specs.declared.parent.Parent.TheVariants as parent
 use Rattle.sf_tree.specs.DrawOrder.{draw_parent, drawn_with}
-use Rattle.sf_tree.specs.Known.{IsSortedBelow}
 use Rattle.sf_tree.proofs.BelowLemmas.{AtPlaces-push, drawn_with-no, drawn_with-yes, IsBelow-other, IsBelow-push, not_in_tree}
-use Rattle.sf_tree.proofs.Places.{place_of_inside}
+use Rattle.sf_tree.proofs.Places.{index_of_inside}
 use Rattle.sf_tree.proofs.ZOrder.{on_ok_weaker}
 use Rattle.sf_tree.proofs.order.Below.add.Goals as goal
 
@@ -25,7 +23,7 @@ returns-in-Some c =
     let both : Some c.at.result ≡ Some layer = sym c.at.ensures ∙ at in
     let same : c.at.result ≡ layer = cc in
     let with : draw_parent layer ≡ parent.Layer c.in-Layer.id = ap draw_parent (sym same) ∙ (sym c.draw_parent.ensures ∙ c.in-Layer.is) in
-    let inside : c.in-Some.with < length c.args.layers.now = place_of_inside c.args.layers.now c.in-Layer.id c.in-Some.with (sym c.in-Some.ensures.place) in
+    let inside : c.in-Some.with < length c.args.layers.now = index_of_inside c.args.layers.now c.in-Layer.id c.in-Some.with (sym c.in-Some.ensures.place) in
     let fits : c.in-Some.with < length (map (λ list. list.items) c.args.self.now.lists.items) = rw (length-map c.args.self.now.lists.items (λ list. list.items), c.requires.size) inside in
     record {
       hang = rw (c.push-in-Some.ensures.roots, drawn_with-no parent.Root earlier layer (rw with refl)) s.hang;

@@ -1,4 +1,4 @@
-use Rattle.std.proofs.Common.{◌≡◌, sym, ap, ◌∙◌, refl, arith, List, [], ◌++◌, ◌∷◌, ℕ, map}
+use Rattle.std.proofs.Common.{sym, ap, ◌∙◌, [], ◌++◌, ◌∷◌, map}
 use Rattle.std.proofs.lemmas.List.{map-set, get_or-map}
 use Rattle.std.specs.List.{slice_set}
 use Rattle.sf_tree.proofs.order.Below.push.Goals as goal

@@ -2,7 +2,7 @@ use Rattle.std.proofs.Common.{◌+◌, ◌≤◌, length, sym, arith}
 use Rattle.sf_layer.specs.Ranges.{IsOperation}
 use Rattle.sf_layer.specs.declared.op.Op.TheVariants as op
 use Rattle.std.proofs.lemmas.Grind.{common_steps}
-use Rattle.sf_txn.proofs.Keeping.{inside_of, IsTransaction-set_buffer}
+use Rattle.sf_txn.proofs.Keeping.{within_greatest, IsTransaction-set_buffer}
 use Rattle.sf_txn.proofs.transaction.Transaction.set_buffer.Goals as goal
 
 pub invariant_of-self-2 : goal.invariant_of-self-2
@@ -10,10 +10,7 @@ invariant_of-self-2 g c =
     let few : length c.self.inside.ops.items + 1 ≤ 4294967295 = grind (arith, common_steps) in
     let one : IsOperation (c.buffer.inside.layer, op.Show c.buffer.inside.shown) = (
       rw (sym c.buffer.view_is) at c.requires,
-      record {
-        across = inside_of _ _ _ c.buffer.invariant.across c.buffer.invariant.size.narrow;
-        down = inside_of _ _ _ c.buffer.invariant.down c.buffer.invariant.size.low;
-      },
+      within_greatest _ _ c.buffer.invariant.crop c.buffer.invariant.size,
     ) in
     rw (c.put_op.ensures.items, c.put_buffer.ensures.items, c.make_room.ensures.items, c.reserve.ensures.items, sym c.buffer.view_is)
     (IsTransaction-set_buffer _ _ c.self.invariant few one)

@@ -4,8 +4,8 @@ use Rattle.sf_base.specs.Blend.{product}
 use Rattle.sf_layer.specs.Ranges.{IsCrop}
 use Rattle.sf_view.specs.Ancestry.{is_in_crops, place_of}
 use Rattle.sf_view.specs.Placements.{is_in_display}
-use Rattle.sf_view.specs.Spans.{is_in_span}
-use Rattle.sf_view.proofs.PlacementLemmas.{and_true, IsNear-step, regroup}
+use Rattle.sf_view.specs.Intervals.{is_in_interval}
+use Rattle.sf_view.proofs.PlacementLemmas.{and_true, IsInReach-step, regroup}
 use Rattle.sf_view.proofs.placement.Placement.below.Goals as goal
 
 pub cut-requires-clause-end : goal.cut-requires-clause-end
@@ -40,15 +40,15 @@ returns-in-Some c width height above p =
       x = fit_x ∙ place_x;
       y = fit_y ∙ place_y;
       alpha = c.mul-alpha.ensures ∙ ap (λ (a : ℕ). product a c.args.layer.now.alpha) p.alpha;
-      bounds = λ x y. rw (c.in-Some.is, c.cut.ensures.points x, c.cut-in-Some.ensures.points y, fit_left, fit_top, left, top, place_x, place_y) (regroup (is_in_span c.args.self.across x) (is_in_span c.args.self.down y) _ _ (is_in_display width height x y) (is_in_crops above x y) (p.bounds x y));
+      bounds = λ x y. rw (c.in-Some.is, c.cut.ensures.points x, c.cut-in-Some.ensures.points y, fit_left, fit_top, left, top, place_x, place_y) (regroup (is_in_interval c.args.self.across x) (is_in_interval c.args.self.down y) _ _ (is_in_display width height x y) (is_in_crops above x y) (p.bounds x y));
       on_display = record {
         left = omega (arith, ints, p.on_display.left, c.cut.ensures.from);
         right = omega (arith, ints, p.on_display.right, c.cut.ensures.to);
         top = omega (arith, ints, p.on_display.top, c.cut-in-Some.ensures.from);
         bottom = omega (arith, ints, p.on_display.bottom, c.cut-in-Some.ensures.to);
       };
-      near_x = rw (fit_x, moved_x) (IsNear-step (length above) c.args.self.x c.args.layer.now.position.0 p.near_x c.requires.in_range.x);
-      near_y = rw (fit_y, moved_y) (IsNear-step (length above) c.args.self.y c.args.layer.now.position.1 p.near_y c.requires.in_range.y);
+      near_x = rw (fit_x, moved_x) (IsInReach-step (length above) c.args.self.x c.args.layer.now.position.0 p.near_x c.requires.in_range.x);
+      near_y = rw (fit_y, moved_y) (IsInReach-step (length above) c.args.self.y c.args.layer.now.position.1 p.near_y c.requires.in_range.y);
     }
 
 pub returns-in-None : goal.returns-in-None
@@ -67,6 +67,6 @@ returns-in-None c width height above p =
       alpha = c.mul-alpha.ensures ∙ ap (λ (a : ℕ). product a c.args.layer.now.alpha) p.alpha;
       bounds = λ x y. rw c.in-None.is (p.bounds x y ∙ ap (λ b. is_in_display width height x y && b) (sym (and_true (is_in_crops above x y))));
       on_display = record { left = p.on_display.left; right = p.on_display.right; top = p.on_display.top; bottom = p.on_display.bottom };
-      near_x = rw (fit_x, moved_x) (IsNear-step (length above) c.args.self.x c.args.layer.now.position.0 p.near_x c.requires.in_range.x);
-      near_y = rw (fit_y, moved_y) (IsNear-step (length above) c.args.self.y c.args.layer.now.position.1 p.near_y c.requires.in_range.y);
+      near_x = rw (fit_x, moved_x) (IsInReach-step (length above) c.args.self.x c.args.layer.now.position.0 p.near_x c.requires.in_range.x);
+      near_y = rw (fit_y, moved_y) (IsInReach-step (length above) c.args.self.y c.args.layer.now.position.1 p.near_y c.requires.in_range.y);
     }

@@ -1,0 +1,185 @@
+ghost use Rattle.std.specs.List.{AllZip};
+ghost use Rattle.std.specs.Prelude.{◌≡◌, ◌+ℤ◌, ◌≤◌, ◌≤ℤ◌, IfSome, IsTrue, pos};
+ghost use Rattle.sf_compose.specs.Readings.{IsReadable};
+ghost use Rattle.sf_compose.specs.Sources.{LiesIn};
+ghost use Rattle.sf_region.specs.Points.{IsInBounds, far, neg_far};
+
+use crate::words::{colour, number32, rect};
+use sf_base::{Format, Items, Rect};
+use sf_compose::{compose_frame, compose_one};
+use sf_picture::{Fill, Painted, Picture, paint};
+use sf_region::Region;
+use sf_view::{Content, Drawn, View};
+use std::alloc::Global;
+use std::io;
+use std::str::SplitWhitespace;
+
+/// How many fills or rectangles a line has at most.
+const MOST_PARTS: u32 = 64;
+
+fn fill(words: &mut SplitWhitespace<'_>) -> Option<Fill> {
+    Some(Fill {
+        rect: rect(words)?,
+        colour: colour(words)?,
+    })
+}
+
+fn fills(alloc: Global, words: &mut SplitWhitespace<'_>) -> Option<Vec<Fill>> {
+    let mut list = Vec::new(alloc);
+    for _ in 0..MOST_PARTS {
+        let Some(fill) = fill(words) else {
+            break;
+        };
+        list.push(fill).ok()?;
+    }
+    Some(list)
+}
+
+/// A picture of the size and with the fills that a line says.
+pub fn painted(alloc: Global, number: usize, words: &mut SplitWhitespace<'_>) -> Option<Painted> {
+    let width = number32(words)?;
+    let height = number32(words)?;
+    if width < 1 || width > 512 || height < 1 || height > 512 {
+        return None;
+    }
+    let picture = Picture {
+        number: u32::try_from(number).ok()?,
+        width,
+        height,
+        fills: Items::new(fills(alloc, words)?),
+        format: Format::Rgba,
+    };
+    paint(alloc, picture).ok()
+}
+
+/// Whether so many pixels from one on lie within a size.
+fn is_within(from: i32, extent: u32, size: u32) -> bool
+    ensures { IsTrue result → (pos 0 ≤ℤ from) × ((from +ℤ pos extent) ≤ℤ pos size) }
+{
+    0 <= from && i64::from(from) + i64::from(extent) <= i64::from(size)
+}
+
+/// Whether a rectangle lies in a picture.
+fn lies_in(picture: &Picture, rect: &Rect) -> bool
+    ensures { IsTrue result → LiesIn picture.now rect.now }
+{
+    is_within(rect.x, rect.width, picture.width) && is_within(rect.y, rect.height, picture.height)
+}
+
+/// Where the pictures have what a layer shows: a buffer's is that of its number.
+fn source(content: &Content, contents: &[Painted]) -> Option<u32>
+    ensures { IfSome result (IsReadable contents.now content.now) }
+{
+    match content {
+        Content::Colour(_) => Some(0),
+        Content::Buffer(shown) => {
+            let place = shown.picture as usize;
+            if place < contents.len() && lies_in(contents[place].picture(), &shown.crop) {
+                Some(shown.picture)
+            } else {
+                None
+            }
+        }
+    }
+}
+
+fn sources(alloc: Global, drawn: &[Drawn], contents: &[Painted]) -> Option<Vec<u32>>
+    ensures { IfSome result (λ list. AllZip (λ drawn source. IsReadable contents.now drawn.content source) drawn.now list.items) }
+{
+    let mut list = Vec::new(alloc);
+    for layer in drawn {
+        let Some(place) = source(&layer.content, contents) else {
+            return None;
+        };
+        match list.push(place) {
+            Ok(()) => {}
+            Err(_) => return None,
+        }
+    }
+    Some(list)
+}
+
+/// The bytes of a view's frame.
+pub fn whole(alloc: Global, view: &View, contents: &[Painted]) -> Option<Vec<u8>> {
+    let Some(sources) = sources(alloc, view.drawn.as_slice(), contents) else {
+        return None;
+    };
+    compose_frame(alloc, view, contents, &sources).ok()
+}
+
+/// The bytes of a frame of sevens after a part was composed into it.
+fn composed(alloc: Global, view: &View, contents: &[Painted], part: &Region) -> Option<Vec<u8>> {
+    let Some(sources) = sources(alloc, view.drawn.as_slice(), contents) else {
+        return None;
+    };
+    let size = 4 * (view.width as usize * view.height as usize);
+    let mut frame = vec![in alloc; 7u8; size].ok()?;
+    compose_one(alloc, view, contents, &sources, part, &mut frame).ok()?;
+    Some(frame)
+}
+
+/// Whether so many pixels from one on lie where a region's may.
+fn is_near(from: i32, extent: u32) -> bool
+    ensures { IsTrue result → (neg_far ≤ℤ from) × ((from +ℤ pos extent) ≤ℤ far) }
+{
+    -33_554_432 <= from && i64::from(from) + i64::from(extent) <= 33_554_432
+}
+
+/// Whether a rectangle's edges lie where a region's may.
+fn is_in_bounds(rect: &Rect) -> bool
+    ensures { IsTrue result → IsInBounds rect.now }
+{
+    is_near(rect.x, rect.width) && is_near(rect.y, rect.height)
+}
+
+/// The points of the rectangles that a line says.
+fn region(alloc: Global, words: &mut SplitWhitespace<'_>) -> Option<Region> {
+    let mut all = Region::empty(alloc);
+    for _ in 0..MOST_PARTS {
+        let Some(rect) = rect(words) else {
+            break;
+        };
+        if !is_in_bounds(&rect) {
+            return None;
+        }
+        all = all.union(&Region::rect(alloc, rect).ok()?).ok()?;
+    }
+    Some(all)
+}
+
+/// The bytes of a frame of sevens after the rectangles that a line says were composed into it.
+pub fn part(
+    alloc: Global,
+    view: &View,
+    contents: &[Painted],
+    words: &mut SplitWhitespace<'_>,
+) -> Option<Vec<u8>> {
+    let region = region(alloc, words)?;
+    composed(alloc, view, contents, &region)
+}
+
+fn print_run(rt: &impl Print, count: u32, pixel: Option<[u8; 4]>) -> io::Result<()> {
+    let Some(pixel) = pixel else {
+        return Ok(());
+    };
+    let [r, g, b, a] = pixel;
+    println!(rt; "  {count} x {r} {g} {b} {a}")
+}
+
+/// Prints a frame as runs of equal pixels, row after row.
+pub fn print(rt: &impl Print, bytes: &[u8]) -> io::Result<()> {
+    let mut count = 0u32;
+    let mut last = None;
+    let mut rest = bytes;
+    while let [r, g, b, a, after @ ..] = rest {
+        let pixel = Some([*r, *g, *b, *a]);
+        if pixel != last {
+            print_run(rt, count, last)?;
+            count = 0;
+            last = pixel;
+        }
+        count = count.saturating_add(1);
+        rest = after;
+    }
+    print_run(rt, count, last)
+}

@@ -1,0 +1,162 @@
+ghost use Rattle.std.specs.Prelude.{◌≡◌, ◌<◌, [], IsTrue, IfOk};
+ghost use Rattle.sf_layer.specs.Ranges.{IsOperation};
+ghost use Rattle.sf_txn.specs.Transactions.{shows_of};
+
+use crate::page::Page;
+use crate::show;
+use crate::words::{layer, number32, number64};
+use sf_base::{Fence, LayerId, NoMemory, QueueId, Rect, TokenId};
+use sf_layer::{Op, Shown};
+use sf_txn::{BufferOp, Transaction};
+use std::alloc::Global;
+use std::io;
+use std::str::SplitWhitespace;
+
+/// Whether a transaction may be given the operation without a lease.
+fn is_settable(layer: LayerId, op: &Op) -> bool
+    ensures in_range { IsTrue result → IsOperation (layer, op.now) }
+    ensures plain { IsTrue result → shows_of op.now layer ≡ [] }
+{
+    match op {
+        Op::Show(_) => false,
+        op => layer.0 > 0 && op.is_in_range(),
+    }
+}
+
+/// Sets operations in a transaction, in their order. Prints those that are refused.
+pub fn set_all(
+    rt: &impl Print,
+    txn: &mut Transaction<Page>,
+    ops: &[(LayerId, Op)],
+) -> io::Result<()> {
+    for (layer, op) in ops {
+        if !is_settable(*layer, op) || txn.set(*layer, *op).is_err() {
+            print!(rt; "refused:")?;
+            show::operation(rt, *layer, op)?;
+        }
+    }
+    Ok(())
+}
+
+/// A frame of queue 1 for a layer, with the picture of its number.
+fn frame(alloc: Global, layer: LayerId, number: u32) -> Result<BufferOp<Page>, NoMemory>
+    ensures { IfOk result (λ buffer. buffer.layer ≡ layer) }
+{
+    Ok(BufferOp {
+        layer,
+        shown: Shown {
+            queue: QueueId(1),
+            frame: u64::from(number),
+            picture: number,
+            crop: Rect {
+                x: 0,
+                y: 0,
+                width: 1,
+                height: 1,
+            },
+        },
+        fence: Fence::none(),
+        lease: Page::new(alloc, number)?,
+    })
+}
+
+/// Shows a frame on a layer, and prints the frame whose place it takes.
+fn set_buffer(
+    rt: &impl Print,
+    txn: &mut Transaction<Page>,
+    buffer: BufferOp<Page>,
+) -> io::Result<()> {
+    if buffer.layer.0 == 0 {
+        return println!(rt; "buffer: not in range");
+    }
+    match txn.set_buffer(buffer) {
+        Ok(None) => println!(rt; "buffer: replaces none"),
+        Ok(Some(old)) => println!(rt; "buffer: replaces {}", old.lease.number()),
+        Err(_) => println!(rt; "buffer: no memory"),
+    }
+}
+
+/// The frame that a line names.
+fn frame_named(alloc: Global, words: &mut SplitWhitespace<'_>) -> Option<BufferOp<Page>> {
+    let layer = layer(words)?;
+    frame(alloc, layer, number32(words)?).ok()
+}
+
+fn add_barrier(txn: &mut Transaction<Page>, words: &mut SplitWhitespace<'_>) -> Option<()> {
+    let layer = layer(words)?;
+    txn.add_barrier(layer, number64(words)?).ok()
+}
+
+/// Does what a line says of a transaction. Answers whether it says something.
+pub fn fill(
+    rt: &impl Print,
+    alloc: Global,
+    txn: &mut Transaction<Page>,
+    name: &str,
+    words: &mut SplitWhitespace<'_>,
+) -> io::Result<bool> {
+    match name {
+        "buffer" => match frame_named(alloc, words) {
+            Some(buffer) => set_buffer(rt, txn, buffer)?,
+            None => return Ok(false),
+        },
+        "barrier" => return Ok(add_barrier(txn, words).is_some()),
+        "token" => match number32(words) {
+            Some(token) => txn.address(TokenId(token)),
+            None => return Ok(false),
+        },
+        "desire" => match number64(words) {
+            Some(time) => txn.desire(time),
+            None => return Ok(false),
+        },
+        "show" => show_all(rt, txn)?,
+        _ => return Ok(false),
+    }
+    Ok(true)
+}
+
+fn buffers(rt: &impl Print, buffers: &[BufferOp<Page>]) -> io::Result<()> {
+    for buffer in buffers {
+        println!(rt;
+            "  layer {} frame {}",
+            buffer.layer.0,
+            buffer.lease.number()
+        )?;
+    }
+    Ok(())
+}
+
+/// Prints a transaction: its token and time, its operations, its buffers and its barriers.
+fn show_all(rt: &impl Print, txn: &Transaction<Page>) -> io::Result<()> {
+    match txn.desired() {
+        Some(time) => println!(rt; "token {}, time {time}", txn.token().0)?,
+        None => println!(rt; "token {}, no time", txn.token().0)?,
+    }
+    for (layer, op) in txn.ops() {
+        show::operation(rt, *layer, op)?;
+    }
+    buffers(rt, txn.buffers())?;
+    for (layer, frame) in txn.barriers() {
+        println!(rt; "  barrier {} {frame}", layer.0)?;
+    }
+    Ok(())
+}
+
+/// Merges another transaction into one, and prints the frames whose places others took.
+pub fn merge(
+    rt: &impl Print,
+    txn: Transaction<Page>,
+    other: Transaction<Page>,
+) -> io::Result<Transaction<Page>> {
+    match txn.merge(other) {
+        Ok((merged, replaced)) => {
+            println!(rt; "merge: replaces {} frames", replaced.len())?;
+            buffers(rt, &replaced)?;
+            Ok(merged)
+        }
+        Err((NoMemory, txn, _)) => {
+            println!(rt; "merge: no memory")?;
+            Ok(txn)
+        }
+    }
+}

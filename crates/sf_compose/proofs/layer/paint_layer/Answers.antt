@@ -1,0 +1,27 @@
+use Rattle.std.proofs.Common.{◌∙◌, map, pos, sym, ap}
+use Rattle.sf_base.specs.Geometry.{covers}
+use Rattle.sf_base.specs.Paint.{painted}
+use Rattle.sf_base.specs.declared.pixel.Rgba.{Rgba}
+use Rattle.sf_compose.specs.Painting.{is_in_area}
+use Rattle.sf_view.specs.Views.{is_in_clip}
+use Rattle.sf_compose.proofs.CropLemmas.{both_right}
+use Rattle.sf_compose.proofs.LayerLemmas.{colour_pixel, in_upright_box, Paints-one, upright_pixel}
+use Rattle.sf_compose.proofs.layer.paint_layer.Goals as goal
+
+pub paint_crop-requires-clause-inside : goal.paint_crop-requires-clause-inside
+unfolding covers
+paint_crop-requires-clause-inside g c = λ x y t.
+    in_upright_box c.args.drawn.now c.in-Buffer.shown (pos x) (pos y) c.in-Buffer.is c.requires.upright
+    (c.requires.inside x y (both_right (is_in_area c.args.area x y) (is_in_clip c.args.drawn.now (pos x) (pos y)) (sym (c.cut-area.ensures.points x y) ∙ t)))
+
+pub returns-in-Colour : goal.returns-in-Colour
+unfolding covers
+returns-in-Colour g c =
+    Paints-one c.args.width c.cut-area.result c.args.area (map g.C.Pixels.picture c.args.contents.now) c.args.drawn.now c.args.source _ _ _ c.paint_area.ensures c.cut-area.ensures.points
+    (λ x y under t. ap (λ (pixel : Rgba). painted under pixel c.args.drawn.now.alpha) (c.seen_colour-colour.ensures ∙ colour_pixel (map g.C.Pixels.picture c.args.contents.now) c.args.drawn.now c.in-Colour.colour c.args.source (pos x) (pos y) c.in-Colour.is))
+
+pub returns-in-Buffer : goal.returns-in-Buffer
+unfolding covers
+returns-in-Buffer g c =
+    Paints-one c.args.width c.cut-area.result c.args.area (map g.C.Pixels.picture c.args.contents.now) c.args.drawn.now c.args.source _ _ _ c.paint_crop.ensures c.cut-area.ensures.points
+    (λ x y under t. ap (λ (pixel : Rgba). painted under pixel c.args.drawn.now.alpha) (upright_pixel (map g.C.Pixels.picture c.args.contents.now) c.args.drawn.now c.in-Buffer.shown c.args.source c.read.result.now (pos x) (pos y) c.in-Buffer.is c.requires.upright c.read.ensures))

@@ -1,0 +1,4 @@
+pub mod Scene
+pub mod Ranges
+pub mod Named
+pub mod Limits

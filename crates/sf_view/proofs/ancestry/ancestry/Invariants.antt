@@ -1,9 +1,0 @@
-use Rattle.std.proofs.Common.{◌≡◌, ◌++◌}
-use Rattle.sf_view.specs.Ancestry.{ancestry, ancestry_within, and_above}
-use Rattle.sf_view.proofs.ancestry.ancestry.Given as goal
-
-abbrev pub invariant-loop-steps : goal.invariant-loop-steps
-invariant-loop-steps l = l.list.items ++ and_above (ancestry_within l.tree l.steps) l.next ≡ ancestry l.tree l.fn.layer
-
-abbrev pub decreases-loop-steps : goal.decreases-loop-steps
-decreases-loop-steps l = l.steps
