@@ -13,40 +13,68 @@
 //! | `calm` | no layer has backpressure |
 //! | `seen TIMELINE VALUE` | what was observed of a timeline |
 //! | `ask EXPECTED` | the hold at this expected present time |
+//! | `line` | a line of transactions begins: nothing arrived |
+//! | `send ACTOR STEP TOKEN` | a transaction of this client's step arrives for a token |
+//! | `take` | the compositor takes what arrived into its queues |
+//! | `head TOKEN`, `pop TOKEN` | the token's first pending transaction, which `pop` takes out |
+//! | `tokens`, `arrivals` | the tokens with something pending; all that arrived |
 #![tactic(auto)]
 
 mod case;
+mod line;
 mod page;
 mod words;
 
 use anyhow::Result;
 use case::Case;
+use line::Line;
 use std::io::{BufRead, BufReader};
 use words::text;
 
+// What the lines so far made.
+#[derive(Drop)]
+struct Cases {
+    case: Case,
+    line: Line,
+}
+
 // Does what a line says of a case.
-fn follow(rt: &HostRuntime, case: &mut Case, line: &str) -> Result<()> {
+fn follow(rt: &HostRuntime, cases: &mut Cases, line: &str) -> Result<()> {
     let mut words = line.split_whitespace();
     let form = text(&mut words)?;
-    if form == "case" {
-        *case = Case::new(rt.alloc(), text(&mut words)?)?;
-        Ok(())
-    } else if form == "ask" {
-        let answer = case.answer(rt.alloc(), &mut words)?;
-        println!(rt; "{answer}")?;
-        Ok(())
-    } else {
-        case.change(form, &mut words)
+    match form {
+        "case" => {
+            cases.case = Case::new(rt.alloc(), text(&mut words)?)?;
+            Ok(())
+        }
+        "line" => {
+            cases.line = Line::new(rt.alloc())?;
+            Ok(())
+        }
+        "ask" => {
+            let answer = cases.case.answer(rt.alloc(), &mut words)?;
+            println!(rt; "{answer}")?;
+            Ok(())
+        }
+        "send" | "take" | "head" | "pop" | "tokens" | "arrivals" => {
+            let answer = cases.line.answer(rt.alloc(), form, &mut words)?;
+            println!(rt; "{answer}")?;
+            Ok(())
+        }
+        _ => cases.case.change(form, &mut words),
     }
 }
 
 fn main(rt: HostRuntime) -> Result<()> {
-    let mut case = Case::new(rt.alloc(), "unnamed")?;
+    let mut cases = Cases {
+        case: Case::new(rt.alloc(), "unnamed")?,
+        line: Line::new(rt.alloc())?,
+    };
     for line in BufReader::new(rt.alloc(), rt.reader())?.lines(rt.alloc()) {
         let line = line?;
         let line = line.trim();
         if !line.is_empty() && !line.starts_with('#') {
-            follow(&rt, &mut case, line)?;
+            follow(&rt, &mut cases, line)?;
         }
     }
     Ok(())

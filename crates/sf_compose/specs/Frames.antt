@@ -14,7 +14,8 @@ pub record ShowsPart (view : ViewOf) (part : List Rect) (image : ℕ → ℕ →
 -- no other point of the display changed
 pub record KeepsRest (view : ViewOf) (part : List Rect) (old new : List ℕ) : Type 0 where
   pub size : length new ≡ length old
-  pub pixels : (x y : ℕ) → x < view.width → y < view.height → has part (pos x) (pos y) ≡ false → pixel_in new (y * view.width + x) ≡ pixel_in old (y * view.width + x)
+  pub pixels : (x y : ℕ) → x < view.width → y < view.height → has part (pos x) (pos y) ≡ false
+      → pixel_in new (y * view.width + x) ≡ pixel_in old (y * view.width + x)
 
 -- a point lies between the sides and between the edges
 abbrev pub is_in_box : ℕ → ℕ → ℕ → ℕ → ℕ → ℕ → Bool

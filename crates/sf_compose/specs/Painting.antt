@@ -19,4 +19,5 @@ is_in_area area x y = is_in_box area.left area.right area.top area.bottom x y
 -- of a frame of this width, the points that pass a test are painted, and no other changed
 pub record Paints (width : ℕ) (test : ℕ → ℕ → Bool) (paint : ℕ → ℕ → Rgba → Rgba) (old new : List ℕ) : Type 0 where
   pub size : length new ≡ length old
-  pub pixels : (x y : ℕ) → x < width → pixel_in new (y * width + x) ≡ (if test x y then paint x y (pixel_in old (y * width + x)) else pixel_in old (y * width + x))
+  pub pixels : (x y : ℕ) → x < width
+      → pixel_in new (y * width + x) ≡ (if test x y then paint x y (pixel_in old (y * width + x)) else pixel_in old (y * width + x))

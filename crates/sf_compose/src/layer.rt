@@ -133,7 +133,8 @@ fn paint_layer<C: Pixels>(
 )
     requires readable { IsReadable (map C.picture contents.now) drawn.now.content source }
     requires upright { drawn.now.orient ≡ 0 }
-    requires inside { (x y : ℕ) → is_in_clip drawn.now (pos x) (pos y) ≡ true → is_in_content drawn.now.content drawn.now.orient drawn.now.place (pos x) (pos y) ≡ true }
+    requires inside { (x y : ℕ) → is_in_clip drawn.now (pos x) (pos y) ≡ true →
+        is_in_content drawn.now.content drawn.now.orient drawn.now.place (pos x) (pos y) ≡ true }
     requires wide { area.right ≤ width }
     requires room { 4 * (area.bottom * width) ≤ length frame.old }
     ensures { Paints width (is_in_area area) (λ x y under.

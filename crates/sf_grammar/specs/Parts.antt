@@ -78,5 +78,6 @@ fences_at scene points [] = Ok points
 fences_at scene points (word ∷ []) = if bytes_eq word (codes "fence") then wrong 0 MissingWord else wrong 1 UnknownWord
 fences_at scene points (word ∷ t ∷ []) = if bytes_eq word (codes "fence") then cut_point scene t else wrong 2 UnknownWord
 fences_at scene points (word ∷ t ∷ v ∷ rest) =
-    if bytes_eq word (codes "fence") then (point_of scene (length (t ∷ v ∷ rest)) (length (v ∷ rest)) t v >>= λ point. fences_at scene (points ++ point ∷ []) rest)
+    if bytes_eq word (codes "fence")
+    then (point_of scene (length (t ∷ v ∷ rest)) (length (v ∷ rest)) t v >>= λ point. fences_at scene (points ++ point ∷ []) rest)
     else wrong (length (word ∷ t ∷ v ∷ rest)) UnknownWord

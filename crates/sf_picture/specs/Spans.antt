@@ -11,12 +11,14 @@ use Rattle.sf_picture.specs.Pixels.{colour_at}
 
 -- of a picture of this size, the points that the rectangle covers have the colour, and no other changed
 pub record PaintsFill (old new : List ℕ) (width height : ℕ) (rect : Rect) (colour : Rgba) : Type 0 where
-  pub pixels : (x y : ℕ) → x < width → y < height → pixel_in new (y * width + x) ≡ (if covers rect (pos x) (pos y) then colour else pixel_in old (y * width + x))
+  pub pixels : (x y : ℕ) → x < width → y < height
+      → pixel_in new (y * width + x) ≡ (if covers rect (pos x) (pos y) then colour else pixel_in old (y * width + x))
 
 -- of a picture of this size, the points between the sides and of the rows have the colour, and no
 -- other changed
 pub record PaintsRows (old new : List ℕ) (width height left right top bottom : ℕ) (colour : Rgba) : Type 0 where
-  pub pixels : (x y : ℕ) → x < width → y < height → pixel_in new (y * width + x) ≡ (if (nat_le left x && nat_lt x right) && (nat_le top y && nat_lt y bottom) then colour else pixel_in old (y * width + x))
+  pub pixels : (x y : ℕ) → x < width → y < height
+      → pixel_in new (y * width + x) ≡ (if (nat_le left x && nat_lt x right) && (nat_le top y && nat_lt y bottom) then colour else pixel_in old (y * width + x))
 
 -- the bytes are the pixels of a picture of this size and format with these fills
 pub record ShowsFills (format : Format) (fills : List Fill) (width height : ℕ) (bytes : List ℕ) : Type 0 where

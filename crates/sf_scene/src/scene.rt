@@ -49,9 +49,39 @@ impl Model for Scene {
 
     ghost Value = { SceneValue };
 
-    ghost view = { λ s. record { version = s.version; width = s.width; height = s.height; period = s.period; timelines = s.timelines; queues = s.queues; pictures = s.pictures; actors = s.actors; order = s.order; displays = s.displays; stacks = s.stacks; captures = s.captures; hits = s.hits; mirrors = s.mirrors } };
+    ghost view = { λ s. record {
+      version = s.version;
+      width = s.width;
+      height = s.height;
+      period = s.period;
+      timelines = s.timelines;
+      queues = s.queues;
+      pictures = s.pictures;
+      actors = s.actors;
+      order = s.order;
+      displays = s.displays;
+      stacks = s.stacks;
+      captures = s.captures;
+      hits = s.hits;
+      mirrors = s.mirrors;
+    } };
 
-    ghost invariant = { λ s. IsWithinLimits (record { version = s.version; width = s.width; height = s.height; period = s.period; timelines = s.timelines; queues = s.queues; pictures = s.pictures; actors = s.actors; order = s.order; displays = s.displays; stacks = s.stacks; captures = s.captures; hits = s.hits; mirrors = s.mirrors }) };
+    ghost invariant = { λ s. IsWithinLimits (record {
+      version = s.version;
+      width = s.width;
+      height = s.height;
+      period = s.period;
+      timelines = s.timelines;
+      queues = s.queues;
+      pictures = s.pictures;
+      actors = s.actors;
+      order = s.order;
+      displays = s.displays;
+      stacks = s.stacks;
+      captures = s.captures;
+      hits = s.hits;
+      mirrors = s.mirrors;
+    }) };
 }
 
 impl Scene {

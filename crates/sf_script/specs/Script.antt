@@ -85,7 +85,8 @@ fills_of _ = []
 -- each picture has the fills that stand behind its line
 unfoldable pub pictures_of : List Line → List Picture
 pictures_of [] = []
-pictures_of (line.Picture p ∷ lines) = record { number = p.number; width = p.width; height = p.height; fills = fills_of lines; format = format.Rgba } ∷ pictures_of lines
+pictures_of (line.Picture p ∷ lines) =
+    record { number = p.number; width = p.width; height = p.height; fills = fills_of lines; format = format.Rgba } ∷ pictures_of lines
 pictures_of (_ ∷ lines) = pictures_of lines
 
 -- the steps that stand in front

@@ -105,9 +105,29 @@ impl Model for Scene {
 
     ghost Value = { SceneValue };
 
-    ghost view = { λ s. record { version = s.version; width = s.width; height = s.height; period = s.period; timelines = s.timelines; queues = s.queues; pictures = s.pictures; actors = s.actors; order = s.order } };
+    ghost view = { λ s. record {
+      version = s.version;
+      width = s.width;
+      height = s.height;
+      period = s.period;
+      timelines = s.timelines;
+      queues = s.queues;
+      pictures = s.pictures;
+      actors = s.actors;
+      order = s.order;
+    } };
 
-    ghost invariant = { λ s. IsWithinLimits (record { version = s.version; width = s.width; height = s.height; period = s.period; timelines = s.timelines; queues = s.queues; pictures = s.pictures; actors = s.actors; order = s.order }) };
+    ghost invariant = { λ s. IsWithinLimits (record {
+      version = s.version;
+      width = s.width;
+      height = s.height;
+      period = s.period;
+      timelines = s.timelines;
+      queues = s.queues;
+      pictures = s.pictures;
+      actors = s.actors;
+      order = s.order;
+    }) };
 }
 
 impl Scene {
