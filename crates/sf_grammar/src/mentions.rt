@@ -1,4 +1,4 @@
-ghost use Rattle.std.specs.Prelude.{◌≡◌, true, IfOk};
+ghost use Rattle.std.specs.Prelude.{◌≡◌, true, length, IfOk};
 ghost use Rattle.sf_words.specs.Text.{words_of};
 ghost use Rattle.sf_words.specs.Reading.{Gives};
 ghost use Rattle.sf_scene.specs.Ranges.{IsName};
@@ -12,7 +12,7 @@ use crate::fault::LineFault;
 use crate::line::BoundName;
 use sf_base::Items;
 use sf_scene::Scene;
-use sf_words::{Cause, WordFault, count_words, demand, name, number_within, number32, word, wrong};
+use sf_words::{Cause, WordFault, demand, name, number_within, number32, word, wrong};
 use std::alloc::Global;
 
 /// The number of a declared queue, and what is left of the line behind it.
@@ -37,26 +37,21 @@ pub fn declared_picture<'a>(scene: &Scene, line: &'a [u8]) -> Result<(u32, &'a [
     Ok((number, rest))
 }
 
-/// The number of a declared timeline, by a word from which on so many are left.
+/// The number of a declared timeline, by the word with which what is left of the line begins. The
+/// words that are left are counted where it is at fault alone.
 #[tactic(auto, unfolding(crate::specs::Mentions::timeline_of))]
-pub fn timeline_in(scene: &Scene, left: usize, word: &[u8]) -> Result<u32, WordFault>
-    ensures given { Gives (λ x. x) result (timeline_of scene.now left word.now) }
+pub fn timeline_in(scene: &Scene, line: &[u8], word: &[u8]) -> Result<u32, WordFault>
+    ensures given { Gives (λ x. x) result (timeline_of scene.now (length (words_of line.now)) word.now) }
     ensures declared { IfOk result (λ x. has_timeline scene.now.timelines x ≡ true) }
 {
     let Some(number) = number_within(word, 1, 64) else {
-        return Err(WordFault {
-            left,
-            cause: Cause::BadWord,
-        });
+        return Err(wrong(line, Cause::BadWord));
     };
     let number = number as u32;
     if scene.has_timeline(number) {
         Ok(number)
     } else {
-        Err(WordFault {
-            left,
-            cause: Cause::Undefined,
-        })
+        Err(wrong(line, Cause::Undefined))
     }
 }
 
@@ -67,7 +62,7 @@ pub fn declared_timeline<'a>(scene: &Scene, line: &'a [u8]) -> Result<(u32, &'a 
     ensures declared { IfOk result (λ x. has_timeline scene.now.timelines x.0 ≡ true) }
 {
     let (word, rest) = word(line)?;
-    let number = timeline_in(scene, count_words(line), word)?;
+    let number = timeline_in(scene, line, word)?;
     Ok((number, rest))
 }
 

@@ -1,4 +1,4 @@
-ghost use Rattle.std.specs.Prelude.{◌≡◌, [], true, IfOk, IfSome};
+ghost use Rattle.std.specs.Prelude.{◌≡◌, [], true, length, IfOk, IfSome};
 ghost use Rattle.sf_words.specs.Text.{words_of};
 ghost use Rattle.sf_words.specs.Reading.{Gives};
 ghost use Rattle.sf_scene.specs.Named.{AreKnown, timelines_in};
@@ -12,6 +12,7 @@ use crate::mentions::timeline_in;
 use sf_scene::{Points, Scene};
 use sf_words::{
     Cause, WordFault, count_words, end, fixed, is, next_word, number_within, number32, number64,
+    wrong,
 };
 use std::alloc::Global;
 
@@ -107,39 +108,46 @@ pub fn part(line: &[u8]) -> Result<(Option<(u32, u32, u32, u32)>, &[u8]), WordFa
     some_part(rest)
 }
 
-// A point, by its two words, from each of which on so many are left.
+// A point, by its two words, each with what is left of the line from it on.
 #[tactic(auto, unfolding(crate::specs::Parts::point_of))]
 fn point(
     scene: &Scene,
-    left_timeline: usize,
-    left_value: usize,
+    from_timeline: &[u8],
+    from_value: &[u8],
     timeline: &[u8],
     value: &[u8],
 ) -> Result<(u32, u64), WordFault>
-    ensures given { Gives (λ x. x) result (point_of scene.now left_timeline left_value timeline.now value.now) }
+    ensures given { Gives (λ x. x) result (point_of scene.now (length (words_of from_timeline.now)) (length (words_of from_value.now)) timeline.now value.now) }
     ensures declared { IfOk result (λ p. has_timeline scene.now.timelines p.0 ≡ true) }
 {
-    let number = timeline_in(scene, left_timeline, timeline)?;
+    let number = timeline_in(scene, from_timeline, timeline)?;
     let Some(value) = number_within(value, 0, u64::MAX) else {
-        return Err(WordFault {
-            left: left_value,
-            cause: Cause::BadWord,
-        });
+        return Err(wrong(from_value, Cause::BadWord));
     };
     Ok((number, value))
 }
 
 // The fault of a line that ends behind the timeline of a point.
-#[tactic(auto, unfolding(crate::specs::Parts::cut_point))]
+#[tactic(auto, unfolding(crate::specs::Parts::cut_point, crate::specs::Mentions::timeline_of))]
 fn cut(scene: &Scene, timeline: &[u8]) -> WordFault
     ensures { cut_point scene.now timeline.now ≡ Err result }
 {
-    match timeline_in(scene, 1, timeline) {
-        Ok(_) => WordFault {
+    let Some(number) = number_within(timeline, 1, 64) else {
+        return WordFault {
+            left: 1,
+            cause: Cause::BadWord,
+        };
+    };
+    if scene.has_timeline(number as u32) {
+        WordFault {
             left: 0,
             cause: Cause::MissingWord,
-        },
-        Err(fault) => fault,
+        }
+    } else {
+        WordFault {
+            left: 1,
+            cause: Cause::Undefined,
+        }
     }
 }
 
@@ -167,13 +175,7 @@ pub fn fences(alloc: Global, scene: &Scene, line: &[u8]) -> Result<Points, LineF
         let Some((value, next)) = next_word(behind) else {
             return Err(LineFault::Word(cut(scene, timeline)));
         };
-        let (number, value) = point(
-            scene,
-            count_words(after),
-            count_words(behind),
-            timeline,
-            value,
-        )?;
+        let (number, value) = point(scene, after, behind, timeline, value)?;
         points.push(number, value)?;
         rest = next;
     }
