@@ -1,6 +1,6 @@
-use crate::page::Page;
 use crate::words::{number32, number64, text};
 use anyhow::{Result, bail, ensure};
+use page_lease::Page;
 use sf_base::{Fence, LayerId, NoMemory, QueueId, Rect, Seen, TimelineId};
 use sf_layer::Shown;
 use sf_ready::{Facts, hold_of};
@@ -31,9 +31,9 @@ impl Case {
     }
 
     /// Does what a line of this form says of the case.
-    pub fn change(&mut self, form: &str, words: &mut SplitWhitespace) -> Result<()> {
+    pub fn change(&mut self, alloc: Global, form: &str, words: &mut SplitWhitespace) -> Result<()> {
         match form {
-            "desire" | "buffer" | "barrier" => self.fill(form, words),
+            "desire" | "buffer" | "barrier" => self.fill(alloc, form, words),
             "frame" | "fresh" | "pressed" | "vsync" | "calm" => self.tell(form, words),
             "seen" => self.observe(words),
             _ => bail!("unknown form {form}"),
@@ -41,7 +41,7 @@ impl Case {
     }
 
     // Fills the transaction.
-    fn fill(&mut self, form: &str, words: &mut SplitWhitespace) -> Result<()> {
+    fn fill(&mut self, alloc: Global, form: &str, words: &mut SplitWhitespace) -> Result<()> {
         match form {
             "desire" => {
                 self.txn.desire(number64(words)?);
@@ -52,7 +52,7 @@ impl Case {
                 granted(self.txn.add_barrier(layer, number64(words)?))
             }
             _ => {
-                let buffer = frame(words)?;
+                let buffer = frame(alloc, words)?;
                 ensure!(buffer.layer.0 > 0, "layers are numbered from 1");
                 self.drawn.push(text(words)? == "drawn")?;
                 ensure!(self.txn.set_buffer(buffer).is_ok(), "no memory");
@@ -119,7 +119,7 @@ fn granted(answer: std::result::Result<(), NoMemory>) -> Result<()> {
 }
 
 // A frame of queue 1 for a layer, with an acquire fence of one point.
-fn frame(words: &mut SplitWhitespace) -> Result<BufferOp<Page>> {
+fn frame(alloc: Global, words: &mut SplitWhitespace) -> Result<BufferOp<Page>> {
     let layer = LayerId(number32(words)?);
     let frame = number64(words)?;
     let timeline = number32(words)?;
@@ -129,6 +129,9 @@ fn frame(words: &mut SplitWhitespace) -> Result<BufferOp<Page>> {
     );
     let mut fence = Fence::none();
     fence.add(TimelineId(timeline), number64(words)?);
+    let Ok(lease) = Page::new(alloc, 1) else {
+        bail!("no memory")
+    };
     Ok(BufferOp {
         layer,
         shown: Shown {
@@ -143,9 +146,6 @@ fn frame(words: &mut SplitWhitespace) -> Result<BufferOp<Page>> {
             },
         },
         fence,
-        lease: Page {
-            number: 1,
-            looks: 0,
-        },
+        lease,
     })
 }

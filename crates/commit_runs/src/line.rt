@@ -1,6 +1,6 @@
-use crate::page::Page;
 use crate::words::{number32, text};
 use anyhow::{Result, bail, ensure};
+use page_lease::Page;
 use sf_base::{ActorId, TokenId};
 use sf_calls::{Object, Outcome};
 use sf_token::{Arrivals, ArriveCall, ArriveReply, Arrived, TokenQueues};

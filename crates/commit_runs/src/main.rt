@@ -22,12 +22,12 @@
 
 mod case;
 mod line;
-mod page;
 mod words;
 
 use anyhow::Result;
 use case::Case;
 use line::Line;
+use std::alloc::Global;
 use std::io::{BufRead, BufReader};
 use words::text;
 
@@ -36,6 +36,15 @@ use words::text;
 struct Cases {
     case: Case,
     line: Line,
+}
+
+impl Cases {
+    // A case without a name, and a line of nothing.
+    fn new(alloc: Global) -> Result<Cases> {
+        let case = Case::new(alloc, "unnamed")?;
+        let line = Line::new(alloc)?;
+        Ok(Cases { case, line })
+    }
 }
 
 // Does what a line says of a case.
@@ -61,15 +70,12 @@ fn follow(rt: &HostRuntime, cases: &mut Cases, line: &str) -> Result<()> {
             println!(rt; "{answer}")?;
             Ok(())
         }
-        _ => cases.case.change(form, &mut words),
+        _ => cases.case.change(rt.alloc(), form, &mut words),
     }
 }
 
 fn main(rt: HostRuntime) -> Result<()> {
-    let mut cases = Cases {
-        case: Case::new(rt.alloc(), "unnamed")?,
-        line: Line::new(rt.alloc())?,
-    };
+    let mut cases = Cases::new(rt.alloc())?;
     for line in BufReader::new(rt.alloc(), rt.reader())?.lines(rt.alloc()) {
         let line = line?;
         let line = line.trim();

@@ -1,8 +1,8 @@
 ghost use Rattle.std.specs.Prelude.{◌≤◌};
 
-use crate::page::Page;
 use crate::words::number32;
 use crate::{compose, fill, operation, scene};
+use page_lease::Page;
 use sf_base::{LayerId, NoMemory};
 use sf_layer::{Kind, Op, Parent};
 use sf_picture::Painted;

@@ -2,9 +2,9 @@ ghost use Rattle.std.specs.Prelude.{◌≡◌, ◌<◌, [], IsTrue, IfOk};
 ghost use Rattle.sf_layer.specs.Ranges.{IsOperation};
 ghost use Rattle.sf_txn.specs.Transactions.{shows_of};
 
-use crate::page::Page;
 use crate::show;
 use crate::words::{layer, number32, number64};
+use page_lease::Page;
 use sf_base::{Fence, LayerId, NoMemory, QueueId, Rect, TokenId};
 use sf_layer::{Op, Shown};
 use sf_txn::{BufferOp, Transaction};

@@ -31,7 +31,6 @@ mod case;
 mod compose;
 mod fill;
 mod operation;
-mod page;
 mod scene;
 mod show;
 mod words;

@@ -1,14 +1,15 @@
-//! A lease of a buffer whose picture is one pixel without fills. Its write has ended for whoever
-//! knows of as many writes as its number says. Nobody is named after it.
 ghost use Rattle.std.specs.Prelude.{◌≡◌, IfOk};
-ghost use Rattle.layer_runs.specs.Pages.{picture_of};
+ghost use Rattle.page_lease.specs.Pages.{picture_of};
 
+use crate::ends::Ends;
 use sf_base::{Format, Items, NoMemory};
 use sf_picture::{Painted, Picture, paint};
 use sf_txn::Lease;
 use std::alloc::Global;
 use std::marker::Model;
 
+/// A lease of a buffer whose picture has its number. Its write has ended for whoever knows of as many
+/// writes as the number says. It is not handed on.
 #[derive(Drop)]
 pub struct Page {
     number: u32,
@@ -19,7 +20,7 @@ pub struct Page {
 
 impl Model for Page {
     ghost use Rattle.std.specs.Prelude.{◌≡◌};
-    ghost use Rattle.layer_runs.specs.Pages.{PageOf, picture_of};
+    ghost use Rattle.page_lease.specs.Pages.{PageOf, picture_of};
 
     ghost Value = { PageOf };
 
@@ -36,12 +37,19 @@ pub struct Opened {
     looks: u64,
 }
 
-/// No page is handed on, so no read of one ends.
+/// A page that was handed on, and whose pixels have yet to come back.
 #[derive(Drop)]
-pub enum Never {}
+pub struct Closing {
+    turn: u64,
+    cell: Box<Ends>,
+}
 
-/// How many writes someone knows to have ended.
-pub struct Writes(pub u32);
+/// How many writes someone knows to have ended, and the ends of the reads that ended there.
+#[derive(Drop)]
+pub struct Writes {
+    pub count: u32,
+    pub ends: Ends,
+}
 
 impl Page {
     /// A page with a picture of this number that nobody has looked at.
@@ -73,13 +81,13 @@ impl Page {
 
 impl Lease for Page {
     ghost use Rattle.std.specs.Prelude.{ℕ, ◌≤◌, [], true, false};
-    ghost use Rattle.layer_runs.specs.Pages.{page_of, picture_of};
+    ghost use Rattle.page_lease.specs.Pages.{page_of, picture_of};
 
     type Eye = Writes;
 
     type Reading = Opened;
 
-    type Closing = Never;
+    type Closing = Closing;
 
     ghost Plain = { ℕ };
 
@@ -99,11 +107,11 @@ impl Lease for Page {
 
     ghost mark = { λ e. tt };
 
-    ghost ends = { λ e. [] };
+    ghost ends = { λ e. e.ends };
 
     ghost fits = { λ m s. Unit {0} };
 
-    ghost knows = { λ e s. s.number ≤ e.0 };
+    ghost knows = { λ e s. s.number ≤ e.count };
 
     ghost is_exact = { λ m. false };
 
@@ -111,14 +119,14 @@ impl Lease for Page {
 
     ghost opened = { λ r. page_of r.number r.seen r.looks };
 
-    ghost closing_end = { λ c. (0, 0) };
+    ghost closing_end = { λ c. (0, c.turn) };
 
     ghost closing_picture = { λ c. picture_of 0 };
 
     ghost closing_fits = { λ m c. Unit {0} };
 
     fn drawn(&mut self, eye: &mut Writes) -> bool {
-        let seen = self.number <= eye.0;
+        let seen = self.number <= eye.count;
         self.seen = seen;
         self.looks = self.looks.saturating_add(1);
         seen
@@ -139,11 +147,12 @@ impl Lease for Page {
         (opened, pixels)
     }
 
-    fn hand_on(_alloc: Global, reading: Opened) -> Result<(Never, Page), (NoMemory, Opened)> {
+    fn hand_on(_alloc: Global, reading: Opened) -> Result<(Closing, Page), (NoMemory, Opened)> {
         Err((NoMemory, reading))
     }
 
-    fn close(closing: Never, _eye: &mut Writes, _p: Painted) {
-        match closing {}
+    fn close(closing: Closing, eye: &mut Writes, _p: Painted) {
+        let Closing { turn, cell } = closing;
+        eye.ends.add(turn, cell);
     }
 }
