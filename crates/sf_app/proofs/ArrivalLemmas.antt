@@ -7,7 +7,7 @@ use Rattle.sf_record.specs.declared.record.ArrivalEntry.{ArrivalEntry}
 use Rattle.sf_record.specs.declared.record.Commit.{Commit}
 use Rattle.sf_layer.specs.declared.layer.Layer.{Layer}
 use Rattle.sf_tree.specs.Changes.{Rejection}
-use Rattle.sf_commit.specs.Stages.{FrameOf, Stage, buffers_in, releases_after, stage_after, tried}
+use Rattle.first_commit.specs.Stages.{FrameOf, Stage, buffers_in, releases_after, stage_after, tried}
 use Rattle.sf_record.specs.declared.record.CommittedBuffer.{CommittedBuffer}
 use Rattle.sf_app.specs.Commits.{arrival_at, commit_by, commit_of, commits_by, no_arrival, releases_by, stage_by}
 use Rattle.sf_app.specs.Transactions.{Arrival, entry_of}

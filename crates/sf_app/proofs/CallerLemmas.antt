@@ -6,7 +6,7 @@ use Rattle.std.proofs.lemmas.List.Concat.{flat_map-append}
 use Rattle.std.proofs.lemmas.List.Elements.{All-cons, All-head, All-nil, All-push, All-tail}
 use Rattle.sf_script.specs.Scene.{SceneValue}
 use Rattle.sf_slots.specs.declared.calls.Entry.{Entry}
-use Rattle.sf_actor.specs.Pasts.{Past}
+use Rattle.first_actor.specs.Pasts.{Past}
 use Rattle.sf_record.specs.declared.event.Event.{Event}
 use Rattle.sf_record.specs.declared.event.Event.TheVariants as event
 use Rattle.sf_record.specs.declared.record.ArrivalEntry.{ArrivalEntry}

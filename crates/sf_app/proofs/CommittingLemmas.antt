@@ -5,17 +5,17 @@ use Rattle.std.proofs.lemmas.List.Elements.{All-cons, All-nil, All-head, All-tai
 use Rattle.std.specs.List.{AllZip, range_with_len}
 use Rattle.sf_layer.specs.declared.layer.Layer.{Layer}
 use Rattle.sf_picture.specs.declared.picture.Picture.{Picture}
-use Rattle.sf_surface.specs.Leases.{ReadLeaseOf}
+use Rattle.first_surface.specs.Leases.{ReadLeaseOf}
 use Rattle.sf_base.specs.declared.ids.LayerId.{LayerId}
-use Rattle.sf_actor.specs.declared.operation.Edit.{Edit}
-use Rattle.sf_actor.specs.declared.operation.Edit.TheVariants as edit
-use Rattle.sf_actor.specs.declared.operation.Operation.{Operation}
-use Rattle.sf_actor.specs.Keeps.{EditKeeps, KeepsFrame, OperationKeeps}
-use Rattle.sf_actor.specs.Pasts.{Past}
-use Rattle.sf_commit.specs.declared.stage.Committed.{Committed}
-use Rattle.sf_commit.specs.Commits.{Commits, EditHas, IsOutcome, StageOf, frame_of, plain, stage_of}
-use Rattle.sf_commit.specs.Stages.{FrameOf, Stage, buffers_in, releases_after, stage_after, tried}
-use Rattle.sf_commit.proofs.Held.{Commits-kept, Commits-released}
+use Rattle.first_actor.specs.declared.operation.Edit.{Edit}
+use Rattle.first_actor.specs.declared.operation.Edit.TheVariants as edit
+use Rattle.first_actor.specs.declared.operation.Operation.{Operation}
+use Rattle.first_actor.specs.Keeps.{EditKeeps, KeepsFrame, OperationKeeps}
+use Rattle.first_actor.specs.Pasts.{Past}
+use Rattle.first_commit.specs.declared.stage.Committed.{Committed}
+use Rattle.first_commit.specs.Commits.{Commits, EditHas, IsOutcome, StageOf, frame_of, plain, stage_of}
+use Rattle.first_commit.specs.Stages.{FrameOf, Stage, buffers_in, releases_after, stage_after, tried}
+use Rattle.first_commit.proofs.Held.{Commits-kept, Commits-released}
 use Rattle.sf_record.specs.declared.record.Commit.{Commit}
 use Rattle.sf_record.specs.declared.record.CommittedBuffer.{CommittedBuffer}
 use Rattle.sf_tree.specs.Changes.{Rejection}

@@ -8,18 +8,18 @@ use Rattle.sf_base.specs.declared.ids.ActorId.{ActorId}
 use Rattle.sf_base.specs.declared.ids.QueueId.{QueueId}
 use Rattle.sf_picture.specs.declared.picture.Picture.{Picture}
 use Rattle.sf_slots.specs.declared.calls.Entry.{Entry}
-use Rattle.sf_surface.specs.declared.call.Answer.{Answer}
-use Rattle.sf_surface.specs.declared.call.Call.TheVariants as call
-use Rattle.sf_surface.specs.Calls.{plain_call}
-use Rattle.sf_surface.specs.Leases.{ReadLeaseOf}
-use Rattle.sf_surface.specs.Objects.{ObjectOf}
-use Rattle.sf_actor.specs.Desks.{DeskCalls}
-use Rattle.sf_actor.specs.Keeps.{KeepsFrame}
-use Rattle.sf_actor.specs.Pasts.{Asked, Past, has_queue, is_past_of, with_call, with_call_if, with_entry}
-use Rattle.sf_actor.specs.Plain.{past_of}
-use Rattle.sf_commit.specs.Commits.{ShowsWith, frame_of}
-use Rattle.sf_commit.specs.declared.stage.ShownLease.{ShownLease}
-use Rattle.sf_commit.specs.Stages.{FrameOf}
+use Rattle.first_surface.specs.declared.call.Answer.{Answer}
+use Rattle.first_surface.specs.declared.call.Call.TheVariants as call
+use Rattle.first_surface.specs.Calls.{plain_call}
+use Rattle.first_surface.specs.Leases.{ReadLeaseOf}
+use Rattle.first_surface.specs.Objects.{ObjectOf}
+use Rattle.first_actor.specs.Desks.{DeskCalls}
+use Rattle.first_actor.specs.Keeps.{KeepsFrame}
+use Rattle.first_actor.specs.Pasts.{Asked, Past, has_queue, is_past_of, with_call, with_call_if, with_entry}
+use Rattle.first_actor.specs.Plain.{past_of}
+use Rattle.first_commit.specs.Commits.{ShowsWith, frame_of}
+use Rattle.first_commit.specs.declared.stage.ShownLease.{ShownLease}
+use Rattle.first_commit.specs.Stages.{FrameOf}
 use Rattle.sf_app.specs.States.{HasQueueOf}
 use Rattle.sf_app.specs.Worlds.{compositor, release_of, released}
 

@@ -10,15 +10,15 @@ use Rattle.sf_picture.specs.declared.picture.Picture.{Picture}
 use Rattle.sf_slots.specs.declared.calls.Entry.{Entry}
 use Rattle.sf_slots.specs.declared.calls.PlainReply.{PlainReply}
 use Rattle.sf_slots.specs.Replies.{reply_after}
-use Rattle.sf_actor.specs.declared.done.Answered.{Answered}
-use Rattle.sf_actor.specs.declared.done.Done.{Done}
-use Rattle.sf_actor.specs.Pasts.{Asked, Past, is_past_of, reply_in, with_call, with_call_if, with_entry, entry_of}
-use Rattle.sf_actor.specs.Scripts.{picture_at}
-use Rattle.sf_actor.specs.Steps.{asked_by, books_after}
+use Rattle.first_actor.specs.declared.done.Answered.{Answered}
+use Rattle.first_actor.specs.declared.done.Done.{Done}
+use Rattle.first_actor.specs.Pasts.{Asked, Past, is_past_of, reply_in, with_call, with_call_if, with_entry, entry_of}
+use Rattle.first_actor.specs.Scripts.{picture_at}
+use Rattle.first_actor.specs.Steps.{asked_by, books_after}
 use Rattle.sf_script.specs.Scene.{SceneValue}
 use Rattle.sf_app.specs.Played.{IsCalledBy, IsHistory, IsMade, IsReleased, Made, Released, TellsReply, bare_past, entries_of, has_actor, made_from, made_if, made_on, may_call, released_at, released_on}
 use Rattle.sf_app.specs.Worlds.{compositor, release_of, released}
-use Rattle.sf_commit.specs.Stages.{FrameOf}
+use Rattle.first_commit.specs.Stages.{FrameOf}
 
 zip_push : {A B : Type 0} (R : A → B → Type 0) (xs : List A) (ys : List B) (x : A) (y : B) → AllZip R xs ys → R x y → AllZip R (xs ++ x ∷ []) (ys ++ y ∷ [])
 zip_push R [] [] x y all one = (one, tt)

@@ -6,7 +6,7 @@ use Rattle.std.specs.List.{list_any, range_with_len}
 use Rattle.sf_script.specs.Scene.{SceneValue, IsActor, IsWithinLimits}
 use Rattle.sf_script.specs.declared.scene.ActorScript.{ActorScript}
 use Rattle.sf_script.specs.declared.scene.Step.{Step}
-use Rattle.sf_actor.specs.declared.done.Done.{Done}
+use Rattle.first_actor.specs.declared.done.Done.{Done}
 use Rattle.sf_record.specs.declared.event.Event.{Event}
 use Rattle.sf_record.specs.declared.record.ArrivalEntry.{ArrivalEntry}
 use Rattle.sf_record.specs.declared.record.Record.{Record}

@@ -10,11 +10,11 @@ use Rattle.sf_script.specs.Scene.{SceneValue}
 use Rattle.sf_script.specs.declared.scene.ActorScript.{ActorScript}
 use Rattle.sf_script.specs.declared.scene.QueueDecl.{QueueDecl}
 use Rattle.sf_script.specs.declared.scene.Step.{Step}
-use Rattle.sf_actor.specs.declared.done.Done.{Done}
-use Rattle.sf_actor.specs.Pasts.{Past}
-use Rattle.sf_actor.specs.Scripts.{picture_at}
-use Rattle.sf_actor.specs.Steps.{asked_by, books_after}
-use Rattle.sf_commit.specs.Stages.{FrameOf, Stage}
+use Rattle.first_actor.specs.declared.done.Done.{Done}
+use Rattle.first_actor.specs.Pasts.{Past}
+use Rattle.first_actor.specs.Scripts.{picture_at}
+use Rattle.first_actor.specs.Steps.{asked_by, books_after}
+use Rattle.first_commit.specs.Stages.{FrameOf, Stage}
 use Rattle.sf_record.specs.declared.event.Event.{Event}
 use Rattle.sf_record.specs.declared.event.Event.TheVariants as event
 use Rattle.sf_record.specs.declared.event.VsyncReport.{VsyncReport}

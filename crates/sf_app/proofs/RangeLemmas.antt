@@ -10,17 +10,17 @@ use Rattle.sf_script.specs.declared.scene.Step.{Step}
 use Rattle.sf_script.specs.declared.scene.Step.TheVariants as step
 use Rattle.sf_slots.specs.declared.calls.PlainReply.{PlainReply}
 use Rattle.sf_slots.specs.declared.calls.PlainReply.TheVariants as reply
-use Rattle.sf_actor.specs.declared.done.Answered.{Answered}
-use Rattle.sf_actor.specs.declared.done.Answered.TheVariants as answered
-use Rattle.sf_actor.specs.declared.done.Done.{Done}
-use Rattle.sf_actor.specs.declared.operation.Edit.{Edit}
-use Rattle.sf_actor.specs.declared.operation.Edit.TheVariants as edit
-use Rattle.sf_actor.specs.declared.operation.Operation.{Operation}
-use Rattle.sf_actor.specs.Books.{Books, LayerEdit, PlainEdit, Sets, Shows, Token, Lent, Frame, name_in, no_books, transaction_in, with_edit, replaces}
-use Rattle.sf_actor.specs.Keeps.{IfThere}
-use Rattle.sf_actor.specs.Plain.{plain_operation}
-use Rattle.sf_actor.specs.Steps.{books_after, books_from, books_next, books_with, edited, lent_by, moved, op_by, sent_by, taken_by, was_done}
-use Rattle.sf_commit.specs.Commits.{IsEditInRange, IsReady}
+use Rattle.first_actor.specs.declared.done.Answered.{Answered}
+use Rattle.first_actor.specs.declared.done.Answered.TheVariants as answered
+use Rattle.first_actor.specs.declared.done.Done.{Done}
+use Rattle.first_actor.specs.declared.operation.Edit.{Edit}
+use Rattle.first_actor.specs.declared.operation.Edit.TheVariants as edit
+use Rattle.first_actor.specs.declared.operation.Operation.{Operation}
+use Rattle.first_actor.specs.Books.{Books, LayerEdit, PlainEdit, Sets, Shows, Token, Lent, Frame, name_in, no_books, transaction_in, with_edit, replaces}
+use Rattle.first_actor.specs.Keeps.{IfThere}
+use Rattle.first_actor.specs.Plain.{plain_operation}
+use Rattle.first_actor.specs.Steps.{books_after, books_from, books_next, books_with, edited, lent_by, moved, op_by, sent_by, taken_by, was_done}
+use Rattle.first_commit.specs.Commits.{IsEditInRange, IsReady}
 use Rattle.sf_app.specs.Played.{step_done}
 
 -- an edit that can be committed

@@ -5,8 +5,8 @@ use Rattle.sf_script.specs.Scene.{SceneValue}
 use Rattle.sf_script.specs.declared.scene.ActorScript.{ActorScript}
 use Rattle.sf_script.specs.declared.scene.Step.{Step}
 use Rattle.sf_script.specs.declared.scene.Step.TheVariants as step
-use Rattle.sf_actor.specs.Books.{LayerEdit}
-use Rattle.sf_actor.specs.Steps.{books_after, sent_by}
+use Rattle.first_actor.specs.Books.{LayerEdit}
+use Rattle.first_actor.specs.Steps.{books_after, sent_by}
 use Rattle.sf_picture.specs.declared.picture.Picture.{Picture}
 use Rattle.sf_record.specs.declared.event.Event.{Event}
 use Rattle.sf_app.specs.Transactions.{sent_after, sent_if, sent_with}

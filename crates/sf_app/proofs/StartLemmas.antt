@@ -10,16 +10,16 @@ use Rattle.sf_script.specs.Scene.{SceneValue, IsActor as IsScript, IsQueue, IsWi
 use Rattle.sf_script.specs.declared.scene.ActorScript.{ActorScript}
 use Rattle.sf_script.specs.declared.scene.QueueDecl.{QueueDecl}
 use Rattle.sf_slots.specs.Queue.{empty_queue}
-use Rattle.sf_surface.specs.Calls.{ItemShows}
-use Rattle.sf_surface.specs.Objects.{ObjectOf}
-use Rattle.sf_actor.specs.declared.actor.Actor.{Actor}
-use Rattle.sf_actor.specs.Actors.{IsNew}
-use Rattle.sf_actor.specs.Desks.{ObjectShows}
-use Rattle.sf_actor.specs.Pasts.{Past, has_queue}
-use Rattle.sf_actor.specs.Plain.{past_of}
-use Rattle.sf_actor.specs.Scripts.{picture_at}
-use Rattle.sf_actor.specs.Keeps.{KeepsFrame}
-use Rattle.sf_commit.specs.Commits.{ShowsWith, StageOf}
+use Rattle.first_surface.specs.Calls.{ItemShows}
+use Rattle.first_surface.specs.Objects.{ObjectOf}
+use Rattle.first_actor.specs.declared.actor.Actor.{Actor}
+use Rattle.first_actor.specs.Actors.{IsNew}
+use Rattle.first_actor.specs.Desks.{ObjectShows}
+use Rattle.first_actor.specs.Pasts.{Past, has_queue}
+use Rattle.first_actor.specs.Plain.{past_of}
+use Rattle.first_actor.specs.Scripts.{picture_at}
+use Rattle.first_actor.specs.Keeps.{KeepsFrame}
+use Rattle.first_commit.specs.Commits.{ShowsWith, StageOf}
 use Rattle.sf_record.specs.declared.record.ArrivalEntry.{ArrivalEntry}
 use Rattle.sf_app.specs.declared.state.Sent.{Sent}
 use Rattle.sf_app.specs.Bounds.{IsSound}

@@ -6,15 +6,15 @@ use Rattle.std.specs.List.{AllZip}
 use Rattle.sf_picture.specs.declared.picture.Picture.{Picture}
 use Rattle.sf_script.specs.declared.scene.Step.{Step}
 use Rattle.sf_script.specs.declared.scene.Step.TheVariants as step
-use Rattle.sf_actor.specs.declared.actor.Actor.{Actor}
-use Rattle.sf_actor.specs.declared.holding.Holding.{Holding}
-use Rattle.sf_actor.specs.declared.holding.Holding.TheVariants as holding
-use Rattle.sf_actor.specs.declared.operation.Edit.{Edit}
-use Rattle.sf_actor.specs.declared.operation.Edit.TheVariants as edit
-use Rattle.sf_actor.specs.declared.operation.Operation.{Operation}
-use Rattle.sf_actor.specs.Actors.{plain_sent}
-use Rattle.sf_actor.specs.Keeps.{ActorKeeps, EditKeeps, HoldingKeeps, IfThere, OperationKeeps}
-use Rattle.sf_actor.specs.Pasts.{Past, has_queue}
+use Rattle.first_actor.specs.declared.actor.Actor.{Actor}
+use Rattle.first_actor.specs.declared.holding.Holding.{Holding}
+use Rattle.first_actor.specs.declared.holding.Holding.TheVariants as holding
+use Rattle.first_actor.specs.declared.operation.Edit.{Edit}
+use Rattle.first_actor.specs.declared.operation.Edit.TheVariants as edit
+use Rattle.first_actor.specs.declared.operation.Operation.{Operation}
+use Rattle.first_actor.specs.Actors.{plain_sent}
+use Rattle.first_actor.specs.Keeps.{ActorKeeps, EditKeeps, HoldingKeeps, IfThere, OperationKeeps}
+use Rattle.first_actor.specs.Pasts.{Past, has_queue}
 use Rattle.sf_app.specs.declared.state.Sent.{Sent}
 use Rattle.sf_app.specs.States.{IsSent, SentKeeps, entries_with, waiting_with}
 use Rattle.sf_app.specs.Transactions.{Arrival, entry_of, sent_with}

@@ -5,24 +5,24 @@ use Rattle.std.specs.List.{AllZip}
 use Rattle.std.specs.Prelude.{IfSome}
 use Rattle.sf_base.specs.declared.ids.ActorId.{ActorId}
 use Rattle.sf_script.specs.declared.scene.QueueDecl.{QueueDecl}
-use Rattle.sf_actor.specs.Books.{LayerEdit}
+use Rattle.first_actor.specs.Books.{LayerEdit}
 use Rattle.sf_picture.specs.declared.picture.Picture.{Picture}
 use Rattle.sf_script.specs.Scene.{SceneValue, IsActor as IsScript, IsStep, KnowsPicture, KnowsQueue, has_picture as is_drawable, has_queue as is_declared, picture_named, queue_named}
 use Rattle.sf_script.specs.declared.scene.ActorScript.{ActorScript}
 use Rattle.sf_script.specs.declared.scene.Step.{Step}
 use Rattle.sf_script.specs.declared.scene.Step.TheVariants as step
-use Rattle.sf_surface.specs.Objects.{ObjectOf}
-use Rattle.sf_actor.specs.declared.actor.Actor.{Actor}
-use Rattle.sf_actor.specs.declared.actor.Stepped.{Stepped}
-use Rattle.sf_actor.specs.declared.done.Done.{Done}
-use Rattle.sf_actor.specs.declared.operation.Operation.{Operation}
-use Rattle.sf_actor.specs.Actors.{StepsBy, plain_sent}
-use Rattle.sf_actor.specs.Keeps.{IfThere, OperationKeeps}
-use Rattle.sf_actor.specs.Pasts.{Past, has_queue}
-use Rattle.sf_actor.specs.Plain.{past_of}
-use Rattle.sf_actor.specs.Scripts.{IsKnown, has_picture, picture_at}
-use Rattle.sf_actor.specs.Statuses.{status_of}
-use Rattle.sf_actor.specs.Steps.{asked_by, books_after, done_by, pasts_by}
+use Rattle.first_surface.specs.Objects.{ObjectOf}
+use Rattle.first_actor.specs.declared.actor.Actor.{Actor}
+use Rattle.first_actor.specs.declared.actor.Stepped.{Stepped}
+use Rattle.first_actor.specs.declared.done.Done.{Done}
+use Rattle.first_actor.specs.declared.operation.Operation.{Operation}
+use Rattle.first_actor.specs.Actors.{StepsBy, plain_sent}
+use Rattle.first_actor.specs.Keeps.{IfThere, OperationKeeps}
+use Rattle.first_actor.specs.Pasts.{Past, has_queue}
+use Rattle.first_actor.specs.Plain.{past_of}
+use Rattle.first_actor.specs.Scripts.{IsKnown, has_picture, picture_at}
+use Rattle.first_actor.specs.Statuses.{status_of}
+use Rattle.first_actor.specs.Steps.{asked_by, books_after, done_by, pasts_by}
 use Rattle.sf_record.specs.declared.event.Event.{Event}
 use Rattle.sf_record.specs.declared.event.Event.TheVariants as event
 use Rattle.sf_record.specs.declared.record.ArrivalEntry.{ArrivalEntry}

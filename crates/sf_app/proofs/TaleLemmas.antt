@@ -10,10 +10,10 @@ use Rattle.sf_script.specs.declared.scene.Step.{Step}
 use Rattle.sf_script.specs.declared.scene.Step.TheVariants as step
 use Rattle.sf_slots.specs.declared.calls.PlainCall.TheVariants as plain
 use Rattle.sf_slots.specs.declared.calls.PlainReply.{PlainReply}
-use Rattle.sf_actor.specs.declared.done.Done.{Done}
-use Rattle.sf_actor.specs.Books.{Books, LayerEdit}
-use Rattle.sf_actor.specs.Pasts.{Asked, Past, reply_in}
-use Rattle.sf_actor.specs.Steps.{answer_of, asked_by, books_after, done_by, refusal_of, sent_by, unless_refused, call_of}
+use Rattle.first_actor.specs.declared.done.Done.{Done}
+use Rattle.first_actor.specs.Books.{Books, LayerEdit}
+use Rattle.first_actor.specs.Pasts.{Asked, Past, reply_in}
+use Rattle.first_actor.specs.Steps.{answer_of, asked_by, books_after, done_by, refusal_of, sent_by, unless_refused, call_of}
 use Rattle.sf_record.specs.declared.record.ArrivalEntry.{ArrivalEntry}
 use Rattle.sf_record.specs.declared.record.Reply.{Reply}
 use Rattle.sf_app.specs.Played.{AreAnswered, IsAnswered, TellsReply}

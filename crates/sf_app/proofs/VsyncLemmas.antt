@@ -5,16 +5,16 @@ use Rattle.std.proofs.lemmas.Bool.{eq-eqb, ne_eqb}
 use Rattle.std.specs.List.{AllZip, range_with_len}
 use Rattle.sf_picture.specs.declared.picture.Picture.{Picture}
 use Rattle.sf_script.specs.Scene.{SceneValue}
-use Rattle.sf_surface.specs.Calls.{LeaseShows}
-use Rattle.sf_surface.specs.Leases.{ReadLeaseOf}
-use Rattle.sf_surface.specs.Objects.{ObjectOf}
-use Rattle.sf_actor.specs.Keeps.{KeepsFrame}
-use Rattle.sf_actor.specs.Pasts.{Past, has_queue}
-use Rattle.sf_actor.specs.Plain.{past_of}
-use Rattle.sf_actor.specs.Scripts.{picture_at}
-use Rattle.sf_commit.specs.declared.stage.ShownLease.{ShownLease}
-use Rattle.sf_commit.specs.Commits.{ShowsWith, StageOf, frame_of, stage_of}
-use Rattle.sf_commit.specs.Stages.{Stage}
+use Rattle.first_surface.specs.Calls.{LeaseShows}
+use Rattle.first_surface.specs.Leases.{ReadLeaseOf}
+use Rattle.first_surface.specs.Objects.{ObjectOf}
+use Rattle.first_actor.specs.Keeps.{KeepsFrame}
+use Rattle.first_actor.specs.Pasts.{Past, has_queue}
+use Rattle.first_actor.specs.Plain.{past_of}
+use Rattle.first_actor.specs.Scripts.{picture_at}
+use Rattle.first_commit.specs.declared.stage.ShownLease.{ShownLease}
+use Rattle.first_commit.specs.Commits.{ShowsWith, StageOf, frame_of, stage_of}
+use Rattle.first_commit.specs.Stages.{Stage}
 use Rattle.sf_record.specs.declared.event.Event.TheVariants as event
 use Rattle.sf_record.specs.declared.record.ArrivalEntry.{ArrivalEntry}
 use Rattle.sf_record.specs.declared.record.Commit.{Commit}

@@ -6,9 +6,9 @@ use Rattle.sf_script.specs.Scene.{SceneValue}
 use Rattle.sf_tree.specs.Changes.{Rejection}
 use Rattle.sf_record.specs.declared.record.Commit.{Commit}
 use Rattle.sf_record.specs.declared.record.CommittedBuffer.{CommittedBuffer}
-use Rattle.sf_actor.specs.Scripts.{picture_at}
-use Rattle.sf_commit.specs.Frames.{frame_of_layers}
-use Rattle.sf_commit.specs.Stages.{FrameOf, Stage, buffers_in, releases_after, stage_after, tried}
+use Rattle.first_actor.specs.Scripts.{picture_at}
+use Rattle.first_commit.specs.Frames.{frame_of_layers}
+use Rattle.first_commit.specs.Stages.{FrameOf, Stage, buffers_in, releases_after, stage_after, tried}
 use Rattle.sf_app.specs.Transactions.{Arrival}
 
 abbrev pub no_arrival : Arrival

@@ -2,10 +2,10 @@
 use Rattle.std.specs.Prelude.{◌≡◌, ℕ, ◌+◌, List, [], ◌∷◌, ◌++◌, map}
 use Rattle.std.specs.List.{All}
 use Rattle.sf_picture.specs.declared.picture.Picture.{Picture}
-use Rattle.sf_actor.specs.Keeps.{KeepsFrame}
-use Rattle.sf_actor.specs.Pasts.{Past}
-use Rattle.sf_commit.specs.Commits.{EditHas, ShowsWith, StageOf, frame_of, plain, stage_of}
-use Rattle.sf_commit.specs.Stages.{FrameOf, Stage, releases_after, stage_after}
+use Rattle.first_actor.specs.Keeps.{KeepsFrame}
+use Rattle.first_actor.specs.Pasts.{Past}
+use Rattle.first_commit.specs.Commits.{EditHas, ShowsWith, StageOf, frame_of, plain, stage_of}
+use Rattle.first_commit.specs.Stages.{FrameOf, Stage, releases_after, stage_after}
 use Rattle.sf_record.specs.declared.record.Commit.{Commit}
 use Rattle.sf_app.specs.declared.state.Sent.{Sent}
 use Rattle.sf_app.specs.declared.vsync.Outcome.{Outcome}

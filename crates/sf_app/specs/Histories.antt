@@ -5,8 +5,8 @@ use Rattle.sf_slots.specs.declared.calls.PlainCall.{PlainCall}
 use Rattle.sf_slots.specs.declared.calls.PlainCall.TheVariants as call
 use Rattle.sf_slots.specs.declared.calls.PlainReply.{PlainReply}
 use Rattle.sf_slots.specs.declared.calls.PlainReply.TheVariants as reply
-use Rattle.sf_actor.specs.Pasts.{Past}
-use Rattle.sf_actor.specs.Statuses.{reply_status}
+use Rattle.first_actor.specs.Pasts.{Past}
+use Rattle.first_actor.specs.Statuses.{reply_status}
 use Rattle.sf_record.specs.declared.record.HistoryEntry.{HistoryEntry}
 use Rattle.sf_record.specs.declared.record.QueueHistory.{QueueHistory}
 

@@ -11,13 +11,13 @@ use Rattle.sf_script.specs.declared.scene.Step.{Step}
 use Rattle.sf_slots.specs.declared.calls.Entry.{Entry}
 use Rattle.sf_slots.specs.declared.calls.PlainReply.{PlainReply}
 use Rattle.sf_slots.specs.Tells.{AreReplies}
-use Rattle.sf_actor.specs.declared.done.Answered.{Answered}
-use Rattle.sf_actor.specs.declared.done.Answered.TheVariants as answered
-use Rattle.sf_actor.specs.declared.done.Done.{Done}
-use Rattle.sf_actor.specs.Books.{Books}
-use Rattle.sf_actor.specs.Pasts.{Asked, Past}
-use Rattle.sf_actor.specs.Scripts.{picture_at}
-use Rattle.sf_actor.specs.Steps.{answer_of, asked_by, books_after, refusal_of}
+use Rattle.first_actor.specs.declared.done.Answered.{Answered}
+use Rattle.first_actor.specs.declared.done.Answered.TheVariants as answered
+use Rattle.first_actor.specs.declared.done.Done.{Done}
+use Rattle.first_actor.specs.Books.{Books}
+use Rattle.first_actor.specs.Pasts.{Asked, Past}
+use Rattle.first_actor.specs.Scripts.{picture_at}
+use Rattle.first_actor.specs.Steps.{answer_of, asked_by, books_after, refusal_of}
 use Rattle.sf_record.specs.declared.event.Event.{Event}
 use Rattle.sf_record.specs.declared.event.Event.TheVariants as event
 use Rattle.sf_record.specs.declared.event.VsyncReport.{VsyncReport}
@@ -32,7 +32,7 @@ use Rattle.sf_record.specs.Events.{run_records}
 use Rattle.sf_record.specs.Fitting.{RecordFits}
 use Rattle.sf_app.specs.Commits.{commits_by, frame_due, releases_by, stage_by}
 use Rattle.sf_app.specs.Histories.{shown_past}
-use Rattle.sf_commit.specs.Stages.{FrameOf, Stage}
+use Rattle.first_commit.specs.Stages.{FrameOf, Stage}
 use Rattle.sf_app.specs.Transactions.{Arrival, entry_of, replies_from, sent_from}
 use Rattle.sf_app.specs.Worlds.{bare_stage, new_past, release_of, rising}
 

@@ -5,16 +5,16 @@ use Rattle.sf_picture.specs.declared.picture.Picture.{Picture}
 use Rattle.sf_script.specs.Scene.{SceneValue, IsWithinLimits, has_queue as is_declared}
 use Rattle.sf_script.specs.declared.scene.Step.{Step}
 use Rattle.sf_script.specs.declared.scene.Step.TheVariants as step
-use Rattle.sf_surface.specs.Leases.{ReadLeaseOf}
-use Rattle.sf_surface.specs.Objects.{ObjectOf}
-use Rattle.sf_actor.specs.Actors.{IsActor}
-use Rattle.sf_actor.specs.Desks.{ObjectShows}
-use Rattle.sf_actor.specs.Keeps.{ActorKeeps, KeepsFrame, OperationKeeps}
-use Rattle.sf_actor.specs.Pasts.{Past, has_queue}
-use Rattle.sf_actor.specs.declared.operation.Operation.{Operation}
-use Rattle.sf_actor.specs.Plain.{past_of}
-use Rattle.sf_actor.specs.Scripts.{picture_at}
-use Rattle.sf_commit.specs.Commits.{IsReady, ShowsWith, frame_of, plain, stage_of}
+use Rattle.first_surface.specs.Leases.{ReadLeaseOf}
+use Rattle.first_surface.specs.Objects.{ObjectOf}
+use Rattle.first_actor.specs.Actors.{IsActor}
+use Rattle.first_actor.specs.Desks.{ObjectShows}
+use Rattle.first_actor.specs.Keeps.{ActorKeeps, KeepsFrame, OperationKeeps}
+use Rattle.first_actor.specs.Pasts.{Past, has_queue}
+use Rattle.first_actor.specs.declared.operation.Operation.{Operation}
+use Rattle.first_actor.specs.Plain.{past_of}
+use Rattle.first_actor.specs.Scripts.{picture_at}
+use Rattle.first_commit.specs.Commits.{IsReady, ShowsWith, frame_of, plain, stage_of}
 use Rattle.sf_app.specs.declared.state.RunState.{RunState}
 use Rattle.sf_app.specs.declared.state.Sent.{Sent}
 use Rattle.sf_record.specs.declared.record.ArrivalEntry.{ArrivalEntry}

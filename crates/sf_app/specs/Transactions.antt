@@ -2,10 +2,10 @@
 use Rattle.std.specs.Prelude.{ℕ, ◌+◌, List, [], ◌∷◌, ◌++◌, length, Option, None, Some}
 use Rattle.sf_script.specs.declared.scene.Step.{Step}
 use Rattle.sf_script.specs.declared.scene.Step.TheVariants as step
-use Rattle.sf_actor.specs.declared.done.Done.{Done}
-use Rattle.sf_actor.specs.Books.{LayerEdit}
-use Rattle.sf_actor.specs.Statuses.{status_of}
-use Rattle.sf_actor.specs.Steps.{books_after, sent_by}
+use Rattle.first_actor.specs.declared.done.Done.{Done}
+use Rattle.first_actor.specs.Books.{LayerEdit}
+use Rattle.first_actor.specs.Statuses.{status_of}
+use Rattle.first_actor.specs.Steps.{books_after, sent_by}
 use Rattle.sf_record.specs.declared.record.ArrivalEntry.{ArrivalEntry}
 use Rattle.sf_record.specs.declared.record.Reply.{Reply}
 

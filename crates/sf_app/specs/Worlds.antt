@@ -9,14 +9,14 @@ use Rattle.sf_script.specs.declared.scene.ActorScript.{ActorScript}
 use Rattle.sf_script.specs.declared.scene.QueueDecl.{QueueDecl}
 use Rattle.sf_script.specs.declared.scene.Step.{Step}
 use Rattle.sf_slots.specs.declared.calls.PlainCall.TheVariants as call
-use Rattle.sf_actor.specs.declared.done.Done.{Done}
-use Rattle.sf_actor.specs.Pasts.{Asked, Past, with_call}
-use Rattle.sf_actor.specs.Scripts.{picture_at}
-use Rattle.sf_actor.specs.Steps.{books_after, done_by, pasts_by}
+use Rattle.first_actor.specs.declared.done.Done.{Done}
+use Rattle.first_actor.specs.Pasts.{Asked, Past, with_call}
+use Rattle.first_actor.specs.Scripts.{picture_at}
+use Rattle.first_actor.specs.Steps.{books_after, done_by, pasts_by}
 use Rattle.sf_record.specs.declared.event.Event.{Event}
 use Rattle.sf_record.specs.declared.event.Event.TheVariants as event
 use Rattle.sf_app.specs.Commits.{commits_by, frame_due, releases_by, stage_by}
-use Rattle.sf_commit.specs.Stages.{FrameOf, Stage}
+use Rattle.first_commit.specs.Stages.{FrameOf, Stage}
 use Rattle.sf_app.specs.Transactions.{Arrival, reply_at, sent_after}
 
 -- the steps that the actor has done, the calls on each queue, the transactions that arrived, how many of them are

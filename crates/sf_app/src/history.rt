@@ -1,12 +1,12 @@
 ghost use Rattle.std.specs.Prelude.{◌≡◌, IfOk, map, reverse};
-ghost use Rattle.sf_actor.specs.Plain.{past_of};
+ghost use Rattle.first_actor.specs.Plain.{past_of};
 ghost use Rattle.sf_app.specs.Histories.{frame_shown, kind_number, shown_entry, shown_past, slot_shown};
 
-use sf_actor::Answered;
+use first_actor::Answered;
+use first_surface::QueueObject;
 use sf_base::{Items, NoMemory};
 use sf_record::{HistoryEntry, QueueHistory};
 use sf_slots::{Entry, PlainCall, PlainReply};
-use sf_surface::QueueObject;
 use std::alloc::Global;
 
 /// The slot of a call that names none and got none.

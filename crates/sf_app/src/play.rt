@@ -2,7 +2,7 @@ ghost use Rattle.std.specs.Prelude.{◌≡◌, ◌==◌, ◌&&◌, ◌<◌, ◌�
 ghost use Rattle.std.specs.Io.KnownBytes.{Appends};
 ghost use Rattle.sf_io.specs.Causes.{Rose};
 ghost use Rattle.sf_io.specs.Streams.{TookPrefix};
-ghost use Rattle.sf_actor.specs.Plain.{past_of};
+ghost use Rattle.first_actor.specs.Plain.{past_of};
 ghost use Rattle.sf_record.specs.Events.{closing, opening};
 ghost use Rattle.sf_record.specs.Fitting.{RecordFits};
 ghost use Rattle.sf_record.specs.Records.{bytes_of, record_bytes};
@@ -18,6 +18,7 @@ use crate::history::history;
 use crate::state::RunState;
 use crate::step::next_step;
 use crate::vsync::vsync;
+use first_surface::QueueObject;
 use sf_base::{Items, NoMemory};
 use sf_io::Sink;
 use sf_record::{
@@ -25,7 +26,6 @@ use sf_record::{
     write_record,
 };
 use sf_script::{Pick, Scene};
-use sf_surface::QueueObject;
 use std::alloc::Global;
 
 // Writes the records of an event, if there is one.

@@ -1,14 +1,14 @@
 ghost use Rattle.std.specs.Prelude.{◌≡◌, ◌++◌, [], ◌∷◌, if◌then◌else◌, IfOk, OnOk, map, filter, ◌==◌};
 ghost use Rattle.std.specs.List.{All, flat_map, range_with_len};
-ghost use Rattle.sf_actor.specs.Plain.{past_of};
+ghost use Rattle.first_actor.specs.Plain.{past_of};
 ghost use Rattle.sf_app.specs.Queues.{AreNew};
 ghost use Rattle.sf_app.specs.Worlds.{new_past, rising};
 ghost use Rattle.sf_script.specs.Scene.{IsQueue, IsWithinLimits};
 
-use sf_actor::Desk;
+use first_actor::Desk;
+use first_surface::QueueObject;
 use sf_base::{NoMemory, QueueId};
 use sf_script::{QueueDecl, Scene};
-use sf_surface::QueueObject;
 use std::alloc::Global;
 
 // Adds the queue, if it has this number.

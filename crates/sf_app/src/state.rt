@@ -5,9 +5,9 @@ ghost use Rattle.sf_app.specs.States.{IsRunning, world_of};
 ghost use Rattle.sf_app.specs.Worlds.{start};
 
 use crate::queues::open_queues;
-use sf_actor::{Actor, Desk, Operation};
+use first_actor::{Actor, Desk, Operation};
+use first_commit::Stage;
 use sf_base::{ActorId, Items, NoMemory};
-use sf_commit::Stage;
 use sf_record::ArrivalEntry;
 use sf_script::Scene;
 use std::alloc::Global;

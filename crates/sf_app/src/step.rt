@@ -5,7 +5,7 @@ ghost use Rattle.sf_app.specs.Turns.{IsTurn, shown};
 ghost use Rattle.sf_app.specs.Worlds.{performed, step_of};
 
 use crate::state::{RunState, Sent};
-use sf_actor::Operation;
+use first_actor::Operation;
 use sf_base::{Items, NoMemory};
 use sf_record::{ArrivalEntry, Event, Reply};
 use sf_script::{ActorScript, Scene, Step};

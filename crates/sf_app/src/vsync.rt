@@ -1,12 +1,12 @@
 ghost use Rattle.std.specs.Prelude.{◌≡◌, ◌<◌, ◌≤◌, ◌+◌, ◌-◌, ◌^◌, ◌++◌, ◌∷◌, [], length, map, IfOk, OnOk, ℕ, List};
 ghost use Rattle.std.specs.List.{All, list_any};
-ghost use Rattle.sf_surface.specs.Calls.{LeaseShows};
-ghost use Rattle.sf_surface.specs.Leases.{ReadLeaseOf};
-ghost use Rattle.sf_actor.specs.Desks.{ObjectShows};
-ghost use Rattle.sf_actor.specs.Keeps.{KeepsFrame};
-ghost use Rattle.sf_actor.specs.Plain.{past_of};
-ghost use Rattle.sf_actor.specs.Scripts.{picture_at};
-ghost use Rattle.sf_commit.specs.Commits.{ShowsWith, frame_of, stage_of};
+ghost use Rattle.first_surface.specs.Calls.{LeaseShows};
+ghost use Rattle.first_surface.specs.Leases.{ReadLeaseOf};
+ghost use Rattle.first_actor.specs.Desks.{ObjectShows};
+ghost use Rattle.first_actor.specs.Keeps.{KeepsFrame};
+ghost use Rattle.first_actor.specs.Plain.{past_of};
+ghost use Rattle.first_actor.specs.Scripts.{picture_at};
+ghost use Rattle.first_commit.specs.Commits.{ShowsWith, frame_of, stage_of};
 ghost use Rattle.sf_picture.specs.declared.picture.Picture.{Picture};
 ghost use Rattle.sf_app.specs.Commits.{frame_due, is_done};
 ghost use Rattle.sf_app.specs.Committing.{AreCommitted, GoesOn};
@@ -16,12 +16,12 @@ ghost use Rattle.sf_app.specs.Worlds.{vsync_of};
 ghost use Rattle.sf_view.specs.Views.{IsDisplay};
 
 use crate::state::{RunState, Sent};
-use sf_actor::Desk;
+use first_actor::Desk;
+use first_commit::Stage;
+use first_surface::{Call, ReadLease};
 use sf_base::{ActorId, Fence, Items, NoMemory};
-use sf_commit::Stage;
 use sf_record::{Commit, Event, VsyncReport};
 use sf_script::Scene;
-use sf_surface::{Call, ReadLease};
 use std::alloc::Global;
 use std::mem;
 

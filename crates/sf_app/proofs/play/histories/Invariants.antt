@@ -1,5 +1,5 @@
 use Rattle.std.proofs.Common.{◌≡◌, map, take}
-use Rattle.sf_actor.specs.Plain.{past_of}
+use Rattle.first_actor.specs.Plain.{past_of}
 use Rattle.sf_app.specs.Histories.{shown_past}
 use Rattle.sf_app.proofs.play.histories.Given as goal
 

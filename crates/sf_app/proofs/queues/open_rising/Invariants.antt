@@ -1,6 +1,6 @@
 use Rattle.std.proofs.Common.{◌≡◌, ◌++◌, ◌-◌, map}
 use Rattle.std.specs.List.{All}
-use Rattle.sf_actor.specs.Plain.{past_of}
+use Rattle.first_actor.specs.Plain.{past_of}
 use Rattle.sf_app.specs.Queues.{IsEmpty}
 use Rattle.sf_app.specs.Worlds.{new_past}
 use Rattle.sf_app.proofs.StartLemmas.{from_here}

@@ -1,9 +1,9 @@
 use Rattle.std.proofs.Common.{◌≡◌, ◌+◌, ◌++◌, ℕ, List, length, drop, map}
 use Rattle.std.specs.List.{All}
 use Rattle.sf_picture.specs.declared.picture.Picture.{Picture}
-use Rattle.sf_actor.specs.Keeps.{KeepsFrame}
-use Rattle.sf_actor.specs.Pasts.{Past}
-use Rattle.sf_commit.specs.Commits.{ShowsWith, frame_of, stage_of}
+use Rattle.first_actor.specs.Keeps.{KeepsFrame}
+use Rattle.first_actor.specs.Pasts.{Past}
+use Rattle.first_commit.specs.Commits.{ShowsWith, frame_of, stage_of}
 use Rattle.sf_app.specs.Committing.{SentFrames, commits_from, releases_from, stage_from}
 use Rattle.sf_app.proofs.vsync.commit_all.Given as goal
 

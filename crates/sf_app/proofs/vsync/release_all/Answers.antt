@@ -2,7 +2,7 @@ use Rattle.std.proofs.Common.{rules, ap}
 use Rattle.std.proofs.lemmas.Iterator.Adapters.{YieldsList-from_vec}
 use Rattle.std.proofs.lemmas.Iterator.Consumers.{YieldsList-turn}
 use Rattle.std.proofs.lemmas.List.{length_push}
-use Rattle.sf_surface.specs.Leases.{ReadLeaseOf}
+use Rattle.first_surface.specs.Leases.{ReadLeaseOf}
 use Rattle.sf_app.proofs.DeskLemmas.{next_release, queues_stay}
 use Rattle.sf_app.proofs.vsync.release_all.Goals as goal
 

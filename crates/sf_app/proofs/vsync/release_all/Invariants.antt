@@ -1,9 +1,9 @@
 use Rattle.std.proofs.Common.{◌≡◌, ℕ, length, drop, map}
 use Rattle.std.specs.List.{All}
 use Rattle.sf_picture.specs.declared.picture.Picture.{Picture}
-use Rattle.sf_actor.specs.Desks.{ObjectShows}
-use Rattle.sf_actor.specs.Plain.{past_of}
-use Rattle.sf_commit.specs.Commits.{frame_of}
+use Rattle.first_actor.specs.Desks.{ObjectShows}
+use Rattle.first_actor.specs.Plain.{past_of}
+use Rattle.first_commit.specs.Commits.{frame_of}
 use Rattle.sf_app.specs.States.{HasQueueOf}
 use Rattle.sf_app.specs.Worlds.{released}
 use Rattle.sf_app.proofs.vsync.release_all.Given as goal

@@ -1,8 +1,8 @@
 use Rattle.std.proofs.Common.{◌+◌, arith, ap, map, sym, ◌∙◌, refl}
 use Rattle.sf_script.specs.Scene.{SceneValue}
-use Rattle.sf_actor.specs.Plain.{past_of}
-use Rattle.sf_actor.specs.Scripts.{picture_at}
-use Rattle.sf_commit.specs.Commits.{stage_of}
+use Rattle.first_actor.specs.Plain.{past_of}
+use Rattle.first_actor.specs.Scripts.{picture_at}
+use Rattle.first_commit.specs.Commits.{stage_of}
 use Rattle.sf_app.specs.States.{world_of}
 use Rattle.sf_app.specs.Worlds.{released}
 use Rattle.sf_app.proofs.VsyncLemmas.{all_frames, all_queues, all_show, commits_all, count_arrivals, few_wait, runs_on, vsync_rests, vsync_shows}
