@@ -1,7 +1,7 @@
 ghost use Rattle.std.specs.Prelude.{◌≤◌};
 
 use crate::words::number32;
-use crate::{compose, fill, operation, scene};
+use crate::{compose, fill, operation, read, scene};
 use page_lease::Page;
 use sf_base::{LayerId, NoMemory};
 use sf_layer::{Kind, Op, Parent};
@@ -121,6 +121,28 @@ impl Case {
         Ok(true)
     }
 
+    /// Looks at what the transaction shows, or reads it. Answers whether the line says so.
+    fn read(
+        &mut self,
+        rt: &impl Print,
+        name: &str,
+        words: &mut SplitWhitespace<'_>,
+    ) -> io::Result<bool> {
+        if name != "look" && name != "read" {
+            return Ok(false);
+        }
+        let Some(count) = number32(words) else {
+            return Ok(false);
+        };
+        if name == "look" {
+            read::look(rt, self.alloc, &mut self.txn, count)?;
+        } else {
+            let txn = std::mem::replace(&mut self.txn, Transaction::new(self.alloc));
+            read::read(rt, self.alloc, txn, count)?;
+        }
+        Ok(true)
+    }
+
     /// Keeps the operation that a line says.
     fn keep(&mut self, line: &str) -> bool {
         match operation::parse(line) {
@@ -149,6 +171,7 @@ impl Case {
         }
         Ok(
             self.use_kept(rt, name)?
+                || self.read(rt, name, &mut words)?
                 || scene::ask(rt, self.alloc, &self.tree, &self.contents, name, &mut words)?
                 || fill::fill(rt, self.alloc, &mut self.txn, name, &mut words)?,
         )

@@ -22,6 +22,8 @@
 //! | `show` | all that the transaction holds |
 //! | `other` | the other transaction takes its place |
 //! | `merge` | the other transaction is merged into it, and is empty then |
+//! | `look N` | one look at each buffer of the transaction, by whoever knows of N writes that ended; the page of number M is written by the M-th |
+//! | `read N` | the transaction is taken apart, and each buffer that is written is read in two turns; it is empty then |
 //! | `commit` | the transaction's operations are applied to the tree |
 //!
 //! `kinds`, `apply` and `set` take the kept operations; none are kept after them.
@@ -31,6 +33,7 @@ mod case;
 mod compose;
 mod fill;
 mod operation;
+mod read;
 mod scene;
 mod show;
 mod words;

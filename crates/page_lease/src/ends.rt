@@ -1,12 +1,12 @@
-ghost use Rattle.std.specs.Prelude.{◌≡◌, ◌++◌, ◌∷◌, []};
+ghost use Rattle.std.specs.Prelude.{◌≡◌, ◌++◌, ◌∷◌, [], IfSome, IsNone};
 
 use std::marker::Model;
 
-/// The ends that reads made, from the last one on.
+/// The ends that reads made, from the last one on: each a page's number and a turn.
 #[derive(Drop)]
 #[cycle(ends)]
 pub struct Ends {
-    last: Option<(u64, Box<Ends>)>,
+    last: Option<((u32, u64), Box<Ends>)>,
 }
 
 impl Model for Ends {
@@ -14,7 +14,7 @@ impl Model for Ends {
 
     ghost Value = { List (ℕ × ℕ) };
 
-    ghost view = { λ s. unwrap_or (option_map (λ last. last.1.value ++ (0, last.0) ∷ []) s.last) [] };
+    ghost view = { λ s. unwrap_or (option_map (λ last. last.1.value ++ last.0 ∷ []) s.last) [] };
 
     ghost size = { length };
 }
@@ -27,11 +27,21 @@ impl Ends {
         Ends { last: None }
     }
 
-    /// The read of this turn ends. Its place is the cell, so it takes no memory.
-    pub fn add(&mut self, turn: u64, mut cell: Box<Ends>)
-        ensures { self.new ≡ self.old ++ (0, turn) ∷ [] }
+    /// The read of this turn of a page ends. Its place is the cell, so it takes no memory.
+    pub fn add(&mut self, end: (u32, u64), mut cell: Box<Ends>)
+        ensures { self.new ≡ self.old ++ end ∷ [] }
     {
         *cell = std::mem::replace(self, Ends::new());
-        self.last = Some((turn, cell));
+        self.last = Some((end, cell));
+    }
+
+    /// Takes the last end out, if there is one.
+    pub fn take_last(&mut self) -> Option<(u32, u64)>
+        ensures last { IfSome result (λ end. self.old ≡ self.new ++ end ∷ []) }
+        ensures none { IsNone result → self.new ≡ [] }
+    {
+        let (end, cell) = self.last.take()?;
+        *self = Box::into_inner(cell);
+        Some(end)
     }
 }
