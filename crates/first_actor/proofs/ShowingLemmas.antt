@@ -19,7 +19,7 @@ use Rattle.first_actor.specs.declared.holding.Holding.TheVariants as holding
 use Rattle.first_actor.specs.declared.operation.Edit.TheVariants as edit
 use Rattle.first_actor.specs.declared.operation.Operation.{Operation}
 use Rattle.first_actor.specs.Actors.{books_of}
-use Rattle.first_actor.specs.Books.{Books, LayerEdit, Frame, frame_on, name_in, transaction_in}
+use Rattle.first_actor.specs.Books.{Books, LayerEdit, Frame, frame_set_on, name_in, transaction_in}
 use Rattle.first_actor.specs.Desks.{ObjectShows}
 use Rattle.first_actor.specs.Keeps.{KeepsFrame, OperationKeeps}
 use Rattle.first_actor.specs.Moves.{Acts, Preserves}
@@ -52,10 +52,10 @@ transaction_there : (actor : Actor) (number : ℕ) (operations : List Operation)
 transaction_there actor number operations e = transaction_in-held actor number ∙ ap (option_map (map plain_operation)) e
 
 -- the frame that a transaction shows on a layer so far
-frame_taken : (actor : Actor) (number layer : ℕ) (operations rest : List Operation) (overtaken : Option ReadLeaseOf) → get_or actor.transactions number None ≡ Some operations → TakesFrame (record { 0 = layer }) operations rest overtaken → frame_on (unwrap_or (transaction_in (books_of actor) number) []) layer ≡ option_map frame_of overtaken
-frame_taken actor number layer operations rest overtaken e takes = ap (λ (o : Option (List LayerEdit)). frame_on (unwrap_or o []) layer) (transaction_there actor number operations e) ∙ sym takes.found
+frame_taken : (actor : Actor) (number layer : ℕ) (operations rest : List Operation) (overtaken : Option ReadLeaseOf) → get_or actor.transactions number None ≡ Some operations → TakesFrame (record { 0 = layer }) operations rest overtaken → frame_set_on (unwrap_or (transaction_in (books_of actor) number) []) layer ≡ option_map frame_of overtaken
+frame_taken actor number layer operations rest overtaken e takes = ap (λ (o : Option (List LayerEdit)). frame_set_on (unwrap_or o []) layer) (transaction_there actor number operations e) ∙ sym takes.found
 
-pub overtaken_queue : (actor : Actor) (pasts : List Past) (number layer : ℕ) (operations rest : List Operation) (overtaken : Option ReadLeaseOf) → get_or actor.transactions number None ≡ Some operations → TakesFrame (record { 0 = layer }) operations rest overtaken → IfSome (frame_on (unwrap_or (transaction_in (books_of actor) number) []) layer) (λ frame. has_queue pasts frame.0.0 ≡ true) → IfSome overtaken (λ lease. has_queue pasts lease.queue.0 ≡ true)
+pub overtaken_queue : (actor : Actor) (pasts : List Past) (number layer : ℕ) (operations rest : List Operation) (overtaken : Option ReadLeaseOf) → get_or actor.transactions number None ≡ Some operations → TakesFrame (record { 0 = layer }) operations rest overtaken → IfSome (frame_set_on (unwrap_or (transaction_in (books_of actor) number) []) layer) (λ frame. has_queue pasts frame.0.0 ≡ true) → IfSome overtaken (λ lease. has_queue pasts lease.queue.0 ≡ true)
 overtaken_queue actor pasts number layer operations rest overtaken e takes there = by_frame overtaken (subst (λ (o : Option (QueueId × ReadToken)). IfSome o (λ frame. has_queue pasts frame.0.0 ≡ true)) (frame_taken actor number layer operations rest overtaken e takes) there)
   where
     by_frame : (frame : Option ReadLeaseOf) → IfSome (option_map frame_of frame) (λ frame. has_queue pasts frame.0.0 ≡ true) → IfSome frame (λ lease. has_queue pasts lease.queue.0 ≡ true)

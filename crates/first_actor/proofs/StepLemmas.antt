@@ -23,7 +23,7 @@ use Rattle.first_actor.specs.declared.operation.Edit.{Edit}
 use Rattle.first_actor.specs.declared.operation.Edit.TheVariants as edit
 use Rattle.first_actor.specs.declared.operation.Operation.{Operation}
 use Rattle.first_actor.specs.Actors.{IsActor, StepsBy, books_of}
-use Rattle.first_actor.specs.Books.{Books, LayerEdit, frame_in, frame_on, name_in, no_books, transaction_in}
+use Rattle.first_actor.specs.Books.{Books, LayerEdit, frame_in, frame_set_on, name_in, no_books, transaction_in}
 use Rattle.first_actor.specs.Desks.{ObjectShows}
 use Rattle.first_actor.specs.Keeps.{ActorKeeps, EditKeeps, HoldingKeeps, IfThere, OperationKeeps}
 use Rattle.first_actor.specs.Moves.{Acts, Attempts, Changes, Does, HasQueueOf, Preserves, Sent}
@@ -50,17 +50,17 @@ frame_in_first : (pictures : ℕ → Picture) (pasts : List Past) (at : LayerId)
 frame_in_first pictures pasts at (edit.Set op) layer rest here there = elim (cases_Bool (at.0 == layer)) [ inl met ↦ rw met there | inr unmet ↦ rw unmet there ]
 frame_in_first pictures pasts at (edit.Show lease) layer rest here there = elim (cases_Bool (at.0 == layer)) [ inl met ↦ rw met here.queue | inr unmet ↦ rw unmet there ]
 
-frames_held : (pictures : ℕ → Picture) (pasts : List Past) (operations : List Operation) (layer : ℕ) → All (OperationKeeps pictures pasts) operations → HasQueueIf pasts (frame_on (map plain_operation operations) layer)
+frames_held : (pictures : ℕ → Picture) (pasts : List Past) (operations : List Operation) (layer : ℕ) → All (OperationKeeps pictures pasts) operations → HasQueueIf pasts (frame_set_on (map plain_operation operations) layer)
 frames_held pictures pasts [] layer all = tt
 frames_held pictures pasts (operation ∷ operations) layer all =
-    frame_in_first pictures pasts operation.layer operation.edit layer (frame_on (map plain_operation operations) layer) (All-head (OperationKeeps pictures pasts) operation operations all) (frames_held pictures pasts operations layer (All-tail (OperationKeeps pictures pasts) operation operations all))
+    frame_in_first pictures pasts operation.layer operation.edit layer (frame_set_on (map plain_operation operations) layer) (All-head (OperationKeeps pictures pasts) operation operations all) (frames_held pictures pasts operations layer (All-tail (OperationKeeps pictures pasts) operation operations all))
 
 -- a frame that a transaction shows is of a queue that is there
-pub frame_held : (pictures : ℕ → Picture) (pasts : List Past) (actor : Actor) (number layer : ℕ) → ActorKeeps pictures pasts actor → HasQueueIf pasts (frame_on (unwrap_or (transaction_in (books_of actor) number) []) layer)
+pub frame_held : (pictures : ℕ → Picture) (pasts : List Past) (actor : Actor) (number layer : ℕ) → ActorKeeps pictures pasts actor → HasQueueIf pasts (frame_set_on (unwrap_or (transaction_in (books_of actor) number) []) layer)
 frame_held pictures pasts actor number layer keeps =
-    subst (λ (o : Option (List LayerEdit)). HasQueueIf pasts (frame_on (unwrap_or o []) layer)) (sym (transaction_in-held actor number)) (by_held (get_or actor.transactions number None) (IfThere-at (All (OperationKeeps pictures pasts)) actor.transactions number keeps.transactions))
+    subst (λ (o : Option (List LayerEdit)). HasQueueIf pasts (frame_set_on (unwrap_or o []) layer)) (sym (transaction_in-held actor number)) (by_held (get_or actor.transactions number None) (IfThere-at (All (OperationKeeps pictures pasts)) actor.transactions number keeps.transactions))
   where
-    by_held : (held : Option (List Operation)) → IfThere (All (OperationKeeps pictures pasts)) held → HasQueueIf pasts (frame_on (unwrap_or (option_map (map plain_operation) held) []) layer)
+    by_held : (held : Option (List Operation)) → IfThere (All (OperationKeeps pictures pasts)) held → HasQueueIf pasts (frame_set_on (unwrap_or (option_map (map plain_operation) held) []) layer)
     by_held None here = tt
     by_held (Some operations) here = frames_held pictures pasts operations layer here
 

@@ -11,7 +11,7 @@ use Rattle.first_surface.specs.Leases.{ReadLeaseOf}
 use Rattle.first_actor.specs.declared.operation.Edit.{Edit}
 use Rattle.first_actor.specs.declared.operation.Edit.TheVariants as edit
 use Rattle.first_actor.specs.declared.operation.Operation.{Operation}
-use Rattle.first_actor.specs.Books.{LayerEdit, frame_in, frame_on, replaces, with_edit}
+use Rattle.first_actor.specs.Books.{LayerEdit, frame_in, frame_set_on, replaces, with_edit}
 use Rattle.first_actor.specs.Keeps.{OperationKeeps}
 use Rattle.first_actor.specs.Plain.{plain_operation}
 use Rattle.first_actor.specs.Transactions.{TakesFrame, left_by, showing, shown_lease, shows_on}
@@ -67,7 +67,7 @@ left_by-behind new operation xs ys e = elim (cases_Bool (replaces new (plain_ope
 
 taken_behind : (layer : LayerId) (operation : Operation) (old new : List Operation) (frame : Option ReadLeaseOf) → shows_on layer operation ≡ false → TakesFrame layer old new frame → TakesFrame layer (operation ∷ old) (operation ∷ new) frame
 taken_behind layer operation old new frame unmet takes = record {
-  found = takes.found ∙ sym (ap (λ first. option_or first (frame_on (map plain_operation old) layer.0)) (frame_in-none layer operation.layer operation.edit unmet));
+  found = takes.found ∙ sym (ap (λ first. option_or first (frame_set_on (map plain_operation old) layer.0)) (frame_in-none layer operation.layer operation.edit unmet));
   rest = λ queue token. left_by-behind (showing layer queue token) operation new old (takes.rest queue token);
   keeps = λ pictures pasts all. All-cons (OperationKeeps pictures pasts) operation new (All-head (OperationKeeps pictures pasts) operation old all) (takes.keeps pictures pasts (All-tail (OperationKeeps pictures pasts) operation old all));
   keeps_frame = λ pictures pasts all. takes.keeps_frame pictures pasts (All-tail (OperationKeeps pictures pasts) operation old all);

@@ -38,7 +38,8 @@ plain_sent sent = option_map (map plain_operation) sent
 
 -- a step is done by the table of steps: it answers what the table says, makes the call that the table says, and hands
 -- out the transaction that it sends; all pixels stay those of their pictures
-pub record StepsBy (pictures : List Picture) (s : Step) (old : Actor) (before : List ObjectOf) (new : Actor) (after : List ObjectOf) (stepped : Stepped) : Type 0 where
+pub record StepsBy (pictures : List Picture) (s : Step)
+    (old : Actor) (before : List ObjectOf) (new : Actor) (after : List ObjectOf) (stepped : Stepped) : Type 0 where
   pub number : new.number ≡ old.number
   pub done : new.done ≡ old.done ++ done_by (picture_at pictures) (books_after old.done) (map past_of before) old.number s ∷ []
   pub answered : stepped.answered ≡ (done_by (picture_at pictures) (books_after old.done) (map past_of before) old.number s).answered

@@ -78,6 +78,6 @@ abbrev pub frame_in : LayerEdit → ℕ → Option (QueueId × ReadToken)
 frame_in edit layer = if edit.layer.0 == layer then shown_frame edit.edit else None
 
 -- the frame that a transaction shows on a layer so far
-abbrev pub frame_on : List LayerEdit → ℕ → Option (QueueId × ReadToken)
-frame_on [] layer = None
-frame_on (edit ∷ edits) layer = option_or (frame_in edit layer) (frame_on edits layer)
+abbrev pub frame_set_on : List LayerEdit → ℕ → Option (QueueId × ReadToken)
+frame_set_on [] layer = None
+frame_set_on (edit ∷ edits) layer = option_or (frame_in edit layer) (frame_set_on edits layer)

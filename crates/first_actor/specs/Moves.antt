@@ -51,7 +51,8 @@ received names name (gives.Write lease) = slice_set names name (Some (holding.Wr
 received names name (gives.Read lease) = slice_set names name (Some (holding.Read lease))
 
 -- a call on a queue is made, and a name gets what it hands over
-pub record Asks (place : ℕ) (queue : QueueId) (name : ℕ) (asked : Call) (old : Actor) (before : List ObjectOf) (new : Actor) (after : List ObjectOf) (answer : Answered) : Type 0 where
+pub record Asks (place : ℕ) (queue : QueueId) (name : ℕ) (asked : Call)
+    (old : Actor) (before : List ObjectOf) (new : Actor) (after : List ObjectOf) (answer : Answered) : Type 0 where
   pub reply : PlainReply
   pub gives : Gives
   pub replied : reply ≡ reply_in (map past_of before) old.number (queue, plain_call queue asked)
@@ -72,7 +73,8 @@ pub record Acts (place : ℕ) (s : Step) (old : Actor) (before : List ObjectOf) 
 
 -- leases and frames go on having the pixels of their pictures
 abbrev pub Preserves : (ℕ → Picture) → Actor → List ObjectOf → Actor → List ObjectOf → Type 0
-Preserves pictures old before new after = ActorKeeps pictures (map past_of before) old → All (ObjectShows pictures) before → ActorKeeps pictures (map past_of after) new × All (ObjectShows pictures) after
+Preserves pictures old before new after = ActorKeeps pictures (map past_of before) old → All (ObjectShows pictures) before
+    → ActorKeeps pictures (map past_of after) new × All (ObjectShows pictures) after
 
 -- a step sends this transaction, if it sends one
 pub record Sends (pictures : ℕ → Picture) (s : Step) (old : Actor) (after : List ObjectOf) (transaction : Option (List Operation)) : Type 0 where
@@ -86,14 +88,16 @@ pub record Sent (number : ℕ) (old new : Actor) (stepped : Stepped) : Type 0 wh
   pub becomes : new ≡ record old { transactions = slice_set old.transactions number None }
 
 -- a step that no test refuses is done
-pub record Does (pictures : ℕ → Picture) (place : ℕ) (s : Step) (old : Actor) (before : List ObjectOf) (new : Actor) (after : List ObjectOf) (stepped : Stepped) : Type 0 where
+pub record Does (pictures : ℕ → Picture) (place : ℕ) (s : Step)
+    (old : Actor) (before : List ObjectOf) (new : Actor) (after : List ObjectOf) (stepped : Stepped) : Type 0 where
   pub acts : Acts place s old before new after stepped.answered
   pub keeps : ActorKeeps pictures (map past_of after) new
   pub shows : All (ObjectShows pictures) after
   pub sends : Sends pictures s old after stepped.sent
 
 -- a step is done, or refused by a test
-pub record Attempts (pictures : ℕ → Picture) (place : ℕ) (s : Step) (old : Actor) (before : List ObjectOf) (new : Actor) (after : List ObjectOf) (stepped : Stepped) : Type 0 where
+pub record Attempts (pictures : ℕ → Picture) (place : ℕ) (s : Step)
+    (old : Actor) (before : List ObjectOf) (new : Actor) (after : List ObjectOf) (stepped : Stepped) : Type 0 where
   pub number : new.number ≡ old.number
   pub done : new.done ≡ old.done
   pub books : books_of new ≡ books_next (books_of old) (record { step = s; answered = stepped.answered })

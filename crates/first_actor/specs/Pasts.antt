@@ -37,12 +37,12 @@ with_entry queue entry [] = []
 with_entry queue entry (past ∷ pasts) = if is_past_of queue past then record past { calls = entry ∷ past.calls } ∷ pasts else past ∷ with_entry queue entry pasts
 
 -- a call by an actor's step, or by a vsync where the caller is 0, with its reply
-abbrev pub entry_of : List Past → ActorId → ℕ → Asked → Entry
-entry_of pasts by step asked = record { caller = by; step = step; call = asked.1; reply = reply_in pasts by asked }
+abbrev pub told_entry : List Past → ActorId → ℕ → Asked → Entry
+told_entry pasts by step asked = record { caller = by; step = step; call = asked.1; reply = reply_in pasts by asked }
 
 -- the calls after this one
 abbrev pub with_call : List Past → ActorId → ℕ → Asked → List Past
-with_call pasts by step asked = with_entry asked.0.0 (entry_of pasts by step asked) pasts
+with_call pasts by step asked = with_entry asked.0.0 (told_entry pasts by step asked) pasts
 
 abbrev pub with_call_if : List Past → ActorId → ℕ → Option Asked → List Past
 with_call_if pasts by step None = pasts

@@ -26,7 +26,7 @@ use Rattle.first_surface.specs.Leases.{is_size_of}
 use Rattle.first_actor.specs.declared.done.Answered.{Answered}
 use Rattle.first_actor.specs.declared.done.Answered.TheVariants as answered
 use Rattle.first_actor.specs.declared.done.Done.{Done}
-use Rattle.first_actor.specs.Books.{Books, LayerEdit, Sets, Shows, Token, Lent, Frame, frame_on, name_in, no_books, transaction_in, with_edit, with_name, with_transaction}
+use Rattle.first_actor.specs.Books.{Books, LayerEdit, Sets, Shows, Token, Lent, Frame, frame_set_on, name_in, no_books, transaction_in, with_edit, with_name, with_transaction}
 use Rattle.first_actor.specs.Pasts.{Asked, Past, reply_in, with_call_if}
 
 -- statuses of an actor's own tests
@@ -83,12 +83,14 @@ abbrev pub tests_of : (ℕ → Picture) → Books → Step → List (Bool × ℕ
 tests_of pictures books (step.Tx n) = (is_some (transaction_in books n), occupied) ∷ []
 tests_of pictures books (step.Set n layer change) = (is_none (transaction_in books n), empty) ∷ []
 tests_of pictures books (step.Apply n token) = (is_none (transaction_in books n), empty) ∷ []
-tests_of pictures books (step.Buffer n layer i) = (is_none (transaction_in books n) || not (is_frame (name_in books i)), empty) ∷ (is_frameless (name_in books i), bad_value) ∷ []
+tests_of pictures books (step.Buffer n layer i) =
+    (is_none (transaction_in books n) || not (is_frame (name_in books i)), empty) ∷ (is_frameless (name_in books i), bad_value) ∷ []
 tests_of pictures books (step.Connect q) = []
 tests_of pictures books (step.Dequeue q s size) = (is_some (name_in books s), occupied) ∷ []
 tests_of pictures books (step.Request s) = (not (is_lent (name_in books s)), empty) ∷ []
 tests_of pictures books (step.Draw s p) = (not (is_lent (name_in books s)), empty) ∷ (is_unfit (pictures p) (name_in books s), bad_value) ∷ []
-tests_of pictures books (step.Queue s p) = (not (is_lent (name_in books s)), empty) ∷ (is_undrawn (name_in books s), unbuilt) ∷ (shows_other p (name_in books s), bad_value) ∷ []
+tests_of pictures books (step.Queue s p) = (not (is_lent (name_in books s)), empty)
+    ∷ (is_undrawn (name_in books s), unbuilt) ∷ (shows_other p (name_in books s), bad_value) ∷ []
 tests_of pictures books (step.Acquire q i) = (is_some (name_in books i), occupied) ∷ []
 tests_of pictures books (step.Release i) = (not (is_frame (name_in books i)), empty) ∷ []
 
@@ -129,7 +131,7 @@ call_of books (step.Request s) = request_of (name_in books s)
 call_of books (step.Queue s p) = queueing_of p (name_in books s)
 call_of books (step.Acquire q i) = Some (queue_of q, call.Acquire 0)
 call_of books (step.Release i) = release_of (name_in books i)
-call_of books (step.Buffer n layer i) = release_if (frame_on (unwrap_or (transaction_in books n) []) layer)
+call_of books (step.Buffer n layer i) = release_if (frame_set_on (unwrap_or (transaction_in books n) []) layer)
 call_of books s = None
 
 abbrev pub unless_refused : Option ℕ → Option Asked → Option Asked
@@ -149,7 +151,10 @@ answer_of s None None = answered.Own 0
 
 -- a step as it is done, after the calls on the queues before it
 abbrev pub done_by : (ℕ → Picture) → Books → List Past → ActorId → Step → Done
-done_by pictures books pasts by s = record { step = s; answered = answer_of s (refusal_of pictures books s) (option_map (reply_in pasts by) (asked_by pictures books s)) }
+done_by pictures books pasts by s = record {
+  step = s;
+  answered = answer_of s (refusal_of pictures books s) (option_map (reply_in pasts by) (asked_by pictures books s));
+}
 
 -- the calls on the queues after it
 abbrev pub pasts_by : (ℕ → Picture) → Books → List Past → ActorId → ℕ → Step → List Past

@@ -10,7 +10,7 @@ use Rattle.first_surface.specs.Leases.{ReadLeaseOf}
 use Rattle.first_actor.specs.declared.operation.Edit.{Edit}
 use Rattle.first_actor.specs.declared.operation.Edit.TheVariants as edit
 use Rattle.first_actor.specs.declared.operation.Operation.{Operation}
-use Rattle.first_actor.specs.Books.{LayerEdit, Shows, frame_on, replaces}
+use Rattle.first_actor.specs.Books.{LayerEdit, Shows, frame_set_on, replaces}
 use Rattle.first_actor.specs.Keeps.{IfThere, KeepsFrame, OperationKeeps}
 use Rattle.first_actor.specs.Pasts.{Past}
 use Rattle.first_actor.specs.Plain.{plain_operation}
@@ -43,7 +43,7 @@ frame_of lease = (lease.queue, lease.token)
 
 -- the frame that a transaction shows on a layer is taken out of it
 pub record TakesFrame (layer : LayerId) (old new : List Operation) (frame : Option ReadLeaseOf) : Type 0 where
-  pub found : option_map frame_of frame ≡ frame_on (map plain_operation old) layer.0
+  pub found : option_map frame_of frame ≡ frame_set_on (map plain_operation old) layer.0
   pub rest : (queue : QueueId) (token : ReadToken) → left_by (showing layer queue token) new ≡ left_by (showing layer queue token) old
   pub keeps : (pictures : ℕ → Picture) (pasts : List Past) → All (OperationKeeps pictures pasts) old → All (OperationKeeps pictures pasts) new
   pub keeps_frame : (pictures : ℕ → Picture) (pasts : List Past) → All (OperationKeeps pictures pasts) old → IfThere (KeepsFrame pictures pasts) frame

@@ -60,7 +60,7 @@ impl Actor {
     ghost use Rattle.sf_picture.specs.declared.picture.Picture.{Picture};
     ghost use Rattle.sf_script.specs.declared.scene.Step.TheVariants as step;
     ghost use Rattle.first_actor.specs.Actors.{books_of};
-    ghost use Rattle.first_actor.specs.Books.{frame_on, name_in, transaction_in};
+    ghost use Rattle.first_actor.specs.Books.{frame_set_on, name_in, transaction_in};
     ghost use Rattle.first_actor.specs.Moves.{Acts, Asks, HasQueueOf, IsDrawn, Preserves, received};
     ghost use Rattle.first_actor.specs.Pasts.{has_queue};
     ghost use Rattle.first_actor.specs.Plain.{past_of};
@@ -158,8 +158,10 @@ impl Actor {
     ) -> Result<Answered, NoMemory>
         requires lent { is_lent (name_in (books_of self.old) name) ≡ true }
         requires there { HasQueueOf (map past_of desk.old) (name_in (books_of self.old) name) }
-        ensures acts { IfOk result (λ answered. (picture : ℕ) → IsDrawn picture (name_in (books_of self.old) name) → Acts place (step.Queue name picture) self.old desk.old self.new desk.new answered) }
-        ensures keeps { OnOk result ((picture : ℕ) → IsDrawn picture (name_in (books_of self.old) name) → (pictures : ℕ → Picture) → Preserves pictures self.old desk.old self.new desk.new) }
+        ensures acts { IfOk result (λ answered. (picture : ℕ) → IsDrawn picture (name_in (books_of self.old) name)
+            → Acts place (step.Queue name picture) self.old desk.old self.new desk.new answered) }
+        ensures keeps { OnOk result ((picture : ℕ) → IsDrawn picture (name_in (books_of self.old) name)
+            → (pictures : ℕ → Picture) → Preserves pictures self.old desk.old self.new desk.new) }
     {
         let lease = self.take_lent(name);
         let queue = lease.queue;
@@ -221,7 +223,8 @@ impl Actor {
     ) -> Result<Answered, NoMemory>
         requires frame { is_frame (name_in (books_of self.old) name) ≡ true }
         requires transaction { is_some (transaction_in (books_of self.old) number) ≡ true }
-        requires there { IfSome (frame_on (unwrap_or (transaction_in (books_of self.old) number) []) layer) (λ frame. has_queue (map past_of desk.old) frame.0.0 ≡ true) }
+        requires there { IfSome (frame_set_on (unwrap_or (transaction_in (books_of self.old) number) []) layer)
+            (λ frame. has_queue (map past_of desk.old) frame.0.0 ≡ true) }
         ensures acts { IfOk result (Acts place (step.Buffer number layer name) self.old desk.old self.new desk.new) }
         ensures keeps { OnOk result ((pictures : ℕ → Picture) → Preserves pictures self.old desk.old self.new desk.new) }
     {

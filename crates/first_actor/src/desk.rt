@@ -24,7 +24,7 @@ impl Model for Desk {
 }
 
 /// The place of the queue of this number.
-fn place_of(queues: &[QueueObject], queue: QueueId) -> Option<usize>
+fn index_of(queues: &[QueueObject], queue: QueueId) -> Option<usize>
     ensures { result ≡ position (λ object. is_past_of queue.0 (past_of object)) queues.now }
 {
     queues.iter().position(|object| object.queue().0 == queue.0)
@@ -72,7 +72,7 @@ impl Desk {
         requires { has_queue (map past_of self.old) queue.0 ≡ true }
         ensures { IfOk result (DeskCalls self.old self.new by queue step call) }
     {
-        let Some(place) = place_of(&self.queues, queue) else {
+        let Some(place) = index_of(&self.queues, queue) else {
             unreachable!()
         };
         match self.queues[place].apply(alloc, by, step, call) {

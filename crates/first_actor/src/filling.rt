@@ -129,7 +129,8 @@ impl Actor {
         requires known { DrawsKnown pictures.now (step.Draw name picture) }
         requires allowed { refusal_of (picture_at pictures.now) (books_of self.old) (step.Draw name picture) ≡ None }
         ensures changes { IfOk result (Changes (step.Draw name picture) self.old self.new) }
-        ensures keeps { OnOk result ((pasts : List Past) → ActorKeeps (picture_at pictures.now) pasts self.old → ActorKeeps (picture_at pictures.now) pasts self.new) }
+        ensures keeps { OnOk result ((pasts : List Past) → ActorKeeps (picture_at pictures.now) pasts self.old
+            → ActorKeeps (picture_at pictures.now) pasts self.new) }
     {
         let copy = picture_of(pictures, picture).copy(alloc)?;
         let lease = self.take_lent(name);

@@ -73,7 +73,8 @@ impl Actor {
     /// The lent buffer that a name holds.
     #[tactic(auto, using(crate::proofs::HoldingLemmas::held))]
     fn lent(&self, name: u32) -> Option<&WriteLease>
-        ensures { MatchOption result (is_lent (name_in (books_of self.now) name) ≡ false) (λ lease. name_in (books_of self.now) name ≡ Some (lent_of lease.now)) }
+        ensures { MatchOption result (is_lent (name_in (books_of self.now) name) ≡ false)
+            (λ lease. name_in (books_of self.now) name ≡ Some (lent_of lease.now)) }
     {
         match self.names.get(name) {
             Some(Holding::Write(lease)) => Some(lease),
@@ -91,7 +92,8 @@ impl Actor {
     /// The frame that a name holds.
     #[tactic(auto, using(crate::proofs::HoldingLemmas::held))]
     fn frame(&self, name: u32) -> Option<&ReadLease>
-        ensures { MatchOption result (is_frame (name_in (books_of self.now) name) ≡ false) (λ lease. name_in (books_of self.now) name ≡ Some (Frame lease.now.queue lease.now.token)) }
+        ensures { MatchOption result (is_frame (name_in (books_of self.now) name) ≡ false)
+            (λ lease. name_in (books_of self.now) name ≡ Some (Frame lease.now.queue lease.now.token)) }
     {
         match self.names.get(name) {
             Some(Holding::Read(lease)) => Some(lease),

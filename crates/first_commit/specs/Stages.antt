@@ -87,7 +87,16 @@ frames_in (edit ∷ edits) = own_frame edit.edit ++ frames_in edits
 
 abbrev pub buffer_of : LayerId → PlainEdit → List CommittedBuffer
 buffer_of layer (Shows queue token) =
-    record { layer = layer.0; queue = queue.0; frame = token.frame; picture = token.picture; x = unsigned token.crop.x; y = unsigned token.crop.y; width = token.crop.width; height = token.crop.height } ∷ []
+    record {
+      layer = layer.0;
+      queue = queue.0;
+      frame = token.frame;
+      picture = token.picture;
+      x = unsigned token.crop.x;
+      y = unsigned token.crop.y;
+      width = token.crop.width;
+      height = token.crop.height;
+    } ∷ []
 buffer_of layer (Sets op) = []
 
 -- what the record of a commit shows of them

@@ -7,7 +7,7 @@ ghost use Rattle.sf_picture.specs.declared.picture.Picture.{Picture};
 ghost use Rattle.first_surface.specs.Calls.{LeaseShows};
 ghost use Rattle.sf_view.specs.Views.{IsDisplay};
 
-use crate::shown::place_of;
+use crate::shown::index_of;
 use crate::stage::{ShownLease, Stage};
 use sf_base::NoMemory;
 use sf_compose::{Pixels, compose_frame};
@@ -30,7 +30,7 @@ fn source(shown: &[ShownLease], drawn: &Drawn) -> u32
     requires frame { HasFrame shown.now drawn.now }
     ensures { IsHeldAt shown.now drawn.now.content result }
 {
-    match place_of(shown, drawn.layer) {
+    match index_of(shown, drawn.layer) {
         Some(place) => {
             let lease = &shown[place].lease;
             // Read for what a lease keeps: the crop lies in its pixels.

@@ -11,7 +11,7 @@ use sf_layer::Op;
 use std::mem;
 
 // The place of the frame that is shown on a layer, if one is.
-pub fn place_of(shown: &[ShownLease], layer: LayerId) -> Option<usize>
+pub fn index_of(shown: &[ShownLease], layer: LayerId) -> Option<usize>
     ensures { result ≡ position (is_lease_on layer.0) shown.now }
 {
     shown.iter().position(|showing| showing.layer.0 == layer.0)
@@ -25,7 +25,7 @@ fn put(shown: &mut Vec<ShownLease>, new: ShownLease) -> Option<ReadLease>
     ensures capacity { vec_capacity shown.old ≤ vec_capacity shown.new }
     ensures size { vec_len shown.new ≤ vec_len shown.old + 1 }
 {
-    match place_of(shown, new.layer) {
+    match index_of(shown, new.layer) {
         Some(place) => Some(mem::replace(&mut shown[place], new).lease),
         None => {
             append(shown, new);
@@ -41,7 +41,7 @@ fn take(shown: &mut Vec<ShownLease>, layer: LayerId) -> Option<ReadLease>
     ensures capacity { vec_capacity shown.old ≤ vec_capacity shown.new }
     ensures size { vec_len shown.new ≤ vec_len shown.old }
 {
-    let place = place_of(shown, layer)?;
+    let place = index_of(shown, layer)?;
     Some(shown.remove(place).lease)
 }
 

@@ -46,19 +46,19 @@ record IsHistory (after : Queue Picture) (width height : ℕ) (history : List En
   told : IsToldBy after width height history
   replies : AreReplies width height history
 
-entry_of : ActorId → ℕ → QueueId → Call → Answer → Entry
-entry_of by step known asked answer = record { caller = by; step = step; call = plain_call known asked; reply = answer.reply }
+made_entry : ActorId → ℕ → QueueId → Call → Answer → Entry
+made_entry by step known asked answer = record { caller = by; step = step; call = plain_call known asked; reply = answer.reply }
 
 with_entry : ObjectOf → Queue Picture → Entry → ObjectOf
 with_entry old after entry = record { queue = after; history = entry ∷ old.history }
 
-goes_on : (old : ObjectOf) (known : QueueId) (after : Queue Picture) (by : ActorId) (step : ℕ) (asked : Call) (answer : Answer) → IsKept known old → Does old.queue after by asked answer → IsNext after old.queue.settings.width old.queue.settings.height old.history (entry_of by step old.queue.number asked answer)
-unfolding entry_of
+goes_on : (old : ObjectOf) (known : QueueId) (after : Queue Picture) (by : ActorId) (step : ℕ) (asked : Call) (answer : Answer) → IsKept known old → Does old.queue after by asked answer → IsNext after old.queue.settings.width old.queue.settings.height old.history (made_entry by step old.queue.number asked answer)
+unfolding made_entry
 goes_on old known after by step asked answer kept does = does.continues old.queue.settings.width old.queue.settings.height step old.history kept.keeps.told
 
 -- a call keeps what the queue with its history keeps
-kept-applied : (old : ObjectOf) (known : QueueId) (after : Queue Picture) (by : ActorId) (step : ℕ) (asked : Call) (answer : Answer) → IsKept known old → Does old.queue after by asked answer → IsKept known (with_entry old after (entry_of by step old.queue.number asked answer))
-unfolding entry_of with_entry
+kept-applied : (old : ObjectOf) (known : QueueId) (after : Queue Picture) (by : ActorId) (step : ℕ) (asked : Call) (answer : Answer) → IsKept known old → Does old.queue after by asked answer → IsKept known (with_entry old after (made_entry by step old.queue.number asked answer))
+unfolding made_entry with_entry
 kept-applied old known after by step asked answer kept does =
     let entry : Entry = record { caller = by; step = step; call = plain_call old.queue.number asked; reply = answer.reply } in
     let next : IsNext after old.queue.settings.width old.queue.settings.height old.history entry = goes_on old known after by step asked answer kept does in
@@ -76,8 +76,8 @@ kept-applied old known after by step asked answer kept does =
       keeps = record { told = now.told; replies = now.replies; fit = does.fit kept.keeps.fit };
     }
 
-applies : (old : ObjectOf) (known : QueueId) (after : Queue Picture) (by : ActorId) (step : ℕ) (asked : Call) (answer : Answer) → IsKept known old → Does old.queue after by asked answer → Applies old (with_entry old after (entry_of by step old.queue.number asked answer)) by step asked answer
-unfolding entry_of with_entry
+applies : (old : ObjectOf) (known : QueueId) (after : Queue Picture) (by : ActorId) (step : ℕ) (asked : Call) (answer : Answer) → IsKept known old → Does old.queue after by asked answer → Applies old (with_entry old after (made_entry by step old.queue.number asked answer)) by step asked answer
+unfolding made_entry with_entry
 applies old known after by step asked answer kept does = record {
   number = does.number;
   width = does.width;
@@ -93,15 +93,15 @@ applies old known after by step asked answer kept does = record {
 history_is : (items left : List Entry) (entry : Entry) → left ≡ items ++ entry ∷ [] → reverse left ≡ entry ∷ reverse items
 history_is items left entry same = ap (λ (xs : List Entry). reverse xs) same ∙ reverse-append items (entry ∷ [])
 
-entry_is : (by : ActorId) (step : ℕ) (known number : QueueId) (asked : Call) (said : PlainCall) (answer : Answer) → said ≡ plain_call known asked → known ≡ number → record { caller = by; step = step; call = said; reply = answer.reply } ≡ entry_of by step number asked answer
-unfolding entry_of
+entry_is : (by : ActorId) (step : ℕ) (known number : QueueId) (asked : Call) (said : PlainCall) (answer : Answer) → said ≡ plain_call known asked → known ≡ number → record { caller = by; step = step; call = said; reply = answer.reply } ≡ made_entry by step number asked answer
+unfolding made_entry
 entry_is by step known number asked said answer same numbered = ap (λ (c : PlainCall). record { caller = by; step = step; call = c; reply = answer.reply }) (same ∙ ap (λ (n : QueueId). plain_call n asked) numbered)
 
-after_is : (q after : Queue Picture) (items left : List Entry) (by : ActorId) (step : ℕ) (known : QueueId) (asked : Call) (said : PlainCall) (answer : Answer) → known ≡ q.number → said ≡ plain_call known asked → left ≡ items ++ record { caller = by; step = step; call = said; reply = answer.reply } ∷ [] → record { queue = after; history = reverse left } ≡ with_entry (record { queue = q; history = reverse items }) after (entry_of by step q.number asked answer)
+after_is : (q after : Queue Picture) (items left : List Entry) (by : ActorId) (step : ℕ) (known : QueueId) (asked : Call) (said : PlainCall) (answer : Answer) → known ≡ q.number → said ≡ plain_call known asked → left ≡ items ++ record { caller = by; step = step; call = said; reply = answer.reply } ∷ [] → record { queue = after; history = reverse left } ≡ with_entry (record { queue = q; history = reverse items }) after (made_entry by step q.number asked answer)
 unfolding with_entry
 after_is q after items left by step known asked said answer numbered same put =
     let entry : Entry = record { caller = by; step = step; call = said; reply = answer.reply } in
-    let history : reverse left ≡ entry_of by step q.number asked answer ∷ reverse items =
+    let history : reverse left ≡ made_entry by step q.number asked answer ∷ reverse items =
     history_is items left entry put ∙ ap (λ (e : Entry). e ∷ reverse items) (entry_is by step known q.number asked said answer same numbered) in
     ap (λ (h : List Entry). record { queue = after; history = h }) history
 

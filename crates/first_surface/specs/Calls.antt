@@ -41,7 +41,8 @@ abbrev pub plain_call : QueueId → Call → PlainCall
 plain_call queue call.Connect = plain.Connect
 plain_call queue (call.Dequeue width height) = plain.Dequeue width height false
 plain_call queue (call.Request lease) = plain.Request (write_token queue lease)
-plain_call queue (call.Queue lease time crop fence) = plain.Queue (queued_token queue lease) lease.pixels.number lease.pixels.width lease.pixels.height time crop fence
+plain_call queue (call.Queue lease time crop fence) =
+    plain.Queue (queued_token queue lease) lease.pixels.number lease.pixels.width lease.pixels.height time crop fence
 plain_call queue (call.Acquire expected) = plain.Acquire expected
 plain_call queue (call.Release lease fence) = plain.Release (read_token queue lease) fence
 
@@ -63,7 +64,8 @@ lent_answer queue given requested = record {
 -- what an answer hands over: the lease that the call gave, by its reply, or the one that a refused call brought
 abbrev pub HandsOver : QueueId → Call → PlainReply → Gives → Type 0
 HandsOver queue call.Connect answered gives.Nothing = Unit {0}
-HandsOver queue (call.Dequeue width height) (reply.Dequeued slot held requested reallocated fence) (gives.Write lease) = (lease.queue ≡ queue) × (lease.token ≡ lent_token slot held requested fence)
+HandsOver queue (call.Dequeue width height) (reply.Dequeued slot held requested reallocated fence) (gives.Write lease) =
+    (lease.queue ≡ queue) × (lease.token ≡ lent_token slot held requested fence)
 HandsOver queue (call.Dequeue width height) (reply.Refused status) gives.Nothing = Unit {0}
 HandsOver queue (call.Request lease) (reply.Requested held) (gives.Write given) = given ≡ requested_lease lease
 HandsOver queue (call.Request lease) (reply.Refused status) (gives.Write given) = given ≡ lease

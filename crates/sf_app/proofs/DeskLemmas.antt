@@ -21,7 +21,7 @@ use Rattle.first_commit.specs.Commits.{ShowsWith, frame_of}
 use Rattle.first_commit.specs.declared.stage.ShownLease.{ShownLease}
 use Rattle.first_commit.specs.Stages.{FrameOf}
 use Rattle.sf_app.specs.States.{HasQueueOf}
-use Rattle.sf_app.specs.Worlds.{compositor, release_of, released}
+use Rattle.sf_app.specs.Worlds.{compositor, release_unread, released}
 
 queue_case : (queue : ℕ) (entry : Entry) (past : Past) (pasts later : List Past) (n : ℕ) (b : Bool) → has_queue later n ≡ has_queue pasts n
     → has_queue (cond b (record past { calls = entry ∷ past.calls } ∷ pasts) (past ∷ later)) n ≡ has_queue (past ∷ pasts) n
@@ -42,14 +42,14 @@ queues_after_if pasts by step (Some asked) n = queues_after pasts by step asked 
 
 pub queues_released : (number : ℕ) (pasts : List Past) (frames : List FrameOf) (n : ℕ) → has_queue (released number pasts frames) n ≡ has_queue pasts n
 queues_released number pasts [] n = refl
-queues_released number pasts (frame ∷ frames) n = queues_released number (with_call pasts compositor number (release_of frame)) frames n ∙ queues_after pasts compositor number (release_of frame) n
+queues_released number pasts (frame ∷ frames) n = queues_released number (with_call pasts compositor number (release_unread frame)) frames n ∙ queues_after pasts compositor number (release_unread frame) n
 
 -- what a frame keeps does not hang on the calls on its queue
 pub frame_stays : (pictures : ℕ → Picture) (pasts after : List Past) (lease : ReadLeaseOf) → ((n : ℕ) → has_queue after n ≡ has_queue pasts n) → KeepsFrame pictures pasts lease → KeepsFrame pictures after lease
 frame_stays pictures pasts after lease same h = record { queue = same lease.queue.0 ∙ h.queue; pixels = h.pixels }
 
 -- the release of a lease is that of its frame
-own_release : (lease : ReadLeaseOf) (fence : Fence) (queue : QueueId) → fence ≡ no_points → queue ≡ lease.queue → (let asked : Asked = (queue, plain_call queue (call.Release lease fence)) in asked) ≡ release_of (frame_of lease)
+own_release : (lease : ReadLeaseOf) (fence : Fence) (queue : QueueId) → fence ≡ no_points → queue ≡ lease.queue → (let asked : Asked = (queue, plain_call queue (call.Release lease fence)) in asked) ≡ release_unread (frame_of lease)
 own_release lease fence queue e own = rw (e, own, eq-eqb lease.queue.0 lease.queue.0 refl) refl
 
 -- the frames that are left after one more is released

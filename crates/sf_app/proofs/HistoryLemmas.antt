@@ -12,12 +12,12 @@ use Rattle.sf_slots.specs.declared.calls.PlainReply.{PlainReply}
 use Rattle.sf_slots.specs.Replies.{reply_after}
 use Rattle.first_actor.specs.declared.done.Answered.{Answered}
 use Rattle.first_actor.specs.declared.done.Done.{Done}
-use Rattle.first_actor.specs.Pasts.{Asked, Past, is_past_of, reply_in, with_call, with_call_if, with_entry, entry_of}
+use Rattle.first_actor.specs.Pasts.{Asked, Past, is_past_of, reply_in, with_call, with_call_if, with_entry, told_entry}
 use Rattle.first_actor.specs.Scripts.{picture_at}
 use Rattle.first_actor.specs.Steps.{asked_by, books_after}
 use Rattle.sf_script.specs.Scene.{SceneValue}
 use Rattle.sf_app.specs.Played.{IsCalledBy, IsHistory, IsMade, IsReleased, Made, Released, TellsReply, bare_past, entries_of, has_actor, made_from, made_if, made_on, may_call, released_at, released_on}
-use Rattle.sf_app.specs.Worlds.{compositor, release_of, released}
+use Rattle.sf_app.specs.Worlds.{compositor, release_unread, released}
 use Rattle.first_commit.specs.Stages.{FrameOf}
 
 zip_push : {A B : Type 0} (R : A → B → Type 0) (xs : List A) (ys : List B) (x : A) (y : B) → AllZip R xs ys → R x y → AllZip R (xs ++ x ∷ []) (ys ++ y ∷ [])
@@ -128,10 +128,10 @@ history_elsewhere scene rel past r ne h = record {
 
 -- a release of a frame of the queue
 history_release : (scene : SceneValue) (rel : List Released) (past : Past) (number : ℕ) (frame : FrameOf) (replied : PlainReply)
-    → frame.0.0 ≡ past.number → replied ≡ reply_after past.width past.height past.calls compositor (release_of frame).1
-    → IsHistory scene rel past → IsHistory scene (rel ++ released_at number frame ∷ []) (longer past (entry_by 0 number (release_of frame) replied))
+    → frame.0.0 ≡ past.number → replied ≡ reply_after past.width past.height past.calls compositor (release_unread frame).1
+    → IsHistory scene rel past → IsHistory scene (rel ++ released_at number frame ∷ []) (longer past (entry_by 0 number (release_unread frame) replied))
 history_release scene rel past number frame replied here legal h =
-    let e = entry_by 0 number (release_of frame) replied in
+    let e = entry_by 0 number (release_unread frame) replied in
     let r = released_at number frame in
     let on : released_on past.number (rel ++ r ∷ []) ≡ released_on past.number rel ++ r ∷ [] =
     released_on_more past.number rel r ∙ ap (λ (b : Bool). released_on past.number rel ++ cond b (r ∷ []) []) (eq-eqb frame.0.0 past.number here) in
@@ -145,9 +145,9 @@ history_release scene rel past number frame replied here legal h =
 
 -- a release is no call of an actor
 calls_release : (pictures : ℕ → Picture) (n : ℕ) (tale : List Done) (past : Past) (number : ℕ) (frame : FrameOf) (replied : PlainReply) → n ≢ 0
-    → IsCalledBy pictures n tale past → IsCalledBy pictures n tale (longer past (entry_by 0 number (release_of frame) replied))
+    → IsCalledBy pictures n tale past → IsCalledBy pictures n tale (longer past (entry_by 0 number (release_unread frame) replied))
 calls_release pictures n tale past number frame replied apart h =
-    let e = entry_by 0 number (release_of frame) replied in
+    let e = entry_by 0 number (release_unread frame) replied in
     record { entries = subst (λ (l : List Entry). AllZip IsMade (made_on past.number (made_from pictures [] tale)) l) (sym (entries_by_other n past e (λ (z : 0 ≡ n). apart (sym z)))) h.entries }
 
 -- the queues have different numbers
@@ -194,7 +194,7 @@ told_walk P Q by step asked (p ∷ ps) replied e far others own h =
 -- what holds of each queue holds after a call
 pub with_call_told : (P Q : Past → Type 0) (by : ActorId) (step : ℕ) (asked : Asked) (pasts : List Past) → AreApart pasts
     → ((past : Past) → past.number ≢ asked.0.0 → P past → Q past)
-    → ((past : Past) → past.number ≡ asked.0.0 → reply_in pasts by asked ≡ reply_after past.width past.height past.calls by asked.1 → P past → Q (longer past (entry_of pasts by step asked)))
+    → ((past : Past) → past.number ≡ asked.0.0 → reply_in pasts by asked ≡ reply_after past.width past.height past.calls by asked.1 → P past → Q (longer past (told_entry pasts by step asked)))
     → All P pasts → All Q (with_call pasts by step asked)
 with_call_told P Q by step asked pasts apart others own all = told_walk P Q by step asked pasts (reply_in pasts by asked) refl apart others own all
 
@@ -269,16 +269,16 @@ told_step scene n tale rel pasts d (Some asked) known is tells h = record {
 
 -- one more release
 told_release : (scene : SceneValue) (n : ℕ) (tale : List Done) (rel : List Released) (pasts : List Past) (number : ℕ) (frame : FrameOf) → AreTold scene n tale rel pasts
-    → AreTold scene n tale (rel ++ released_at number frame ∷ []) (with_call pasts compositor number (release_of frame))
+    → AreTold scene n tale (rel ++ released_at number frame ∷ []) (with_call pasts compositor number (release_unread frame))
 told_release scene n tale rel pasts number frame h = record {
   apart = apart-with frame.0.0 _ pasts h.apart;
-  told = λ numbered. with_call_told (IsHistory scene rel) (IsHistory scene (rel ++ released_at number frame ∷ [])) compositor number (release_of frame) pasts h.apart
+  told = λ numbered. with_call_told (IsHistory scene rel) (IsHistory scene (rel ++ released_at number frame ∷ [])) compositor number (release_unread frame) pasts h.apart
       (λ past far one. history_elsewhere scene rel past (released_at number frame) (λ (e : frame.0.0 ≡ past.number). far (sym e)) one)
-      (λ past near first one. history_release scene rel past number frame (reply_in pasts compositor (release_of frame)) (sym near) first one)
+      (λ past near first one. history_release scene rel past number frame (reply_in pasts compositor (release_unread frame)) (sym near) first one)
       (h.told numbered);
-  called = λ ne. with_call_told (IsCalledBy (picture_at scene.pictures) n tale) (IsCalledBy (picture_at scene.pictures) n tale) compositor number (release_of frame) pasts h.apart
+  called = λ ne. with_call_told (IsCalledBy (picture_at scene.pictures) n tale) (IsCalledBy (picture_at scene.pictures) n tale) compositor number (release_unread frame) pasts h.apart
       (λ past far one. one)
-      (λ past near first one. calls_release (picture_at scene.pictures) n tale past number frame (reply_in pasts compositor (release_of frame)) ne one)
+      (λ past near first one. calls_release (picture_at scene.pictures) n tale past number frame (reply_in pasts compositor (release_unread frame)) ne one)
       (h.called ne);
 }
 
@@ -288,11 +288,11 @@ pub told_releases : (scene : SceneValue) (n : ℕ) (tale : List Done) (rel : Lis
 told_releases scene n tale rel pasts number [] h = subst (λ (l : List Released). AreTold scene n tale l pasts) (sym (append-nil rel)) h
 told_releases scene n tale rel pasts number (frame ∷ frames) h =
     subst (λ (l : List Released). AreTold scene n tale l (released number pasts (frame ∷ frames))) (append_assoc rel (released_at number frame ∷ []) (map (released_at number) frames))
-    (told_releases scene n tale (rel ++ released_at number frame ∷ []) (with_call pasts compositor number (release_of frame)) number frames (told_release scene n tale rel pasts number frame h))
+    (told_releases scene n tale (rel ++ released_at number frame ∷ []) (with_call pasts compositor number (release_unread frame)) number frames (told_release scene n tale rel pasts number frame h))
 
 pub bare-released : (number : ℕ) (pasts : List Past) (frames : List FrameOf) → map bare_past (released number pasts frames) ≡ map bare_past pasts
 bare-released number pasts [] = refl
-bare-released number pasts (frame ∷ frames) = bare-released number (with_call pasts compositor number (release_of frame)) frames ∙ bare-with frame.0.0 _ pasts
+bare-released number pasts (frame ∷ frames) = bare-released number (with_call pasts compositor number (release_unread frame)) frames ∙ bare-with frame.0.0 _ pasts
 
 pub bare-if : (pasts : List Past) (by : ActorId) (place : ℕ) (o : Option Asked) → map bare_past (with_call_if pasts by place o) ≡ map bare_past pasts
 bare-if pasts by place None = refl

@@ -17,4 +17,5 @@ histories_in records = flat_map history_in records
 
 -- the histories of a played run have calls of the compositor and of the scene's actors alone, also where the scene has no actor
 abbrev pub CallersAreKnown : Type 0
-CallersAreKnown = (scene : SceneValue) (records : List Record) → Played scene records → All (λ history. All (λ call. may_call scene call.caller ≡ true) history.entries) (histories_in records)
+CallersAreKnown = (scene : SceneValue) (records : List Record) → Played scene records
+    → All (λ history. All (λ call. may_call scene call.caller ≡ true) history.entries) (histories_in records)

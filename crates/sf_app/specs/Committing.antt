@@ -38,13 +38,18 @@ pub record AreCommitted (number : ℕ) (sent : List Sent) (old new : StageOf) (o
   pub answers : outcome.commits.items ≡ commits_from number (stage_of old) sent
   pub stage : stage_of new ≡ stage_from (stage_of old) sent
   pub frames : map frame_of outcome.releases.items ≡ releases_from (stage_of old) sent
-  pub kept : (pictures : ℕ → Picture) (pasts : List Past) → All (SentFrames pictures pasts) sent → All (ShowsWith (KeepsFrame pictures pasts)) old.shown → All (ShowsWith (KeepsFrame pictures pasts)) new.shown
-  pub released : (pictures : ℕ → Picture) (pasts : List Past) → All (SentFrames pictures pasts) sent → All (ShowsWith (KeepsFrame pictures pasts)) old.shown → All (KeepsFrame pictures pasts) outcome.releases.items
+  pub kept : (pictures : ℕ → Picture) (pasts : List Past) → All (SentFrames pictures pasts) sent
+      → All (ShowsWith (KeepsFrame pictures pasts)) old.shown → All (ShowsWith (KeepsFrame pictures pasts)) new.shown
+  pub released : (pictures : ℕ → Picture) (pasts : List Past) → All (SentFrames pictures pasts) sent
+      → All (ShowsWith (KeepsFrame pictures pasts)) old.shown → All (KeepsFrame pictures pasts) outcome.releases.items
 
 -- a commit after others: its answer and its releases stand behind theirs
 pub record GoesOn (number : ℕ) (sent : Sent) (old new : StageOf) (before after : Outcome) : Type 0 where
   pub commits : after.commits.items ≡ before.commits.items ++ commit_of number (waiting sent) (stage_of old) ∷ []
   pub stage : stage_of new ≡ stage_after (stage_of old) (plain sent.edits)
   pub frames : map frame_of after.releases.items ≡ map frame_of before.releases.items ++ releases_after (stage_of old) (plain sent.edits)
-  pub kept : (pictures : ℕ → Picture) (pasts : List Past) → SentFrames pictures pasts sent → All (ShowsWith (KeepsFrame pictures pasts)) old.shown → All (ShowsWith (KeepsFrame pictures pasts)) new.shown
-  pub released : (pictures : ℕ → Picture) (pasts : List Past) → SentFrames pictures pasts sent → All (ShowsWith (KeepsFrame pictures pasts)) old.shown → All (KeepsFrame pictures pasts) before.releases.items → All (KeepsFrame pictures pasts) after.releases.items
+  pub kept : (pictures : ℕ → Picture) (pasts : List Past) → SentFrames pictures pasts sent
+      → All (ShowsWith (KeepsFrame pictures pasts)) old.shown → All (ShowsWith (KeepsFrame pictures pasts)) new.shown
+  pub released : (pictures : ℕ → Picture) (pasts : List Past) → SentFrames pictures pasts sent
+      → All (ShowsWith (KeepsFrame pictures pasts)) old.shown → All (KeepsFrame pictures pasts) before.releases.items
+      → All (KeepsFrame pictures pasts) after.releases.items

@@ -54,7 +54,14 @@ frame_shown asked (reply.Acquired item dropped) = item.frame
 frame_shown asked answered = 0
 
 unfoldable pub shown_entry : Entry → HistoryEntry
-shown_entry entry = record { caller = entry.caller.0; step = entry.step; kind = kind_number entry.call; status = reply_status entry.reply; slot = slot_shown entry.call entry.reply; frame = frame_shown entry.call entry.reply }
+shown_entry entry = record {
+  caller = entry.caller.0;
+  step = entry.step;
+  kind = kind_number entry.call;
+  status = reply_status entry.reply;
+  slot = slot_shown entry.call entry.reply;
+  frame = frame_shown entry.call entry.reply;
+}
 
 -- the calls on a queue, in the order in which they were made
 abbrev pub shown_past : Past → QueueHistory

@@ -34,7 +34,7 @@ use Rattle.sf_app.specs.Commits.{commits_by, frame_due, releases_by, stage_by}
 use Rattle.sf_app.specs.Histories.{shown_past}
 use Rattle.first_commit.specs.Stages.{FrameOf, Stage}
 use Rattle.sf_app.specs.Transactions.{Arrival, entry_of, replies_from, sent_from}
-use Rattle.sf_app.specs.Worlds.{bare_stage, new_past, release_of, rising}
+use Rattle.sf_app.specs.Worlds.{bare_stage, new_past, release_unread, rising}
 
 -- the replies of a run, in order
 abbrev pub reply_in : Event → List Reply
@@ -137,7 +137,8 @@ released_at number frame = record { vsync = number; frame = frame }
 unfoldable pub released_from : List Arrival → Stage → List VsyncReport → List Released
 released_from transactions stage [] = []
 released_from transactions stage (v ∷ vs) =
-    map (released_at v.number) (releases_by transactions stage (committed_by v.commits)) ++ released_from transactions (stage_by transactions stage (committed_by v.commits)) vs
+    map (released_at v.number) (releases_by transactions stage (committed_by v.commits))
+    ++ released_from transactions (stage_by transactions stage (committed_by v.commits)) vs
 
 abbrev pub released_on : ℕ → List Released → List Released
 released_on queue released = filter (λ r. r.frame.0.0 == queue) released
@@ -145,7 +146,7 @@ released_on queue released = filter (λ r. r.frame.0.0 == queue) released
 -- an entry of a history is a release by a vsync
 pub record IsReleased (released : Released) (entry : Entry) : Type 0 where
   pub step : entry.step ≡ released.vsync
-  pub call : entry.call ≡ (release_of released.frame).1
+  pub call : entry.call ≡ (release_unread released.frame).1
 
 -- the entries of one caller, in order
 abbrev pub entries_of : ℕ → Past → List Entry

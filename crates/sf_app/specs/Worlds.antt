@@ -80,13 +80,13 @@ abbrev pub compositor : ActorId
 compositor = record { 0 = 0 }
 
 -- the release of a frame; no fence is named in a scene so far
-abbrev pub release_of : FrameOf → Asked
-release_of frame = (frame.0, call.Release frame.1 no_points)
+abbrev pub release_unread : FrameOf → Asked
+release_unread frame = (frame.0, call.Release frame.1 no_points)
 
 -- the calls on the queues after the frames are released, one after another, by a vsync
 abbrev pub released : ℕ → List Past → List FrameOf → List Past
 released number pasts [] = pasts
-released number pasts (frame ∷ frames) = released number (with_call pasts compositor number (release_of frame)) frames
+released number pasts (frame ∷ frames) = released number (with_call pasts compositor number (release_unread frame)) frames
 
 -- the numbers of the arrivals without a commit; the first ones have one
 abbrev pub pending : World → List ℕ
@@ -100,8 +100,19 @@ vsync_of scene world =
     let commits = commits_by world.arrivals world.stage (pending world) in
     let stage = stage_by world.arrivals world.stage (pending world) in
     record {
-      events = if world.committed == length world.arrivals then [] else event.Vsync (record { number = number; expected = number * scene.period; timelines = []; commits = commits; frame = frame_due scene commits stage }) ∷ [];
-      world = record world { pasts = released number world.pasts (releases_by world.arrivals world.stage (pending world)); committed = length world.arrivals; stage = stage; vsyncs = number };
+      events = if world.committed == length world.arrivals then [] else event.Vsync (record {
+        number = number;
+        expected = number * scene.period;
+        timelines = [];
+        commits = commits;
+        frame = frame_due scene commits stage;
+      }) ∷ [];
+      world = record world {
+        pasts = released number world.pasts (releases_by world.arrivals world.stage (pending world));
+        committed = length world.arrivals;
+        stage = stage;
+        vsyncs = number;
+      };
     }
 
 -- one turn, and then another

@@ -133,7 +133,8 @@ fn play_pick<K: Sink>(
     requires running { IsRunning scene.now state.old }
     requires early { state.old.vsyncs + pick.times < 2 ^ 32 - 1 }
     ensures ok { OnOk result (Wrote (K.taken sink.old) (K.taken sink.new) (world_of state.new) (turns_of scene.now (idle (world_of state.old)) (repeated pick))) }
-    ensures err { OnErr result (TookPrefix (K.taken sink.old) (K.taken sink.new) (shown_bytes (turns_of scene.now (idle (world_of state.old)) (repeated pick)).events)) }
+    ensures err { OnErr result (TookPrefix (K.taken sink.old) (K.taken sink.new)
+        (shown_bytes (turns_of scene.now (idle (world_of state.old)) (repeated pick)).events)) }
     ensures stays { OnOk result (Stays scene.now (world_of state.old) (world_of state.new) pick.times) }
     ensures running { OnOk result (IsRunning scene.now state.new) }
     ensures later { K.faults sink.old ≤ K.faults sink.new }
@@ -160,8 +161,10 @@ fn play_order<K: Sink>(
     requires early { state.old.vsyncs ≡ 0 }
     requires few { length order.now ≤ 1048576 }
     requires picks { All (λ p. p.times ≤ 256) order.now }
-    ensures ok { OnOk result (Wrote (K.taken sink.old) (K.taken sink.new) (world_of state.new) (turns_of scene.now (idle (world_of state.old)) (picks_in order.now))) }
-    ensures err { OnErr result (TookPrefix (K.taken sink.old) (K.taken sink.new) (shown_bytes (turns_of scene.now (idle (world_of state.old)) (picks_in order.now)).events)) }
+    ensures ok { OnOk result (Wrote (K.taken sink.old) (K.taken sink.new) (world_of state.new)
+        (turns_of scene.now (idle (world_of state.old)) (picks_in order.now))) }
+    ensures err { OnErr result (TookPrefix (K.taken sink.old) (K.taken sink.new)
+        (shown_bytes (turns_of scene.now (idle (world_of state.old)) (picks_in order.now)).events)) }
     ensures stays { OnOk result (Stays scene.now (world_of state.old) (world_of state.new) (256 * length order.now)) }
     ensures running { OnOk result (IsRunning scene.now state.new) }
     ensures later { K.faults sink.old ≤ K.faults sink.new }
@@ -268,9 +271,11 @@ fn closing_records(
 
 // Writes the records that end a run.
 fn write_closing<K: Sink>(alloc: Global, sink: &mut K, state: RunState) -> Result<(), RunFault>
-    ensures ok { OnOk result (Appends (K.taken sink.old) (K.taken sink.new) (bytes_of (closing state.arrivals (map shown_past (map past_of state.desk)) [] []))) }
+    ensures ok { OnOk result (Appends (K.taken sink.old) (K.taken sink.new)
+        (bytes_of (closing state.arrivals (map shown_past (map past_of state.desk)) [] []))) }
     ensures fits { OnOk result (All RecordFits (closing state.arrivals (map shown_past (map past_of state.desk)) [] [])) }
-    ensures err { OnErr result (TookPrefix (K.taken sink.old) (K.taken sink.new) (bytes_of (closing state.arrivals (map shown_past (map past_of state.desk)) [] []))) }
+    ensures err { OnErr result (TookPrefix (K.taken sink.old) (K.taken sink.new)
+        (bytes_of (closing state.arrivals (map shown_past (map past_of state.desk)) [] []))) }
     ensures later { K.faults sink.old ≤ K.faults sink.new }
     ensures failed { IsErrOf result RunFault.WriteFault → Rose (K.faults sink.old) (K.faults sink.new) }
 {

@@ -45,7 +45,8 @@ fn perform(
 ) -> Result<Event, NoMemory>
     requires running { IsRunning scene.now state.old }
     requires next { slice_get (script_in scene.now.actors).steps (length state.old.actor.done) ≡ Some step }
-    ensures turn { IfOk result (λ event. IsTurn (event ∷ []) (world_of state.new) (performed scene.now.pictures (script_in scene.now.actors).number (world_of state.old) step)) }
+    ensures turn { IfOk result (λ event. IsTurn (event ∷ []) (world_of state.new)
+        (performed scene.now.pictures (script_in scene.now.actors).number (world_of state.old) step)) }
     ensures running { OnOk result (IsRunning scene.now state.new) }
 {
     let actor = state.actor.number.0;

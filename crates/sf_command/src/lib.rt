@@ -1,0 +1,105 @@
+//! The compositor as a command: its words, a script on standard input, the records of its run on
+//! standard output, a line on standard error where it failed, and the status of the run as its own.
+#![tactic(auto)]
+
+use sf_app::run;
+use sf_io::{OpenGate, ReadSource, WriteSink};
+use std::io::ErrorKind;
+use std::sync::Wait;
+use std::thread::Threads;
+use std::{env, io};
+
+#[cfg(test)]
+mod tests;
+
+const HELP: &str = "\
+sf_main plays a script of the compositor.
+
+usage: sf_main < SCRIPT > RECORDS
+
+The script is read from standard input, and the records of its run are written to standard
+output. The words --help and --version, each alone, write this page and the version.
+
+status: 0 the script was played; 1 wrong words; 2 the script is no scene; 3 reading failed;
+4 writing failed; 5 out of memory";
+
+const VERSION: &str = "sf_main 0.1.0";
+
+/// The status where the words are wrong; a word that is no text is.
+const WRONG_WORDS: u8 = 1;
+
+/// The status where what was to be written could not be.
+const WRITE_FAILED: u8 = 4;
+
+/// The status where memory is wanting.
+const NO_MEMORY: u8 = 5;
+
+// The line on standard error for a status other than 0.
+fn message(status: u8) -> &'static str {
+    match status {
+        1 => "usage: sf_main [--run play|live|gen] [--workers N] [--number N] [--summary]",
+        2 => "script fault",
+        3 => "read failed",
+        4 => "write failed",
+        _ => "out of memory",
+    }
+}
+
+// What is written for a word that asks about the program, which stands alone.
+fn about(words: &[String]) -> Option<&'static str> {
+    match words {
+        [word] => match word.as_str() {
+            "--help" | "-h" => Some(HELP),
+            "--version" => Some(VERSION),
+            _ => None,
+        },
+        _ => None,
+    }
+}
+
+// The status where the words could not be read.
+fn status_without_words(error: &io::Error) -> u8 {
+    if error.kind() == ErrorKind::OutOfMemory {
+        NO_MEMORY
+    } else {
+        WRONG_WORDS
+    }
+}
+
+fn words(rt: &HostRuntime) -> io::Result<Vec<String>> {
+    let mut words = Vec::new(rt.alloc());
+    for word in env::args(rt)?.skip(1) {
+        words.push(word)?;
+    }
+    Ok(words)
+}
+
+/// Does what the words of the program ask, and answers its status: 0 where it was done. Threads are
+/// started through the second handle, which is the runtime's own in `main`.
+pub fn command<R: Threads + Wait + Sync>(rt: &HostRuntime, threads: &R) -> u8 {
+    let status = match words(rt) {
+        Ok(words) => match about(&words) {
+            Some(text) => match println!(rt; "{}", text) {
+                Ok(()) => 0,
+                Err(_) => WRITE_FAILED,
+            },
+            None => {
+                let mut source = ReadSource::new(rt.reader());
+                let mut sink = WriteSink::new(io::writer(rt));
+                run(
+                    threads,
+                    rt.alloc(),
+                    &words,
+                    &mut source,
+                    &mut sink,
+                    &OpenGate,
+                )
+            }
+        },
+        Err(error) => status_without_words(&error),
+    };
+    if status != 0 {
+        let _ = eprintln!(rt; "{}", message(status));
+    }
+    status
+}
