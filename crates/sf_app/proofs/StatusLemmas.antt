@@ -4,9 +4,9 @@ use Rattle.std.proofs.lemmas.List.{append-nil}
 use Rattle.std.proofs.lemmas.Bool.{cases_eq, lt-ltb}
 use Rattle.std.specs.Io.KnownBytes.{Consumes, IsAtEnd}
 use Rattle.sf_io.specs.Streams.{Took}
-use Rattle.sf_script.specs.Scene.{SceneValue}
-use Rattle.sf_script.specs.declared.fault.ScriptFault.{ScriptFault}
-use Rattle.sf_script.specs.Parse.{at_no_place, parsed_of}
+use Rattle.first_script.specs.Scene.{SceneValue}
+use Rattle.first_script.specs.declared.fault.ScriptFault.{ScriptFault}
+use Rattle.first_script.specs.Parse.{at_no_place, parsed_of}
 use Rattle.sf_io.specs.Streams.{TookPrefix}
 use Rattle.sf_app.specs.Statuses.{NoScene, PlayedScript, PrefixOf, WritesPrefix, fault_bytes, misspelled, too_long}
 use Rattle.sf_app.proofs.PlayLemmas.{cut_none}

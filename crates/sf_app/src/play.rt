@@ -25,7 +25,7 @@ use sf_record::{
     ArrivalEntry, Event, QueueHistory, Record, RunFault, SceneHeader, records, write_all,
     write_record,
 };
-use sf_script::{Pick, Scene};
+use first_script::{Pick, Scene};
 use std::alloc::Global;
 
 // Writes the records of an event, if there is one.

@@ -3,12 +3,12 @@ ghost use Rattle.std.specs.List.{All, flat_map, range_with_len};
 ghost use Rattle.first_actor.specs.Plain.{past_of};
 ghost use Rattle.sf_app.specs.Queues.{AreNew};
 ghost use Rattle.sf_app.specs.Worlds.{new_past, rising};
-ghost use Rattle.sf_script.specs.Scene.{IsQueue, IsWithinLimits};
+ghost use Rattle.first_script.specs.Scene.{IsQueue, IsWithinLimits};
 
 use first_actor::Desk;
 use first_surface::QueueObject;
 use sf_base::{NoMemory, QueueId};
-use sf_script::{QueueDecl, Scene};
+use first_script::{QueueDecl, Scene};
 use std::alloc::Global;
 
 // Adds the queue, if it has this number.

@@ -8,7 +8,7 @@ use crate::state::{RunState, Sent};
 use first_actor::Operation;
 use sf_base::{Items, NoMemory};
 use sf_record::{ArrivalEntry, Event, Reply};
-use sf_script::{ActorScript, Scene, Step};
+use first_script::{ActorScript, Scene, Step};
 use std::alloc::Global;
 
 // What a step sends arrives.

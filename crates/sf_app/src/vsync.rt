@@ -21,7 +21,7 @@ use first_commit::Stage;
 use first_surface::{Call, ReadLease};
 use sf_base::{ActorId, Fence, Items, NoMemory};
 use sf_record::{Commit, Event, VsyncReport};
-use sf_script::Scene;
+use first_script::Scene;
 use std::alloc::Global;
 use std::mem;
 

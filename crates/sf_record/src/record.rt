@@ -1,5 +1,5 @@
 use sf_base::Items;
-use sf_script::ScriptFault;
+use first_script::ScriptFault;
 
 /// What a run shows of its scene.
 #[derive(Clone, Copy, Debug, PartialEq, Eq)]

@@ -1,0 +1,2 @@
+pub mod BeforeLemmas
+pub mod SceneLemmas

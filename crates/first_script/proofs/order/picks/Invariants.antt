@@ -1,0 +1,16 @@
+use Rattle.std.proofs.Common.{◌≡◌, ◌+◌, [], length}
+use Rattle.std.specs.List.{All}
+use Rattle.sf_words.specs.Text.{words_of}
+use Rattle.first_script.specs.Fits.{FitsPick}
+use Rattle.first_script.specs.Order.{picks_at}
+use Rattle.first_script.proofs.order.picks.Given as goal
+
+abbrev pub invariant-loop-word : goal.invariant-loop-word
+invariant-loop-word l = record {
+  given : picks_at l.before l.picks.items (words_of l.rest) ≡ picks_at l.before [] (words_of l.line);
+  fits : All (FitsPick l.before) l.picks.items;
+  few : length l.picks.items + length (words_of l.rest) ≡ length (words_of l.line);
+}
+
+abbrev pub decreases-loop-word : goal.decreases-loop-word
+decreases-loop-word l = length (words_of l.rest)

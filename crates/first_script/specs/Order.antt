@@ -1,0 +1,52 @@
+-- The picks of an `order` line.
+use Rattle.std.specs.Prelude.{ℕ, ◌==◌, not, ◌||◌, if◌then◌else◌, List, [], ◌∷◌, ◌++◌, length, take, drop, Option, None, Some, Result, Ok, codes}
+use Rattle.std.specs.Str.{bytes_eq}
+use Rattle.std.specs.List.{prefix_len}
+use Rattle.sf_words.specs.Text.{Text}
+use Rattle.sf_words.specs.Numbers.{decimal_of}
+use Rattle.sf_words.specs.Reading.{◌>>=◌, demand, good, in_range, word_at}
+use Rattle.sf_words.specs.declared.fault.Cause.TheVariants.{Undefined}
+use Rattle.sf_words.specs.declared.fault.WordFault.{WordFault}
+use Rattle.first_script.specs.Before.{actor_of, declares}
+use Rattle.first_script.specs.declared.line.Line.{Line}
+use Rattle.first_script.specs.declared.scene.Pick.{Pick}
+
+-- who is picked: `v` is the vsync, which is 0, and a number is an actor
+unfoldable pub picked_of : Text → Option ℕ
+picked_of who = if bytes_eq who (codes "v") then Some 0 else in_range 1 16 (decimal_of who)
+
+-- how often: once, or the number behind the `*`
+unfoldable pub times_of : Text → Option ℕ
+times_of [] = Some 1
+times_of (star ∷ times) = in_range 1 256 (decimal_of times)
+
+-- a pick of whom and how often, if both are given
+abbrev pub pick_from : Option ℕ → Option ℕ → Option Pick
+pick_from (Some actor) (Some times) = Some (record { actor = actor; times = times })
+pick_from _ _ = None
+
+-- a pick, with a `*` and a number, or without
+unfoldable pub pick_of : Text → Option Pick
+pick_of word =
+    let who = prefix_len (λ b. not (b == 42)) word in
+    pick_from (picked_of (take who word)) (times_of (drop who word))
+
+-- a pick of the vsync or of a declared actor
+unfoldable pub pick_at : List Line → ℕ → Text → Result Pick WordFault
+pick_at before left word = do
+  pick ← good left (pick_of word)
+  _ ← demand (pick.actor == 0 || declares actor_of pick.actor before) left Undefined
+  Ok pick
+
+-- the picks so far, and those of the words that are left
+unfoldable pub picks_at : List Line → List Pick → List Text → Result (List Pick) WordFault
+picks_at before picks [] = Ok picks
+picks_at before picks (word ∷ words) = do
+  pick ← pick_at before (length (word ∷ words)) word
+  picks_at before (picks ++ pick ∷ []) words
+
+-- `order PICK ..`, with one pick or more
+unfoldable pub order_at : List Line → List Text → Result (List Pick) WordFault
+order_at before words = do
+  first ← word_at words
+  picks_at before [] words

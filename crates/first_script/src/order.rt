@@ -1,0 +1,103 @@
+ghost use Rattle.std.specs.Prelude.{◌≡◌, ◌==◌, ◌≤◌, [], length, not, All, IfOk, IfSome};
+ghost use Rattle.std.specs.List.{prefix_len};
+ghost use Rattle.sf_words.specs.Text.{words_of};
+ghost use Rattle.sf_words.specs.Reading.{Gives};
+ghost use Rattle.first_script.specs.Memory.{GivesUnless};
+ghost use Rattle.first_script.specs.Fits.{FitsPick};
+ghost use Rattle.first_script.specs.Order.{order_at, pick_at, pick_of, picked_of, picks_at, times_of};
+
+use crate::before::Before;
+use crate::fault::LineFault;
+use crate::scene::Pick;
+use sf_words::{Cause, WordFault, is, next_word, number_within, word, wrong};
+use std::alloc::Global;
+
+// Who is picked.
+#[tactic(auto, unfolding(crate::specs::Order::picked_of))]
+fn picked(who: &[u8]) -> Option<u32>
+    ensures given { result ≡ picked_of who.now }
+    ensures range { IfSome result (λ n. n ≤ 16) }
+{
+    if is(who, b"v") {
+        return Some(0);
+    }
+    let number = number_within(who, 1, 16)?;
+    Some(number as u32)
+}
+
+// How often, by what stands behind who is picked.
+#[tactic(auto, unfolding(crate::specs::Order::times_of))]
+fn times(behind: &[u8]) -> Option<u32>
+    ensures given { result ≡ times_of behind.now }
+    ensures range { IfSome result (λ n. (1 ≤ n) × (n ≤ 256)) }
+{
+    match behind {
+        [] => Some(1),
+        [_, number @ ..] => {
+            let times = number_within(number, 1, 256)?;
+            Some(times as u32)
+        }
+    }
+}
+
+// How long the part before a `*` is.
+fn who_length(word: &[u8]) -> usize
+    ensures count { result ≡ prefix_len (λ b. not (b == 42)) word.now }
+    ensures within { result ≤ length word.now }
+{
+    word.iter().take_while(|b| **b != b'*').count()
+}
+
+#[tactic(auto, unfolding(crate::specs::Order::pick_of))]
+fn pick(word: &[u8]) -> Option<Pick>
+    ensures given { result ≡ pick_of word.now }
+    ensures range { IfSome result (λ p. (p.actor ≤ 16) × (1 ≤ p.times) × (p.times ≤ 256)) }
+{
+    let (who, behind) = word.split_at(who_length(word));
+    match (picked(who), times(behind)) {
+        (Some(actor), Some(times)) => Some(Pick { actor, times }),
+        _ => None,
+    }
+}
+
+// The pick of a word, with which what is left of the line begins.
+#[tactic(auto, unfolding(crate::specs::Order::pick_at))]
+fn declared_pick(before: &Before, line: &[u8], word: &[u8]) -> Result<Pick, WordFault>
+    ensures given { Gives (λ x. x) result (pick_at before.now (length (words_of line.now)) word.now) }
+    ensures fits { IfOk result (FitsPick before.now) }
+{
+    let Some(pick) = pick(word) else {
+        return Err(wrong(line, Cause::BadWord));
+    };
+    if pick.actor == 0 || before.declares_actor(pick.actor) {
+        Ok(pick)
+    } else {
+        Err(wrong(line, Cause::Undefined))
+    }
+}
+
+/// `order PICK ..`
+#[tactic(auto, unfolding(crate::specs::Order::order_at))]
+pub fn order_line(alloc: Global, before: &Before, line: &[u8]) -> Result<Vec<Pick>, LineFault>
+    ensures given { GivesUnless (λ x. x.items) result (order_at before.now (words_of line.now)) }
+    ensures fits { IfOk result (λ v. All (FitsPick before.now) v.items) }
+    ensures few { IfOk result (λ v. length v.items ≤ length line.now) }
+{
+    word(line)?;
+    picks(alloc, before, line)
+}
+
+#[tactic(auto, unfolding(crate::specs::Order::picks_at), using(sf_words::proofs::Sets::word_counts))]
+fn picks(alloc: Global, before: &Before, line: &[u8]) -> Result<Vec<Pick>, LineFault>
+    ensures given { GivesUnless (λ x. x.items) result (picks_at before.now [] (words_of line.now)) }
+    ensures fits { IfOk result (λ v. All (FitsPick before.now) v.items) }
+    ensures few { IfOk result (λ v. length v.items ≤ length line.now) }
+{
+    let mut picks = Vec::new(alloc);
+    let mut rest = line;
+    while let Some((word, after)) = next_word(rest) {
+        picks.push(declared_pick(before, rest, word)?)?;
+        rest = after;
+    }
+    Ok(picks)
+}
