@@ -18,12 +18,14 @@ ticket_at k (Some n) = if k == n then 1 else 0
 abbrev pub number_at : ℕ → ℕ → ℕ → ℕ
 number_at b live by = if b == by then live else 0
 
-module _ {O C R M : Type 0} (history : O → List (Entry C R)) (mark : O → M) (answers : M → List (Entry C R) → ℕ → C → Answer R → Type 0) (key : O) where
+module _ {O C R M : Type 0} (history : O → List (Entry C R)) (mark : O → M)
+    (answers : M → List (Entry C R) → ℕ → C → Answer R → Type 0) (key : O) where
   -- What holds of the pass j, where `log` is the object's history and `cast` the numbers of the first
   -- pass and of those that it gave: it knows a beginning of the history, with all calls of its own
   -- number; a ticket that it holds was drawn and not served yet; and the one that has the object holds
   -- the ticket that is served and found the whole history.
-  pub record Fits (serving next : ℕ) (home : mathlib.Core.Option.Option (mathlib.Core.Option.Option (Option O))) (log : List (Entry C R)) (cast : List ℕ) (j : ℕ) (v : Knows C R M) : Type 0 where
+  pub record Fits (serving next : ℕ) (home : mathlib.Core.Option.Option (mathlib.Core.Option.Option (Option O)))
+      (log : List (Entry C R)) (cast : List ℕ) (j : ℕ) (v : Knows C R M) : Type 0 where
     pub marked : v.live ≡ 1 → v.mark ≡ Some (mark key)
     pub begins : Begins v.seen log
     pub own : v.live ≡ 1 → calls_by v.by log ≡ calls_by v.by v.seen

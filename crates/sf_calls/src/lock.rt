@@ -76,7 +76,8 @@ impl<O: Object> CallLock<O> {
         ensures taken { IfOk result (λ object. (p : ℕ × List (Entry O.PlainCall O.PlainReply))
             → Contains last.took p → GoesOnWithout p.0 p.1 (O.history object)) }
         ensures since { IfOk result (λ object. Begins last.start (O.history object)) }
-        ensures callers { IfOk result (λ object. (b : ℕ) → (Contains (last.by ∷ last.gave) b → ⊥) → calls_by b (O.history object) ≡ calls_by b last.start) }
+        ensures callers { IfOk result (λ object. (b : ℕ) → (Contains (last.by ∷ last.gave) b → ⊥)
+            → calls_by b (O.history object) ≡ calls_by b last.start) }
     {
         let CallLock { table } = self;
         let Pass { seat, by: _ } = last;

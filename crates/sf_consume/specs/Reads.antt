@@ -34,7 +34,8 @@ lease_of told slot frame = record {
 pub record IsLeaseOf (told : Told) (place : SlotId) (number : ℕ) (lease : ReadToken) : Type 0 where
   pub slot : lease.slot ≡ place
   pub frame : lease.frame ≡ number
-  pub whole : (held : Held) → (slot_at told place.0).state ≡ Acquired → (slot_at told place.0).held ≡ Some held → (slot_at told place.0).frame ≡ number → lease.held ≡ held
+  pub whole : (held : Held) → (slot_at told place.0).state ≡ Acquired → (slot_at told place.0).held ≡ Some held
+      → (slot_at told place.0).frame ≡ number → lease.held ≡ held
 
 -- the reply to an attach
 abbrev pub attach_reply : Result (SlotId × Held) QStatus → PlainReply

@@ -56,7 +56,9 @@ pub record IsRenewed {R : Type 0} (old new : Queue R) (size : ℕ × ℕ) (fresh
 -- the reply to a dequeue: a new buffer is not requested yet
 abbrev pub dequeue_reply : {R B : Type 0} → Queue R → Result (Dequeued R) (QStatus × B) → PlainReply
 dequeue_reply old (Err refused) = reply.Refused refused.0
-dequeue_reply old (Ok given) = reply.Dequeued given.slot given.held (if given.reallocated then false else (slot_in old given.slot.0).requested) given.reallocated given.fence
+dequeue_reply old (Ok given) =
+    reply.Dequeued given.slot given.held
+    (if given.reallocated then false else (slot_in old given.slot.0).requested) given.reallocated given.fence
 
 -- the reply to an attach
 abbrev pub attach_reply : Result (SlotId × Held) QStatus → PlainReply

@@ -19,7 +19,9 @@ frame_records number (Some pixels) = rec.Fram (record { number = number; pixels 
 
 -- the records of a vsync: its own, those of its commits, and that of its frame
 abbrev pub vsync_records : VsyncReport → List Record
-vsync_records v = rec.Vsyn (record { number = v.number; expected = v.expected; timelines = v.timelines }) ∷ (map rec.Comm v.commits ++ frame_records v.number v.frame)
+vsync_records v =
+    rec.Vsyn (record { number = v.number; expected = v.expected; timelines = v.timelines })
+    ∷ (map rec.Comm v.commits ++ frame_records v.number v.frame)
 
 abbrev pub event_records : Event → List Record
 event_records (event.Reply reply) = rec.Repl reply ∷ []

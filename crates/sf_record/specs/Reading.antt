@@ -71,10 +71,14 @@ read_vsync = (((λ n e t. record { number = n; expected = e; timelines = t }) of
 
 unfoldable pub read_buffer : Reader CommittedBuffer
 read_buffer =
-    ((((((((λ l q f p x y w h. record { layer = l; queue = q; frame = f; picture = p; x = x; y = y; width = w; height = h }) of u32) and u32) and u64) and u32) and u32) and u32) and u32) and u32
+    ((((((((λ l q f p x y w h.
+    record { layer = l; queue = q; frame = f; picture = p; x = x; y = y; width = w; height = h })
+    of u32) and u32) and u64) and u32) and u32) and u32) and u32) and u32
 
 unfoldable pub read_commit : Reader Commit
-read_commit = (((((λ t a r o b. record { token = t; arrival = a; result = r; operation = o; buffers = b }) of u32) and u32) and u32) and u32) and list_of read_buffer
+read_commit =
+    (((((λ t a r o b. record { token = t; arrival = a; result = r; operation = o; buffers = b })
+    of u32) and u32) and u32) and u32) and list_of read_buffer
 
 unfoldable pub read_arrival : Reader ArrivalEntry
 read_arrival = (((λ a s t. record { actor = a; step = s; token = t }) of u32) and u32) and u32

@@ -5,13 +5,17 @@ use Rattle.std.specs.List.{flat_map}
 use Rattle.byteorder.specs.Endian.{big_bytes}
 use Rattle.sf_io.specs.Streams.{framed}
 use Rattle.sf_record.specs.declared.record.ArrivalEntry.{ArrivalEntry}
+use Rattle.sf_record.specs.declared.record.Commit.{Commit}
 use Rattle.sf_record.specs.declared.record.CommittedBuffer.{CommittedBuffer}
 use Rattle.sf_record.specs.declared.record.HeldEntry.{HeldEntry}
 use Rattle.sf_record.specs.declared.record.HistoryEntry.{HistoryEntry}
 use Rattle.sf_record.specs.declared.record.Record.{Record}
 use Rattle.sf_record.specs.declared.record.Record.TheVariants as rec
+use Rattle.sf_record.specs.declared.record.Reply.{Reply}
+use Rattle.sf_record.specs.declared.record.SceneHeader.{SceneHeader}
 use Rattle.sf_record.specs.declared.record.StuckEntry.{StuckEntry}
 use Rattle.sf_record.specs.declared.record.TimelineValue.{TimelineValue}
+use Rattle.sf_record.specs.declared.record.VsyncHeader.{VsyncHeader}
 
 unfoldable pub u32_bytes : ℕ → List ℕ
 u32_bytes n = big_bytes 4 n
@@ -55,11 +59,26 @@ tag_of (rec.Stuk _) = codes "STUK"
 tag_of rec.Done = codes "DONE"
 tag_of (rec.Sflt _) = codes "SFLT"
 
+-- the bodies of records with several fields: each field as it stands in the record, one after the other
+abbrev pub scene_bytes : SceneHeader → List ℕ
+scene_bytes s = u32_bytes s.version ++ u32_bytes s.width ++ u32_bytes s.height ++ u64_bytes s.period
+
+abbrev pub reply_bytes : Reply → List ℕ
+reply_bytes r = u32_bytes r.actor ++ u32_bytes r.step ++ u32_bytes r.status ++ list_bytes u64_bytes r.values
+
+abbrev pub vsync_bytes : VsyncHeader → List ℕ
+vsync_bytes v = u32_bytes v.number ++ u64_bytes v.expected ++ list_bytes timeline_bytes v.timelines
+
+abbrev pub commit_bytes : Commit → List ℕ
+commit_bytes c =
+    u32_bytes c.token ++ u32_bytes c.arrival ++ u32_bytes c.result ++ u32_bytes c.operation ++ list_bytes buffer_bytes c.buffers
+
+-- the body of a record
 unfoldable pub body_of : Record → List ℕ
-body_of (rec.Scen s) = u32_bytes s.version ++ u32_bytes s.width ++ u32_bytes s.height ++ u64_bytes s.period
-body_of (rec.Repl r) = u32_bytes r.actor ++ u32_bytes r.step ++ u32_bytes r.status ++ list_bytes u64_bytes r.values
-body_of (rec.Vsyn v) = u32_bytes v.number ++ u64_bytes v.expected ++ list_bytes timeline_bytes v.timelines
-body_of (rec.Comm c) = u32_bytes c.token ++ u32_bytes c.arrival ++ u32_bytes c.result ++ u32_bytes c.operation ++ list_bytes buffer_bytes c.buffers
+body_of (rec.Scen s) = scene_bytes s
+body_of (rec.Repl r) = reply_bytes r
+body_of (rec.Vsyn v) = vsync_bytes v
+body_of (rec.Comm c) = commit_bytes c
 body_of (rec.Fram f) = u32_bytes f.number ++ f.pixels
 body_of (rec.Arrv arrivals) = list_bytes arrival_bytes arrivals
 body_of (rec.Hist history) = u32_bytes history.queue ++ list_bytes history_entry_bytes history.entries

@@ -4,7 +4,7 @@ ghost use Rattle.std.specs.List.{flat_map};
 ghost use Rattle.sf_io.specs.Causes.{Rose};
 ghost use Rattle.sf_io.specs.Streams.{TookPrefix};
 ghost use Rattle.sf_record.specs.Fitting.{ArrivalFits, BufferFits, CallFits, CommitFits, FaultFits, Fits32, Fits64, FrameFits, HeldFits, HistoryFits, ListFits, RecordFits, ReplyFits, SceneFits, StuckFits, TimelineFits, VsyncFits};
-ghost use Rattle.sf_record.specs.Records.{AppendsFirst, arrival_bytes, body_of, buffer_bytes, bytes_of, held_bytes, history_entry_bytes, list_bytes, record_bytes, stuck_bytes, tag_of, timeline_bytes, u32_bytes, u64_bytes};
+ghost use Rattle.sf_record.specs.Records.{AppendsFirst, arrival_bytes, body_of, buffer_bytes, bytes_of, commit_bytes, held_bytes, history_entry_bytes, list_bytes, record_bytes, reply_bytes, scene_bytes, stuck_bytes, tag_of, timeline_bytes, u32_bytes, u64_bytes, vsync_bytes};
 
 use crate::record::{
     ArrivalEntry, Commit, CommittedBuffer, Frame, HeldEntry, HistoryEntry, QueueHistory, Record,
@@ -188,7 +188,7 @@ fn tag(shown: &Record) -> [u8; 4]
 }
 
 fn push_scene(out: &mut Vec<u8>, scene: &SceneHeader) -> Result<(), NoMemory>
-    ensures ok { OnOk result (out.new.items ≡ out.old.items ++ (u32_bytes scene.now.version ++ u32_bytes scene.now.width ++ u32_bytes scene.now.height ++ u64_bytes scene.now.period)) }
+    ensures ok { OnOk result (out.new.items ≡ out.old.items ++ scene_bytes scene.now) }
     ensures fits { OnOk result (SceneFits scene.now) }
 {
     push_u32(out, scene.version)?;
@@ -198,7 +198,7 @@ fn push_scene(out: &mut Vec<u8>, scene: &SceneHeader) -> Result<(), NoMemory>
 }
 
 fn push_reply(out: &mut Vec<u8>, reply: &Reply) -> Result<(), NoMemory>
-    ensures ok { OnOk result (out.new.items ≡ out.old.items ++ (u32_bytes reply.now.actor ++ u32_bytes reply.now.step ++ u32_bytes reply.now.status ++ list_bytes u64_bytes reply.now.values)) }
+    ensures ok { OnOk result (out.new.items ≡ out.old.items ++ reply_bytes reply.now) }
     ensures fits { OnOk result (ReplyFits reply.now) }
 {
     push_u32(out, reply.actor)?;
@@ -208,7 +208,7 @@ fn push_reply(out: &mut Vec<u8>, reply: &Reply) -> Result<(), NoMemory>
 }
 
 fn push_vsync(out: &mut Vec<u8>, vsync: &VsyncHeader) -> Result<(), NoMemory>
-    ensures ok { OnOk result (out.new.items ≡ out.old.items ++ (u32_bytes vsync.now.number ++ u64_bytes vsync.now.expected ++ list_bytes timeline_bytes vsync.now.timelines)) }
+    ensures ok { OnOk result (out.new.items ≡ out.old.items ++ vsync_bytes vsync.now) }
     ensures fits { OnOk result (VsyncFits vsync.now) }
 {
     push_u32(out, vsync.number)?;
@@ -217,7 +217,7 @@ fn push_vsync(out: &mut Vec<u8>, vsync: &VsyncHeader) -> Result<(), NoMemory>
 }
 
 fn push_commit(out: &mut Vec<u8>, commit: &Commit) -> Result<(), NoMemory>
-    ensures ok { OnOk result (out.new.items ≡ out.old.items ++ (u32_bytes commit.now.token ++ u32_bytes commit.now.arrival ++ u32_bytes commit.now.result ++ u32_bytes commit.now.operation ++ list_bytes buffer_bytes commit.now.buffers)) }
+    ensures ok { OnOk result (out.new.items ≡ out.old.items ++ commit_bytes commit.now) }
     ensures fits { OnOk result (CommitFits commit.now) }
 {
     push_u32(out, commit.token)?;

@@ -103,11 +103,21 @@ events_of before earlier call.Disconnect reply.Done = map Gone (filter (λ s. is
 events_of before earlier (call.MaxDequeued n) reply.Done = leaving before earlier (usable_with (max_acquired earlier) n (asynchronous earlier))
 events_of before earlier (call.Async on) reply.Done = leaving before earlier (usable_with (max_acquired earlier) (max_dequeued earlier) on)
 events_of before earlier (call.MaxAcquired n) reply.Done = leaving before earlier (usable_with n (max_dequeued earlier) (asynchronous earlier))
-events_of before earlier (call.Dequeue width height wait) (reply.Dequeued slot held requested true fence) = Make slot.0 held.width held.height Dequeuing ∷ Lend slot.0 ∷ []
+events_of before earlier (call.Dequeue width height wait) (reply.Dequeued slot held requested true fence) =
+    Make slot.0 held.width held.height Dequeuing ∷ Lend slot.0 ∷ []
 events_of before earlier (call.Dequeue width height wait) (reply.Dequeued slot held requested false fence) = Lend slot.0 ∷ []
 events_of before earlier (call.Request lease) (reply.Requested held) = Mark lease.slot.0 ∷ []
 events_of before earlier (call.Queue lease picture width height time crop fence) (reply.Queued frame) =
-    Hand (record { slot = lease.slot; held = lease.held; frame = frame; picture = picture; time = time; droppable = asynchronous earlier; fence = fence; crop = crop }) ∷ back_if (replaced_slot (items_after before))
+    Hand (record {
+      slot = lease.slot;
+      held = lease.held;
+      frame = frame;
+      picture = picture;
+      time = time;
+      droppable = asynchronous earlier;
+      fence = fence;
+      crop = crop;
+    }) ∷ back_if (replaced_slot (items_after before))
 events_of before earlier (call.Cancel lease fence) reply.Done = Back lease.slot.0 (Some fence) ∷ []
 events_of before earlier (call.Detach lease) reply.Done = Gone lease.slot.0 ∷ []
 events_of before earlier (call.Attach held) (reply.Attached slot new) = Make slot.0 new.width new.height Producer ∷ Lend slot.0 ∷ []
@@ -130,7 +140,13 @@ events (entry ∷ earlier) = happening (events_of (events earlier) earlier entry
 
 -- a slot after a list of events
 abbrev pub slot_after : List Event → ℕ → Slot
-slot_after happened s = record { state = state_after happened s; held = buffer_after happened s; requested = requested_after happened s; frame = frame_after happened s; fence = fence_after happened s }
+slot_after happened s = record {
+  state = state_after happened s;
+  held = buffer_after happened s;
+  requested = requested_after happened s;
+  frame = frame_after happened s;
+  fence = fence_after happened s;
+}
 
 -- the settings of a queue of this default size
 abbrev pub settings_after : ℕ → ℕ → List Entry → Settings

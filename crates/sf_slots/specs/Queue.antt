@@ -24,7 +24,16 @@ pub record Queue (R : Type 0) : Type 0 where
 
 -- an item without its right
 abbrev pub plain_item : {R : Type 0} → Item R → PlainItem
-plain_item item = record { slot = item.slot; held = item.held; frame = item.frame; picture = item.picture; time = item.time; droppable = item.droppable; fence = item.fence; crop = item.crop }
+plain_item item = record {
+  slot = item.slot;
+  held = item.held;
+  frame = item.frame;
+  picture = item.picture;
+  time = item.time;
+  droppable = item.droppable;
+  fence = item.fence;
+  crop = item.crop;
+}
 
 -- what is told of a queue, apart from the rights
 abbrev pub told_of : {R : Type 0} → Queue R → Told
@@ -246,5 +255,16 @@ empty_queue number width height = record {
   rights = replicate 64 None;
   freed = [];
   items = [];
-  settings = record { width = width; height = height; max_acquired = 1; max_dequeued = 1; asynchronous = false; connected = None; abandoned = false; queued = false; frames = 0; buffers = 0 };
+  settings = record {
+    width = width;
+    height = height;
+    max_acquired = 1;
+    max_dequeued = 1;
+    asynchronous = false;
+    connected = None;
+    abandoned = false;
+    queued = false;
+    frames = 0;
+    buffers = 0;
+  };
 }

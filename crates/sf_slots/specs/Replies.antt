@@ -67,7 +67,10 @@ is_wrong_size width height = ((width == 0) && not (height == 0)) || ((not (width
 
 -- the crop has a point and lies in the buffer
 abbrev pub is_crop_of : Held → Rect → Bool
-is_crop_of held crop = (nat_le 1 crop.width && nat_le 1 crop.height) && ((int_le (pos 0) crop.x && int_le (pos 0) crop.y) && (int_le (crop.x +ℤ pos crop.width) (pos held.width) && int_le (crop.y +ℤ pos crop.height) (pos held.height)))
+is_crop_of held crop =
+    (nat_le 1 crop.width && nat_le 1 crop.height)
+    && ((int_le (pos 0) crop.x && int_le (pos 0) crop.y)
+    && (int_le (crop.x +ℤ pos crop.width) (pos held.width) && int_le (crop.y +ℤ pos crop.height) (pos held.height)))
 
 -- an item's present time, 0 if it is automatic
 abbrev pub time_of : PlainItem → ℕ

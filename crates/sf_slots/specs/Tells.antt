@@ -21,7 +21,8 @@ pub record IsNext {R : Type 0} (after : Queue R) (width height : ℕ) (history :
 -- whatever history tells of the queue before a call, it goes on with this call and tells of the queue
 -- after it
 abbrev pub Continues : {R : Type 0} → Queue R → Queue R → ActorId → PlainCall → PlainReply → Type 0
-Continues before after caller call reply = (width height step : ℕ) (history : List Entry) → IsToldBy before width height history → IsNext after width height history (record { caller = caller; step = step; call = call; reply = reply })
+Continues before after caller call reply = (width height step : ℕ) (history : List Entry) → IsToldBy before width height history
+    → IsNext after width height history (record { caller = caller; step = step; call = call; reply = reply })
 
 -- a queue came from another by these calls, the newest first, each of which continues every history
 abbrev pub CameBy : {R : Type 0} → Queue R → List Entry → Queue R → Type 0

@@ -32,9 +32,23 @@ impl<R> Model for Slots<R> {
 
     ghost Value = { Queue R };
 
-    ghost view = { λ q. record { number = q.number; slots = q.slots.items; rights = q.rights.items; freed = q.freed.items; items = q.items.items; settings = q.settings } };
+    ghost view = { λ q. record {
+      number = q.number;
+      slots = q.slots.items;
+      rights = q.rights.items;
+      freed = q.freed.items;
+      items = q.items.items;
+      settings = q.settings;
+    } };
 
-    ghost invariant = { λ q. HasRoom q.freed.capacity q.items.capacity (record { number = q.number; slots = q.slots.items; rights = q.rights.items; freed = q.freed.items; items = q.items.items; settings = q.settings }) };
+    ghost invariant = { λ q. HasRoom q.freed.capacity q.items.capacity (record {
+      number = q.number;
+      slots = q.slots.items;
+      rights = q.rights.items;
+      freed = q.freed.items;
+      items = q.items.items;
+      settings = q.settings;
+    }) };
 }
 
 /// How many slots are in a state.

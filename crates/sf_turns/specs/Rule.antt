@@ -55,7 +55,8 @@ module _ {P T : Type 0} (stamp_of : P → T) where
 
   -- what holds of the seat j: it has seen no more than the words, its token and its stock fit, and no
   -- more than `out` of the first seat's are in use besides the first (`total` counts all)
-  pub record Fits (buffers : ℕ) (words : List ℕ) (homes : List (mathlib.Core.Option.Option (Home P T))) (chains : List (List T)) (total : ℕ) (j : ℕ) (v : Knows T) : Type 0 where
+  pub record Fits (buffers : ℕ) (words : List ℕ) (homes : List (mathlib.Core.Option.Option (Home P T)))
+      (chains : List (List T)) (total : ℕ) (j : ℕ) (v : Knows T) : Type 0 where
     pub seen : (b : ℕ) → b < buffers → greatest b v.seen ≤ slice_index words b
     pub token : (t : Token T) → v.token ≡ Some t → (t.buffer < buffers)
         × TokenFits (slice_index words t.buffer) (get_elem? homes t.buffer) (slice_index_or chains t.buffer []) t
@@ -221,7 +222,8 @@ module _ {T : Type 0} where
 
     -- the turn enters, and finds what it expects
     abbrev pub Takes : (P → T) → Step (Home P T) → Me (Home P T) (Knows T) → ℕ → Me (Home P T) (Knows T) → Type 0
-    Takes stamp_of st m n m' = (p : P) × (m' ≡ (record m.0 { token = at_stage Inside m.0.token }, (st.word, Full p) ∷ m.1)) × ((t : Token T) → m.0.token ≡ Some t → stamp_of p ≡ t.expects)
+    Takes stamp_of st m n m' = (p : P) × (m' ≡ (record m.0 { token = at_stage Inside m.0.token }, (st.word, Full p) ∷ m.1))
+        × ((t : Token T) → m.0.token ≡ Some t → stamp_of p ≡ t.expects)
 
     -- where it is the token's turn, the pixels are taken
     abbrev pub Reaches : Step (Home P T) → Me (Home P T) (Knows T) → ℕ → Me (Home P T) (Knows T) → Type 0

@@ -194,7 +194,8 @@ impl<P: Stamped> TurnTable<P> {
     pub(crate) fn give_back(&self, seat: &mut TableSeat<P>, buffer: u32, p: P)
         requires own { seat.old.table_id ≡ self.now }
         requires range { buffer < self.now.slots }
-        requires token { (t : Token P.Stamp) × (seat.old.me.0.token ≡ Some t) × (t.stage ≡ stage.Inside) × (t.buffer ≡ buffer) × (P.stamp_of p ≡ t.expects) }
+        requires token { (t : Token P.Stamp) × (seat.old.me.0.token ≡ Some t)
+            × (t.stage ≡ stage.Inside) × (t.buffer ≡ buffer) × (P.stamp_of p ≡ t.expects) }
         requires held { seat.old.me.1 ≡ (buffer, Vacant) ∷ [] }
         ensures same { Stays seat.old seat.new }
         ensures back { seat.new.me ≡ (record seat.old.me.0 { token = at_stage stage.Away seat.old.me.0.token }, []) }

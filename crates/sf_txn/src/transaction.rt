@@ -33,7 +33,13 @@ impl<L: Lease> Model for Transaction<L> {
 
     ghost view = { λ t. record { token = t.token; desired = t.desired; ops = t.ops.items; buffers = t.buffers.items; barriers = t.barriers.items } };
 
-    ghost invariant = { λ t. IsTransaction {L = L} (record { token = t.token; desired = t.desired; ops = t.ops.items; buffers = t.buffers.items; barriers = t.barriers.items }) };
+    ghost invariant = { λ t. IsTransaction {L = L} (record {
+      token = t.token;
+      desired = t.desired;
+      ops = t.ops.items;
+      buffers = t.buffers.items;
+      barriers = t.barriers.items;
+    }) };
 }
 
 /// A transaction taken apart.
