@@ -1,2 +1,1 @@
-pub mod BeforeLemmas
-pub mod SceneLemmas
+pub mod PlayedLemmas

@@ -1,12 +1,3 @@
-pub mod Memory
 pub mod Scene
-pub mod Before
-pub mod Fits
-pub mod Summary
-pub mod Keywords
-pub mod Mentions
-pub mod Declarations
-pub mod Steps
-pub mod Order
-pub mod Script
+pub mod Played
 pub mod Parse

@@ -1,18 +1,18 @@
--- A scene, and the ranges and limits that it keeps.
-use Rattle.std.specs.Prelude.{◌≡◌, ◌≢◌, ℕ, ◌<◌, ◌≤◌, ◌==◌, ◌||◌, pos, ◌≤ℤ◌, Bool, true, List, [], length, All, AllPairs, Option, None, Some, IfSome}
+-- A scene that is played, and the ranges and limits that it keeps.
+use Rattle.std.specs.Prelude.{◌≡◌, ◌≢◌, ℕ, ◌≤◌, ◌==◌, ◌||◌, true, List, [], length, All, AllPairs, Option, None, Some, IfSome}
 use Rattle.std.specs.List.{list_any}
-use Rattle.sf_picture.specs.Pixels.{HasSize}
-use Rattle.sf_picture.specs.declared.fill.Fill.{Fill}
 use Rattle.sf_picture.specs.declared.picture.Picture.{Picture}
+use Rattle.sf_scene.specs.Ranges.{IsAskedSize, IsName, IsNumber, IsPicture, IsQueue, IsTransactionNumber}
+use Rattle.sf_scene.specs.Scene.{has_picture, has_queue}
+use Rattle.sf_scene.specs.declared.declarations.Pick.{Pick}
+use Rattle.sf_scene.specs.declared.declarations.QueueDecl.{QueueDecl}
 use Rattle.first_script.specs.declared.scene.ActorScript.{ActorScript}
 use Rattle.first_script.specs.declared.scene.Change.{Change}
 use Rattle.first_script.specs.declared.scene.Change.TheVariants as change
-use Rattle.first_script.specs.declared.scene.Pick.{Pick}
-use Rattle.first_script.specs.declared.scene.QueueDecl.{QueueDecl}
 use Rattle.first_script.specs.declared.scene.Step.{Step}
 use Rattle.first_script.specs.declared.scene.Step.TheVariants as step
 
--- what a script spells: the display, what is declared in the script's order, and the order of picks
+-- a scene that is played: the display, what is declared in the script's order, and the order of picks
 pub record SceneValue : Type 0 where
   pub version : ℕ
   pub width : ℕ
@@ -23,53 +23,6 @@ pub record SceneValue : Type 0 where
   pub pictures : List Picture
   pub actors : List ActorScript
   pub order : List Pick
-
--- the number of a transaction of an actor
-pub record IsTransactionNumber (n : ℕ) : Type 0 where
-  pub low : 1 ≤ n
-  pub high : n ≤ 64
-
--- a number of 32 bits that is not 0, as of a layer or a token
-pub record IsNumber (n : ℕ) : Type 0 where
-  pub low : 1 ≤ n
-  pub high : n ≤ 4294967295
-
--- the place of a name among an actor's names, of which there are at most 32
-pub record IsName (name : ℕ) : Type 0 where
-  pub below : name < 32
-
--- a size that is asked of a dequeue, in which 0 stands for the queue's own
-pub record IsAskedSize (size : ℕ × ℕ) : Type 0 where
-  pub width : size.0 ≤ 4294967295
-  pub height : size.1 ≤ 4294967295
-
--- a queue's number is in its range, and the size of its buffers is
-pub record IsQueue (queue : QueueDecl) : Type 0 where
-  pub low : 1 ≤ queue.number
-  pub high : queue.number ≤ 16
-  pub low_width : 1 ≤ queue.width
-  pub high_width : queue.width ≤ 512
-  pub low_height : 1 ≤ queue.height
-  pub high_height : queue.height ≤ 512
-
--- the corner and the size of a fill are in their ranges; it may reach out of its picture
-pub record IsFill (fill : Fill) : Type 0 where
-  pub low_x : pos 0 ≤ℤ fill.rect.x
-  pub high_x : fill.rect.x ≤ℤ pos 511
-  pub low_y : pos 0 ≤ℤ fill.rect.y
-  pub high_y : fill.rect.y ≤ℤ pos 511
-  pub low_width : 1 ≤ fill.rect.width
-  pub high_width : fill.rect.width ≤ 512
-  pub low_height : 1 ≤ fill.rect.height
-  pub high_height : fill.rect.height ≤ 512
-
--- a picture's number and size are in their ranges, its fills are, and there are not too many
-pub record IsPicture (picture : Picture) : Type 0 where
-  pub low : 1 ≤ picture.number
-  pub high : picture.number ≤ 256
-  pub size : HasSize picture
-  pub few_fills : length picture.fills ≤ 1024
-  pub fills : All IsFill picture.fills
 
 -- a new layer stands below the root so far
 abbrev pub IsChange : Change → Type 0
@@ -103,14 +56,6 @@ abbrev pub picture_named : Step → Option ℕ
 picture_named (step.Draw _ picture) = Some picture
 picture_named (step.Queue _ picture) = Some picture
 picture_named _ = None
-
--- a queue with this number is declared
-abbrev pub has_queue : List QueueDecl → ℕ → Bool
-has_queue queues number = list_any (λ q. q.number == number) queues
-
--- a picture with this number is declared
-abbrev pub has_picture : List Picture → ℕ → Bool
-has_picture pictures number = list_any (λ p. p.number == number) pictures
 
 -- the queue that a step names is declared
 abbrev pub KnowsQueue : List QueueDecl → Step → Type 0

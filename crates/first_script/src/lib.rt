@@ -1,20 +1,12 @@
-//! Scripts of the compositor. A script is the text that a run begins with: the display, what is
-//! declared, each actor's steps, and the order in which actors and vsyncs are picked. `parse`
-//! reads it whole before the first step is done, and its scene is all that a run depends on.
+//! What the program plays so far of what a script may spell. `parse` has a script read by
+//! `sf_script`, and narrows its scene to the forms of steps that today's players take. A scene with
+//! any other form is refused. What is played is one definition, which grows form by form until the
+//! players take the whole scene; then this crate goes.
 #![tactic(auto)]
 
-mod before;
-mod declarations;
-mod fault;
-mod keywords;
-mod line;
-mod mentions;
-mod order;
+mod played;
 mod scene;
 mod script;
-mod steps;
-mod summary;
 
-pub use fault::{ParseFault, ScriptFault};
-pub use scene::{ActorScript, Change, Pick, QueueDecl, Scene, Step};
-pub use script::{LONGEST_SCRIPT, parse};
+pub use scene::{ActorScript, Change, Scene, Step};
+pub use script::parse;

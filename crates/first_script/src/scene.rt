@@ -2,9 +2,10 @@ ghost use Rattle.std.specs.Prelude.{◌≡◌, ◌*◌};
 
 use sf_base::{Items, Rgba};
 use sf_picture::Picture;
+use sf_scene::{Pick, QueueDecl};
 use std::marker::Model;
 
-/// What an operation of a transaction changes in its layer.
+/// What an operation of a transaction changes in its layer, of the changes that are played.
 #[derive(Clone, Copy, Debug, PartialEq, Eq)]
 pub enum Change {
     /// A new layer of one colour, below this parent. 0 is the root.
@@ -15,7 +16,7 @@ pub enum Change {
     Colour(Rgba),
 }
 
-/// A step of an actor: the words of its form, in order. A name is the place, from 0 and below 32,
+/// A step of an actor, of the forms that are played: the words of its form, in order. A name is the place, from 0 and below 32,
 /// that it has among the actor's names in the order of their first use.
 #[derive(Clone, Copy, Debug, PartialEq, Eq)]
 pub enum Step {
@@ -46,26 +47,6 @@ pub enum Step {
     Apply(u32, u32),
 }
 
-/// An entry of the order: who is picked, and how often in a row.
-#[derive(Clone, Copy, Debug, PartialEq, Eq)]
-pub struct Pick {
-    /// The number of an actor, or 0 for a vsync.
-    pub actor: u32,
-    /// 1 to 256.
-    pub times: u32,
-}
-
-/// A declared BufferQueue, and the default size of its buffers in pixels.
-#[derive(Clone, Copy, Debug, PartialEq, Eq)]
-pub struct QueueDecl {
-    /// 1 to 16.
-    pub number: u32,
-    /// 1 to 512.
-    pub width: u32,
-    /// 1 to 512.
-    pub height: u32,
-}
-
 /// An actor and its steps, which it does in this order.
 #[derive(Drop)]
 pub struct ActorScript {
@@ -75,8 +56,10 @@ pub struct ActorScript {
     pub steps: Items<Step>,
 }
 
-/// What a script spells. Its type keeps the ranges and the limits of a script, and that what an
-/// actor or the order names is declared, and no number twice; `pixels` tells them to a caller.
+/// A scene that is played. Its type keeps the ranges and the limits of a script, that what an actor
+/// or the order names is declared, that no number is declared twice, and the limits of what is
+/// played so far: version 1, no timelines, one actor at most, and one apply token; `pixels` tells
+/// them to a caller.
 #[derive(Drop)]
 pub struct Scene {
     /// The version of the script's format, which is 1.

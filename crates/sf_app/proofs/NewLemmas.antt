@@ -5,7 +5,7 @@ use Rattle.std.proofs.lemmas.Bool.{eqb-true}
 use Rattle.std.specs.List.{flat_map, range_with_len, AllPairs}
 use Rattle.sf_picture.specs.declared.picture.Picture.{Picture}
 use Rattle.first_script.specs.Scene.{SceneValue, IsWithinLimits}
-use Rattle.first_script.specs.declared.scene.QueueDecl.{QueueDecl}
+use Rattle.sf_scene.specs.declared.declarations.QueueDecl.{QueueDecl}
 use Rattle.first_actor.specs.Pasts.{Past}
 use Rattle.sf_app.specs.Play.{script_in}
 use Rattle.sf_app.specs.Played.{IsCalledBy, IsHistory, made_from}

@@ -3,7 +3,7 @@ use Rattle.std.specs.Prelude.{◌≡◌, ℕ, ◌==◌, ◌&&◌, Bool, true, fa
 use Rattle.std.specs.List.{flat_map}
 use Rattle.first_script.specs.Scene.{SceneValue}
 use Rattle.first_script.specs.declared.scene.ActorScript.{ActorScript}
-use Rattle.first_script.specs.declared.scene.Pick.{Pick}
+use Rattle.sf_scene.specs.declared.declarations.Pick.{Pick}
 use Rattle.sf_record.specs.declared.event.Event.{Event}
 use Rattle.sf_record.specs.declared.record.Record.{Record}
 use Rattle.sf_record.specs.Events.{run_records}

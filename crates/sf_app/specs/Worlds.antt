@@ -6,7 +6,7 @@ use Rattle.sf_base.specs.declared.ids.ActorId.{ActorId}
 use Rattle.sf_picture.specs.declared.picture.Picture.{Picture}
 use Rattle.first_script.specs.Scene.{SceneValue}
 use Rattle.first_script.specs.declared.scene.ActorScript.{ActorScript}
-use Rattle.first_script.specs.declared.scene.QueueDecl.{QueueDecl}
+use Rattle.sf_scene.specs.declared.declarations.QueueDecl.{QueueDecl}
 use Rattle.first_script.specs.declared.scene.Step.{Step}
 use Rattle.sf_slots.specs.declared.calls.PlainCall.TheVariants as call
 use Rattle.first_actor.specs.declared.done.Done.{Done}

@@ -7,9 +7,9 @@ ghost use Rattle.sf_app.specs.Worlds.{start};
 use crate::queues::open_queues;
 use first_actor::{Actor, Desk, Operation};
 use first_commit::Stage;
+use first_script::Scene;
 use sf_base::{ActorId, Items, NoMemory};
 use sf_record::ArrivalEntry;
-use first_script::Scene;
 use std::alloc::Global;
 
 /// A transaction that arrived and waits for its commit.

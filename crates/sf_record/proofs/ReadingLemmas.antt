@@ -6,7 +6,7 @@ use Rattle.std.proofs.Math.Seq.{drop-append_seam, take-append_seam}
 use Rattle.std.proofs.lemmas.List.Elements.{All-head, All-tail}
 use Rattle.std.specs.Int.{byte_at, bytes_high_first}
 use Rattle.std.specs.List.{flat_map}
-use Rattle.first_script.specs.declared.fault.ScriptFault.{ScriptFault}
+use Rattle.sf_script.specs.declared.fault.ScriptFault.{ScriptFault}
 use Rattle.sf_record.specs.declared.record.ArrivalEntry.{ArrivalEntry}
 use Rattle.sf_record.specs.declared.record.Commit.{Commit}
 use Rattle.sf_record.specs.declared.record.CommittedBuffer.{CommittedBuffer}

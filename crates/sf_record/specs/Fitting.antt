@@ -1,6 +1,6 @@
 -- Each number of a record fits its field: what is written of it can be read back.
 use Rattle.std.specs.Prelude.{ℕ, ◌+◌, ◌<◌, ◌^◌, List, All, length}
-use Rattle.first_script.specs.declared.fault.ScriptFault.{ScriptFault}
+use Rattle.sf_script.specs.declared.fault.ScriptFault.{ScriptFault}
 use Rattle.sf_record.specs.declared.record.ArrivalEntry.{ArrivalEntry}
 use Rattle.sf_record.specs.declared.record.Commit.{Commit}
 use Rattle.sf_record.specs.declared.record.CommittedBuffer.{CommittedBuffer}

@@ -13,7 +13,7 @@ use crate::record::{
 use byteorder::{BigEndian, ByteOrder};
 use sf_base::NoMemory;
 use sf_io::{Sink, put};
-use first_script::ScriptFault;
+use sf_script::ScriptFault;
 use std::alloc::Global;
 
 #[tactic(auto, unfolding(crate::specs::Records::u32_bytes))]

@@ -1,5 +1,5 @@
 use sf_base::Items;
-use first_script::ScriptFault;
+use sf_script::ScriptFault;
 
 /// What a run shows of its scene.
 #[derive(Clone, Copy, Debug, PartialEq, Eq)]

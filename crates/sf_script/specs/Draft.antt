@@ -1,8 +1,10 @@
 -- What the lines before a line spell, and which lines may follow them.
-use Rattle.std.specs.Prelude.{ℕ, ◌==◌, nat_le, nat_lt, not, ◌&&◌, Bool, true, false, List, [], ◌∷◌, ◌++◌, length, position, option_to_list, Option, None, Some}
+use Rattle.std.specs.Prelude.{◌≡◌, ℕ, ◌≤◌, ◌==◌, nat_le, nat_lt, not, ◌&&◌, Bool, true, false, List, [], ◌∷◌, ◌++◌, length, position, option_to_list, Option, None, Some}
+use Rattle.std.specs.BTreeSet.{BTreeSet, contains}
+use Rattle.std.specs.Ordering.{nat_cmp}
 use Rattle.std.specs.Str.{bytes_eq}
 use Rattle.sf_words.specs.Text.{Text}
-use Rattle.sf_scene.specs.Scene.{SceneValue, bare_scene, fills_so_far, last_of, steps_so_far, with_fill, with_step}
+use Rattle.sf_scene.specs.Scene.{SceneValue, bare_scene, fills_so_far, has_layer, last_of, steps_so_far, with_fill, with_step}
 use Rattle.sf_scene.specs.declared.declarations.Pick.{Pick}
 use Rattle.sf_script.specs.declared.line.Keyword.{Keyword}
 use Rattle.sf_script.specs.declared.line.Keyword.TheVariants as key
@@ -14,6 +16,15 @@ pub record DraftValue : Type 0 where
   pub scene : SceneValue
   pub rank : Option ℕ
   pub names : List Text
+
+-- a set has the layers for which these stacks are declared
+abbrev pub TellsLayers : BTreeSet ℕ → List (ℕ × ℕ) → Type 0
+TellsLayers layers stacks = (layer : ℕ) → contains nat_cmp layers layer ≡ has_layer stacks layer
+
+-- what a draft keeps: the last actor has at most 32 names, and the layers with a stack stand in a set
+pub record IsDraft (scene : SceneValue) (names : List Text) (layers : BTreeSet ℕ) : Type 0 where
+  pub few_names : length names ≤ 32
+  pub layers : TellsLayers layers scene.stacks
 
 -- no lines; the numbers of this scene are none that anyone sees, since the first line gives them
 abbrev pub no_lines : DraftValue
@@ -72,6 +83,15 @@ has_room scene (key.Step _) = nat_lt (steps_so_far (last_of scene.actors)) 4096
 has_room scene key.Fill = nat_lt (fills_so_far (last_of scene.pictures)) 1024
 has_room scene key.Mirror = nat_lt (length scene.mirrors) 8
 has_room _ _ = true
+
+-- a form is one of version 2, or both versions have it
+abbrev pub is_of : Bool → Keyword → Bool
+is_of is_second key.Display = is_second
+is_of is_second key.Stack = is_second
+is_of is_second key.Capture = is_second
+is_of is_second key.Hit = is_second
+is_of is_second key.Mirror = is_second
+is_of _ _ = true
 
 -- the place of a name among these, from 0, if it is there
 abbrev pub place_of : Text → List Text → Option ℕ

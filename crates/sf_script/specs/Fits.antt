@@ -1,8 +1,9 @@
 -- Lines that keep the ranges and the limits of a script.
 use Rattle.std.specs.Prelude.{◌≡◌, ℕ, ◌<◌, ◌≤◌, Bool, false, List, length, All, Option, IfSome}
 use Rattle.sf_picture.specs.declared.fill.Fill.{Fill}
+use Rattle.sf_picture.specs.declared.picture.Picture.{Picture}
 use Rattle.sf_words.specs.Text.{Text}
-use Rattle.sf_scene.specs.Limits.{IsHeader, IsPick, StepFits, most_actors}
+use Rattle.sf_scene.specs.Limits.{IsHeader, IsPick, IsRgba, StepFits, most_actors}
 use Rattle.sf_scene.specs.Ranges.{IsCapture, IsDisplay, IsFill, IsHit, IsMirror, IsPicture, IsQueue, IsStack, IsTimeline}
 use Rattle.sf_scene.specs.declared.step.Step.{Step}
 use Rattle.sf_scene.specs.Scene.{SceneValue, fills_so_far, has_actor, has_capture, has_display, has_hit, has_layer, has_picture, has_queue, has_timeline, last_of, steps_so_far}
@@ -16,9 +17,19 @@ pub record IsNew {X : Type 0} (Range : X → Type 0) (is_declared : Bool) (x : X
   pub range : Range x
   pub first : is_declared ≡ false
 
+-- a declaration of version 2 is in its ranges, its number was not declared, and the version has it
+pub record IsNewSecond {X : Type 0} (version : ℕ) (Range : X → Type 0) (is_declared : Bool) (x : X) : Type 0 where
+  pub new : IsNew Range is_declared x
+  pub is_second : version ≡ 2
+
+-- a picture is in its ranges, its number was not declared, and the version has its format
+pub record PictureFits (scene : SceneValue) (picture : Picture) : Type 0 where
+  pub new : IsNew IsPicture (has_picture scene.pictures picture.number) picture
+  pub format : scene.version ≡ 1 → IsRgba picture
+
 -- a mirror is in its ranges, its layer has none yet, and there is room for it
 pub record MirrorFits (scene : SceneValue) (mirror : ℕ × ℕ) : Type 0 where
-  pub new : IsNew IsMirror (has_layer scene.mirrors mirror.0) mirror
+  pub new : IsNewSecond scene.version IsMirror (has_layer scene.mirrors mirror.0) mirror
   pub room : length scene.mirrors < 8
 
 -- a fill is in its ranges, and the last picture has room for it
@@ -41,13 +52,13 @@ pub record StepLineFits (scene : SceneValue) (s : Step) : Type 0 where
 abbrev pub SceneFits : SceneValue → Line → Type 0
 SceneFits scene (line.Scene h) = IsHeader h.version h.width h.height h.period
 SceneFits scene (line.Timeline timeline) = IsNew IsTimeline (has_timeline scene.timelines timeline) timeline
-SceneFits scene (line.Display display) = IsNew IsDisplay (has_display scene.displays display.number) display
-SceneFits scene (line.Stack layer stack) = IsNew IsStack (has_layer scene.stacks layer) (layer, stack)
-SceneFits scene (line.Capture capture) = IsNew IsCapture (has_capture scene.captures capture.number) capture
-SceneFits scene (line.Hit hit) = IsNew IsHit (has_hit scene.hits hit.number) hit
+SceneFits scene (line.Display display) = IsNewSecond scene.version IsDisplay (has_display scene.displays display.number) display
+SceneFits scene (line.Stack layer stack) = IsNewSecond scene.version IsStack (has_layer scene.stacks layer) (layer, stack)
+SceneFits scene (line.Capture capture) = IsNewSecond scene.version IsCapture (has_capture scene.captures capture.number) capture
+SceneFits scene (line.Hit hit) = IsNewSecond scene.version IsHit (has_hit scene.hits hit.number) hit
 SceneFits scene (line.Mirror layer mirrored) = MirrorFits scene (layer, mirrored)
 SceneFits scene (line.Queue queue) = IsNew IsQueue (has_queue scene.queues queue.number) queue
-SceneFits scene (line.Picture picture) = IsNew IsPicture (has_picture scene.pictures picture.number) picture
+SceneFits scene (line.Picture picture) = PictureFits scene picture
 SceneFits scene (line.Fill fill) = FillFits scene fill
 SceneFits scene (line.Actor number) = ActorFits scene number
 SceneFits scene (line.Step s) = StepLineFits scene s.step

@@ -1,11 +1,12 @@
 ghost use Rattle.std.specs.Prelude.{◌≡◌, ◌==◌, ◌≤◌, false, IfOk};
+ghost use Rattle.sf_base.specs.declared.format.Format.TheVariants.{Rgba};
 ghost use Rattle.sf_words.specs.Text.{words_of};
 ghost use Rattle.sf_words.specs.Reading.{Gives, number_at};
 ghost use Rattle.sf_scene.specs.Limits.{IsHeader, most_actors};
-ghost use Rattle.sf_scene.specs.Ranges.{IsFill, IsPicture, IsQueue, IsTimeline};
-ghost use Rattle.sf_scene.specs.Scene.{has_actor, has_picture, has_queue, has_timeline};
+ghost use Rattle.sf_scene.specs.Ranges.{IsFill, IsQueue, IsTimeline};
+ghost use Rattle.sf_scene.specs.Scene.{has_actor, has_queue, has_timeline};
 ghost use Rattle.sf_script.specs.Declarations.{fill_at, format_at, format_of, header_at, new_actor_at, new_number_at, new_picture_at, new_queue_at, new_timeline_at, version_at, versioned_format_at};
-ghost use Rattle.sf_script.specs.Fits.{ActorFits, IsNew};
+ghost use Rattle.sf_script.specs.Fits.{ActorFits, IsNew, PictureFits};
 
 use crate::line::Header;
 use sf_base::{Format, Items, Rect};
@@ -118,7 +119,8 @@ fn format(line: &[u8]) -> Result<Format, WordFault>
 
 // The end of a `picture` line.
 fn versioned_format(version: u32, line: &[u8]) -> Result<Format, WordFault>
-    ensures { Gives (λ x. x) result (versioned_format_at version (words_of line.now)) }
+    ensures given { Gives (λ x. x) result (versioned_format_at version (words_of line.now)) }
+    ensures first { IfOk result (λ f. version ≡ 1 → f ≡ Rgba) }
 {
     if version == 2 {
         return format(line);
@@ -131,7 +133,7 @@ fn versioned_format(version: u32, line: &[u8]) -> Result<Format, WordFault>
 #[tactic(auto, unfolding(crate::specs::Declarations::new_picture_at))]
 pub fn picture_line(alloc: Global, scene: &Scene, line: &[u8]) -> Result<Picture, WordFault>
     ensures given { Gives (λ x. x) result (new_picture_at scene.now (words_of line.now)) }
-    ensures fits { IfOk result (λ p. IsNew IsPicture (has_picture scene.now.pictures p.number) p) }
+    ensures fits { IfOk result (PictureFits scene.now) }
 {
     let (number, rest) = number32(line, 1, 256)?;
     demand(!scene.has_picture(number), line, Cause::Twice)?;

@@ -1,13 +1,14 @@
 ghost use Rattle.std.specs.Prelude.{◌≡◌, ◌==◌, ◌<◌, ◌≤◌, ◌+◌, ◌++◌, ◌∷◌, [], IfOk, IfSome, None, Some, if◌then◌else◌, length, nat_lt};
 ghost use Rattle.sf_scene.specs.Limits.{IsHeader};
-ghost use Rattle.sf_scene.specs.Scene.{bare_scene};
-ghost use Rattle.sf_script.specs.Draft.{draft_after, has_room, is_any, is_ended, is_led, may_follow, may_follow_rank, names_after, no_lines, picks_of, place_of, rank_of_keyword, rank_of_line, scene_after};
+ghost use Rattle.sf_scene.specs.Scene.{SceneValue, bare_scene, has_layer};
+ghost use Rattle.sf_script.specs.Draft.{TellsLayers, draft_after, has_room, is_any, is_ended, is_led, may_follow, may_follow_rank, names_after, no_lines, picks_of, place_of, rank_of_keyword, rank_of_line, scene_after};
 ghost use Rattle.sf_script.specs.Fits.{LineFits, SceneFits};
 
 use crate::line::{Header, Keyword, Line};
 use sf_base::{Items, NoMemory};
 use sf_scene::Scene;
 use std::alloc::Global;
+use std::collections::BTreeSet;
 use std::marker::Model;
 
 const MOST_FILLS: usize = 1024;
@@ -21,23 +22,24 @@ const MOST_NAMES: usize = 32;
 const END_RANK: u32 = 6;
 
 /// What the lines so far spell: their scene, the rank of the last one, and the names of the last
-/// actor.
+/// actor. A set tells which layers have a stack, as there may be as many as lines.
 #[derive(Drop)]
 pub struct Draft {
     scene: Scene,
     rank: Option<u32>,
     names: Vec<Items<u8>>,
+    // The layers for which a stack is declared.
+    layers: BTreeSet<u32>,
 }
 
 impl Model for Draft {
-    ghost use Rattle.std.specs.Prelude.{◌≤◌, length};
-    ghost use Rattle.sf_script.specs.Draft.{DraftValue};
+    ghost use Rattle.sf_script.specs.Draft.{DraftValue, IsDraft};
 
     ghost Value = { DraftValue };
 
     ghost view = { λ s. record { scene = s.scene; rank = s.rank; names = s.names.items } };
 
-    ghost invariant = { λ s. length s.names.items ≤ 32 };
+    ghost invariant = { λ s. IsDraft s.scene s.names.items s.layers };
 }
 
 fn rank_of(keyword: Keyword) -> u32
@@ -117,6 +119,25 @@ fn names_with(
     Ok(names)
 }
 
+// The layers with a stack after one more line.
+#[tactic(auto, using(crate::proofs::DraftLemmas::layers_more))]
+fn layers_with(
+    alloc: Global,
+    mut layers: BTreeSet<u32>,
+    line: &Line,
+) -> Result<BTreeSet<u32>, NoMemory>
+    ensures { IfOk result (λ new. (scene : SceneValue) → TellsLayers layers scene.stacks → TellsLayers new (scene_after scene line.now).stacks) }
+{
+    match line {
+        Line::Scene(_) => Ok(BTreeSet::new(alloc)),
+        Line::Stack(layer, _) => {
+            layers.insert(*layer)?;
+            Ok(layers)
+        }
+        _ => Ok(layers),
+    }
+}
+
 // The scene that a `scene` line begins.
 fn begun(alloc: Global, header: Header) -> Scene
     requires { IsHeader header.version header.width header.height header.period }
@@ -164,6 +185,7 @@ impl Draft {
             scene: Scene::bare(alloc, 1, 1, 1, 1_000_000),
             rank: None,
             names: Vec::new(alloc),
+            layers: BTreeSet::new(alloc),
         }
     }
 
@@ -236,6 +258,13 @@ impl Draft {
         }
     }
 
+    /// Whether a stack is declared for the layer with this number.
+    pub fn has_stack(&self, layer: u32) -> bool
+        ensures { result ≡ has_layer self.now.scene.stacks layer }
+    {
+        self.layers.contains(&layer)
+    }
+
     /// The place of a name among those of the last actor.
     pub fn place(&self, name: &[u8]) -> Option<u32>
         ensures place { result ≡ place_of name.now self.now.names }
@@ -262,14 +291,21 @@ impl Draft {
         requires few { length self.scene.order + length (picks_of line) ≤ 1048576 }
         ensures { IfOk result (λ d. d ≡ draft_after self line) }
     {
-        let Draft { scene, names, .. } = self;
+        let Draft {
+            scene,
+            names,
+            layers,
+            ..
+        } = self;
         let rank = line_rank(&line);
         let names = names_with(alloc, names, &line)?;
+        let layers = layers_with(alloc, layers, &line)?;
         let scene = scene_with(alloc, scene, line)?;
         Ok(Draft {
             scene,
             rank: Some(rank),
             names,
+            layers,
         })
     }
 }

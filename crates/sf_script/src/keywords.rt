@@ -1,4 +1,5 @@
-ghost use Rattle.std.specs.Prelude.{◌≡◌};
+ghost use Rattle.std.specs.Prelude.{◌≡◌, Bool, true, IfSome};
+ghost use Rattle.sf_script.specs.Draft.{is_of};
 ghost use Rattle.sf_script.specs.Keywords.{change_form_of, consumer_form_of, keyword_of, plain_keyword_of, producer_form_of, second_keyword_of, step_form_of, transaction_form_of, versioned_keyword_of};
 
 use crate::line::{ChangeForm, Keyword, PointForm, QueueForm, Side, StepForm};
@@ -104,7 +105,8 @@ fn step_form(word: &[u8]) -> Option<StepForm>
 // The form of a line that is no step.
 #[tactic(auto, unfolding(crate::specs::Keywords::plain_keyword_of))]
 fn plain_keyword(has_actor: bool, word: &[u8]) -> Option<Keyword>
-    ensures { result ≡ plain_keyword_of has_actor word.now }
+    ensures given { result ≡ plain_keyword_of has_actor word.now }
+    ensures both { IfSome result (λ k. (is_second : Bool) → is_of is_second k ≡ true) }
 {
     if is(word, b"scene") {
         Some(Keyword::Scene)
@@ -148,8 +150,10 @@ fn second_keyword(word: &[u8]) -> Option<Keyword>
 }
 
 // The same in this version.
+#[tactic(auto, using(crate::proofs::DraftLemmas::second_has))]
 fn versioned_keyword(is_second: bool, word: &[u8]) -> Option<Keyword>
-    ensures { result ≡ versioned_keyword_of is_second word.now }
+    ensures given { result ≡ versioned_keyword_of is_second word.now }
+    ensures version { IfSome result (λ k. is_of is_second k ≡ true) }
 {
     if is_second {
         second_keyword(word)
@@ -161,7 +165,8 @@ fn versioned_keyword(is_second: bool, word: &[u8]) -> Option<Keyword>
 /// The form that a first word begins, if it begins one. The word `queue` begins a step where an
 /// actor was declared, and a declaration otherwise. Some forms are of version 2 alone.
 pub fn first_keyword(is_second: bool, has_actor: bool, word: &[u8]) -> Option<Keyword>
-    ensures { result ≡ keyword_of is_second has_actor word.now }
+    ensures given { result ≡ keyword_of is_second has_actor word.now }
+    ensures version { IfSome result (λ k. is_of is_second k ≡ true) }
 {
     if let Some(keyword) = plain_keyword(has_actor, word) {
         return Some(keyword);

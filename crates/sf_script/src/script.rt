@@ -1,7 +1,7 @@
 ghost use Rattle.std.specs.Prelude.{◌≡◌, ◌≤◌, ◌<◌, ◌+◌, ◌==◌, [], IfOk, length, true};
 ghost use Rattle.std.specs.Str.{is_utf8};
 ghost use Rattle.sf_words.specs.Text.{lines_of, words_of};
-ghost use Rattle.sf_script.specs.Draft.{has_room, picks_of};
+ghost use Rattle.sf_script.specs.Draft.{has_room, is_of, picks_of};
 ghost use Rattle.sf_script.specs.Fits.{LineFits};
 ghost use Rattle.sf_script.specs.Memory.{GivesUnless};
 ghost use Rattle.sf_script.specs.Parse.{GivesDraft, GivesScene, parsed_of, too_long};
@@ -27,7 +27,8 @@ use std::alloc::Global;
 // The line behind its first word, but for steps and picks.
 #[tactic(auto, unfolding(crate::specs::Script::form_at))]
 fn form(alloc: Global, draft: &Draft, keyword: Keyword, line: &[u8]) -> Result<Line, LineFault>
-    requires { has_room draft.now.scene keyword ≡ true }
+    requires version { is_of (draft.now.scene.version == 2) keyword ≡ true }
+    requires room { has_room draft.now.scene keyword ≡ true }
     ensures given { GivesUnless (λ x. x) result (form_at draft.now keyword (words_of line.now)) }
     ensures fits { IfOk result (LineFits draft.now) }
     ensures few { IfOk result (λ l. length (picks_of l) ≤ length line.now) }
@@ -38,7 +39,7 @@ fn form(alloc: Global, draft: &Draft, keyword: Keyword, line: &[u8]) -> Result<L
         Keyword::Timeline => Ok(Line::Timeline(timeline_line(scene, line)?)),
         Keyword::Display => Ok(Line::Display(display_line(scene, line)?)),
         Keyword::Stack => {
-            let (layer, stack) = stack_line(scene, line)?;
+            let (layer, stack) = stack_line(draft, line)?;
             Ok(Line::Stack(layer, stack))
         }
         Keyword::Capture => Ok(Line::Capture(capture_line(scene, line)?)),
