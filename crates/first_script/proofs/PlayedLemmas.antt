@@ -1,5 +1,5 @@
 -- A scene that is played keeps its limits.
-use Rattle.std.proofs.Common.{◌≡◌, ℕ, zero, suc, ◌≤◌, ◌==◌, ◌||◌, ◌&&◌, Bool, true, false, List, [], ◌∷◌, length, map, filter_map, Option, None, Some, IfSome, refl, sym, ap, ◌∙◌, arith}
+use Rattle.std.proofs.Common.{◌≡◌, ℕ, suc, ◌≤◌, ◌==◌, ◌||◌, ◌&&◌, Bool, true, false, List, [], ◌∷◌, length, map, filter_map, option_map, if◌then◌else◌, Option, None, Some, IfSome, refl, sym, ap, ◌∙◌, arith}
 use Rattle.std.proofs.lemmas.Bool.{and_parts, eqb-true}
 use Rattle.std.proofs.lemmas.List.Elements.{All-cons, All-head, All-map, All-nil, All-tail, All-weaker}
 use Rattle.std.proofs.lemmas.List.Sums.{AllPass-from_list_all}
@@ -15,10 +15,13 @@ use Rattle.sf_scene.specs.declared.declarations.QueueDecl.{QueueDecl}
 use Rattle.sf_scene.specs.declared.step.ActorScript.{ActorScript as WholeActor}
 use Rattle.sf_scene.specs.declared.step.Step.{Step as WholeStep}
 use Rattle.sf_scene.specs.declared.step.Step.TheVariants as whole_step
-use Rattle.first_script.specs.Played.{first_token, played_actor, played_scene, played_step, plays, plays_actors, plays_step, uses_token}
+use Rattle.first_script.specs.Played.{at_root, first_token, played_actor, played_scene, played_step, plays, plays_actors, plays_step, uses_token}
 use Rattle.first_script.specs.Scene.{IsActor, IsPick, IsStep, IsWithinLimits, KnowsPicture, KnowsQueue, UsesToken}
 use Rattle.first_script.specs.declared.scene.ActorScript.{ActorScript}
+use Rattle.first_script.specs.declared.scene.Change.{Change}
+use Rattle.first_script.specs.declared.scene.Change.TheVariants as change
 use Rattle.first_script.specs.declared.scene.Step.{Step}
+use Rattle.first_script.specs.declared.scene.Step.TheVariants as step
 
 -- what holds of one more that is there, and of the others, holds of all
 All-option : {Y : Type 0} (Q : Y → Type 0) (o : Option Y) (ys : List Y) → IfSome o Q → All Q ys → All Q (cons_option o ys)
@@ -37,6 +40,15 @@ length-filter_map : {X Y : Type 0} (f : X → Option Y) (xs : List X) → length
 length-filter_map f [] = omega arith
 length-filter_map f (x ∷ xs) = length-option (f x) (filter_map f xs) (length xs) (length-filter_map f xs)
 
+if_right : (P : Step → Type 0) (f : Change → Step) (right : Bool) (c : Change) → P (f c) → IfSome (option_map f (if right then Some c else None)) P
+if_right P f true c h = h
+if_right P f false c h = tt
+
+-- what holds of a step with a change holds where its parent is the root
+if_at_root : (P : Step → Type 0) (f : Change → Step) (parent : Option ℕ) (c : Change) → P (f c) → IfSome (option_map f (at_root parent c)) P
+if_at_root P f None c h = tt
+if_at_root P f (Some n) c h = if_right P f (n == 0) c h
+
 -- a step in its ranges is in them as it is played
 in_ranges : (s : WholeStep) → whole_ranges.IsStep s → IfSome (played_step s) IsStep
 in_ranges (whole_step.Connect queue) h = tt
@@ -48,8 +60,8 @@ in_ranges (whole_step.Acquire queue name None) h = h.0
 in_ranges (whole_step.Release name []) h = h
 in_ranges (whole_step.Buffer number layer name) h = h
 in_ranges (whole_step.Tx number) h = h
-in_ranges (whole_step.Set number layer (whole_change.CreateColour (Some zero))) h = (h.0, h.1, refl)
-in_ranges (whole_step.Set number layer (whole_change.CreateBuffer (Some zero))) h = (h.0, h.1, refl)
+in_ranges (whole_step.Set number layer (whole_change.CreateColour parent)) h = if_at_root IsStep (step.Set number layer) parent (change.CreateColour (Some 0)) (h.0, h.1, refl)
+in_ranges (whole_step.Set number layer (whole_change.CreateBuffer parent)) h = if_at_root IsStep (step.Set number layer) parent (change.CreateBuffer (Some 0)) (h.0, h.1, refl)
 in_ranges (whole_step.Set number layer (whole_change.Colour colour)) h = (h.0, h.1, tt)
 in_ranges (whole_step.Apply number token) h = h
 in_ranges _ h = tt
@@ -61,8 +73,8 @@ knows_queue queues (whole_step.Dequeue queue name size) h = h
 knows_queue queues (whole_step.Queue name picture None None []) h = tt
 knows_queue queues (whole_step.Acquire queue name None) h = h
 knows_queue queues (whole_step.Release name []) h = tt
-knows_queue queues (whole_step.Set number layer (whole_change.CreateColour (Some zero))) h = tt
-knows_queue queues (whole_step.Set number layer (whole_change.CreateBuffer (Some zero))) h = tt
+knows_queue queues (whole_step.Set number layer (whole_change.CreateColour parent)) h = if_at_root (KnowsQueue queues) (step.Set number layer) parent (change.CreateColour (Some 0)) tt
+knows_queue queues (whole_step.Set number layer (whole_change.CreateBuffer parent)) h = if_at_root (KnowsQueue queues) (step.Set number layer) parent (change.CreateBuffer (Some 0)) tt
 knows_queue queues _ h = tt
 
 -- a picture that a step names as it is played is declared
@@ -71,8 +83,8 @@ knows_picture pictures (whole_step.Draw name picture) h = h
 knows_picture pictures (whole_step.Queue name picture None None []) h = h
 knows_picture pictures (whole_step.Acquire queue name None) h = tt
 knows_picture pictures (whole_step.Release name []) h = tt
-knows_picture pictures (whole_step.Set number layer (whole_change.CreateColour (Some zero))) h = tt
-knows_picture pictures (whole_step.Set number layer (whole_change.CreateBuffer (Some zero))) h = tt
+knows_picture pictures (whole_step.Set number layer (whole_change.CreateColour parent)) h = if_at_root (KnowsPicture pictures) (step.Set number layer) parent (change.CreateColour (Some 0)) tt
+knows_picture pictures (whole_step.Set number layer (whole_change.CreateBuffer parent)) h = if_at_root (KnowsPicture pictures) (step.Set number layer) parent (change.CreateBuffer (Some 0)) tt
 knows_picture pictures _ h = tt
 
 -- a step names the same token as it is played
@@ -81,8 +93,8 @@ same_token token (whole_step.Apply number t) h = eqb-true t token h
 same_token token (whole_step.Queue name picture None None []) h = tt
 same_token token (whole_step.Acquire queue name None) h = tt
 same_token token (whole_step.Release name []) h = tt
-same_token token (whole_step.Set number layer (whole_change.CreateColour (Some zero))) h = tt
-same_token token (whole_step.Set number layer (whole_change.CreateBuffer (Some zero))) h = tt
+same_token token (whole_step.Set number layer (whole_change.CreateColour parent)) h = if_at_root (UsesToken token) (step.Set number layer) parent (change.CreateColour (Some 0)) tt
+same_token token (whole_step.Set number layer (whole_change.CreateBuffer parent)) h = if_at_root (UsesToken token) (step.Set number layer) parent (change.CreateBuffer (Some 0)) tt
 same_token token _ h = tt
 
 -- what holds of each step holds of those that are played
@@ -131,9 +143,8 @@ one_token (a ∷ b ∷ actors) h = cc
 pub within_limits : (s : whole.SceneValue) → whole_limits.IsWithinLimits s → plays s ≡ true → IsWithinLimits (played_scene s)
 unfolding plays
 within_limits s h p =
-    let parts = and_parts (s.version == 1) (length s.timelines == 0 && plays_actors s.actors) p in
-    let first : s.version ≡ 1 = eqb-true s.version 1 parts.0 in
-    let actors = (and_parts (length s.timelines == 0) (plays_actors s.actors) parts.1).1 in
+    let parts = and_parts (s.version == 1 && length s.timelines == 0) (plays_actors s.actors) p in
+    let first : s.version ≡ 1 = eqb-true s.version 1 (and_parts (s.version == 1) (length s.timelines == 0) parts.0).0 in
     let few : whole_limits.most_actors s.version ≤ 16 = rw first (omega arith) in
     record {
       version = first;
@@ -148,11 +159,11 @@ within_limits s h p =
       queues_differ = h.queues.differ;
       pictures = h.pictures.each;
       pictures_differ = h.pictures.differ;
-      one_actor = one_actor s.actors actors;
+      one_actor = one_actor s.actors parts.1;
       actors = All-map IsActor played_actor s.actors (All-weaker (whole_limits.IsActor (whole_limits.most_actors s.version)) (λ a. IsActor (played_actor a)) (IsActor-played (whole_limits.most_actors s.version) few) s.actors h.actors.each);
       known_queues = each_played (whole_named.KnowsQueue s.queues) (KnowsQueue s.queues) (knows_queue s.queues) s.actors h.known_queues;
       known_pictures = each_played (whole_named.KnowsPicture s.pictures) (KnowsPicture s.pictures) (knows_picture s.pictures) s.actors h.known_pictures;
-      one_token = one_token s.actors actors;
+      one_token = one_token s.actors parts.1;
       few_picks = h.order.few;
       picks = All-weaker (whole_limits.IsPick s.actors) (IsPick (map played_actor s.actors)) (IsPick-played s.actors) s.order h.order.picks;
     }

@@ -1,5 +1,5 @@
 -- What is played of a scene so far.
-use Rattle.std.specs.Prelude.{ℕ, ◌==◌, ◌&&◌, Bool, true, false, List, [], ◌∷◌, length, map, filter_map, is_some, option_map, Option, None, Some}
+use Rattle.std.specs.Prelude.{ℕ, ◌==◌, ◌&&◌, if◌then◌else◌, Bool, true, false, List, [], ◌∷◌, length, map, filter_map, is_some, option_map, Option, None, Some}
 use Rattle.std.specs.List.{list_all}
 use Rattle.sf_scene.specs.Scene as whole
 use Rattle.sf_scene.specs.declared.change.Change.{Change as WholeChange}
@@ -14,10 +14,15 @@ use Rattle.first_script.specs.declared.scene.Change.TheVariants as change
 use Rattle.first_script.specs.declared.scene.Step.{Step}
 use Rattle.first_script.specs.declared.scene.Step.TheVariants as step
 
+-- the change, if its parent is the root
+abbrev pub at_root : Option ℕ → Change → Option Change
+at_root (Some parent) c = if parent == 0 then Some c else None
+at_root None c = None
+
 -- the change as it is played, if it is: a layer's colour, and a new layer of a colour or of a queue's frames below the root
 abbrev pub played_change : WholeChange → Option Change
-played_change (whole_change.CreateColour (Some zero)) = Some (change.CreateColour (Some 0))
-played_change (whole_change.CreateBuffer (Some zero)) = Some (change.CreateBuffer (Some 0))
+played_change (whole_change.CreateColour parent) = at_root parent (change.CreateColour (Some 0))
+played_change (whole_change.CreateBuffer parent) = at_root parent (change.CreateBuffer (Some 0))
 played_change (whole_change.Colour colour) = Some (change.Colour colour)
 played_change _ = None
 

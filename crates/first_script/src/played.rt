@@ -1,17 +1,25 @@
 ghost use Rattle.std.specs.Prelude.{◌≡◌, IfOk, map, filter_map, true};
-ghost use Rattle.first_script.specs.Played.{first_token, played_actor, played_change, played_scene, played_step, plays, plays_actors, plays_step, plays_steps, uses_token, without_points};
+ghost use Rattle.std.specs.List.{list_all};
+ghost use Rattle.first_script.specs.Played.{at_root, first_token, played_actor, played_change, played_scene, played_step, plays, plays_actors, plays_step, plays_steps, uses_token, without_points};
 
 use crate::scene::{ActorScript, Change, Scene, Step};
 use sf_base::Items;
 use std::alloc::{AllocError, Global};
+
+// The change, if its parent is the root.
+fn at_root(parent: Option<u32>, change: Change) -> Option<Change>
+    ensures { result ≡ at_root parent change }
+{
+    if parent? == 0 { Some(change) } else { None }
+}
 
 // The change as it is played, if it is.
 fn played_change(change: &sf_scene::Change) -> Option<Change>
     ensures { result ≡ played_change change.now }
 {
     match change {
-        sf_scene::Change::CreateColour(Some(0)) => Some(Change::CreateColour(Some(0))),
-        sf_scene::Change::CreateBuffer(Some(0)) => Some(Change::CreateBuffer(Some(0))),
+        sf_scene::Change::CreateColour(parent) => at_root(*parent, Change::CreateColour(Some(0))),
+        sf_scene::Change::CreateBuffer(parent) => at_root(*parent, Change::CreateBuffer(Some(0))),
         sf_scene::Change::Colour(colour) => Some(Change::Colour(*colour)),
         _ => None,
     }
@@ -82,12 +90,25 @@ fn uses_token(token: u32, step: &sf_scene::Step) -> bool
     }
 }
 
+// Whether each of these steps is played.
+fn plays_each(steps: &[sf_scene::Step]) -> bool
+    ensures { result ≡ list_all plays_step steps.now }
+{
+    steps.iter().all(|step| plays_step(step))
+}
+
+// Whether all of these steps that apply a transaction do it under this token.
+fn use_token(token: u32, steps: &[sf_scene::Step]) -> bool
+    ensures { result ≡ list_all (uses_token token) steps.now }
+{
+    steps.iter().all(|step| uses_token(token, step))
+}
+
 // Whether the steps of an actor are played.
 fn plays_steps(steps: &[sf_scene::Step]) -> bool
     ensures { result ≡ plays_steps steps.now }
 {
-    let token = first_token(steps);
-    steps.iter().all(|step| plays_step(step)) && steps.iter().all(|step| uses_token(token, step))
+    plays_each(steps) && use_token(first_token(steps), steps)
 }
 
 // Whether the actors are played.
@@ -150,8 +171,6 @@ pub fn played_scene(alloc: Global, scene: sf_scene::Scene) -> Result<Scene, Allo
     requires { plays scene ≡ true }
     ensures { IfOk result (λ s. s ≡ played_scene scene) }
 {
-    // Read for the limits that a scene keeps, which those of the scene that is played rest on.
-    let _pixels = scene.pixels();
     let actors = Items::new(played_actors(alloc, scene.actors.as_slice())?);
     let sf_scene::Scene {
         version,

@@ -24,7 +24,7 @@ TellsLayers layers stacks = (layer : ℕ) → contains nat_cmp layers layer ≡ 
 -- what a draft keeps: the last actor has at most 32 names, and the layers with a stack stand in a set
 pub record IsDraft (scene : SceneValue) (names : List Text) (layers : BTreeSet ℕ) : Type 0 where
   pub few_names : length names ≤ 32
-  pub layers : TellsLayers layers scene.stacks
+  pub stacked : TellsLayers layers scene.stacks
 
 -- no lines; the numbers of this scene are none that anyone sees, since the first line gives them
 abbrev pub no_lines : DraftValue
