@@ -7,8 +7,8 @@ use Rattle.sf_base.specs.Fences.{no_points}
 use Rattle.sf_base.specs.declared.fences.Fence.{Fence}
 use Rattle.sf_base.specs.declared.ids.QueueId.{QueueId}
 use Rattle.sf_picture.specs.declared.picture.Picture.{Picture}
-use Rattle.sf_script.specs.declared.scene.Step.{Step}
-use Rattle.sf_script.specs.declared.scene.Step.TheVariants as step
+use Rattle.first_script.specs.declared.scene.Step.{Step}
+use Rattle.first_script.specs.declared.scene.Step.TheVariants as step
 use Rattle.sf_slots.specs.declared.calls.PlainCall.TheVariants as plain
 use Rattle.sf_slots.specs.declared.calls.PlainReply.{PlainReply}
 use Rattle.sf_slots.specs.declared.calls.PlainReply.TheVariants as reply

@@ -3,8 +3,8 @@ use Rattle.std.proofs.Common.{◌≡◌, ℕ, List, ◌∷◌, [], ◌++◌, get
 use Rattle.std.specs.Option.{option_map}
 use Rattle.std.specs.Prelude.{unwrap_or}
 use Rattle.sf_picture.specs.declared.picture.Picture.{Picture}
-use Rattle.sf_script.specs.declared.scene.Change.{Change}
-use Rattle.sf_script.specs.declared.scene.Step.TheVariants as step
+use Rattle.first_script.specs.declared.scene.Change.{Change}
+use Rattle.first_script.specs.declared.scene.Step.TheVariants as step
 use Rattle.first_surface.specs.Leases.{WriteLeaseOf, drawn_with as lease_drawn_with}
 use Rattle.first_actor.specs.declared.actor.Actor.{Actor}
 use Rattle.first_actor.specs.declared.done.Answered.TheVariants as answered

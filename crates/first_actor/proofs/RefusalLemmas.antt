@@ -4,8 +4,8 @@ use Rattle.std.specs.Prelude.{◌==◌, is_some, is_none}
 use Rattle.std.proofs.lemmas.Bool.{eqb-true, false≢true}
 use Rattle.sf_base.specs.declared.ids.QueueId.{QueueId}
 use Rattle.sf_picture.specs.declared.picture.Picture.{Picture}
-use Rattle.sf_script.specs.declared.scene.Change.{Change}
-use Rattle.sf_script.specs.declared.scene.Step.TheVariants as step
+use Rattle.first_script.specs.declared.scene.Change.{Change}
+use Rattle.first_script.specs.declared.scene.Step.TheVariants as step
 use Rattle.sf_slots.specs.declared.calls.ReadToken.{ReadToken}
 use Rattle.first_surface.specs.Leases.{WriteLeaseOf, is_size_of}
 use Rattle.first_actor.specs.Books.{Books, Token, Lent, Frame, name_in, transaction_in}

@@ -6,7 +6,7 @@ use Rattle.std.specs.Prelude.{IfSome, unwrap_or}
 use Rattle.sf_base.specs.declared.ids.ActorId.{ActorId}
 use Rattle.sf_base.specs.declared.ids.QueueId.{QueueId}
 use Rattle.sf_picture.specs.declared.picture.Picture.{Picture}
-use Rattle.sf_script.specs.declared.scene.Step.TheVariants as step
+use Rattle.first_script.specs.declared.scene.Step.TheVariants as step
 use Rattle.sf_slots.specs.declared.calls.PlainCall.TheVariants as plain
 use Rattle.sf_slots.specs.declared.calls.ReadToken.{ReadToken}
 use Rattle.first_surface.specs.declared.call.Call.TheVariants as call

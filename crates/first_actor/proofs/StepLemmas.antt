@@ -8,8 +8,8 @@ use Rattle.std.proofs.lemmas.List.Elements.{All-head, All-tail}
 use Rattle.sf_base.specs.declared.ids.LayerId.{LayerId}
 use Rattle.sf_base.specs.declared.ids.QueueId.{QueueId}
 use Rattle.sf_picture.specs.declared.picture.Picture.{Picture}
-use Rattle.sf_script.specs.declared.scene.Step.{Step}
-use Rattle.sf_script.specs.declared.scene.Step.TheVariants as step
+use Rattle.first_script.specs.declared.scene.Step.{Step}
+use Rattle.first_script.specs.declared.scene.Step.TheVariants as step
 use Rattle.sf_slots.specs.declared.calls.ReadToken.{ReadToken}
 use Rattle.first_surface.specs.Objects.{ObjectOf}
 use Rattle.first_actor.specs.declared.actor.Actor.{Actor}

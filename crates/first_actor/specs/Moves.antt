@@ -4,7 +4,7 @@ use Rattle.std.specs.List.{All}
 use Rattle.std.specs.Option.{option_map}
 use Rattle.sf_base.specs.declared.ids.QueueId.{QueueId}
 use Rattle.sf_picture.specs.declared.picture.Picture.{Picture}
-use Rattle.sf_script.specs.declared.scene.Step.{Step}
+use Rattle.first_script.specs.declared.scene.Step.{Step}
 use Rattle.sf_slots.specs.declared.calls.PlainReply.{PlainReply}
 use Rattle.first_surface.specs.declared.call.Call.{Call}
 use Rattle.first_surface.specs.declared.call.Gives.{Gives}

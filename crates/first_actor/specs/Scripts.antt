@@ -2,9 +2,9 @@
 use Rattle.std.specs.Prelude.{◌≡◌, ℕ, ◌<◌, ◌≤◌, ◌==◌, Bool, true, if◌then◌else◌, List, [], ◌∷◌, map}
 use Rattle.std.specs.List.{list_any}
 use Rattle.sf_picture.specs.declared.picture.Picture.{Picture}
-use Rattle.sf_script.specs.declared.scene.Step.{Step}
+use Rattle.first_script.specs.declared.scene.Step.{Step}
 use Rattle.sf_base.specs.declared.format.Format.TheVariants as format
-use Rattle.sf_script.specs.declared.scene.Step.TheVariants as step
+use Rattle.first_script.specs.declared.scene.Step.TheVariants as step
 use Rattle.first_surface.specs.Objects.{ObjectOf}
 use Rattle.first_actor.specs.Pasts.{has_queue}
 use Rattle.first_actor.specs.Plain.{past_of}

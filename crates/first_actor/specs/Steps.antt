@@ -12,10 +12,10 @@ use Rattle.sf_layer.specs.declared.op.Op.TheVariants as op
 use Rattle.sf_layer.specs.declared.parent.Parent.{Parent}
 use Rattle.sf_layer.specs.declared.parent.Parent.TheVariants as parent
 use Rattle.sf_picture.specs.declared.picture.Picture.{Picture}
-use Rattle.sf_script.specs.declared.scene.Change.{Change}
-use Rattle.sf_script.specs.declared.scene.Change.TheVariants as change
-use Rattle.sf_script.specs.declared.scene.Step.{Step}
-use Rattle.sf_script.specs.declared.scene.Step.TheVariants as step
+use Rattle.first_script.specs.declared.scene.Change.{Change}
+use Rattle.first_script.specs.declared.scene.Change.TheVariants as change
+use Rattle.first_script.specs.declared.scene.Step.{Step}
+use Rattle.first_script.specs.declared.scene.Step.TheVariants as step
 use Rattle.sf_slots.specs.declared.calls.PlainCall.TheVariants as call
 use Rattle.sf_slots.specs.declared.calls.PlainReply.{PlainReply}
 use Rattle.sf_slots.specs.declared.calls.PlainReply.TheVariants as reply

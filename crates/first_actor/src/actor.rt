@@ -7,7 +7,7 @@ use crate::operation::Operation;
 use crate::table::Table;
 use sf_base::{ActorId, Items, NoMemory};
 use sf_picture::Picture;
-use sf_script::Step;
+use first_script::Step;
 use std::alloc::Global;
 
 /// An actor: the steps that it has done, and what its names and transaction numbers hold.

@@ -58,7 +58,7 @@ fn release_overtaken(
 impl Actor {
     ghost use Rattle.std.specs.Prelude.{◌≡◌, ℕ, IfOk, OnOk, IfSome, [], map, true, is_some, unwrap_or};
     ghost use Rattle.sf_picture.specs.declared.picture.Picture.{Picture};
-    ghost use Rattle.sf_script.specs.declared.scene.Step.TheVariants as step;
+    ghost use Rattle.first_script.specs.declared.scene.Step.TheVariants as step;
     ghost use Rattle.first_actor.specs.Actors.{books_of};
     ghost use Rattle.first_actor.specs.Books.{frame_set_on, name_in, transaction_in};
     ghost use Rattle.first_actor.specs.Moves.{Acts, Asks, HasQueueOf, IsDrawn, Preserves, received};

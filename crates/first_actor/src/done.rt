@@ -1,6 +1,6 @@
 ghost use Rattle.std.specs.Prelude.{◌≡◌};
 
-use sf_script::Step;
+use first_script::Step;
 use sf_slots::PlainReply;
 
 /// What a step answered.

@@ -11,7 +11,7 @@ use first_surface::{ReadLease, WriteLease};
 use sf_base::{Items, LayerId, NoMemory};
 use sf_layer::{Kind, Op, Parent};
 use sf_picture::Picture;
-use sf_script::Change;
+use first_script::Change;
 use std::alloc::Global;
 
 /// The parent that a script names.
@@ -41,7 +41,7 @@ impl Actor {
     ghost use Rattle.std.specs.List.{All};
     ghost use Rattle.sf_picture.specs.Pixels.{HasSize};
     ghost use Rattle.sf_picture.specs.declared.picture.Picture.{Picture};
-    ghost use Rattle.sf_script.specs.declared.scene.Step.TheVariants as step;
+    ghost use Rattle.first_script.specs.declared.scene.Step.TheVariants as step;
     ghost use Rattle.first_actor.specs.declared.holding.Holding.TheVariants as holding;
     ghost use Rattle.first_actor.specs.Actors.{books_of};
     ghost use Rattle.first_actor.specs.Books.{name_in, transaction_in};

@@ -7,7 +7,7 @@ use crate::actor::Actor;
 use crate::holding::Holding;
 use first_surface::{ReadLease, WriteLease};
 use sf_picture::Picture;
-use sf_script::Step;
+use first_script::Step;
 
 /// The picture was not drawn in the buffer, has another size, or the frame has no number.
 const BAD_VALUE: u32 = 11;
@@ -49,7 +49,7 @@ pub(crate) fn picture_of(pictures: &[Picture], number: u32) -> &Picture
 impl Actor {
     ghost use Rattle.std.specs.Prelude.{◌≡◌, ℕ, MatchOption, Some, false, is_some};
     ghost use Rattle.sf_picture.specs.declared.picture.Picture.{Picture};
-    ghost use Rattle.sf_script.specs.declared.scene.Step.TheVariants as step;
+    ghost use Rattle.first_script.specs.declared.scene.Step.TheVariants as step;
     ghost use Rattle.first_actor.specs.Actors.{books_of};
     ghost use Rattle.first_actor.specs.Books.{Frame, name_in, transaction_in};
     ghost use Rattle.first_actor.specs.Plain.{lent_of};

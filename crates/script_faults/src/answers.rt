@@ -1,4 +1,4 @@
-use sf_grammar::{ParseFault, ScriptFault, parse};
+use sf_script::{ParseFault, ScriptFault, parse};
 use std::alloc::{AllocError, Global};
 
 /// What `parse` says of a script.

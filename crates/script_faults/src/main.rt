@@ -10,7 +10,7 @@ mod answers;
 mod table;
 
 use answers::{Answer, told};
-use sf_grammar::LONGEST_SCRIPT;
+use sf_script::LONGEST_SCRIPT;
 use sf_io::{ReadFault, ReadSource, read_all};
 use std::env;
 use std::io::{self, Write};

@@ -4,7 +4,7 @@ use mathlib.Core.List.{reverse-cons}
 use Rattle.std.proofs.lemmas.List.{append-nil}
 use Rattle.std.proofs.lemmas.List.Concat.{flat_map-append}
 use Rattle.std.proofs.lemmas.List.Elements.{All-cons, All-head, All-nil, All-push, All-tail}
-use Rattle.sf_script.specs.Scene.{SceneValue}
+use Rattle.first_script.specs.Scene.{SceneValue}
 use Rattle.sf_slots.specs.declared.calls.Entry.{Entry}
 use Rattle.first_actor.specs.Pasts.{Past}
 use Rattle.sf_record.specs.declared.event.Event.{Event}

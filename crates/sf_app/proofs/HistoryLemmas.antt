@@ -15,7 +15,7 @@ use Rattle.first_actor.specs.declared.done.Done.{Done}
 use Rattle.first_actor.specs.Pasts.{Asked, Past, is_past_of, reply_in, with_call, with_call_if, with_entry, told_entry}
 use Rattle.first_actor.specs.Scripts.{picture_at}
 use Rattle.first_actor.specs.Steps.{asked_by, books_after}
-use Rattle.sf_script.specs.Scene.{SceneValue}
+use Rattle.first_script.specs.Scene.{SceneValue}
 use Rattle.sf_app.specs.Played.{IsCalledBy, IsHistory, IsMade, IsReleased, Made, Released, TellsReply, bare_past, entries_of, has_actor, made_from, made_if, made_on, may_call, released_at, released_on}
 use Rattle.sf_app.specs.Worlds.{compositor, release_unread, released}
 use Rattle.first_commit.specs.Stages.{FrameOf}

@@ -3,9 +3,9 @@ use Rattle.std.proofs.Common.{◌≡◌, ◌≢◌, ℕ, suc, zero, ◌<◌, ◌
 use Rattle.std.proofs.lemmas.List.{append-nil}
 use Rattle.std.proofs.lemmas.Bool.{eq-eqb, eqb-true}
 use Rattle.std.specs.List.{list_any, range_with_len}
-use Rattle.sf_script.specs.Scene.{SceneValue, IsActor, IsWithinLimits}
-use Rattle.sf_script.specs.declared.scene.ActorScript.{ActorScript}
-use Rattle.sf_script.specs.declared.scene.Step.{Step}
+use Rattle.first_script.specs.Scene.{SceneValue, IsActor, IsWithinLimits}
+use Rattle.first_script.specs.declared.scene.ActorScript.{ActorScript}
+use Rattle.first_script.specs.declared.scene.Step.{Step}
 use Rattle.first_actor.specs.declared.done.Done.{Done}
 use Rattle.sf_record.specs.declared.event.Event.{Event}
 use Rattle.sf_record.specs.declared.record.ArrivalEntry.{ArrivalEntry}

@@ -4,8 +4,8 @@ use Rattle.std.proofs.lemmas.List.Elements.{All-cons, All-nil, All-head, All-tai
 use Rattle.std.proofs.lemmas.Bool.{eqb-true}
 use Rattle.std.specs.List.{flat_map, range_with_len, AllPairs}
 use Rattle.sf_picture.specs.declared.picture.Picture.{Picture}
-use Rattle.sf_script.specs.Scene.{SceneValue, IsWithinLimits}
-use Rattle.sf_script.specs.declared.scene.QueueDecl.{QueueDecl}
+use Rattle.first_script.specs.Scene.{SceneValue, IsWithinLimits}
+use Rattle.sf_scene.specs.declared.declarations.QueueDecl.{QueueDecl}
 use Rattle.first_actor.specs.Pasts.{Past}
 use Rattle.sf_app.specs.Play.{script_in}
 use Rattle.sf_app.specs.Played.{IsCalledBy, IsHistory, made_from}

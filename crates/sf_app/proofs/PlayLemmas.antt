@@ -7,9 +7,9 @@ use Rattle.std.proofs.KnownBytes.{Appends-trans}
 use Rattle.std.specs.Io.KnownBytes.{Appends}
 use Rattle.sf_io.specs.Streams.{TookPrefix}
 use Rattle.sf_io.proofs.StreamLemmas.{TookPrefix-front, TookPrefix-rest}
-use Rattle.sf_script.specs.Scene.{SceneValue, IsActor, IsPick, IsWithinLimits}
-use Rattle.sf_script.specs.declared.scene.ActorScript.{ActorScript}
-use Rattle.sf_script.specs.declared.scene.Pick.{Pick}
+use Rattle.first_script.specs.Scene.{SceneValue, IsActor, IsPick, IsWithinLimits}
+use Rattle.first_script.specs.declared.scene.ActorScript.{ActorScript}
+use Rattle.sf_scene.specs.declared.declarations.Pick.{Pick}
 use Rattle.sf_record.specs.declared.event.Event.{Event}
 use Rattle.sf_record.specs.declared.record.ArrivalEntry.{ArrivalEntry}
 use Rattle.sf_record.specs.declared.record.QueueHistory.{QueueHistory}

@@ -6,10 +6,10 @@ use Rattle.std.proofs.lemmas.List.Elements.{All-push}
 use Rattle.std.proofs.lemmas.Bool.{cases_eq, eq-eqb, ne_eqb}
 use Rattle.std.specs.List.{list_any, range_with_len}
 use Rattle.sf_picture.specs.declared.picture.Picture.{Picture}
-use Rattle.sf_script.specs.Scene.{SceneValue}
-use Rattle.sf_script.specs.declared.scene.ActorScript.{ActorScript}
-use Rattle.sf_script.specs.declared.scene.QueueDecl.{QueueDecl}
-use Rattle.sf_script.specs.declared.scene.Step.{Step}
+use Rattle.first_script.specs.Scene.{SceneValue}
+use Rattle.first_script.specs.declared.scene.ActorScript.{ActorScript}
+use Rattle.sf_scene.specs.declared.declarations.QueueDecl.{QueueDecl}
+use Rattle.first_script.specs.declared.scene.Step.{Step}
 use Rattle.first_actor.specs.declared.done.Done.{Done}
 use Rattle.first_actor.specs.Pasts.{Past}
 use Rattle.first_actor.specs.Scripts.{picture_at}

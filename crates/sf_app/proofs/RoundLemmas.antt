@@ -1,10 +1,10 @@
 -- What turns and rounds leave: a sound state, and after a round in which something is done less work.
 use Rattle.std.proofs.Common.{◌≡◌, ℕ, suc, zero, ◌+◌, ◌<◌, ◌≤◌, List, [], ◌∷◌, ◌++◌, Bool, true, false, cond, ◌⊎◌, inl, inr, Option, None, Some, length, slice_get, refl, ap, subst, arith, length-append, ◌==◌}
 use Rattle.std.proofs.lemmas.Bool.{cases_Bool, and_cases, eqb-false, not-true}
-use Rattle.sf_script.specs.Scene.{SceneValue}
-use Rattle.sf_script.specs.declared.scene.ActorScript.{ActorScript}
-use Rattle.sf_script.specs.declared.scene.Step.{Step}
-use Rattle.sf_script.specs.declared.scene.Step.TheVariants as step
+use Rattle.first_script.specs.Scene.{SceneValue}
+use Rattle.first_script.specs.declared.scene.ActorScript.{ActorScript}
+use Rattle.first_script.specs.declared.scene.Step.{Step}
+use Rattle.first_script.specs.declared.scene.Step.TheVariants as step
 use Rattle.first_actor.specs.Books.{LayerEdit}
 use Rattle.first_actor.specs.Steps.{books_after, sent_by}
 use Rattle.sf_picture.specs.declared.picture.Picture.{Picture}

@@ -6,9 +6,11 @@ use Rattle.std.proofs.lemmas.Bool.{cases_eq, eq-eqb, eqb-true}
 use Rattle.std.specs.List.{AllZip, flat_map, range_with_len}
 use Rattle.sf_base.specs.declared.ids.ActorId.{ActorId}
 use Rattle.sf_picture.specs.declared.picture.Picture.{Picture}
-use Rattle.sf_script.specs.Scene.{SceneValue, IsActor as IsScript, IsQueue, IsWithinLimits, has_queue as is_declared}
-use Rattle.sf_script.specs.declared.scene.ActorScript.{ActorScript}
-use Rattle.sf_script.specs.declared.scene.QueueDecl.{QueueDecl}
+use Rattle.first_script.specs.Scene.{SceneValue, IsActor as IsScript, IsWithinLimits}
+use Rattle.sf_scene.specs.Ranges.{IsQueue}
+use Rattle.sf_scene.specs.Scene.{has_queue as is_declared}
+use Rattle.first_script.specs.declared.scene.ActorScript.{ActorScript}
+use Rattle.sf_scene.specs.declared.declarations.QueueDecl.{QueueDecl}
 use Rattle.sf_slots.specs.Queue.{empty_queue}
 use Rattle.first_surface.specs.Calls.{ItemShows}
 use Rattle.first_surface.specs.Objects.{ObjectOf}

@@ -4,9 +4,10 @@ use Rattle.std.proofs.lemmas.List.{append-nil}
 use Rattle.std.proofs.lemmas.Bool.{cases_eq, lt-ltb}
 use Rattle.std.specs.Io.KnownBytes.{Consumes, IsAtEnd}
 use Rattle.sf_io.specs.Streams.{Took}
-use Rattle.sf_script.specs.Scene.{SceneValue}
+use Rattle.first_script.specs.Scene.{SceneValue}
 use Rattle.sf_script.specs.declared.fault.ScriptFault.{ScriptFault}
-use Rattle.sf_script.specs.Parse.{at_no_place, parsed_of}
+use Rattle.first_script.specs.Parse.{at_no_place, parsed_of}
+use Rattle.sf_script.specs.Parse.{parsed_of as script_of}
 use Rattle.sf_io.specs.Streams.{TookPrefix}
 use Rattle.sf_app.specs.Statuses.{NoScene, PlayedScript, PrefixOf, WritesPrefix, fault_bytes, misspelled, too_long}
 use Rattle.sf_app.proofs.PlayLemmas.{cut_none}
@@ -22,7 +23,7 @@ too_many bytes None (bs, h, n) = absurd h
 too_many bytes (Some ys) (bs, h, n) = omega (arith, length-append bs ys, ap length h)
 
 too_long_fault : (bytes : List ℕ) → 1048576 < length bytes → parsed_of bytes ≡ Err (at_no_place 9)
-unfolding parsed_of
+unfolding parsed_of script_of
 too_long_fault bytes h = rw (lt-ltb 1048576 (length bytes) h) refl
 
 -- a scene is no fault

@@ -4,13 +4,14 @@ use Rattle.std.proofs.lemmas.List.Elements.{All-append, All-head, All-tail}
 use Rattle.std.specs.List.{AllZip}
 use Rattle.std.specs.Prelude.{IfSome}
 use Rattle.sf_base.specs.declared.ids.ActorId.{ActorId}
-use Rattle.sf_script.specs.declared.scene.QueueDecl.{QueueDecl}
+use Rattle.sf_scene.specs.declared.declarations.QueueDecl.{QueueDecl}
 use Rattle.first_actor.specs.Books.{LayerEdit}
 use Rattle.sf_picture.specs.declared.picture.Picture.{Picture}
-use Rattle.sf_script.specs.Scene.{SceneValue, IsActor as IsScript, IsStep, KnowsPicture, KnowsQueue, has_picture as is_drawable, has_queue as is_declared, picture_named, queue_named}
-use Rattle.sf_script.specs.declared.scene.ActorScript.{ActorScript}
-use Rattle.sf_script.specs.declared.scene.Step.{Step}
-use Rattle.sf_script.specs.declared.scene.Step.TheVariants as step
+use Rattle.first_script.specs.Scene.{SceneValue, IsActor as IsScript, IsStep, KnowsPicture, KnowsQueue, picture_named, queue_named}
+use Rattle.sf_scene.specs.Scene.{has_picture as is_drawable, has_queue as is_declared}
+use Rattle.first_script.specs.declared.scene.ActorScript.{ActorScript}
+use Rattle.first_script.specs.declared.scene.Step.{Step}
+use Rattle.first_script.specs.declared.scene.Step.TheVariants as step
 use Rattle.first_surface.specs.Objects.{ObjectOf}
 use Rattle.first_actor.specs.declared.actor.Actor.{Actor}
 use Rattle.first_actor.specs.declared.actor.Stepped.{Stepped}

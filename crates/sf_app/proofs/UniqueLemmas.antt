@@ -1,6 +1,6 @@
 -- A scene has one play.
 use Rattle.std.proofs.Common.{◌≡◌, List, [], ◌++◌, true, false, refl, sym, ap, subst, ◌∙◌, map}
-use Rattle.sf_script.specs.Scene.{SceneValue}
+use Rattle.first_script.specs.Scene.{SceneValue}
 use Rattle.sf_record.specs.declared.event.Event.{Event}
 use Rattle.sf_record.specs.declared.record.Record.{Record}
 use Rattle.sf_app.specs.Worlds.{World, Turn}

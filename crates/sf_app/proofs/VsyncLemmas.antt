@@ -4,7 +4,7 @@ use Rattle.std.proofs.lemmas.List.Elements.{All-nil}
 use Rattle.std.proofs.lemmas.Bool.{eq-eqb, ne_eqb}
 use Rattle.std.specs.List.{AllZip, range_with_len}
 use Rattle.sf_picture.specs.declared.picture.Picture.{Picture}
-use Rattle.sf_script.specs.Scene.{SceneValue}
+use Rattle.first_script.specs.Scene.{SceneValue}
 use Rattle.first_surface.specs.Calls.{LeaseShows}
 use Rattle.first_surface.specs.Leases.{ReadLeaseOf}
 use Rattle.first_surface.specs.Objects.{ObjectOf}

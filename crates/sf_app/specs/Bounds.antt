@@ -1,6 +1,6 @@
 -- The bounds within which a run stays, so that its counts fit their types.
 use Rattle.std.specs.Prelude.{ℕ, ◌+◌, ◌≤◌, length}
-use Rattle.sf_script.specs.Scene.{SceneValue}
+use Rattle.first_script.specs.Scene.{SceneValue}
 use Rattle.sf_app.specs.Play.{script_in}
 use Rattle.sf_app.specs.Worlds.{World}
 

@@ -1,7 +1,7 @@
 -- Who calls a queue in a played run, told from its records alone.
 use Rattle.std.specs.Prelude.{◌≡◌, true, List, [], ◌∷◌, All}
 use Rattle.std.specs.List.{flat_map}
-use Rattle.sf_script.specs.Scene.{SceneValue}
+use Rattle.first_script.specs.Scene.{SceneValue}
 use Rattle.sf_record.specs.declared.record.QueueHistory.{QueueHistory}
 use Rattle.sf_record.specs.declared.record.Record.{Record}
 use Rattle.sf_record.specs.declared.record.Record.TheVariants as rec

@@ -2,7 +2,7 @@
 use Rattle.std.specs.Prelude.{ℕ, ◌-◌, ◌==◌, Bool, List, [], ◌∷◌, ◌++◌, Result, Ok, Err, Option, None, Some, if◌then◌else◌, get_or}
 use Rattle.std.specs.List.{list_any}
 use Rattle.sf_layer.specs.declared.layer.Layer.{Layer}
-use Rattle.sf_script.specs.Scene.{SceneValue}
+use Rattle.first_script.specs.Scene.{SceneValue}
 use Rattle.sf_tree.specs.Changes.{Rejection}
 use Rattle.sf_record.specs.declared.record.Commit.{Commit}
 use Rattle.sf_record.specs.declared.record.CommittedBuffer.{CommittedBuffer}

@@ -1,9 +1,9 @@
 -- A played run: the picks of the order, then rounds, up to the first in which nothing is done.
 use Rattle.std.specs.Prelude.{◌≡◌, ℕ, ◌==◌, ◌&&◌, Bool, true, false, not, if◌then◌else◌, List, [], ◌∷◌, ◌++◌, length, map, replicate}
 use Rattle.std.specs.List.{flat_map}
-use Rattle.sf_script.specs.Scene.{SceneValue}
-use Rattle.sf_script.specs.declared.scene.ActorScript.{ActorScript}
-use Rattle.sf_script.specs.declared.scene.Pick.{Pick}
+use Rattle.first_script.specs.Scene.{SceneValue}
+use Rattle.first_script.specs.declared.scene.ActorScript.{ActorScript}
+use Rattle.sf_scene.specs.declared.declarations.Pick.{Pick}
 use Rattle.sf_record.specs.declared.event.Event.{Event}
 use Rattle.sf_record.specs.declared.record.Record.{Record}
 use Rattle.sf_record.specs.Events.{run_records}

@@ -5,9 +5,9 @@ use Rattle.std.specs.Prelude.{◌≡◌, ◌≢◌, ℕ, ◌+◌, ◌*◌, ◌<�
 use Rattle.std.specs.List.{AllZip, flat_map, list_any, range_with_len}
 use Rattle.std.specs.Option.{option_map}
 use Rattle.sf_picture.specs.declared.picture.Picture.{Picture}
-use Rattle.sf_script.specs.Scene.{SceneValue}
-use Rattle.sf_script.specs.declared.scene.ActorScript.{ActorScript}
-use Rattle.sf_script.specs.declared.scene.Step.{Step}
+use Rattle.first_script.specs.Scene.{SceneValue}
+use Rattle.first_script.specs.declared.scene.ActorScript.{ActorScript}
+use Rattle.first_script.specs.declared.scene.Step.{Step}
 use Rattle.sf_slots.specs.declared.calls.Entry.{Entry}
 use Rattle.sf_slots.specs.declared.calls.PlainReply.{PlainReply}
 use Rattle.sf_slots.specs.Tells.{AreReplies}

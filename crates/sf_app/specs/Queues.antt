@@ -1,7 +1,7 @@
 -- Queues that were opened.
 use Rattle.std.specs.Prelude.{◌≡◌, List, [], ◌++◌, map}
 use Rattle.std.specs.List.{All}
-use Rattle.sf_script.specs.declared.scene.QueueDecl.{QueueDecl}
+use Rattle.sf_scene.specs.declared.declarations.QueueDecl.{QueueDecl}
 use Rattle.first_surface.specs.Objects.{ObjectOf}
 use Rattle.first_actor.specs.Plain.{past_of}
 use Rattle.sf_app.specs.Worlds.{new_past}

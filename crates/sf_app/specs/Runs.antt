@@ -1,7 +1,7 @@
 -- What was written to a sink of a run.
 use Rattle.std.specs.Prelude.{◌≡◌, ℕ, List, All, Option}
 use Rattle.std.specs.Io.KnownBytes.{Appends}
-use Rattle.sf_script.specs.Scene.{SceneValue}
+use Rattle.first_script.specs.Scene.{SceneValue}
 use Rattle.sf_record.specs.declared.event.Event.{Event}
 use Rattle.sf_record.specs.declared.record.Record.{Record}
 use Rattle.sf_io.specs.Streams.{TookPrefix}

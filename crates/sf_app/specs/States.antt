@@ -2,9 +2,10 @@
 use Rattle.std.specs.Prelude.{◌≡◌, ℕ, ◌≤◌, true, List, [], ◌∷◌, length, map, drop, take, Option, Some}
 use Rattle.std.specs.List.{All, AllZip}
 use Rattle.sf_picture.specs.declared.picture.Picture.{Picture}
-use Rattle.sf_script.specs.Scene.{SceneValue, IsWithinLimits, has_queue as is_declared}
-use Rattle.sf_script.specs.declared.scene.Step.{Step}
-use Rattle.sf_script.specs.declared.scene.Step.TheVariants as step
+use Rattle.first_script.specs.Scene.{SceneValue, IsWithinLimits}
+use Rattle.sf_scene.specs.Scene.{has_queue as is_declared}
+use Rattle.first_script.specs.declared.scene.Step.{Step}
+use Rattle.first_script.specs.declared.scene.Step.TheVariants as step
 use Rattle.first_surface.specs.Leases.{ReadLeaseOf}
 use Rattle.first_surface.specs.Objects.{ObjectOf}
 use Rattle.first_actor.specs.Actors.{IsActor}

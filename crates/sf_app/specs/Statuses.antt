@@ -1,9 +1,9 @@
 -- What the statuses of a run say.
 use Rattle.std.specs.Prelude.{◌≡◌, ℕ, List, Option, Some, Result, Ok, Err}
 use Rattle.std.specs.Io.KnownBytes.{Appends, Consumes, IsAtEnd}
-use Rattle.sf_script.specs.Scene.{SceneValue}
+use Rattle.first_script.specs.Scene.{SceneValue}
 use Rattle.sf_script.specs.declared.fault.ScriptFault.{ScriptFault}
-use Rattle.sf_script.specs.Parse.{at_no_place, parsed_of}
+use Rattle.first_script.specs.Parse.{at_no_place, parsed_of}
 use Rattle.sf_io.specs.Streams.{Took, TookPrefix}
 use Rattle.sf_record.specs.declared.record.Record.TheVariants as rec
 use Rattle.sf_record.specs.declared.record.Record.{Record}

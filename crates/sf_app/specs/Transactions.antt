@@ -1,7 +1,7 @@
 -- The transactions of an actor: what its steps answer and send, by the steps before them.
 use Rattle.std.specs.Prelude.{ℕ, ◌+◌, List, [], ◌∷◌, ◌++◌, length, Option, None, Some}
-use Rattle.sf_script.specs.declared.scene.Step.{Step}
-use Rattle.sf_script.specs.declared.scene.Step.TheVariants as step
+use Rattle.first_script.specs.declared.scene.Step.{Step}
+use Rattle.first_script.specs.declared.scene.Step.TheVariants as step
 use Rattle.first_actor.specs.declared.done.Done.{Done}
 use Rattle.first_actor.specs.Books.{LayerEdit}
 use Rattle.first_actor.specs.Statuses.{status_of}

@@ -1,6 +1,6 @@
 -- What the functions on the state of a run answer.
 use Rattle.std.specs.Prelude.{◌≡◌, List, [], ◌∷◌, Option, None, Some, ℕ, ◌+◌, ◌-◌, length}
-use Rattle.sf_script.specs.declared.scene.ActorScript.{ActorScript}
+use Rattle.first_script.specs.declared.scene.ActorScript.{ActorScript}
 use Rattle.sf_record.specs.declared.event.Event.{Event}
 use Rattle.sf_app.specs.Worlds.{Turn, World}
 

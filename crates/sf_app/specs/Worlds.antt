@@ -4,10 +4,10 @@ use Rattle.std.specs.List.{flat_map, range_with_len}
 use Rattle.sf_base.specs.Fences.{no_points}
 use Rattle.sf_base.specs.declared.ids.ActorId.{ActorId}
 use Rattle.sf_picture.specs.declared.picture.Picture.{Picture}
-use Rattle.sf_script.specs.Scene.{SceneValue}
-use Rattle.sf_script.specs.declared.scene.ActorScript.{ActorScript}
-use Rattle.sf_script.specs.declared.scene.QueueDecl.{QueueDecl}
-use Rattle.sf_script.specs.declared.scene.Step.{Step}
+use Rattle.first_script.specs.Scene.{SceneValue}
+use Rattle.first_script.specs.declared.scene.ActorScript.{ActorScript}
+use Rattle.sf_scene.specs.declared.declarations.QueueDecl.{QueueDecl}
+use Rattle.first_script.specs.declared.scene.Step.{Step}
 use Rattle.sf_slots.specs.declared.calls.PlainCall.TheVariants as call
 use Rattle.first_actor.specs.declared.done.Done.{Done}
 use Rattle.first_actor.specs.Pasts.{Asked, Past, with_call}

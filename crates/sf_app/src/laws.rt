@@ -1,5 +1,5 @@
 ghost use Rattle.std.specs.Prelude.{◌≡◌, List};
-ghost use Rattle.sf_script.specs.Scene.{SceneValue};
+ghost use Rattle.first_script.specs.Scene.{SceneValue};
 ghost use Rattle.sf_record.specs.declared.record.Record.{Record};
 ghost use Rattle.sf_app.specs.Callers.{CallersAreKnown};
 ghost use Rattle.sf_app.specs.Play.{IsPlay};

@@ -1,6 +1,6 @@
 //! The compositor as one call: [`run`] reads a script, plays it and writes the records of the run.
 //!
-//! This is the whole way of a frame so far, from bytes to bytes: `sf_script` spells a scene; an
+//! This is the whole way of a frame so far, from bytes to bytes: `first_script` reads a scene; an
 //! actor's steps (`first_actor`) lend, draw, queue and acquire buffers and send transactions; a vsync
 //! commits them to the layers (`first_commit`), paints the display and releases the frames that go;
 //! and the records (`sf_record`) are handed to a sink of `sf_io`.

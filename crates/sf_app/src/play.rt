@@ -18,6 +18,7 @@ use crate::history::history;
 use crate::state::RunState;
 use crate::step::next_step;
 use crate::vsync::vsync;
+use first_script::Scene;
 use first_surface::QueueObject;
 use sf_base::{Items, NoMemory};
 use sf_io::Sink;
@@ -25,7 +26,7 @@ use sf_record::{
     ArrivalEntry, Event, QueueHistory, Record, RunFault, SceneHeader, records, write_all,
     write_record,
 };
-use sf_script::{Pick, Scene};
+use sf_scene::Pick;
 use std::alloc::Global;
 
 // Writes the records of an event, if there is one.

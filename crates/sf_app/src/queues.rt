@@ -3,12 +3,14 @@ ghost use Rattle.std.specs.List.{All, flat_map, range_with_len};
 ghost use Rattle.first_actor.specs.Plain.{past_of};
 ghost use Rattle.sf_app.specs.Queues.{AreNew};
 ghost use Rattle.sf_app.specs.Worlds.{new_past, rising};
-ghost use Rattle.sf_script.specs.Scene.{IsQueue, IsWithinLimits};
+ghost use Rattle.first_script.specs.Scene.{IsWithinLimits};
+ghost use Rattle.sf_scene.specs.Ranges.{IsQueue};
 
 use first_actor::Desk;
+use first_script::Scene;
 use first_surface::QueueObject;
 use sf_base::{NoMemory, QueueId};
-use sf_script::{QueueDecl, Scene};
+use sf_scene::QueueDecl;
 use std::alloc::Global;
 
 // Adds the queue, if it has this number.

@@ -2,15 +2,16 @@ ghost use Rattle.std.specs.Prelude.{◌≡◌, ◌≢◌, ◌≤◌, ◌⊎◌, 
 ghost use Rattle.std.specs.Io.KnownBytes.{Appends};
 ghost use Rattle.sf_io.specs.Causes.{Rose};
 ghost use Rattle.sf_io.specs.Streams.{TookPrefix};
-ghost use Rattle.sf_script.specs.Parse.{parsed_of};
-ghost use Rattle.sf_script.specs.Scene.{SceneValue};
+ghost use Rattle.first_script.specs.Parse.{parsed_of};
+ghost use Rattle.first_script.specs.Scene.{SceneValue};
 ghost use Rattle.sf_script.specs.declared.fault.ScriptFault.{ScriptFault};
 ghost use Rattle.sf_app.specs.Statuses.{MeansScript, PlayedScript, RefusedScript, WritesPrefix, fault_bytes};
 
 use crate::play::play;
+use first_script::parse;
 use sf_io::{Gate, ReadFault, Sink, Source, read_all};
 use sf_record::{Record, RunFault, write_record};
-use sf_script::{LONGEST_SCRIPT, ParseFault, ScriptFault, parse};
+use sf_script::{LONGEST_SCRIPT, ParseFault, ScriptFault};
 use std::alloc::Global;
 use std::sync::Wait;
 use std::thread::Threads;

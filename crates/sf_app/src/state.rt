@@ -1,5 +1,5 @@
 ghost use Rattle.std.specs.Prelude.{◌≡◌, IfOk};
-ghost use Rattle.sf_script.specs.Scene.{IsWithinLimits};
+ghost use Rattle.first_script.specs.Scene.{IsWithinLimits};
 ghost use Rattle.sf_app.specs.Play.{script_in};
 ghost use Rattle.sf_app.specs.States.{IsRunning, world_of};
 ghost use Rattle.sf_app.specs.Worlds.{start};
@@ -7,9 +7,9 @@ ghost use Rattle.sf_app.specs.Worlds.{start};
 use crate::queues::open_queues;
 use first_actor::{Actor, Desk, Operation};
 use first_commit::Stage;
+use first_script::Scene;
 use sf_base::{ActorId, Items, NoMemory};
 use sf_record::ArrivalEntry;
-use sf_script::Scene;
 use std::alloc::Global;
 
 /// A transaction that arrived and waits for its commit.

@@ -6,9 +6,9 @@ ghost use Rattle.sf_app.specs.Worlds.{performed, step_of};
 
 use crate::state::{RunState, Sent};
 use first_actor::Operation;
+use first_script::{ActorScript, Scene, Step};
 use sf_base::{Items, NoMemory};
 use sf_record::{ArrivalEntry, Event, Reply};
-use sf_script::{ActorScript, Scene, Step};
 use std::alloc::Global;
 
 // What a step sends arrives.

@@ -18,10 +18,10 @@ ghost use Rattle.sf_view.specs.Views.{IsDisplay};
 use crate::state::{RunState, Sent};
 use first_actor::Desk;
 use first_commit::Stage;
+use first_script::Scene;
 use first_surface::{Call, ReadLease};
 use sf_base::{ActorId, Fence, Items, NoMemory};
 use sf_record::{Commit, Event, VsyncReport};
-use sf_script::Scene;
 use std::alloc::Global;
 use std::mem;
 

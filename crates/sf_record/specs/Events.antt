@@ -1,7 +1,7 @@
 -- The records of what a run shows, in order.
 use Rattle.std.specs.Prelude.{ℕ, List, [], ◌∷◌, ◌++◌, map, Option, None, Some}
 use Rattle.std.specs.List.{flat_map}
-use Rattle.sf_script.specs.Scene.{SceneValue}
+use Rattle.first_script.specs.Scene.{SceneValue}
 use Rattle.sf_record.specs.declared.event.Event.{Event}
 use Rattle.sf_record.specs.declared.event.Event.TheVariants as event
 use Rattle.sf_record.specs.declared.event.VsyncReport.{VsyncReport}

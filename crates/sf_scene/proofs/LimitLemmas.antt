@@ -6,7 +6,7 @@ use Rattle.std.specs.List.{All}
 use Rattle.std.specs.Prelude.{IfSome}
 use Rattle.sf_picture.specs.declared.fill.Fill.{Fill}
 use Rattle.sf_picture.specs.declared.picture.Picture.{Picture}
-use Rattle.sf_scene.specs.Limits.{EachStep, IsActor, IsHeader, IsPick, IsWithinLimits, StepFits, most_actors}
+use Rattle.sf_scene.specs.Limits.{EachStep, IsActor, IsHeader, IsPick, IsRgba, IsVersion1, IsWithinLimits, StepFits, most_actors}
 use Rattle.sf_scene.specs.Named.{KnowsPicture, KnowsQueue, KnowsTimelines, picture_named, queue_named, timelines_named}
 use Rattle.sf_scene.specs.Ranges.{IsCapture, IsDisplay, IsFill, IsHit, IsMirror, IsPicture, IsQueue, IsStack, IsStep, IsTimeline}
 use Rattle.sf_scene.specs.Scene.{SceneValue, has_actor, has_capture, has_display, has_hit, has_layer, has_picture, has_queue, has_timeline, bare_scene, fills_so_far, last_of, steps_so_far, with_fill, with_step}
@@ -89,6 +89,33 @@ IsPick-stepped st actors p h = record {
   high = h.high;
 }
 
+-- what version 1 lacks is lacked still where something else is declared
+keeps : (s : SceneValue) (timelines : List ℕ) (queues : List QueueDecl) (actors : List ActorScript) (order : List Pick) → IsVersion1 s
+    → IsVersion1 (record s { timelines = timelines; queues = queues; actors = actors; order = order })
+keeps s timelines queues actors order k = record {
+  no_displays = k.no_displays;
+  no_stacks = k.no_stacks;
+  no_captures = k.no_captures;
+  no_hits = k.no_hits;
+  no_mirrors = k.no_mirrors;
+  pictures = k.pictures;
+}
+
+-- the same with other pictures that are of red, green, blue and alpha
+keeps_pictures : (s : SceneValue) (pictures : List Picture) → All IsRgba pictures → IsVersion1 s → IsVersion1 (record s { pictures = pictures })
+keeps_pictures s pictures all k = record {
+  no_displays = k.no_displays;
+  no_stacks = k.no_stacks;
+  no_captures = k.no_captures;
+  no_hits = k.no_hits;
+  no_mirrors = k.no_mirrors;
+  pictures = all;
+}
+
+-- a version is not both
+not_first : (version : ℕ) → version ≡ 2 → version ≡ 1 → ⊥
+not_first version two one = omega (arith, two, one)
+
 -- a scene in which nothing is declared
 pub limits-bare : (version width height period : ℕ) → IsHeader version width height period → IsWithinLimits (bare_scene version width height period)
 limits-bare version width height period h = record {
@@ -106,6 +133,14 @@ limits-bare version width height period h = record {
   captures = AreDeclared-nil (λ (c : CaptureDecl). c.number) IsCapture;
   hits = AreDeclared-nil (λ (d : HitDecl). d.number) IsHit;
   mirrors = record { few = omega arith; declared = AreDeclared-nil (λ (p : ℕ × ℕ). p.0) IsMirror };
+  version_1 = λ e. record {
+    no_displays = refl;
+    no_stacks = refl;
+    no_captures = refl;
+    no_hits = refl;
+    no_mirrors = refl;
+    pictures = All-nil IsRgba;
+  };
 }
 
 pub limits-timeline : (s : SceneValue) (x : ℕ) → IsWithinLimits s → IsTimeline x → has_timeline s.timelines x ≡ false → IsWithinLimits (record s { timelines = s.timelines ++ x ∷ [] })
@@ -126,6 +161,7 @@ limits-timeline s x h r f = record {
   captures = h.captures;
   hits = h.hits;
   mirrors = h.mirrors;
+  version_1 = λ e. keeps s (s.timelines ++ x ∷ []) s.queues s.actors s.order (h.version_1 e);
 }
 
 pub limits-queue : (s : SceneValue) (x : QueueDecl) → IsWithinLimits s → IsQueue x → has_queue s.queues x.number ≡ false → IsWithinLimits (record s { queues = s.queues ++ x ∷ [] })
@@ -146,10 +182,11 @@ limits-queue s x h r f = record {
   captures = h.captures;
   hits = h.hits;
   mirrors = h.mirrors;
+  version_1 = λ e. keeps s s.timelines (s.queues ++ x ∷ []) s.actors s.order (h.version_1 e);
 }
 
-pub limits-picture : (s : SceneValue) (x : Picture) → IsWithinLimits s → IsPicture x → has_picture s.pictures x.number ≡ false → IsWithinLimits (record s { pictures = s.pictures ++ x ∷ [] })
-limits-picture s x h r f = record {
+pub limits-picture : (s : SceneValue) (x : Picture) → IsWithinLimits s → IsPicture x → (s.version ≡ 1 → IsRgba x) → has_picture s.pictures x.number ≡ false → IsWithinLimits (record s { pictures = s.pictures ++ x ∷ [] })
+limits-picture s x h r g f = record {
   header = h.header;
   timelines = h.timelines;
   queues = h.queues;
@@ -166,10 +203,11 @@ limits-picture s x h r f = record {
   captures = h.captures;
   hits = h.hits;
   mirrors = h.mirrors;
+  version_1 = λ e. keeps_pictures s (s.pictures ++ x ∷ []) (All-push IsRgba s.pictures x (h.version_1 e).pictures (g e)) (h.version_1 e);
 }
 
-pub limits-display : (s : SceneValue) (x : DisplayDecl) → IsWithinLimits s → IsDisplay x → has_display s.displays x.number ≡ false → IsWithinLimits (record s { displays = s.displays ++ x ∷ [] })
-limits-display s x h r f = record {
+pub limits-display : (s : SceneValue) (x : DisplayDecl) → IsWithinLimits s → IsDisplay x → s.version ≡ 2 → has_display s.displays x.number ≡ false → IsWithinLimits (record s { displays = s.displays ++ x ∷ [] })
+limits-display s x h r two f = record {
   header = h.header;
   timelines = h.timelines;
   queues = h.queues;
@@ -184,10 +222,11 @@ limits-display s x h r f = record {
   captures = h.captures;
   hits = h.hits;
   mirrors = h.mirrors;
+  version_1 = λ e. absurd (not_first s.version two e);
 }
 
-pub limits-stack : (s : SceneValue) (x : ℕ × ℕ) → IsWithinLimits s → IsStack x → has_layer s.stacks x.0 ≡ false → IsWithinLimits (record s { stacks = s.stacks ++ x ∷ [] })
-limits-stack s x h r f = record {
+pub limits-stack : (s : SceneValue) (x : ℕ × ℕ) → IsWithinLimits s → IsStack x → s.version ≡ 2 → has_layer s.stacks x.0 ≡ false → IsWithinLimits (record s { stacks = s.stacks ++ x ∷ [] })
+limits-stack s x h r two f = record {
   header = h.header;
   timelines = h.timelines;
   queues = h.queues;
@@ -202,10 +241,11 @@ limits-stack s x h r f = record {
   captures = h.captures;
   hits = h.hits;
   mirrors = h.mirrors;
+  version_1 = λ e. absurd (not_first s.version two e);
 }
 
-pub limits-capture : (s : SceneValue) (x : CaptureDecl) → IsWithinLimits s → IsCapture x → has_capture s.captures x.number ≡ false → IsWithinLimits (record s { captures = s.captures ++ x ∷ [] })
-limits-capture s x h r f = record {
+pub limits-capture : (s : SceneValue) (x : CaptureDecl) → IsWithinLimits s → IsCapture x → s.version ≡ 2 → has_capture s.captures x.number ≡ false → IsWithinLimits (record s { captures = s.captures ++ x ∷ [] })
+limits-capture s x h r two f = record {
   header = h.header;
   timelines = h.timelines;
   queues = h.queues;
@@ -220,10 +260,11 @@ limits-capture s x h r f = record {
   captures = AreDeclared-push (λ (c : CaptureDecl). c.number) IsCapture s.captures x h.captures r f;
   hits = h.hits;
   mirrors = h.mirrors;
+  version_1 = λ e. absurd (not_first s.version two e);
 }
 
-pub limits-hit : (s : SceneValue) (x : HitDecl) → IsWithinLimits s → IsHit x → has_hit s.hits x.number ≡ false → IsWithinLimits (record s { hits = s.hits ++ x ∷ [] })
-limits-hit s x h r f = record {
+pub limits-hit : (s : SceneValue) (x : HitDecl) → IsWithinLimits s → IsHit x → s.version ≡ 2 → has_hit s.hits x.number ≡ false → IsWithinLimits (record s { hits = s.hits ++ x ∷ [] })
+limits-hit s x h r two f = record {
   header = h.header;
   timelines = h.timelines;
   queues = h.queues;
@@ -238,10 +279,11 @@ limits-hit s x h r f = record {
   captures = h.captures;
   hits = AreDeclared-push (λ (d : HitDecl). d.number) IsHit s.hits x h.hits r f;
   mirrors = h.mirrors;
+  version_1 = λ e. absurd (not_first s.version two e);
 }
 
-pub limits-mirror : (s : SceneValue) (x : ℕ × ℕ) → IsWithinLimits s → IsMirror x → length s.mirrors < 8 → has_layer s.mirrors x.0 ≡ false → IsWithinLimits (record s { mirrors = s.mirrors ++ x ∷ [] })
-limits-mirror s x h r l f = record {
+pub limits-mirror : (s : SceneValue) (x : ℕ × ℕ) → IsWithinLimits s → IsMirror x → s.version ≡ 2 → length s.mirrors < 8 → has_layer s.mirrors x.0 ≡ false → IsWithinLimits (record s { mirrors = s.mirrors ++ x ∷ [] })
+limits-mirror s x h r two l f = record {
   header = h.header;
   timelines = h.timelines;
   queues = h.queues;
@@ -256,6 +298,7 @@ limits-mirror s x h r l f = record {
   captures = h.captures;
   hits = h.hits;
   mirrors = record { few = omega (arith, length-append s.mirrors (x ∷ []), l); declared = AreDeclared-push (λ (p : ℕ × ℕ). p.0) IsMirror s.mirrors x h.mirrors.declared r f };
+  version_1 = λ e. absurd (not_first s.version two e);
 }
 
 pub limits-actor : (s : SceneValue) (x : ActorScript) → IsWithinLimits s → 1 ≤ x.number → x.number ≤ most_actors s.version → x.steps ≡ [] → has_actor s.actors x.number ≡ false → IsWithinLimits (record s { actors = s.actors ++ x ∷ [] })
@@ -274,6 +317,7 @@ limits-actor s x h low high e f = record {
   captures = h.captures;
   hits = h.hits;
   mirrors = h.mirrors;
+  version_1 = λ e. keeps s s.timelines s.queues (s.actors ++ x ∷ []) s.order (h.version_1 e);
 }
 
 pub limits-order : (s : SceneValue) (ps : List Pick) → IsWithinLimits s → All (IsPick s.actors) ps → length s.order + length ps ≤ 1048576 → IsWithinLimits (record s { order = s.order ++ ps })
@@ -292,6 +336,7 @@ limits-order s ps h r l = record {
   captures = h.captures;
   hits = h.hits;
   mirrors = h.mirrors;
+  version_1 = λ e. keeps s s.timelines s.queues s.actors (s.order ++ ps) (h.version_1 e);
 }
 
 pub limits-step : (s : SceneValue) (st : Step) → IsWithinLimits s → steps_so_far (last_of s.actors) < 4096 → StepFits s st → IsWithinLimits (record s { actors = with_step s.actors st })
@@ -310,6 +355,7 @@ limits-step s st h l k = record {
   captures = h.captures;
   hits = h.hits;
   mirrors = h.mirrors;
+  version_1 = λ e. keeps s s.timelines s.queues (with_step s.actors st) s.order (h.version_1 e);
 }
 
 pub limits-fill : (s : SceneValue) (x : Fill) → IsWithinLimits s → fills_so_far (last_of s.pictures) < 1024 → IsFill x → IsWithinLimits (record s { pictures = with_fill s.pictures x })
@@ -330,6 +376,7 @@ limits-fill s x h l k = record {
   captures = h.captures;
   hits = h.hits;
   mirrors = h.mirrors;
+  version_1 = λ e. keeps_pictures s (with_fill s.pictures x) (All-on_last IsRgba (λ p. Unit {0}) (filled x) (λ p rgba u. rgba) s.pictures (h.version_1 e).pictures (anything (last_of s.pictures))) (h.version_1 e);
 }
 
 -- a last picture that is taken off, filled and put back

@@ -1,5 +1,7 @@
 -- What each scene keeps.
-use Rattle.std.specs.Prelude.{◌≡◌, ◌≢◌, ℕ, ◌≤◌, ◌==◌, ◌||◌, true, if◌then◌else◌, List, length, All, AllPairs}
+use Rattle.std.specs.Prelude.{◌≡◌, ◌≢◌, ℕ, ◌≤◌, ◌==◌, ◌||◌, true, if◌then◌else◌, List, [], length, All, AllPairs}
+use Rattle.sf_base.specs.declared.format.Format.TheVariants as format
+use Rattle.sf_picture.specs.declared.picture.Picture.{Picture}
 use Rattle.sf_scene.specs.Named.{KnowsPicture, KnowsQueue, KnowsTimelines}
 use Rattle.sf_scene.specs.Ranges.{IsCapture, IsDisplay, IsHit, IsMirror, IsPicture, IsQueue, IsStack, IsStep, IsTimeline}
 use Rattle.sf_scene.specs.Scene.{SceneValue, has_actor}
@@ -54,6 +56,19 @@ pub record AreMirrors (mirrors : List (ℕ × ℕ)) : Type 0 where
   pub few : length mirrors ≤ 8
   pub declared : AreDeclared (λ m. m.0) IsMirror mirrors
 
+-- a picture's bytes are red, green, blue and alpha
+abbrev pub IsRgba : Picture → Type 0
+IsRgba p = p.format ≡ format.Rgba
+
+-- what version 1 lacks: further displays, stacks, captures, hit tests, mirrors, and formats of pictures
+pub record IsVersion1 (s : SceneValue) : Type 0 where
+  pub no_displays : s.displays ≡ []
+  pub no_stacks : s.stacks ≡ []
+  pub no_captures : s.captures ≡ []
+  pub no_hits : s.hits ≡ []
+  pub no_mirrors : s.mirrors ≡ []
+  pub pictures : All IsRgba s.pictures
+
 -- what each scene keeps
 pub record IsWithinLimits (s : SceneValue) : Type 0 where
   pub header : IsHeader s.version s.width s.height s.period
@@ -70,6 +85,7 @@ pub record IsWithinLimits (s : SceneValue) : Type 0 where
   pub captures : AreDeclared (λ c. c.number) IsCapture s.captures
   pub hits : AreDeclared (λ h. h.number) IsHit s.hits
   pub mirrors : AreMirrors s.mirrors
+  pub version_1 : s.version ≡ 1 → IsVersion1 s
 
 -- a step is in its ranges, and what it names is declared
 pub record StepFits (s : SceneValue) (st : Step) : Type 0 where

@@ -39,13 +39,6 @@ impl Scene {
         self.displays.as_slice().iter().any(|d| d.number == number)
     }
 
-    /// Whether a stack is declared for the layer with this number.
-    pub fn has_stack(&self, layer: u32) -> bool
-        ensures { result ≡ has_layer self.now.stacks layer }
-    {
-        self.stacks.as_slice().iter().any(|s| s.0 == layer)
-    }
-
     /// Whether the capture with this number is declared.
     pub fn has_capture(&self, number: u32) -> bool
         ensures { result ≡ has_capture self.now.captures number }

@@ -1,5 +1,5 @@
 ghost use Rattle.std.specs.Prelude.{◌≡◌, ◌≤◌, ◌<◌, ◌+◌, ◌++◌, ◌∷◌, [], false, length, All, IfOk};
-ghost use Rattle.sf_scene.specs.Limits.{IsActor, IsHeader, IsPick, StepFits, most_actors};
+ghost use Rattle.sf_scene.specs.Limits.{IsActor, IsHeader, IsPick, IsRgba, StepFits, most_actors};
 ghost use Rattle.sf_scene.specs.Ranges.{IsCapture, IsDisplay, IsFill, IsHit, IsMirror, IsPicture, IsQueue, IsStack, IsTimeline};
 ghost use Rattle.sf_scene.specs.Scene.{bare_scene, fills_so_far, has_actor, has_capture, has_display, has_hit, has_layer, has_picture, has_queue, has_timeline, last_of, steps_so_far, with_fill, with_step};
 
@@ -82,9 +82,10 @@ impl Scene {
         Ok(Scene { queues, ..self })
     }
 
-    /// One more picture, with its fills.
+    /// One more picture, with its fills. In version 1 it is of red, green, blue and alpha.
     pub fn with_picture(self, picture: Picture) -> Result<Scene, NoMemory>
         requires range { IsPicture picture }
+        requires format { self.version ≡ 1 → IsRgba picture }
         requires first { has_picture self.pictures picture.number ≡ false }
         ensures { IfOk result (λ s. s ≡ record self { pictures = self.pictures ++ picture ∷ [] }) }
     {
@@ -93,9 +94,10 @@ impl Scene {
         Ok(Scene { pictures, ..self })
     }
 
-    /// One more display.
+    /// One more display, in version 2.
     pub fn with_display(self, display: DisplayDecl) -> Result<Scene, NoMemory>
         requires range { IsDisplay display }
+        requires version { self.version ≡ 2 }
         requires first { has_display self.displays display.number ≡ false }
         ensures { IfOk result (λ s. s ≡ record self { displays = self.displays ++ display ∷ [] }) }
     {
@@ -104,9 +106,10 @@ impl Scene {
         Ok(Scene { displays, ..self })
     }
 
-    /// The stack of one more layer, as layer and stack.
+    /// The stack of one more layer, as layer and stack, in version 2.
     pub fn with_stack(self, stack: (u32, u32)) -> Result<Scene, NoMemory>
         requires range { IsStack stack }
+        requires version { self.version ≡ 2 }
         requires first { has_layer self.stacks stack.0 ≡ false }
         ensures { IfOk result (λ s. s ≡ record self { stacks = self.stacks ++ stack ∷ [] }) }
     {
@@ -115,9 +118,10 @@ impl Scene {
         Ok(Scene { stacks, ..self })
     }
 
-    /// One more capture.
+    /// One more capture, in version 2.
     pub fn with_capture(self, capture: CaptureDecl) -> Result<Scene, NoMemory>
         requires range { IsCapture capture }
+        requires version { self.version ≡ 2 }
         requires first { has_capture self.captures capture.number ≡ false }
         ensures { IfOk result (λ s. s ≡ record self { captures = self.captures ++ capture ∷ [] }) }
     {
@@ -126,9 +130,10 @@ impl Scene {
         Ok(Scene { captures, ..self })
     }
 
-    /// One more hit test.
+    /// One more hit test, in version 2.
     pub fn with_hit(self, hit: HitDecl) -> Result<Scene, NoMemory>
         requires range { IsHit hit }
+        requires version { self.version ≡ 2 }
         requires first { has_hit self.hits hit.number ≡ false }
         ensures { IfOk result (λ s. s ≡ record self { hits = self.hits ++ hit ∷ [] }) }
     {
@@ -137,9 +142,10 @@ impl Scene {
         Ok(Scene { hits, ..self })
     }
 
-    /// One more mirror, of at most 8.
+    /// One more mirror, of at most 8, in version 2.
     pub fn with_mirror(self, mirror: (u32, u32)) -> Result<Scene, NoMemory>
         requires range { IsMirror mirror }
+        requires version { self.version ≡ 2 }
         requires room { length self.mirrors < 8 }
         requires first { has_layer self.mirrors mirror.0 ≡ false }
         ensures { IfOk result (λ s. s ≡ record self { mirrors = self.mirrors ++ mirror ∷ [] }) }

@@ -1,2 +1,2 @@
-pub mod BeforeLemmas
-pub mod SceneLemmas
+pub mod PartLemmas
+pub mod DraftLemmas

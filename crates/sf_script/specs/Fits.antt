@@ -1,88 +1,85 @@
 -- Lines that keep the ranges and the limits of a script.
-use Rattle.std.specs.Prelude.{◌≡◌, ℕ, ◌<◌, ◌≤◌, ◌==◌, ◌||◌, true, false, List, [], ◌∷◌, ◌++◌, length, All, IfSome}
+use Rattle.std.specs.Prelude.{◌≡◌, ℕ, ◌<◌, ◌≤◌, Bool, false, List, length, All, Option, IfSome}
 use Rattle.sf_picture.specs.declared.fill.Fill.{Fill}
-use Rattle.sf_script.specs.Before.{actor_of, allows_token, declares, declares_any, fills_so_far, first_token, names_so_far, picture_of, queue_of, steps_so_far}
-use Rattle.sf_script.specs.Scene.{IsFill, IsQueue, IsStep, picture_named, queue_named, token_of}
-use Rattle.sf_script.specs.declared.line.Header.{Header}
+use Rattle.sf_picture.specs.declared.picture.Picture.{Picture}
+use Rattle.sf_words.specs.Text.{Text}
+use Rattle.sf_scene.specs.Limits.{IsHeader, IsPick, IsRgba, StepFits, most_actors}
+use Rattle.sf_scene.specs.Ranges.{IsCapture, IsDisplay, IsFill, IsHit, IsMirror, IsPicture, IsQueue, IsStack, IsTimeline}
+use Rattle.sf_scene.specs.declared.step.Step.{Step}
+use Rattle.sf_scene.specs.Scene.{SceneValue, fills_so_far, has_actor, has_capture, has_display, has_hit, has_layer, has_picture, has_queue, has_timeline, last_of, steps_so_far}
+use Rattle.sf_script.specs.Draft.{DraftValue}
 use Rattle.sf_script.specs.declared.line.Line.{Line}
 use Rattle.sf_script.specs.declared.line.Line.TheVariants as line
 use Rattle.sf_script.specs.declared.line.NamedStep.{NamedStep}
-use Rattle.sf_script.specs.declared.line.PictureDecl.{PictureDecl}
-use Rattle.sf_script.specs.declared.scene.Pick.{Pick}
-use Rattle.sf_script.specs.declared.scene.QueueDecl.{QueueDecl}
-use Rattle.sf_script.specs.declared.scene.Step.{Step}
 
--- the numbers of a `scene` line are in their ranges
-pub record IsHeader (h : Header) : Type 0 where
-  pub version : h.version ≡ 1
-  pub low_width : 1 ≤ h.width
-  pub high_width : h.width ≤ 1024
-  pub low_height : 1 ≤ h.height
-  pub high_height : h.height ≤ 1024
-  pub low_period : 1000000 ≤ h.period
-  pub high_period : h.period ≤ 1000000000
+-- a declaration is in its ranges, and its number was not declared
+pub record IsNew {X : Type 0} (Range : X → Type 0) (is_declared : Bool) (x : X) : Type 0 where
+  pub range : Range x
+  pub first : is_declared ≡ false
 
--- a queue's numbers are in their ranges, and it was not declared
-pub record FitsQueue (before : List Line) (queue : QueueDecl) : Type 0 where
-  pub ranges : IsQueue queue
-  pub first : declares queue_of queue.number before ≡ false
+-- a declaration of version 2 is in its ranges, its number was not declared, and the version has it
+pub record IsNewSecond {X : Type 0} (version : ℕ) (Range : X → Type 0) (is_declared : Bool) (x : X) : Type 0 where
+  pub new : IsNew Range is_declared x
+  pub is_second : version ≡ 2
 
--- a picture's numbers are in their ranges, and it was not declared
-pub record FitsPicture (before : List Line) (picture : PictureDecl) : Type 0 where
-  pub low : 1 ≤ picture.number
-  pub high : picture.number ≤ 256
-  pub low_width : 1 ≤ picture.width
-  pub high_width : picture.width ≤ 512
-  pub low_height : 1 ≤ picture.height
-  pub high_height : picture.height ≤ 512
-  pub first : declares picture_of picture.number before ≡ false
+-- a picture is in its ranges, its number was not declared, and the version has its format
+pub record PictureFits (scene : SceneValue) (picture : Picture) : Type 0 where
+  pub new : IsNew IsPicture (has_picture scene.pictures picture.number) picture
+  pub format : scene.version ≡ 1 → IsRgba picture
 
--- a fill's numbers are in their ranges, and the last picture has room for it
-pub record FitsFill (before : List Line) (fill : Fill) : Type 0 where
-  pub ranges : IsFill fill
-  pub room : fills_so_far before < 1024
+-- a mirror is in its ranges, its layer has none yet, and there is room for it
+pub record MirrorFits (scene : SceneValue) (mirror : ℕ × ℕ) : Type 0 where
+  pub new : IsNewSecond scene.version IsMirror (has_layer scene.mirrors mirror.0) mirror
+  pub room : length scene.mirrors < 8
 
--- an actor's number is in its range, and no actor was declared
-pub record FitsActor (before : List Line) (number : ℕ) : Type 0 where
+-- a fill is in its ranges, and the last picture has room for it
+pub record FillFits (scene : SceneValue) (fill : Fill) : Type 0 where
+  pub range : IsFill fill
+  pub room : fills_so_far (last_of scene.pictures) < 1024
+
+-- an actor's number is in its range, and was not declared
+pub record ActorFits (scene : SceneValue) (number : ℕ) : Type 0 where
   pub low : 1 ≤ number
-  pub high : number ≤ 16
-  pub first : declares_any actor_of before ≡ false
-
--- a step's numbers are in their ranges, what it names is declared, and its token is the only one
-pub record FitsWords (before : List Line) (s : Step) : Type 0 where
-  pub ranges : IsStep s
-  pub queue : IfSome (queue_named s) (λ number. declares queue_of number before ≡ true)
-  pub picture : IfSome (picture_named s) (λ number. declares picture_of number before ≡ true)
-  pub token : IfSome (token_of s) (λ token. allows_token token (first_token before) ≡ true)
-
--- the words of a step fit, and where it binds a new name, the actor has fewer than 32
-pub record FitsNamed (before : List Line) (s : NamedStep) : Type 0 where
-  pub words : FitsWords before s.step
-  pub name : IfSome s.new_name (λ name. length (names_so_far before) < 32)
+  pub high : number ≤ most_actors scene.version
+  pub first : has_actor scene.actors number ≡ false
 
 -- a step fits, and the current actor has room for it
-pub record FitsStep (before : List Line) (s : NamedStep) : Type 0 where
-  pub named : FitsNamed before s
-  pub room : steps_so_far before < 4096
+pub record StepLineFits (scene : SceneValue) (s : Step) : Type 0 where
+  pub step : StepFits scene s
+  pub room : steps_so_far (last_of scene.actors) < 4096
 
--- a pick is of the vsync or of a declared actor, and not too often
-pub record FitsPick (before : List Line) (p : Pick) : Type 0 where
-  pub declared : (p.actor == 0 || declares actor_of p.actor before) ≡ true
-  pub low : 1 ≤ p.times
-  pub high : p.times ≤ 256
+-- a line keeps the ranges and the limits of the scene
+abbrev pub SceneFits : SceneValue → Line → Type 0
+SceneFits scene (line.Scene h) = IsHeader h.version h.width h.height h.period
+SceneFits scene (line.Timeline timeline) = IsNew IsTimeline (has_timeline scene.timelines timeline) timeline
+SceneFits scene (line.Display display) = IsNewSecond scene.version IsDisplay (has_display scene.displays display.number) display
+SceneFits scene (line.Stack layer stack) = IsNewSecond scene.version IsStack (has_layer scene.stacks layer) (layer, stack)
+SceneFits scene (line.Capture capture) = IsNewSecond scene.version IsCapture (has_capture scene.captures capture.number) capture
+SceneFits scene (line.Hit hit) = IsNewSecond scene.version IsHit (has_hit scene.hits hit.number) hit
+SceneFits scene (line.Mirror layer mirrored) = MirrorFits scene (layer, mirrored)
+SceneFits scene (line.Queue queue) = IsNew IsQueue (has_queue scene.queues queue.number) queue
+SceneFits scene (line.Picture picture) = PictureFits scene picture
+SceneFits scene (line.Fill fill) = FillFits scene fill
+SceneFits scene (line.Actor number) = ActorFits scene number
+SceneFits scene (line.Step s) = StepLineFits scene s.step
+SceneFits scene (line.Order picks) = All (IsPick scene.actors) picks
+SceneFits scene line.End = Unit {0}
+
+-- a new name is one of at most 32
+abbrev pub NameFits : List Text → Option Text → Type 0
+NameFits names name = IfSome name (λ n. length names < 32)
+
+-- a name that a line binds is one of at most 32
+abbrev pub LineNameFits : List Text → Line → Type 0
+LineNameFits names (line.Step s) = NameFits names s.new_name
+LineNameFits names _ = Unit {0}
 
 -- a line keeps the ranges and the limits of a script, after those before it
-abbrev pub Fits : List Line → Line → Type 0
-Fits before (line.Scene header) = IsHeader header
-Fits before (line.Queue queue) = FitsQueue before queue
-Fits before (line.Picture picture) = FitsPicture before picture
-Fits before (line.Fill fill) = FitsFill before fill
-Fits before (line.Actor number) = FitsActor before number
-Fits before (line.Step s) = FitsStep before s
-Fits before (line.Order picks) = All (FitsPick before) picks
-Fits before line.End = Unit {0}
+pub record LineFits (d : DraftValue) (l : Line) : Type 0 where
+  pub scene : SceneFits d.scene l
+  pub name : LineNameFits d.names l
 
--- each of these lines does, after those before it
-abbrev pub EachFits : List Line → List Line → Type 0
-EachFits before [] = Unit {0}
-EachFits before (l ∷ ls) = Fits before l × EachFits (before ++ l ∷ []) ls
+-- a step fits, and so does the name that it binds
+pub record NamedFits (d : DraftValue) (s : NamedStep) : Type 0 where
+  pub step : StepFits d.scene s.step
+  pub name : NameFits d.names s.new_name

@@ -1,12 +1,14 @@
 pub mod Memory
-pub mod Scene
-pub mod Before
+pub mod Draft
 pub mod Fits
-pub mod Summary
 pub mod Keywords
 pub mod Mentions
 pub mod Declarations
+pub mod Second
+pub mod Parts
+pub mod Changes
 pub mod Steps
+pub mod Transactions
 pub mod Order
 pub mod Script
 pub mod Parse

@@ -1,143 +1,93 @@
 -- A whole script: its lines in order, and the scene that they spell.
-use Rattle.std.specs.Prelude.{◌+◌, ◌==◌, Bool, true, if◌then◌else◌, List, [], ◌∷◌, ◌++◌, length, slice_index, flat_map, Result, Ok}
+use Rattle.std.specs.Prelude.{ℕ, ◌+◌, ◌-◌, ◌==◌, Bool, true, if◌then◌else◌, List, [], ◌∷◌, length, slice_index, Result, Ok, Err}
 use Rattle.std.specs.Str.{is_utf8}
-use Rattle.sf_picture.specs.declared.fill.Fill.{Fill}
-use Rattle.sf_picture.specs.declared.picture.Picture.{Picture}
+use Rattle.sf_words.specs.Causes.{number_of}
 use Rattle.sf_words.specs.Text.{Text, lines_of, trimmed, words_of}
-use Rattle.sf_words.specs.Reading.{◌>>=◌, demand, end_at, some_or, word_at, wrong}
-use Rattle.sf_base.specs.declared.format.Format.TheVariants as format
+use Rattle.sf_words.specs.Reading.{◌>>=◌, demand, end_at, some_or, word_at}
 use Rattle.sf_words.specs.declared.fault.Cause.TheVariants.{Limit, NotUtf8, OutOfOrder, Unended, UnknownWord}
 use Rattle.sf_words.specs.declared.fault.WordFault.{WordFault}
-use Rattle.sf_script.specs.Before.{actor_of, declares_any, has_room, last_rank, may_follow}
-use Rattle.sf_script.specs.Declarations.{actor_at, fill_at, header_at, new_picture_at, new_queue_at}
+use Rattle.sf_scene.specs.Scene.{SceneValue}
+use Rattle.sf_script.specs.Declarations.{fill_at, header_at, new_actor_at, new_picture_at, new_queue_at, new_timeline_at}
+use Rattle.sf_script.specs.Draft.{DraftValue, draft_after, has_room, is_any, is_ended, may_follow, no_lines}
 use Rattle.sf_script.specs.Keywords.{keyword_of}
 use Rattle.sf_script.specs.Order.{order_at}
-use Rattle.sf_script.specs.Scene.{SceneValue}
+use Rattle.sf_script.specs.Second.{new_capture_at, new_display_at, new_hit_at, new_mirror_at, new_stack_at}
 use Rattle.sf_script.specs.Steps.{step_at}
-use Rattle.sf_script.specs.declared.line.Header.{Header}
+use Rattle.sf_script.specs.declared.fault.ScriptFault.{ScriptFault}
 use Rattle.sf_script.specs.declared.line.Keyword.{Keyword}
 use Rattle.sf_script.specs.declared.line.Keyword.TheVariants as key
 use Rattle.sf_script.specs.declared.line.Line.{Line}
 use Rattle.sf_script.specs.declared.line.Line.TheVariants as line
-use Rattle.sf_script.specs.declared.scene.ActorScript.{ActorScript}
-use Rattle.sf_script.specs.declared.scene.Pick.{Pick}
-use Rattle.sf_script.specs.declared.scene.QueueDecl.{QueueDecl}
-use Rattle.sf_script.specs.declared.scene.Step.{Step}
+
+-- what was read as a line
+abbrev pub lined : {A : Type 0} → (A → Line) → Result A WordFault → Result Line WordFault
+lined make (Ok x) = Ok (make x)
+lined make (Err fault) = Err fault
 
 -- the line behind its first word
-unfoldable pub form_at : List Line → Keyword → List Text → Result Line WordFault
-form_at before key.Scene words = do
-  header ← header_at words
-  Ok (line.Scene header)
-form_at before key.Queue words = do
-  queue ← new_queue_at before words
-  Ok (line.Queue queue)
-form_at before key.Picture words = do
-  picture ← new_picture_at before words
-  Ok (line.Picture picture)
-form_at before key.Fill words = do
-  fill ← fill_at words
-  Ok (line.Fill fill)
-form_at before key.Actor words = do
-  number ← actor_at before words
-  Ok (line.Actor number)
-form_at before (key.Step form) words = do
-  step ← step_at before form words
-  Ok (line.Step step)
-form_at before key.Order words = do
-  picks ← order_at before words
-  Ok (line.Order picks)
-form_at before key.End words = do
-  _ ← end_at words
-  Ok line.End
+unfoldable pub form_at : DraftValue → Keyword → List Text → Result Line WordFault
+form_at d key.Scene words = lined line.Scene (header_at words)
+form_at d key.Timeline words = lined line.Timeline (new_timeline_at d.scene words)
+form_at d key.Display words = lined line.Display (new_display_at d.scene words)
+form_at d key.Stack words = lined (λ s. line.Stack s.0 s.1) (new_stack_at d.scene words)
+form_at d key.Capture words = lined line.Capture (new_capture_at d.scene words)
+form_at d key.Hit words = lined line.Hit (new_hit_at d.scene words)
+form_at d key.Mirror words = lined (λ m. line.Mirror m.0 m.1) (new_mirror_at d.scene words)
+form_at d key.Queue words = lined line.Queue (new_queue_at d.scene words)
+form_at d key.Picture words = lined line.Picture (new_picture_at d.scene words)
+form_at d key.Fill words = lined line.Fill (fill_at words)
+form_at d key.Actor words = lined line.Actor (new_actor_at d.scene words)
+form_at d (key.Step form) words = lined line.Step (step_at d form words)
+form_at d key.Order words = lined line.Order (order_at d.scene words)
+form_at d key.End words = lined (λ u. line.End) (end_at words)
 
--- the words of a line that is not skipped, after the lines before it
-unfoldable pub words_at : List Line → List Text → Result Line WordFault
-words_at before words = do
+-- the words of a line that is not skipped, after what the lines before it spell
+unfoldable pub words_at : DraftValue → List Text → Result Line WordFault
+words_at d words = do
   word ← word_at words
-  keyword ← some_or (length words) UnknownWord (keyword_of (declares_any actor_of before) word.0)
-  _ ← demand (may_follow before keyword) (length words) OutOfOrder
-  _ ← demand (has_room before keyword) (length words) Limit
-  form_at before keyword word.1
+  keyword ← some_or (length words) UnknownWord (keyword_of (d.scene.version == 2) (is_any d.scene.actors) word.0)
+  _ ← demand (may_follow d keyword) (length words) OutOfOrder
+  _ ← demand (has_room d.scene keyword) (length words) Limit
+  form_at d keyword word.1
 
 -- a line that is not skipped, which has to be UTF-8; word 0 is at fault where it is not
-unfoldable pub line_at : List Line → Text → Result Line WordFault
-line_at before text = do
+unfoldable pub line_at : DraftValue → Text → Result Line WordFault
+line_at d text = do
   _ ← demand (is_utf8 text) (length (words_of text) + 1) NotUtf8
-  words_at before (words_of text)
+  words_at d (words_of text)
 
 -- a line without words, or whose first word begins with `#`
 unfoldable pub is_skipped : List Text → Bool
 is_skipped [] = true
 is_skipped (word ∷ words) = slice_index word 0 == 35
 
--- the lines so far, and those that are left
-unfoldable pub lines_at : List Line → List Text → Result (List Line) WordFault
-lines_at before [] = Ok before
-lines_at before (text ∷ texts) =
-    if is_skipped (words_of (trimmed text)) then lines_at before texts else line_at before (trimmed text) >>= λ l. lines_at (before ++ l ∷ []) texts
+-- a fault in the line with this number, and in the word by how many are left from it on
+abbrev pub placed : ℕ → Text → WordFault → ScriptFault
+placed number text fault = record { line = number; word = length (words_of text) + 1 - fault.left; cause = number_of fault.cause }
 
--- the fills that stand in front
-unfoldable pub fills_of : List Line → List Fill
-fills_of (line.Fill fill ∷ lines) = fill ∷ fills_of lines
-fills_of _ = []
+-- what is spelled after the line with this number, or its fault
+abbrev pub after_line : ℕ → DraftValue → Text → Result Line WordFault → Result DraftValue ScriptFault
+after_line number d text (Ok l) = Ok (draft_after d l)
+after_line number d text (Err fault) = Err (placed number text fault)
 
--- each picture has the fills that stand behind its line
-unfoldable pub pictures_of : List Line → List Picture
-pictures_of [] = []
-pictures_of (line.Picture p ∷ lines) =
-    record { number = p.number; width = p.width; height = p.height; fills = fills_of lines; format = format.Rgba } ∷ pictures_of lines
-pictures_of (_ ∷ lines) = pictures_of lines
+-- what is spelled after the line with this number, which may be one that is skipped
+unfoldable pub draft_at : ℕ → DraftValue → Text → Result DraftValue ScriptFault
+draft_at number d text = if is_skipped (words_of text) then Ok d else after_line number d text (line_at d text)
 
--- the steps that stand in front
-unfoldable pub steps_of : List Line → List Step
-steps_of (line.Step s ∷ lines) = s.step ∷ steps_of lines
-steps_of _ = []
+-- the scene of all lines, of which the next would have this number
+unfoldable pub scene_at : ℕ → DraftValue → Result SceneValue ScriptFault
+scene_at number d = if is_ended d.rank then Ok d.scene else Err (record { line = number; word = 0; cause = number_of Unended })
 
--- each actor has the steps that stand behind its line
-unfoldable pub actors_of : List Line → List ActorScript
-actors_of [] = []
-actors_of (line.Actor number ∷ lines) = record { number = number; steps = steps_of lines } ∷ actors_of lines
-actors_of (_ ∷ lines) = actors_of lines
-
--- the queue that a line declares, as a list of one
-abbrev pub queue_in : Line → List QueueDecl
-queue_in (line.Queue queue) = queue ∷ []
-queue_in _ = []
-
--- the queues of all `queue` lines that declare one
-abbrev pub queues_of : List Line → List QueueDecl
-queues_of lines = flat_map queue_in lines
-
--- the picks of an `order` line
-abbrev pub picks_of : Line → List Pick
-picks_of (line.Order picks) = picks
-picks_of _ = []
-
--- the picks of all `order` lines
-abbrev pub order_of : List Line → List Pick
-order_of lines = flat_map picks_of lines
-
--- the scene of a `scene` line and the lines behind it
-abbrev pub scene_with : Header → List Line → SceneValue
-scene_with header lines =
-    record {
-      version = header.version;
-      width = header.width;
-      height = header.height;
-      period = header.period;
-      timelines = [];
-      queues = queues_of lines;
-      pictures = pictures_of lines;
-      actors = actors_of lines;
-      order = order_of lines;
-    }
-
--- the scene of lines that begin with `scene` and end with `end`
-unfoldable pub scene_of : List Line → Result SceneValue WordFault
-scene_of (line.Scene header ∷ lines) = demand (last_rank lines == 6) 0 Unended >>= λ ended. Ok (scene_with header lines)
-scene_of _ = wrong 0 Unended
+-- the scene of a script, of which the lines from this number on are left, or its first fault
+unfoldable pub lines_at : ℕ → DraftValue → List Text → Result SceneValue ScriptFault
+lines_at number d [] = scene_at number d
+lines_at number d (text ∷ texts) = draft_at number d (trimmed text) >>> λ next. lines_at (number + 1) next texts
+  where
+    infixl 10 ◌>>>◌
+    ◌>>>◌ : Result DraftValue ScriptFault → (DraftValue → Result SceneValue ScriptFault) → Result SceneValue ScriptFault
+    (Ok next) >>> read = read next
+    (Err fault) >>> read = Err fault
 
 -- the scene that a script spells, or its first fault
-unfoldable pub script_of : Text → Result SceneValue WordFault
-script_of bytes = lines_at [] (lines_of bytes) >>= scene_of
+unfoldable pub script_of : Text → Result SceneValue ScriptFault
+script_of bytes = lines_at 1 no_lines (lines_of bytes)

@@ -1,24 +1,30 @@
-ghost use Rattle.std.specs.Prelude.{◌≡◌, ◌≤◌, IfOk};
+ghost use Rattle.std.specs.Prelude.{◌≡◌, ◌==◌, ◌≤◌, false, IfOk};
+ghost use Rattle.sf_base.specs.declared.format.Format.TheVariants.{Rgba};
 ghost use Rattle.sf_words.specs.Text.{words_of};
 ghost use Rattle.sf_words.specs.Reading.{Gives, number_at};
-ghost use Rattle.sf_script.specs.Declarations.{actor_at, fill_at, header_at, new_picture_at, new_queue_at, version_at};
-ghost use Rattle.sf_script.specs.Fits.{FitsActor, FitsPicture, FitsQueue, IsHeader};
-ghost use Rattle.sf_script.specs.Scene.{IsFill};
+ghost use Rattle.sf_scene.specs.Limits.{IsHeader, most_actors};
+ghost use Rattle.sf_scene.specs.Ranges.{IsFill, IsQueue, IsTimeline};
+ghost use Rattle.sf_scene.specs.Scene.{has_actor, has_queue, has_timeline};
+ghost use Rattle.sf_script.specs.Declarations.{fill_at, format_at, format_of, header_at, new_actor_at, new_number_at, new_picture_at, new_queue_at, new_timeline_at, version_at, versioned_format_at};
+ghost use Rattle.sf_script.specs.Fits.{ActorFits, IsNew, PictureFits};
 
-use crate::before::Before;
-use crate::line::{Header, PictureDecl};
-use crate::scene::QueueDecl;
-use sf_base::Rect;
-use sf_picture::Fill;
-use sf_words::{Cause, WordFault, colour, demand, end, number32, number64};
+use crate::line::Header;
+use sf_base::{Format, Items, Rect};
+use sf_picture::{Fill, Picture};
+use sf_scene::{QueueDecl, Scene};
+use sf_words::{
+    Cause, WordFault, colour, demand, end, fixed, is, next_word, number32, number64, word, wrong,
+};
+use std::alloc::Global;
 
 #[tactic(auto, unfolding(crate::specs::Declarations::version_at))]
 fn version(line: &[u8]) -> Result<(u32, &[u8]), WordFault>
     ensures given { Gives (λ x. (x.0, words_of x.1.now)) result (version_at (words_of line.now)) }
-    ensures range { IfOk result (λ x. x.0 ≡ 1) }
+    ensures low { IfOk result (λ x. 1 ≤ x.0) }
+    ensures high { IfOk result (λ x. x.0 ≤ 2) }
 {
     let (version, rest) = number32(line, 1, u32::MAX)?;
-    demand(version == 1, line, Cause::WrongVersion)?;
+    demand(version == 1 || version == 2, line, Cause::WrongVersion)?;
     Ok((version, rest))
 }
 
@@ -26,7 +32,7 @@ fn version(line: &[u8]) -> Result<(u32, &[u8]), WordFault>
 #[tactic(auto, unfolding(crate::specs::Declarations::header_at))]
 pub fn header_line(line: &[u8]) -> Result<Header, WordFault>
     ensures given { Gives (λ x. x) result (header_at (words_of line.now)) }
-    ensures fits { IfOk result IsHeader }
+    ensures fits { IfOk result (λ h. IsHeader h.version h.width h.height h.period) }
 {
     let (version, rest) = version(line)?;
     let (width, rest) = number32(rest, 1, 1024)?;
@@ -49,14 +55,26 @@ fn side(line: &[u8]) -> Result<(u32, &[u8]), WordFault>
     number32(line, 1, 512)
 }
 
+/// `timeline T`
+#[tactic(auto, unfolding(crate::specs::Declarations::new_timeline_at))]
+pub fn timeline_line(scene: &Scene, line: &[u8]) -> Result<u32, WordFault>
+    ensures given { Gives (λ x. x) result (new_timeline_at scene.now (words_of line.now)) }
+    ensures fits { IfOk result (λ t. IsNew IsTimeline (has_timeline scene.now.timelines t) t) }
+{
+    let (number, rest) = number32(line, 1, 64)?;
+    demand(!scene.has_timeline(number), line, Cause::Twice)?;
+    end(rest)?;
+    Ok(number)
+}
+
 /// `queue Q BW BH`
 #[tactic(auto, unfolding(crate::specs::Declarations::new_queue_at))]
-pub fn queue_line(before: &Before, line: &[u8]) -> Result<QueueDecl, WordFault>
-    ensures given { Gives (λ x. x) result (new_queue_at before.now (words_of line.now)) }
-    ensures fits { IfOk result (FitsQueue before.now) }
+pub fn queue_line(scene: &Scene, line: &[u8]) -> Result<QueueDecl, WordFault>
+    ensures given { Gives (λ x. x) result (new_queue_at scene.now (words_of line.now)) }
+    ensures fits { IfOk result (λ q. IsNew IsQueue (has_queue scene.now.queues q.number) q) }
 {
     let (number, rest) = number32(line, 1, 16)?;
-    demand(!before.declares_queue(number), line, Cause::Twice)?;
+    demand(!scene.has_queue(number), line, Cause::Twice)?;
     let (width, rest) = side(rest)?;
     let (height, rest) = side(rest)?;
     end(rest)?;
@@ -67,21 +85,67 @@ pub fn queue_line(before: &Before, line: &[u8]) -> Result<QueueDecl, WordFault>
     })
 }
 
-/// `picture P BW BH`
+// The format of a picture.
+fn format_in(word: &[u8]) -> Option<Format>
+    ensures { result ≡ format_of word.now }
+{
+    if is(word, b"rgba") {
+        Some(Format::Rgba)
+    } else if is(word, b"rgbx") {
+        Some(Format::Rgbx)
+    } else if is(word, b"rgb565") {
+        Some(Format::Rgb565)
+    } else {
+        None
+    }
+}
+
+// `format F`, or nothing
+#[tactic(auto, unfolding(crate::specs::Declarations::format_at))]
+fn format(line: &[u8]) -> Result<Format, WordFault>
+    ensures { Gives (λ x. x) result (format_at (words_of line.now)) }
+{
+    if next_word(line).is_none() {
+        return Ok(Format::Rgba);
+    }
+    let named = fixed(line, b"format")?;
+    let (name, rest) = word(named)?;
+    let Some(format) = format_in(name) else {
+        return Err(wrong(named, Cause::BadWord));
+    };
+    end(rest)?;
+    Ok(format)
+}
+
+// The end of a `picture` line.
+fn versioned_format(version: u32, line: &[u8]) -> Result<Format, WordFault>
+    ensures given { Gives (λ x. x) result (versioned_format_at version (words_of line.now)) }
+    ensures first { IfOk result (λ f. version ≡ 1 → f ≡ Rgba) }
+{
+    if version == 2 {
+        return format(line);
+    }
+    end(line)?;
+    Ok(Format::Rgba)
+}
+
+/// `picture P BW BH`, with `format F` behind it in version 2 or without
 #[tactic(auto, unfolding(crate::specs::Declarations::new_picture_at))]
-pub fn picture_line(before: &Before, line: &[u8]) -> Result<PictureDecl, WordFault>
-    ensures given { Gives (λ x. x) result (new_picture_at before.now (words_of line.now)) }
-    ensures fits { IfOk result (FitsPicture before.now) }
+pub fn picture_line(alloc: Global, scene: &Scene, line: &[u8]) -> Result<Picture, WordFault>
+    ensures given { Gives (λ x. x) result (new_picture_at scene.now (words_of line.now)) }
+    ensures fits { IfOk result (PictureFits scene.now) }
 {
     let (number, rest) = number32(line, 1, 256)?;
-    demand(!before.declares_picture(number), line, Cause::Twice)?;
+    demand(!scene.has_picture(number), line, Cause::Twice)?;
     let (width, rest) = side(rest)?;
     let (height, rest) = side(rest)?;
-    end(rest)?;
-    Ok(PictureDecl {
+    let format = versioned_format(scene.version, rest)?;
+    Ok(Picture {
         number,
         width,
         height,
+        fills: Items::new(Vec::new(alloc)),
+        format,
     })
 }
 
@@ -106,15 +170,21 @@ pub fn fill_line(line: &[u8]) -> Result<Fill, WordFault>
     Ok(Fill { rect, colour })
 }
 
-/// `actor A`
-#[tactic(auto, unfolding(crate::specs::Declarations::actor_at))]
-pub fn actor_line(before: &Before, line: &[u8]) -> Result<u32, WordFault>
-    ensures given { Gives (λ x. x) result (actor_at before.now (words_of line.now)) }
-    ensures fits { IfOk result (FitsActor before.now) }
+/// The greatest number of an actor in this version.
+pub fn greatest_actor(version: u32) -> u32
+    ensures { result ≡ most_actors version }
 {
-    let (number, rest) = number32(line, 1, 16)?;
-    demand(!before.declares_actor(number), line, Cause::Twice)?;
-    demand(!before.has_actor(), line, Cause::Limit)?;
+    if version == 2 { 64 } else { 16 }
+}
+
+/// `actor A`
+#[tactic(auto, unfolding(crate::specs::Declarations::new_actor_at))]
+pub fn actor_line(scene: &Scene, line: &[u8]) -> Result<u32, WordFault>
+    ensures given { Gives (λ x. x) result (new_actor_at scene.now (words_of line.now)) }
+    ensures fits { IfOk result (ActorFits scene.now) }
+{
+    let (number, rest) = number32(line, 1, greatest_actor(scene.version))?;
+    demand(!scene.has_actor(number), line, Cause::Twice)?;
     end(rest)?;
     Ok(number)
 }

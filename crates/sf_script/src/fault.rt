@@ -1,6 +1,7 @@
 ghost use Rattle.std.specs.Prelude.{◌≡◌};
 ghost use Rattle.sf_script.specs.declared.fault.LineFault.TheVariants.{NoMemory, Word};
 
+use sf_base::NoMemory;
 use sf_words::WordFault;
 use std::alloc::{AllocError, AllocFailed};
 
@@ -27,6 +28,14 @@ impl From<AllocError> for LineFault {
     }
 }
 
+impl From<NoMemory> for LineFault {
+    ghost from_gives = { λ _ e. e ≡ NoMemory };
+
+    fn from(_: NoMemory) -> Self {
+        LineFault::NoMemory
+    }
+}
+
 impl<T: Drop> From<AllocFailed<T>> for LineFault {
     ghost from_gives = { λ _ e. e ≡ NoMemory };
 
@@ -35,11 +44,11 @@ impl<T: Drop> From<AllocFailed<T>> for LineFault {
     }
 }
 
-/// Where a script has a fault, and which. A script that is right, but has forms that are not played
-/// yet, has all 0; one that is too long has line 0, word 0 and cause 9.
+/// Where a script has a fault, and which.
 #[derive(Clone, Copy, Debug, PartialEq, Eq)]
 pub struct ScriptFault {
-    /// The number of the line, from 1; one past the last where the script ends too early.
+    /// The number of the line, from 1; one past the last where the script ends too early, and 0
+    /// where it is too long.
     pub line: u32,
     /// The number of the word in its line, from 1; one past the last where a word is missing, and
     /// 0 where the fault is of the line.
@@ -51,7 +60,7 @@ pub struct ScriptFault {
 /// Why there is no scene.
 #[derive(Clone, Copy, Debug, PartialEq, Eq)]
 pub enum ParseFault {
-    /// The bytes are no scene.
+    /// The bytes are no scene: the first line that has a fault, and in it the leftmost wrong word.
     Script(ScriptFault),
     /// Want of memory.
     NoMemory,

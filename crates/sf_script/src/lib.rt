@@ -1,20 +1,22 @@
-//! Scripts of the compositor. A script is the text that a run begins with: the display, what is
+//! The grammar of scripts. A script is the text that a run begins with: the display, what is
 //! declared, each actor's steps, and the order in which actors and vsyncs are picked. `parse`
-//! reads it whole before the first step is done, and its scene is all that a run depends on.
+//! reads it whole before the first step is done. Lines are read one by one; each is read after the
+//! draft that the lines before it left, and its leftmost wrong word is told with what is wrong.
 #![tactic(auto)]
 
-mod before;
+mod changes;
 mod declarations;
+mod draft;
 mod fault;
 mod keywords;
 mod line;
 mod mentions;
 mod order;
-mod scene;
+mod parts;
 mod script;
+mod second;
 mod steps;
-mod summary;
+mod transactions;
 
 pub use fault::{ParseFault, ScriptFault};
-pub use scene::{ActorScript, Change, Pick, QueueDecl, Scene, Step};
 pub use script::{LONGEST_SCRIPT, parse};

@@ -2,26 +2,25 @@ ghost use Rattle.std.specs.Prelude.{◌≡◌, ◌==◌, ◌≤◌, [], length, 
 ghost use Rattle.std.specs.List.{prefix_len};
 ghost use Rattle.sf_words.specs.Text.{words_of};
 ghost use Rattle.sf_words.specs.Reading.{Gives};
+ghost use Rattle.sf_scene.specs.Limits.{IsPick};
 ghost use Rattle.sf_script.specs.Memory.{GivesUnless};
-ghost use Rattle.sf_script.specs.Fits.{FitsPick};
 ghost use Rattle.sf_script.specs.Order.{order_at, pick_at, pick_of, picked_of, picks_at, times_of};
 
-use crate::before::Before;
+use crate::declarations::greatest_actor;
 use crate::fault::LineFault;
-use crate::scene::Pick;
+use sf_scene::{Pick, Scene};
 use sf_words::{Cause, WordFault, is, next_word, number_within, word, wrong};
 use std::alloc::Global;
 
-// Who is picked.
+// Who is picked, of so many.
 #[tactic(auto, unfolding(crate::specs::Order::picked_of))]
-fn picked(who: &[u8]) -> Option<u32>
-    ensures given { result ≡ picked_of who.now }
-    ensures range { IfSome result (λ n. n ≤ 16) }
+fn picked(most: u32, who: &[u8]) -> Option<u32>
+    ensures { result ≡ picked_of most who.now }
 {
     if is(who, b"v") {
         return Some(0);
     }
-    let number = number_within(who, 1, 16)?;
+    let number = number_within(who, 1, u64::from(most))?;
     Some(number as u32)
 }
 
@@ -49,12 +48,12 @@ fn who_length(word: &[u8]) -> usize
 }
 
 #[tactic(auto, unfolding(crate::specs::Order::pick_of))]
-fn pick(word: &[u8]) -> Option<Pick>
-    ensures given { result ≡ pick_of word.now }
-    ensures range { IfSome result (λ p. (p.actor ≤ 16) × (1 ≤ p.times) × (p.times ≤ 256)) }
+fn pick(most: u32, word: &[u8]) -> Option<Pick>
+    ensures given { result ≡ pick_of most word.now }
+    ensures range { IfSome result (λ p. (1 ≤ p.times) × (p.times ≤ 256)) }
 {
     let (who, behind) = word.split_at(who_length(word));
-    match (picked(who), times(behind)) {
+    match (picked(most, who), times(behind)) {
         (Some(actor), Some(times)) => Some(Pick { actor, times }),
         _ => None,
     }
@@ -62,14 +61,14 @@ fn pick(word: &[u8]) -> Option<Pick>
 
 // The pick of a word, with which what is left of the line begins.
 #[tactic(auto, unfolding(crate::specs::Order::pick_at))]
-fn declared_pick(before: &Before, line: &[u8], word: &[u8]) -> Result<Pick, WordFault>
-    ensures given { Gives (λ x. x) result (pick_at before.now (length (words_of line.now)) word.now) }
-    ensures fits { IfOk result (FitsPick before.now) }
+fn declared_pick(scene: &Scene, line: &[u8], word: &[u8]) -> Result<Pick, WordFault>
+    ensures given { Gives (λ x. x) result (pick_at scene.now (length (words_of line.now)) word.now) }
+    ensures fits { IfOk result (IsPick scene.now.actors) }
 {
-    let Some(pick) = pick(word) else {
+    let Some(pick) = pick(greatest_actor(scene.version), word) else {
         return Err(wrong(line, Cause::BadWord));
     };
-    if pick.actor == 0 || before.declares_actor(pick.actor) {
+    if pick.actor == 0 || scene.has_actor(pick.actor) {
         Ok(pick)
     } else {
         Err(wrong(line, Cause::Undefined))
@@ -78,25 +77,25 @@ fn declared_pick(before: &Before, line: &[u8], word: &[u8]) -> Result<Pick, Word
 
 /// `order PICK ..`
 #[tactic(auto, unfolding(crate::specs::Order::order_at))]
-pub fn order_line(alloc: Global, before: &Before, line: &[u8]) -> Result<Vec<Pick>, LineFault>
-    ensures given { GivesUnless (λ x. x.items) result (order_at before.now (words_of line.now)) }
-    ensures fits { IfOk result (λ v. All (FitsPick before.now) v.items) }
+pub fn order_line(alloc: Global, scene: &Scene, line: &[u8]) -> Result<Vec<Pick>, LineFault>
+    ensures given { GivesUnless (λ x. x.items) result (order_at scene.now (words_of line.now)) }
+    ensures fits { IfOk result (λ v. All (IsPick scene.now.actors) v.items) }
     ensures few { IfOk result (λ v. length v.items ≤ length line.now) }
 {
     word(line)?;
-    picks(alloc, before, line)
+    picks(alloc, scene, line)
 }
 
 #[tactic(auto, unfolding(crate::specs::Order::picks_at), using(sf_words::proofs::Sets::word_counts))]
-fn picks(alloc: Global, before: &Before, line: &[u8]) -> Result<Vec<Pick>, LineFault>
-    ensures given { GivesUnless (λ x. x.items) result (picks_at before.now [] (words_of line.now)) }
-    ensures fits { IfOk result (λ v. All (FitsPick before.now) v.items) }
+fn picks(alloc: Global, scene: &Scene, line: &[u8]) -> Result<Vec<Pick>, LineFault>
+    ensures given { GivesUnless (λ x. x.items) result (picks_at scene.now [] (words_of line.now)) }
+    ensures fits { IfOk result (λ v. All (IsPick scene.now.actors) v.items) }
     ensures few { IfOk result (λ v. length v.items ≤ length line.now) }
 {
     let mut picks = Vec::new(alloc);
     let mut rest = line;
     while let Some((word, after)) = next_word(rest) {
-        picks.push(declared_pick(before, rest, word)?)?;
+        picks.push(declared_pick(scene, rest, word)?)?;
         rest = after;
     }
     Ok(picks)

@@ -1,230 +1,222 @@
-ghost use Rattle.std.specs.Prelude.{◌≡◌, IfOk, IfSome, List, Some};
+ghost use Rattle.std.specs.Prelude.{◌≡◌, IfOk};
 ghost use Rattle.sf_words.specs.Text.{words_of};
 ghost use Rattle.sf_words.specs.Reading.{Gives};
-ghost use Rattle.sf_script.specs.Fits.{FitsNamed, FitsWords};
+ghost use Rattle.sf_scene.specs.Limits.{StepFits};
+ghost use Rattle.sf_scene.specs.Ranges.{IsName};
+ghost use Rattle.sf_script.specs.Fits.{NameFits, NamedFits};
 ghost use Rattle.sf_script.specs.Memory.{GivesUnless};
-ghost use Rattle.sf_script.specs.Scene.{IsAskedSize, IsChange};
-ghost use Rattle.sf_script.specs.Steps.{acquire_at, apply_at, asked_size_at, buffer_at, change_at, coloured_at, connect_at, created_at, dequeue_at, draw_at, parent_at, plain, queue_at, release_at, request_at, set_at, step_at, tx_at};
-ghost use Rattle.sf_script.specs.declared.line.Line.{Line};
+ghost use Rattle.sf_script.specs.Steps.{acquire_at, as_name_at, async_at, attach_at, dequeue_at, detach_at, draw_at, most_at, on_point_at, on_queue_at, plain, queue_at, request_at, return_at, step_at, step_of_attach, step_of_dequeue, step_of_detach, step_of_most, step_of_return, step_on_point, step_on_queue};
 
-use crate::before::Before;
+use crate::draft::Draft;
 use crate::fault::LineFault;
-use crate::line::{NamedStep, StepForm};
-use crate::mentions::{bound_name, declared_picture, declared_queue, used_name};
-use crate::scene::{Change, Step};
-use sf_words::{
-    Cause, WordFault, colour, demand, end, fixed, is, next_word, number32, word, wrong,
-};
+use crate::line::{BoundName, NamedStep, PointForm, QueueForm, Side, StepForm};
+use crate::mentions::{bound_name, declared_picture, declared_queue, declared_timeline, used_name};
+use crate::parts::{asked_size, expected, fences, part, time, value};
+use crate::transactions::{apply, barrier, buffer, desire, merge, set, tx};
+use sf_scene::{Scene, Step};
+use sf_words::{WordFault, end, fixed, flag, number32};
 use std::alloc::Global;
 
-// `connect Q`
-#[tactic(auto, unfolding(crate::specs::Steps::connect_at))]
-fn connect(before: &Before, line: &[u8]) -> Result<Step, WordFault>
-    ensures given { Gives (λ x. x) result (connect_at before.now (words_of line.now)) }
-    ensures fits { IfOk result (FitsWords before.now) }
+// `connect Q`, `disconnect Q`, `abandon Q`
+#[tactic(auto, unfolding(crate::specs::Steps::on_queue_at))]
+fn on_queue(scene: &Scene, form: QueueForm, line: &[u8]) -> Result<Step, WordFault>
+    ensures given { Gives (λ x. x) result (on_queue_at scene.now form (words_of line.now)) }
+    ensures fits { IfOk result (StepFits scene.now) }
 {
-    let (queue, rest) = declared_queue(before, line)?;
+    let (number, rest) = declared_queue(scene, line)?;
     end(rest)?;
-    Ok(Step::Connect(queue))
-}
-
-// `size DW DH`, or nothing
-#[tactic(auto, unfolding(crate::specs::Steps::asked_size_at))]
-fn asked_size(line: &[u8]) -> Result<Option<(u32, u32)>, WordFault>
-    ensures given { Gives (λ x. x) result (asked_size_at (words_of line.now)) }
-    ensures ranges { IfOk result (λ size. IfSome size IsAskedSize) }
-{
-    if next_word(line).is_none() {
-        return Ok(None);
+    match form {
+        QueueForm::Connect => Ok(Step::Connect(number)),
+        QueueForm::Disconnect => Ok(Step::Disconnect(number)),
+        QueueForm::Abandon => Ok(Step::Abandon(number)),
     }
-    let rest = fixed(line, b"size")?;
-    let (width, rest) = number32(rest, 0, u32::MAX)?;
-    let (height, rest) = number32(rest, 0, u32::MAX)?;
-    end(rest)?;
-    Ok(Some((width, height)))
 }
 
-// `dequeue Q as S`, with `size DW DH` behind it or without
-#[tactic(auto, unfolding(crate::specs::Steps::dequeue_at))]
-fn dequeue(alloc: Global, before: &Before, line: &[u8]) -> Result<NamedStep, LineFault>
-    ensures given { GivesUnless (λ x. x) result (dequeue_at before.now (words_of line.now)) }
-    ensures fits { IfOk result (FitsNamed before.now) }
+// `maxdequeued Q COUNT`, `maxacquired Q COUNT`
+#[tactic(auto, unfolding(crate::specs::Steps::most_at))]
+fn most(scene: &Scene, side: Side, line: &[u8]) -> Result<Step, WordFault>
+    ensures given { Gives (λ x. x) result (most_at scene.now side (words_of line.now)) }
+    ensures fits { IfOk result (StepFits scene.now) }
 {
-    let (queue, rest) = declared_queue(before, line)?;
-    let rest = fixed(rest, b"as")?;
-    let (name, rest) = bound_name(alloc, before, rest)?;
+    let (number, rest) = declared_queue(scene, line)?;
+    let (count, rest) = number32(rest, 0, u32::MAX)?;
+    end(rest)?;
+    match side {
+        Side::Producer => Ok(Step::MaxDequeued(number, count)),
+        Side::Consumer => Ok(Step::MaxAcquired(number, count)),
+    }
+}
+
+// `async Q FLAG`
+#[tactic(auto, unfolding(crate::specs::Steps::async_at))]
+fn asynchronous(scene: &Scene, line: &[u8]) -> Result<Step, WordFault>
+    ensures given { Gives (λ x. x) result (async_at scene.now (words_of line.now)) }
+    ensures fits { IfOk result (StepFits scene.now) }
+{
+    let (number, rest) = declared_queue(scene, line)?;
+    let (flag, rest) = flag(rest)?;
+    end(rest)?;
+    Ok(Step::Async(number, flag))
+}
+
+// `as NAME`
+#[tactic(auto, unfolding(crate::specs::Steps::as_name_at))]
+fn as_name<'a>(
+    alloc: Global,
+    draft: &Draft,
+    line: &'a [u8],
+) -> Result<(BoundName, &'a [u8]), LineFault>
+    ensures given { GivesUnless (λ x. (x.0, words_of x.1.now)) result (as_name_at draft.now (words_of line.now)) }
+    ensures range { IfOk result (λ x. IsName x.0.place) }
+    ensures room { IfOk result (λ x. NameFits draft.now.names x.0.new_name) }
+{
+    let rest = fixed(line, b"as")?;
+    bound_name(alloc, draft, rest)
+}
+
+// `dequeue Q as S [size DW DH]`, `dequeuewait Q as S [size DW DH]`
+#[tactic(auto, unfolding(crate::specs::Steps::dequeue_at))]
+fn dequeue(alloc: Global, draft: &Draft, waits: bool, line: &[u8]) -> Result<NamedStep, LineFault>
+    ensures given { GivesUnless (λ x. x) result (dequeue_at draft.now waits (words_of line.now)) }
+    ensures fits { IfOk result (NamedFits draft.now) }
+{
+    let (number, rest) = declared_queue(draft.scene(), line)?;
+    let (name, rest) = as_name(alloc, draft, rest)?;
     let size = asked_size(rest)?;
-    Ok(NamedStep {
-        step: Step::Dequeue(queue, name.place, size),
-        new_name: name.new_name,
-    })
+    let new_name = name.new_name;
+    if waits {
+        let step = Step::DequeueWait(number, name.place, size);
+        Ok(NamedStep { step, new_name })
+    } else {
+        let step = Step::Dequeue(number, name.place, size);
+        Ok(NamedStep { step, new_name })
+    }
 }
 
 // `request S`
 #[tactic(auto, unfolding(crate::specs::Steps::request_at))]
-fn request(before: &Before, line: &[u8]) -> Result<Step, WordFault>
-    ensures given { Gives (λ x. x) result (request_at before.now (words_of line.now)) }
-    ensures fits { IfOk result (FitsWords before.now) }
+fn request(draft: &Draft, line: &[u8]) -> Result<Step, WordFault>
+    ensures given { Gives (λ x. x) result (request_at draft.now (words_of line.now)) }
+    ensures fits { IfOk result (StepFits draft.now.scene) }
 {
-    let (name, rest) = used_name(before, line)?;
+    let (name, rest) = used_name(draft, line)?;
     end(rest)?;
     Ok(Step::Request(name))
 }
 
 // `draw S P`
 #[tactic(auto, unfolding(crate::specs::Steps::draw_at))]
-fn draw(before: &Before, line: &[u8]) -> Result<Step, WordFault>
-    ensures given { Gives (λ x. x) result (draw_at before.now (words_of line.now)) }
-    ensures fits { IfOk result (FitsWords before.now) }
+fn draw(draft: &Draft, line: &[u8]) -> Result<Step, WordFault>
+    ensures given { Gives (λ x. x) result (draw_at draft.now (words_of line.now)) }
+    ensures fits { IfOk result (StepFits draft.now.scene) }
 {
-    let (name, rest) = used_name(before, line)?;
-    let (picture, rest) = declared_picture(before, rest)?;
+    let (name, rest) = used_name(draft, line)?;
+    let (picture, rest) = declared_picture(draft.scene(), rest)?;
     end(rest)?;
     Ok(Step::Draw(name, picture))
 }
 
-// `queue S P`
+// `queue S P [time TIME] [crop FX FY FW FH] [fence T V]*`
 #[tactic(auto, unfolding(crate::specs::Steps::queue_at))]
-fn queue(before: &Before, line: &[u8]) -> Result<Step, WordFault>
-    ensures given { Gives (λ x. x) result (queue_at before.now (words_of line.now)) }
-    ensures fits { IfOk result (FitsWords before.now) }
+fn queue(alloc: Global, draft: &Draft, line: &[u8]) -> Result<Step, LineFault>
+    ensures given { GivesUnless (λ x. x) result (queue_at draft.now (words_of line.now)) }
+    ensures fits { IfOk result (StepFits draft.now.scene) }
 {
-    let (name, rest) = used_name(before, line)?;
-    let (picture, rest) = declared_picture(before, rest)?;
-    end(rest)?;
-    Ok(Step::Queue(name, picture))
+    let (name, rest) = used_name(draft, line)?;
+    let (picture, rest) = declared_picture(draft.scene(), rest)?;
+    let (time, rest) = time(rest)?;
+    let (part, rest) = part(rest)?;
+    let points = fences(alloc, draft.scene(), rest)?;
+    Ok(Step::Queue(name, picture, time, part, points))
 }
 
-// `acquire Q as I`
-#[tactic(auto, unfolding(crate::specs::Steps::acquire_at))]
-fn acquire(alloc: Global, before: &Before, line: &[u8]) -> Result<NamedStep, LineFault>
-    ensures given { GivesUnless (λ x. x) result (acquire_at before.now (words_of line.now)) }
-    ensures fits { IfOk result (FitsNamed before.now) }
+// `cancel S [fence T V]*`, `release I [fence T V]*`
+#[tactic(auto, unfolding(crate::specs::Steps::return_at))]
+fn returned(alloc: Global, draft: &Draft, side: Side, line: &[u8]) -> Result<Step, LineFault>
+    ensures given { GivesUnless (λ x. x) result (return_at draft.now side (words_of line.now)) }
+    ensures fits { IfOk result (StepFits draft.now.scene) }
 {
-    let (queue, rest) = declared_queue(before, line)?;
-    let rest = fixed(rest, b"as")?;
-    let (name, rest) = bound_name(alloc, before, rest)?;
+    let (name, rest) = used_name(draft, line)?;
+    let points = fences(alloc, draft.scene(), rest)?;
+    match side {
+        Side::Producer => Ok(Step::Cancel(name, points)),
+        Side::Consumer => Ok(Step::Release(name, points)),
+    }
+}
+
+// `pdetach S as B`, `cdetach I as B`
+#[tactic(auto, unfolding(crate::specs::Steps::detach_at))]
+fn detach(alloc: Global, draft: &Draft, side: Side, line: &[u8]) -> Result<NamedStep, LineFault>
+    ensures given { GivesUnless (λ x. x) result (detach_at draft.now side (words_of line.now)) }
+    ensures fits { IfOk result (NamedFits draft.now) }
+{
+    let (name, rest) = used_name(draft, line)?;
+    let (loose, rest) = as_name(alloc, draft, rest)?;
     end(rest)?;
+    let new_name = loose.new_name;
+    match side {
+        Side::Producer => {
+            let step = Step::PDetach(name, loose.place);
+            Ok(NamedStep { step, new_name })
+        }
+        Side::Consumer => {
+            let step = Step::CDetach(name, loose.place);
+            Ok(NamedStep { step, new_name })
+        }
+    }
+}
+
+// `pattach Q B as S`, `cattach Q B as I`
+#[tactic(auto, unfolding(crate::specs::Steps::attach_at))]
+fn attach(alloc: Global, draft: &Draft, side: Side, line: &[u8]) -> Result<NamedStep, LineFault>
+    ensures given { GivesUnless (λ x. x) result (attach_at draft.now side (words_of line.now)) }
+    ensures fits { IfOk result (NamedFits draft.now) }
+{
+    let (number, rest) = declared_queue(draft.scene(), line)?;
+    let (loose, rest) = used_name(draft, rest)?;
+    let (name, rest) = as_name(alloc, draft, rest)?;
+    end(rest)?;
+    let new_name = name.new_name;
+    match side {
+        Side::Producer => {
+            let step = Step::PAttach(number, loose, name.place);
+            Ok(NamedStep { step, new_name })
+        }
+        Side::Consumer => {
+            let step = Step::CAttach(number, loose, name.place);
+            Ok(NamedStep { step, new_name })
+        }
+    }
+}
+
+// `acquire Q as I [at TIME]`
+#[tactic(auto, unfolding(crate::specs::Steps::acquire_at))]
+fn acquire(alloc: Global, draft: &Draft, line: &[u8]) -> Result<NamedStep, LineFault>
+    ensures given { GivesUnless (λ x. x) result (acquire_at draft.now (words_of line.now)) }
+    ensures fits { IfOk result (NamedFits draft.now) }
+{
+    let (number, rest) = declared_queue(draft.scene(), line)?;
+    let (name, rest) = as_name(alloc, draft, rest)?;
+    let time = expected(rest)?;
     Ok(NamedStep {
-        step: Step::Acquire(queue, name.place),
+        step: Step::Acquire(number, name.place, time),
         new_name: name.new_name,
     })
 }
 
-// `release I`
-#[tactic(auto, unfolding(crate::specs::Steps::release_at))]
-fn release(before: &Before, line: &[u8]) -> Result<Step, WordFault>
-    ensures given { Gives (λ x. x) result (release_at before.now (words_of line.now)) }
-    ensures fits { IfOk result (FitsWords before.now) }
+// `signal T V`, `wait T V`
+#[tactic(auto, unfolding(crate::specs::Steps::on_point_at))]
+fn on_point(scene: &Scene, form: PointForm, line: &[u8]) -> Result<Step, WordFault>
+    ensures given { Gives (λ x. x) result (on_point_at scene.now form (words_of line.now)) }
+    ensures fits { IfOk result (StepFits scene.now) }
 {
-    let (name, rest) = used_name(before, line)?;
+    let (timeline, rest) = declared_timeline(scene, line)?;
+    let (value, rest) = value(rest)?;
     end(rest)?;
-    Ok(Step::Release(name))
-}
-
-// `tx N`
-#[tactic(auto, unfolding(crate::specs::Steps::tx_at))]
-fn tx(line: &[u8]) -> Result<Step, WordFault>
-    ensures given { Gives (λ x. x) result (tx_at (words_of line.now)) }
-    ensures fits { IfOk result (λ s. (lines : List Line) → FitsWords lines s) }
-{
-    let (number, rest) = number32(line, 1, 64)?;
-    end(rest)?;
-    Ok(Step::Tx(number))
-}
-
-// `PARENT`, behind `create` and the kind of the layer
-#[tactic(auto, unfolding(crate::specs::Steps::parent_at))]
-fn parent(line: &[u8]) -> Result<(Option<u32>, &[u8]), WordFault>
-    ensures given { Gives (λ x. (x.0, words_of x.1.now)) result (parent_at (words_of line.now)) }
-    ensures root { IfOk result (λ x. x.0 ≡ Some 0) }
-{
-    let (parent, rest) = number32(line, 0, 0)?;
-    Ok((Some(parent), rest))
-}
-
-// `colour PARENT` or `buffer PARENT`, behind `create`
-#[tactic(auto, unfolding(crate::specs::Steps::created_at))]
-fn created(line: &[u8]) -> Result<(Change, &[u8]), WordFault>
-    ensures given { Gives (λ x. (x.0, words_of x.1.now)) result (created_at (words_of line.now)) }
-    ensures fits { IfOk result (λ x. IsChange x.0) }
-{
-    let (kind, rest) = word(line)?;
-    if is(kind, b"colour") {
-        let (parent, rest) = parent(rest)?;
-        Ok((Change::CreateColour(parent), rest))
-    } else if is(kind, b"buffer") {
-        let (parent, rest) = parent(rest)?;
-        Ok((Change::CreateBuffer(parent), rest))
-    } else {
-        Err(wrong(line, Cause::UnknownWord))
+    match form {
+        PointForm::Signal => Ok(Step::Signal(timeline, value)),
+        PointForm::Wait => Ok(Step::Wait(timeline, value)),
     }
-}
-
-// `COLOUR`, behind `colour`
-#[tactic(auto, unfolding(crate::specs::Steps::coloured_at))]
-fn coloured(line: &[u8]) -> Result<(Change, &[u8]), WordFault>
-    ensures given { Gives (λ x. (x.0, words_of x.1.now)) result (coloured_at (words_of line.now)) }
-    ensures fits { IfOk result (λ x. IsChange x.0) }
-{
-    let (colour, rest) = colour(line)?;
-    Ok((Change::Colour(colour), rest))
-}
-
-// What a `set` line changes: `create ..` or `colour ..`
-#[tactic(auto, unfolding(crate::specs::Steps::change_at))]
-fn change(line: &[u8]) -> Result<(Change, &[u8]), WordFault>
-    ensures given { Gives (λ x. (x.0, words_of x.1.now)) result (change_at (words_of line.now)) }
-    ensures fits { IfOk result (λ x. IsChange x.0) }
-{
-    let (word, rest) = word(line)?;
-    if is(word, b"create") {
-        created(rest)
-    } else if is(word, b"colour") {
-        coloured(rest)
-    } else {
-        Err(wrong(line, Cause::UnknownWord))
-    }
-}
-
-// `set N LAYER ..`
-#[tactic(auto, unfolding(crate::specs::Steps::set_at))]
-fn set(line: &[u8]) -> Result<Step, WordFault>
-    ensures given { Gives (λ x. x) result (set_at (words_of line.now)) }
-    ensures fits { IfOk result (λ s. (lines : List Line) → FitsWords lines s) }
-{
-    let (number, rest) = number32(line, 1, 64)?;
-    let (layer, rest) = number32(rest, 1, u32::MAX)?;
-    let (changed, rest) = change(rest)?;
-    end(rest)?;
-    Ok(Step::Set(number, layer, changed))
-}
-
-// `buffer N LAYER I`
-#[tactic(auto, unfolding(crate::specs::Steps::buffer_at))]
-fn buffer(before: &Before, line: &[u8]) -> Result<Step, WordFault>
-    ensures given { Gives (λ x. x) result (buffer_at before.now (words_of line.now)) }
-    ensures fits { IfOk result (FitsWords before.now) }
-{
-    let (number, rest) = number32(line, 1, 64)?;
-    let (layer, rest) = number32(rest, 1, u32::MAX)?;
-    let (name, rest) = used_name(before, rest)?;
-    end(rest)?;
-    Ok(Step::Buffer(number, layer, name))
-}
-
-// `apply N token TOKEN`
-#[tactic(auto, unfolding(crate::specs::Steps::apply_at))]
-fn apply(before: &Before, line: &[u8]) -> Result<Step, WordFault>
-    ensures given { Gives (λ x. x) result (apply_at before.now (words_of line.now)) }
-    ensures fits { IfOk result (FitsWords before.now) }
-{
-    let (number, rest) = number32(line, 1, 64)?;
-    let named = fixed(rest, b"token")?;
-    let (token, rest) = number32(named, 1, u32::MAX)?;
-    demand(before.allows(token), named, Cause::Limit)?;
-    end(rest)?;
-    Ok(Step::Apply(number, token))
 }
 
 // A step that binds no new name.
@@ -241,24 +233,32 @@ fn unnamed(step: Step) -> NamedStep
 #[tactic(auto, unfolding(crate::specs::Steps::step_at))]
 pub fn step_line(
     alloc: Global,
-    before: &Before,
+    draft: &Draft,
     form: StepForm,
     line: &[u8],
 ) -> Result<NamedStep, LineFault>
-    ensures given { GivesUnless (λ x. x) result (step_at before.now form (words_of line.now)) }
-    ensures fits { IfOk result (FitsNamed before.now) }
+    ensures given { GivesUnless (λ x. x) result (step_at draft.now form (words_of line.now)) }
+    ensures fits { IfOk result (NamedFits draft.now) }
 {
     match form {
-        StepForm::Connect => Ok(unnamed(connect(before, line)?)),
-        StepForm::Dequeue => dequeue(alloc, before, line),
-        StepForm::Request => Ok(unnamed(request(before, line)?)),
-        StepForm::Draw => Ok(unnamed(draw(before, line)?)),
-        StepForm::Queue => Ok(unnamed(queue(before, line)?)),
-        StepForm::Acquire => acquire(alloc, before, line),
-        StepForm::Release => Ok(unnamed(release(before, line)?)),
+        StepForm::OnQueue(form) => Ok(unnamed(on_queue(draft.scene(), form, line)?)),
+        StepForm::Most(side) => Ok(unnamed(most(draft.scene(), side, line)?)),
+        StepForm::Async => Ok(unnamed(asynchronous(draft.scene(), line)?)),
+        StepForm::Dequeue(waits) => dequeue(alloc, draft, waits, line),
+        StepForm::Request => Ok(unnamed(request(draft, line)?)),
+        StepForm::Draw => Ok(unnamed(draw(draft, line)?)),
+        StepForm::Queue => Ok(unnamed(queue(alloc, draft, line)?)),
+        StepForm::Return(side) => Ok(unnamed(returned(alloc, draft, side, line)?)),
+        StepForm::Detach(side) => detach(alloc, draft, side, line),
+        StepForm::Attach(side) => attach(alloc, draft, side, line),
+        StepForm::Acquire => acquire(alloc, draft, line),
+        StepForm::OnPoint(form) => Ok(unnamed(on_point(draft.scene(), form, line)?)),
         StepForm::Tx => Ok(unnamed(tx(line)?)),
+        StepForm::Desire => Ok(unnamed(desire(line)?)),
+        StepForm::Buffer => Ok(unnamed(buffer(draft, line)?)),
+        StepForm::Barrier => Ok(unnamed(barrier(line)?)),
+        StepForm::Merge => Ok(unnamed(merge(line)?)),
+        StepForm::Apply => Ok(unnamed(apply(line)?)),
         StepForm::Set => Ok(unnamed(set(line)?)),
-        StepForm::Buffer => Ok(unnamed(buffer(before, line)?)),
-        StepForm::Apply => Ok(unnamed(apply(before, line)?)),
     }
 }

@@ -1,6 +1,6 @@
 use Rattle.std.proofs.Common.{◌≡◌, ◌≤◌, ◌∙◌, List, [], All, ap, arith, length, map, subst, sym}
-use Rattle.sf_script.specs.Scene.{SceneValue}
-use Rattle.sf_script.specs.declared.scene.Pick.{Pick}
+use Rattle.first_script.specs.Scene.{SceneValue}
+use Rattle.sf_scene.specs.declared.declarations.Pick.{Pick}
 use Rattle.sf_app.proofs.PlayLemmas.{all_times, cut_closing, cut_none, cut_opening, cut_order, cut_rounds, wrote_run}
 use Rattle.sf_record.specs.declared.record.ArrivalEntry.{ArrivalEntry}
 use Rattle.sf_record.specs.Events.{closing}

@@ -1,6 +1,6 @@
 use Rattle.std.proofs.Common.{◌≤◌, arith}
 use Rattle.std.proofs.lemmas.List.Elements.{All-get_or}
-use Rattle.sf_script.specs.declared.scene.Pick.{Pick}
+use Rattle.sf_scene.specs.declared.declarations.Pick.{Pick}
 use Rattle.sf_app.proofs.RunLemmas.{Going-cut, Going-end, Going-many, Going-start, picks_in-end, picks_in-next}
 use Rattle.sf_app.proofs.RoundLemmas.{stays_more, stays_start}
 use Rattle.sf_app.proofs.play.play_order.Goals as goal

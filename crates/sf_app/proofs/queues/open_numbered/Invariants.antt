@@ -1,5 +1,5 @@
 use Rattle.std.proofs.Common.{◌==◌, filter, take}
-use Rattle.sf_script.specs.declared.scene.QueueDecl.{QueueDecl}
+use Rattle.sf_scene.specs.declared.declarations.QueueDecl.{QueueDecl}
 use Rattle.sf_app.specs.Queues.{AreNew}
 use Rattle.sf_app.proofs.queues.open_numbered.Given as goal
 

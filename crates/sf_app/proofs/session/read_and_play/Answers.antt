@@ -1,5 +1,5 @@
 use Rattle.std.proofs.Common.{ap, Err, Ok, refl}
-use Rattle.sf_script.specs.Parse.{at_no_place}
+use Rattle.first_script.specs.Parse.{at_no_place}
 use Rattle.sf_app.specs.Statuses.{misspelled, too_long}
 use Rattle.sf_app.proofs.PlayLemmas.{cut_whole}
 use Rattle.sf_app.proofs.StatusLemmas.{writes_none, writes_read, writes_too_long}

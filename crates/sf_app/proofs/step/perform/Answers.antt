@@ -1,5 +1,5 @@
 use Rattle.std.proofs.Common.{◌+◌, refl, ap, ◌∙◌}
-use Rattle.sf_script.specs.Scene.{SceneValue}
+use Rattle.first_script.specs.Scene.{SceneValue}
 use Rattle.sf_app.proofs.StepLemmas.{next_few, next_known, steps_on, steps_turn}
 use Rattle.sf_app.proofs.step.perform.Goals as goal
 

@@ -1,5 +1,5 @@
 use Rattle.std.proofs.Common.{◌+◌, arith, ap, map, sym, ◌∙◌, refl}
-use Rattle.sf_script.specs.Scene.{SceneValue}
+use Rattle.first_script.specs.Scene.{SceneValue}
 use Rattle.first_actor.specs.Plain.{past_of}
 use Rattle.first_actor.specs.Scripts.{picture_at}
 use Rattle.first_commit.specs.Commits.{stage_of}

@@ -1,6 +1,6 @@
 use Rattle.std.proofs.Common.{◌≡◌, None, map, refl, subst}
-use Rattle.sf_script.specs.declared.scene.Step.{Step}
-use Rattle.sf_script.specs.declared.scene.Step.TheVariants as step
+use Rattle.first_script.specs.declared.scene.Step.{Step}
+use Rattle.first_script.specs.declared.scene.Step.TheVariants as step
 use Rattle.first_actor.specs.Actors.{books_of}
 use Rattle.first_actor.specs.Plain.{past_of}
 use Rattle.first_actor.specs.Scripts.{picture_at}

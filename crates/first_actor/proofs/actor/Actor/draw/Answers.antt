@@ -1,6 +1,6 @@
 use Rattle.std.proofs.Common.{◌≡◌, ◌∙◌, sym, ap, subst, Some, None, set, true}
 use Rattle.sf_picture.specs.declared.picture.Picture.{Picture}
-use Rattle.sf_script.specs.declared.scene.Step.TheVariants as step
+use Rattle.first_script.specs.declared.scene.Step.TheVariants as step
 use Rattle.first_surface.specs.Leases.{WriteLeaseOf, drawn_with, is_size_of}
 use Rattle.first_actor.specs.declared.actor.Actor.{Actor}
 use Rattle.first_actor.specs.declared.done.Answered.TheVariants as answered

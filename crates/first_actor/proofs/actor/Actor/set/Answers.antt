@@ -1,6 +1,6 @@
 use Rattle.std.proofs.Common.{◌≡◌, ◌∙◌, sym, ap, subst, ◌++◌, ◌∷◌, []}
 use Rattle.sf_layer.specs.declared.op.Op.{Op}
-use Rattle.sf_script.specs.declared.scene.Step.TheVariants as step
+use Rattle.first_script.specs.declared.scene.Step.TheVariants as step
 use Rattle.first_actor.specs.declared.actor.Actor.{Actor}
 use Rattle.first_actor.specs.declared.done.Answered.TheVariants as answered
 use Rattle.first_actor.specs.declared.operation.Edit.TheVariants as edit

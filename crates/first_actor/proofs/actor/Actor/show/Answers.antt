@@ -1,5 +1,5 @@
 use Rattle.std.proofs.Common.{◌≡◌, ◌∙◌, None, Some, ap, sym, subst, get_or, map}
-use Rattle.sf_script.specs.declared.scene.Step.TheVariants as step
+use Rattle.first_script.specs.declared.scene.Step.TheVariants as step
 use Rattle.first_actor.specs.declared.actor.Actor.{Actor}
 use Rattle.first_actor.specs.declared.done.Answered.TheVariants as answered
 use Rattle.first_actor.specs.Moves.{Acts, Preserves}

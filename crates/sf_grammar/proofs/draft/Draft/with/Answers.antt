@@ -1,5 +1,0 @@
-use Rattle.sf_grammar.proofs.DraftLemmas.{few_names}
-use Rattle.sf_grammar.proofs.draft.Draft.with.Goals as goal
-
-pub invariant_of-result : goal.invariant_of-result
-invariant_of-result c = rw c.in_ok-names.ensures (few_names _ _ c.self.invariant (rw (← c.self.view_is) at c.requires.fits.name))
