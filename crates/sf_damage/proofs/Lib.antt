@@ -1,0 +1,6 @@
+mod DiffersLemmas
+mod MeetingLemmas
+mod SameLemmas
+mod SplitLemmas
+mod StackLemmas
+mod VisibleLemmas
