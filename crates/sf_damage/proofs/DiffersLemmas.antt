@@ -1,5 +1,5 @@
 -- The points at which two lists of drawn layers differ, from those of the layers above.
-use Rattle.std.proofs.Common.{◌≡◌, ◌≢◌, ◌↔◌, ℤ, Bool, true, false, not, ◌&&◌, ◌||◌, List, [], ◌∷◌, refl, sym, ◌∙◌, ap, subst}
+use Rattle.std.proofs.Common.{◌≡◌, ◌≢◌, ℤ, true, not, ◌&&◌, ◌||◌, List, [], ◌∷◌, refl, sym, subst}
 use Rattle.std.proofs.lemmas.Bool.{false≢true}
 use Rattle.sf_base.specs.Geometry.{covers}
 use Rattle.sf_base.specs.declared.geometry.Rect.{Rect}

@@ -1,6 +1,6 @@
 mod DiffersLemmas
+mod ListLemmas
 mod MeetingLemmas
-mod SameLemmas
 mod SplitLemmas
 mod StackLemmas
 mod VisibleLemmas

@@ -1,16 +1,12 @@
 -- Stacks of lists of drawn layers, one layer more at the back.
-use Rattle.std.proofs.Common.{◌≡◌, ◌≢◌, ◌↔◌, ℕ, ℤ, pos, ◌+ℤ◌, ◌≤ℤ◌, Bool, true, false, not, ◌&&◌, ◌||◌, List, [], ◌∷◌, refl, sym, ◌∙◌, ap, arith}
-use Rattle.std.specs.List.{All}
-use Rattle.std.proofs.lemmas.Bool.{both_ways, or_parts, true_from_ne_false}
-use Rattle.std.proofs.lemmas.Int.{ints}
-use Rattle.std.proofs.lemmas.List.Elements.{All-weaker}
-use Rattle.sf_base.specs.Geometry.{covers}
+use Rattle.std.proofs.Common.{◌≡◌, ◌≢◌, ◌↔◌, ℤ, Bool, true, false, List, [], ◌∷◌, refl, sym, ◌∙◌, ap, subst}
+use Rattle.std.proofs.lemmas.Bool.{true_from_ne_false}
 use Rattle.sf_base.specs.declared.geometry.Rect.{Rect}
-use Rattle.sf_region.specs.Points.{has, IsInBounds}
+use Rattle.sf_region.specs.Points.{has}
 use Rattle.sf_view.specs.Stacks.{Sheet, sheet_of, stack}
-use Rattle.sf_view.specs.Views.{IsClip, IsDisplay, is_in_clip, IsView, ViewOf}
+use Rattle.sf_view.specs.Views.{is_in_clip, ViewOf}
 use Rattle.sf_view.specs.declared.drawn.Drawn.{Drawn}
-use Rattle.sf_damage.specs.Damage.{AreNear, Damages, DiffersIn, IsSameBeside, stack_in}
+use Rattle.sf_damage.specs.Damage.{Damages, DiffersIn, IsSameBeside, stack_in}
 
 pub stack-in : (d : Drawn) (ds : List Drawn) (x y : ℤ) → is_in_clip d x y ≡ true → stack_in (d ∷ ds) x y ≡ sheet_of d ∷ stack_in ds x y
 stack-in d ds x y t = rw t refl
@@ -63,18 +59,6 @@ stack-without d ds others x y t = ((λ h e. h (sym (stack-out d ds x y t) ∙ e)
 pub stack-without_new : (d : Drawn) (ds : List Drawn) (others : List Sheet) (x y : ℤ) → is_in_clip d x y ≡ false → (others ≢ stack_in ds x y) ↔ (others ≢ stack_in (d ∷ ds) x y)
 stack-without_new d ds others x y t = ((λ h e. h (e ∙ stack-out d ds x y t)), (λ h e. h (e ∙ sym (stack-out d ds x y t))))
 
-near : (w h : ℕ) (d : Drawn) → IsDisplay w h → IsClip w h d → IsInBounds d.clip
-near w h d display clip = record {
-  left = omega (arith, ints, clip.left);
-  right = omega (arith, ints, clip.right, display.narrow);
-  top = omega (arith, ints, clip.top);
-  bottom = omega (arith, ints, clip.bottom, display.low);
-}
-
--- the clips of a view are within the bounds of regions
-pub AreNear-view : (view : ViewOf) → IsView view → AreNear view.drawn
-AreNear-view view v = All-weaker (IsClip view.width view.height) (λ d. IsInBounds d.clip) (λ d clip. near view.width view.height d v.display clip) view.drawn v.clips
-
 -- a region that tells all differences of a part that has them all
 pub Damages-part : (old new : ViewOf) (part region : List Rect) → IsSameBeside old.drawn new.drawn part → DiffersIn old.drawn new.drawn part region → Damages old new region
 unfolding stack
@@ -84,3 +68,9 @@ Damages-part old new part region beside differs = record {
     (λ apart. (differs.points x y).1 (true_from_ne_false (has part x y) (λ lacks. apart (beside.stacks x y lacks)), apart)),
   );
 }
+
+pub Damages-lists : (old new : ViewOf) (olds news : List Drawn) (part region : List Rect) → olds ≡ old.drawn → news ≡ new.drawn → IsSameBeside olds news part → DiffersIn olds news part region → Damages old new region
+Damages-lists old new olds news part region e f beside differs =
+    Damages-part old new part region
+    (subst (λ (ns : List Drawn). IsSameBeside old.drawn ns part) f (subst (λ (os : List Drawn). IsSameBeside os news part) e beside))
+    (subst (λ (ns : List Drawn). DiffersIn old.drawn ns part region) f (subst (λ (os : List Drawn). DiffersIn os news part region) e differs))

@@ -1,47 +1,17 @@
 -- What shows of a layer, and that what is hidden is nothing.
-use Rattle.std.proofs.Common.{◌≡◌, ℕ, ℤ, ◌+◌, ◌-◌, ◌*◌, ◌/◌, Bool, true, false, not, ◌&&◌, ◌||◌, if◌then◌else◌, List, [], ◌∷◌, ◌++◌, reverse, map, filter, refl, sym, ◌∙◌, ap, subst, arith, inl, inr}
+use Rattle.std.proofs.Common.{◌≡◌, ℕ, ℤ, ◌+◌, ◌-◌, ◌*◌, ◌/◌, Bool, true, false, List, [], ◌∷◌, map, filter, refl, ◌∙◌, ap, arith, inl, inr}
 use Rattle.std.specs.List.{list_any}
 use Rattle.std.proofs.lemmas.Bool.{and_parts, both_ways, eqb-true, false≢true, or_cases}
-use Rattle.std.proofs.lemmas.List.{reverse-append}
-use Rattle.sf_base.specs.Geometry.{covers}
 use Rattle.sf_base.specs.Blend.{blended, product}
 use Rattle.sf_base.specs.Paint.{painted}
-use Rattle.sf_base.specs.declared.geometry.Rect.{Rect}
 use Rattle.sf_base.specs.declared.pixel.Rgba.{Rgba}
 use Rattle.sf_picture.specs.declared.picture.Picture.{Picture}
-use Rattle.sf_region.specs.Points.{has}
 use Rattle.sf_view.specs.Contents.{pixel_of, source_of}
 use Rattle.sf_view.specs.Image.{opaque_black}
 use Rattle.sf_view.specs.Stacks.{sheet_of, stack, under_stack, view_image}
 use Rattle.sf_view.specs.Views.{ViewOf, is_in_clip}
 use Rattle.sf_view.specs.declared.drawn.Drawn.{Drawn}
-use Rattle.sf_damage.specs.Visible.{AreVisible, hides_all, hides_at, over_one, seen_over, shows_at}
-
--- one layer more at the back
-pub AreVisible-more : (d : Drawn) (above : List Drawn) (shown : List (List Rect)) (region hidden : List Rect) → AreVisible above (reverse shown) → ((x y : ℤ) → has hidden x y ≡ list_any (hides_at x y) above) → ((x y : ℤ) → has region x y ≡ (covers d.clip x y && not (has hidden x y))) → AreVisible (d ∷ above) (reverse (shown ++ region ∷ []))
-AreVisible-more d above shown region hidden seen hides shows =
-    subst (λ (regions : List (List Rect)). AreVisible (d ∷ above) regions) (sym (reverse-append shown (region ∷ [])))
-    ((λ x y. shows x y ∙ ap (λ (b : Bool). covers d.clip x y && not b) (hides x y)), seen)
-
-pub hides-more : (d : Drawn) (above : List Drawn) (hidden all : List Rect) → hides_all d ≡ true → ((x y : ℤ) → has hidden x y ≡ list_any (hides_at x y) above) → ((x y : ℤ) → has all x y ≡ (covers d.clip x y || has hidden x y)) → (x y : ℤ) → has all x y ≡ list_any (hides_at x y) (d ∷ above)
-hides-more d above hidden all t hides more x y = rw t (more x y ∙ ap (λ (b : Bool). covers d.clip x y || b) (hides x y))
-
-pub hides-not : (d : Drawn) (above : List Drawn) (hidden : List Rect) → hides_all d ≡ false → ((x y : ℤ) → has hidden x y ≡ list_any (hides_at x y) above) → (x y : ℤ) → has hidden x y ≡ list_any (hides_at x y) (d ∷ above)
-hides-not d above hidden t hides x y = rw t (hides x y)
-
-covered : (a c h : Bool) → (c && not h) ≡ false → h ≡ ((a && c) || h)
-covered true true true e = refl
-covered true true false e = absurd (false≢true (sym e))
-covered true false h e = refl
-covered false c h e = refl
-
--- a layer of which nothing shows hides no more
-pub hides-covered : (d : Drawn) (above : List Drawn) (hidden region : List Rect) → region ≡ [] → ((x y : ℤ) → has region x y ≡ (covers d.clip x y && not (has hidden x y))) → ((x y : ℤ) → has hidden x y ≡ list_any (hides_at x y) above) → (x y : ℤ) → has hidden x y ≡ list_any (hides_at x y) (d ∷ above)
-hides-covered d above hidden region none shows hides x y =
-    let empty : has region x y ≡ false = rw none refl in
-    covered (hides_all d) (covers d.clip x y) (has hidden x y) (sym (shows x y) ∙ empty) ∙ ap (λ (b : Bool). (hides_all d && covers d.clip x y) || b) (hides x y)
-
--- painting
+use Rattle.sf_damage.specs.Visible.{hides_all, hides_at, over_one, seen_over}
 
 cover-whole : (a : ℕ) → a ≡ 255 → 255 - (a * 255 + 127) / 255 ≡ 0
 cover-whole a e = rw e refl

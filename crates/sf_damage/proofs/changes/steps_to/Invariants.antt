@@ -1,4 +1,4 @@
-use Rattle.std.proofs.Common.{◌≡◌, ◌≢◌, ℕ, ◌<◌, slice_get, Some}
+use Rattle.std.proofs.Common.{◌≢◌, ℕ, ◌<◌, slice_get, Some}
 use Rattle.sf_damage.proofs.changes.steps_to.Given as goal
 
 abbrev pub invariant-loop-steps : goal.invariant-loop-steps

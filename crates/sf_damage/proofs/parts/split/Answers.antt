@@ -1,4 +1,3 @@
-use Rattle.std.proofs.Common.{false, not, ◌&&◌}
 use Rattle.sf_damage.proofs.MeetingLemmas.{apart_points}
 use Rattle.sf_damage.proofs.parts.split.Goals as goal
 
