@@ -5,9 +5,9 @@ use crate::done::{Answered, Done};
 use crate::holding::Holding;
 use crate::operation::Operation;
 use crate::table::Table;
+use first_script::Step;
 use sf_base::{ActorId, Items, NoMemory};
 use sf_picture::Picture;
-use first_script::Step;
 use std::alloc::Global;
 
 /// An actor: the steps that it has done, and what its names and transaction numbers hold.

@@ -7,11 +7,11 @@ use crate::editing::with_edit;
 use crate::holding::Holding;
 use crate::operation::{Edit, Operation};
 use crate::refusal::picture_of;
+use first_script::Change;
 use first_surface::{ReadLease, WriteLease};
 use sf_base::{Items, LayerId, NoMemory};
 use sf_layer::{Kind, Op, Parent};
 use sf_picture::Picture;
-use first_script::Change;
 use std::alloc::Global;
 
 /// The parent that a script names.

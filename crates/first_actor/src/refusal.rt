@@ -5,9 +5,9 @@ ghost use Rattle.first_actor.specs.Scripts.{has_number, has_picture, picture_at}
 
 use crate::actor::Actor;
 use crate::holding::Holding;
+use first_script::Step;
 use first_surface::{ReadLease, WriteLease};
 use sf_picture::Picture;
-use first_script::Step;
 
 /// The picture was not drawn in the buffer, has another size, or the frame has no number.
 const BAD_VALUE: u32 = 11;

@@ -1,13 +1,14 @@
 ghost use Rattle.std.specs.Prelude.{◌≤◌};
 
 use crate::words::number32;
-use crate::{compose, fill, operation, read, scene};
+use crate::{compose, damage, fill, operation, read, scene};
 use page_lease::Page;
 use sf_base::{LayerId, NoMemory};
 use sf_layer::{Kind, Op, Parent};
 use sf_picture::Painted;
 use sf_tree::Tree;
 use sf_txn::Transaction;
+use sf_view::View;
 use std::alloc::{AllocError, Global};
 use std::io;
 use std::str::SplitWhitespace;
@@ -21,6 +22,7 @@ pub struct Case {
     contents: Vec<Painted>,
     txn: Transaction<Page>,
     other: Transaction<Page>,
+    before: Option<View>,
 }
 
 /// A tree for at most as many layers as a line says.
@@ -56,6 +58,7 @@ impl Case {
                 contents: Vec::new(alloc),
                 txn: Transaction::new(alloc),
                 other: Transaction::new(alloc),
+                before: None,
             }),
             Err(NoMemory) => Err(AllocError),
         }
@@ -151,6 +154,43 @@ impl Case {
         }
     }
 
+    /// Keeps a view as the one before.
+    fn with_view(&mut self, view: Option<View>) -> bool {
+        self.before = view;
+        self.before.is_some()
+    }
+
+    /// Prints where a view differs from the one before.
+    fn compare(&self, rt: &impl Print, view: Option<View>) -> io::Result<bool> {
+        match (&self.before, view) {
+            (Some(before), Some(view)) => {
+                damage::changed(rt, self.alloc, before, &view)?;
+                Ok(true)
+            }
+            _ => Ok(false),
+        }
+    }
+
+    /// Does what a line says of the view before. Answers whether it says something.
+    fn use_view(
+        &mut self,
+        rt: &impl Print,
+        name: &str,
+        words: &mut SplitWhitespace<'_>,
+    ) -> io::Result<bool> {
+        match name {
+            "keep" => {
+                let view = scene::viewed(self.alloc, &self.tree, words);
+                Ok(self.with_view(view))
+            }
+            "dirty" => {
+                let view = scene::viewed(self.alloc, &self.tree, words);
+                self.compare(rt, view)
+            }
+            _ => Ok(false),
+        }
+    }
+
     /// Does what a line says that begins with a name.
     fn do_named(&mut self, rt: &impl Print, line: &str) -> io::Result<bool> {
         let mut words = line.split_whitespace();
@@ -172,6 +212,7 @@ impl Case {
         Ok(
             self.use_kept(rt, name)?
                 || self.read(rt, name, &mut words)?
+                || self.use_view(rt, name, &mut words)?
                 || scene::ask(rt, self.alloc, &self.tree, &self.contents, name, &mut words)?
                 || fill::fill(rt, self.alloc, &mut self.txn, name, &mut words)?,
         )

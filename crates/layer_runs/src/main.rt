@@ -17,6 +17,9 @@
 //! | `picture WIDTH HEIGHT FILL ..` | a picture of the next number, from 0; a fill is `X Y WIDTH HEIGHT R G B A` |
 //! | `frame WIDTH HEIGHT` | the pixels of a display: how often each stands in a row, and its channels |
 //! | `part WIDTH HEIGHT RECTANGLE ..` | the same after these were composed into a frame of sevens |
+//! | `shows WIDTH HEIGHT` | the points at which each drawn layer shows, from the back; with layers after it, of these in order |
+//! | `keep WIDTH HEIGHT` | what a display shows is kept as the view before; with layers after it, what it shows of these |
+//! | `dirty WIDTH HEIGHT` | where what a display shows, of all or of these layers, differs from the view before |
 //! | `buffer LAYER FRAME` | the transaction shows a frame of queue 1 on a layer |
 //! | `barrier LAYER FRAME`, `token N`, `desire TIME` | what else a transaction holds |
 //! | `show` | all that the transaction holds |
@@ -31,6 +34,7 @@
 
 mod case;
 mod compose;
+mod damage;
 mod fill;
 mod operation;
 mod read;

@@ -4,7 +4,7 @@ ghost use Rattle.sf_layer.specs.Ranges.{IsOperation};
 ghost use Rattle.sf_view.specs.Views.{IsDisplay};
 
 use crate::words::{layer, number32};
-use crate::{compose, show};
+use crate::{compose, damage, show};
 use sf_base::LayerId;
 use sf_layer::Op;
 use sf_picture::Painted;
@@ -103,7 +103,7 @@ fn size(words: &mut SplitWhitespace<'_>) -> Option<(u32, u32)>
 }
 
 /// What a display of a size shows: of all layers, or of those of an order.
-fn viewed(alloc: Global, tree: &Tree, words: &mut SplitWhitespace<'_>) -> Option<View> {
+pub fn viewed(alloc: Global, tree: &Tree, words: &mut SplitWhitespace<'_>) -> Option<View> {
     let (width, height) = size(words)?;
     let ids = named(alloc, words)?;
     let view = if ids.is_empty() {
@@ -166,6 +166,10 @@ pub fn ask(
         },
         "view" => match viewed(alloc, tree, words) {
             Some(view) => show::view(rt, &view)?,
+            None => return Ok(false),
+        },
+        "shows" => match viewed(alloc, tree, words) {
+            Some(view) => damage::shows(rt, alloc, &view)?,
             None => return Ok(false),
         },
         "frame" => print_frame(rt, name, frame(alloc, tree, contents, words))?,

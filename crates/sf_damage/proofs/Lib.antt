@@ -1,0 +1,6 @@
+mod DiffersLemmas
+mod ListLemmas
+mod MeetingLemmas
+mod SplitLemmas
+mod StackLemmas
+mod VisibleLemmas

@@ -1,0 +1,67 @@
+-- What shows of a layer, and that what is hidden is nothing.
+use Rattle.std.proofs.Common.{◌≡◌, ℕ, ℤ, ◌+◌, ◌-◌, ◌*◌, ◌/◌, Bool, true, false, List, [], ◌∷◌, map, filter, refl, ◌∙◌, ap, arith, inl, inr}
+use Rattle.std.specs.List.{list_any}
+use Rattle.std.proofs.lemmas.Bool.{and_parts, both_ways, eqb-true, false≢true, or_cases}
+use Rattle.sf_base.specs.Blend.{blended, product}
+use Rattle.sf_base.specs.Paint.{painted}
+use Rattle.sf_base.specs.declared.pixel.Rgba.{Rgba}
+use Rattle.sf_picture.specs.declared.picture.Picture.{Picture}
+use Rattle.sf_view.specs.Contents.{pixel_of, source_of}
+use Rattle.sf_view.specs.Image.{opaque_black}
+use Rattle.sf_view.specs.Stacks.{sheet_of, stack, under_stack, view_image}
+use Rattle.sf_view.specs.Views.{ViewOf, is_in_clip}
+use Rattle.sf_view.specs.declared.drawn.Drawn.{Drawn}
+use Rattle.sf_damage.specs.Visible.{hides_all, hides_at, over_one, seen_over}
+
+cover-whole : (a : ℕ) → a ≡ 255 → 255 - (a * 255 + 127) / 255 ≡ 0
+cover-whole a e = rw e refl
+
+nothing-left : (x : ℕ) → (x * 0 + 127) / 255 ≡ 0
+nothing-left x = let none : x * 0 ≡ 0 = omega arith in rw none refl
+
+-- a pixel of whole alpha leaves nothing of what it is painted over
+painted-solid : (under other source : Rgba) → source.a ≡ 255 → painted under source 255 ≡ painted other source 255
+unfolding painted blended product
+painted-solid under other source solid =
+    rw (cover-whole source.a solid, nothing-left under.r, nothing-left under.g, nothing-left under.b, nothing-left under.a, nothing-left other.r, nothing-left other.g, nothing-left other.b, nothing-left other.a) refl
+
+-- a layer that hides what is below it is painted the same over anything
+over_one-hides : (picture : ℕ → Picture) (x y : ℤ) (under other : Rgba) (d : Drawn) → hides_all d ≡ true → over_one picture x y under d ≡ over_one picture x y other d
+over_one-hides picture x y under other d t =
+    let parts = and_parts d.opaque _ t in
+    let alpha : d.alpha ≡ 255 = eqb-true d.alpha 255 parts.1 in
+    rw (parts.0, alpha) (painted-solid under other (source_of true (pixel_of picture d.content d.orient d.place x y)) refl)
+
+-- a pixel under the layers of a list whose clip has the point
+abbrev under_clips : (ℕ → Picture) → ℤ → ℤ → Rgba → List Drawn → Rgba
+under_clips picture x y under layers = under_stack picture x y under (map sheet_of (filter (λ drawn. is_in_clip drawn x y) layers))
+
+-- below layers of which one hides the point it does not count what was there
+clips-hide : (picture : ℕ → Picture) (x y : ℤ) (layers : List Drawn) → list_any (hides_at x y) layers ≡ true → (under other : Rgba) → under_clips picture x y under layers ≡ under_clips picture x y other layers
+clips-hide picture x y [] h under other = absurd (false≢true h)
+clips-hide picture x y (d ∷ ds) h under other = by_tests (is_in_clip d x y) (hides_all d) refl refl (clips-hide picture x y ds)
+  where
+    rest_hides : ((hides_all d ≡ true) × (is_in_clip d x y ≡ true) → ⊥) → list_any (hides_at x y) ds ≡ true
+    rest_hides not_here = elim (or_cases (hides_at x y d) (list_any (hides_at x y) ds) h) [
+      | inl here ↦ absurd (not_here (and_parts (hides_all d) (is_in_clip d x y) here))
+      | inr later ↦ later
+    ]
+
+    by_tests : (c a : Bool) → is_in_clip d x y ≡ c → hides_all d ≡ a → (list_any (hides_at x y) ds ≡ true → (u v : Rgba) → under_clips picture x y u ds ≡ under_clips picture x y v ds) → under_clips picture x y under (d ∷ ds) ≡ under_clips picture x y other (d ∷ ds)
+    by_tests true true t s rest = rw t (ap (λ (u : Rgba). under_clips picture x y u ds) (over_one-hides picture x y under other d s))
+    by_tests true false t s rest = rw t (rest (rest_hides (λ q. both_ways (hides_all d) s q.0)) (over_one picture x y under d) (over_one picture x y other d))
+    by_tests false a t s rest = rw t (rest (rest_hides (λ q. both_ways (is_in_clip d x y) t q.1)) under other)
+
+pub seen-same : (picture : ℕ → Picture) (x y : ℤ) (layers : List Drawn) (under : Rgba) → seen_over picture x y under layers ≡ under_clips picture x y under layers
+seen-same picture x y [] under = refl
+seen-same picture x y (d ∷ ds) under = by_tests (is_in_clip d x y) (list_any (hides_at x y) ds) refl refl (seen-same picture x y ds)
+  where
+    by_tests : (c h : Bool) → is_in_clip d x y ≡ c → list_any (hides_at x y) ds ≡ h → ((u : Rgba) → seen_over picture x y u ds ≡ under_clips picture x y u ds) → seen_over picture x y under (d ∷ ds) ≡ under_clips picture x y under (d ∷ ds)
+    by_tests true false t s rest = rw (t, s) (rest (over_one picture x y under d))
+    by_tests true true t s rest = rw (t, s) (rest under ∙ clips-hide picture x y ds s under (over_one picture x y under d))
+    by_tests false h t s rest = rw t (rest under)
+
+-- what is hidden is nothing
+pub hidden_is_nothing : (picture : ℕ → Picture) (view : ViewOf) (x y : ℤ) → seen_over picture x y opaque_black view.drawn ≡ view_image picture view x y
+unfolding stack view_image
+hidden_is_nothing picture view x y = seen-same picture x y view.drawn opaque_black

@@ -1,0 +1,4 @@
+pub mod Damage
+pub mod Manners
+pub mod Meeting
+pub mod Visible

@@ -1,0 +1,46 @@
+-- Which points of its clip a drawn layer shows.
+use Rattle.std.specs.Prelude.{◌≡◌, ℕ, ℤ, ◌==◌, Bool, not, ◌&&◌, List, [], ◌∷◌, if◌then◌else◌}
+use Rattle.std.specs.List.{list_any}
+use Rattle.sf_base.specs.Paint.{painted}
+use Rattle.sf_base.specs.declared.geometry.Rect.{Rect}
+use Rattle.sf_base.specs.declared.pixel.Rgba.{Rgba}
+use Rattle.sf_picture.specs.declared.picture.Picture.{Picture}
+use Rattle.sf_region.specs.Points.{has}
+use Rattle.sf_view.specs.Contents.{pixel_of, source_of}
+use Rattle.sf_view.specs.Image.{opaque_black}
+use Rattle.sf_view.specs.Stacks.{view_image}
+use Rattle.sf_view.specs.Views.{ViewOf, is_in_clip}
+use Rattle.sf_view.specs.declared.drawn.Drawn.{Drawn}
+
+-- a layer hides what is below its clip: it is opaque, and its alpha is full
+abbrev pub hides_all : Drawn → Bool
+hides_all drawn = drawn.opaque && (drawn.alpha == 255)
+
+abbrev pub hides_at : ℤ → ℤ → Drawn → Bool
+hides_at x y drawn = hides_all drawn && is_in_clip drawn x y
+
+-- a point shows of a layer: it is in the clip, and no layer above hides it
+abbrev pub shows_at : Drawn → List Drawn → ℤ → ℤ → Bool
+shows_at drawn above x y = is_in_clip drawn x y && not (list_any (hides_at x y) above)
+
+-- for each drawn layer, from the back, a region that has the points that show of it
+abbrev pub AreVisible : List Drawn → List (List Rect) → Type 0
+AreVisible [] regions = regions ≡ []
+AreVisible (drawn ∷ above) [] = ⊥
+AreVisible (drawn ∷ above) (region ∷ regions) =
+    ((x y : ℤ) → has region x y ≡ shows_at drawn above x y) × AreVisible above regions
+
+-- a pixel under a drawn layer at a point
+abbrev pub over_one : (ℕ → Picture) → ℤ → ℤ → Rgba → Drawn → Rgba
+over_one picture x y under drawn =
+    painted under (source_of drawn.opaque (pixel_of picture drawn.content drawn.orient drawn.place x y)) drawn.alpha
+
+-- a pixel under the layers of a list, from the back, each painted only where it shows
+abbrev pub seen_over : (ℕ → Picture) → ℤ → ℤ → Rgba → List Drawn → Rgba
+seen_over picture x y under [] = under
+seen_over picture x y under (drawn ∷ above) =
+    seen_over picture x y (if shows_at drawn above x y then over_one picture x y under drawn else under) above
+
+-- what is hidden is nothing: the image of a view is that of what shows
+abbrev pub HiddenIsNothing : Type 0
+HiddenIsNothing = (picture : ℕ → Picture) (view : ViewOf) (x y : ℤ) → seen_over picture x y opaque_black view.drawn ≡ view_image picture view x y

@@ -1,0 +1,21 @@
+ghost use Rattle.std.specs.Prelude.{IfOk};
+ghost use Rattle.sf_damage.specs.Damage.{Damages};
+
+use crate::changes::changes;
+use crate::differing::differing;
+use sf_base::NoMemory;
+use sf_region::Region;
+use sf_view::View;
+use std::alloc::Global;
+
+/// The points that have to be painted anew where one view of a display follows another: exactly
+/// those at which the two have different stacks, where other layers are drawn, or the same in
+/// another order, or otherwise. Everywhere else the two have the same image.
+pub fn dirty(alloc: Global, old: &View, new: &View) -> Result<Region, NoMemory>
+    ensures { IfOk result (Damages old.now new.now) }
+{
+    let olds = old.drawn.as_slice();
+    let news = new.drawn.as_slice();
+    let part = changes(alloc, olds, news)?;
+    differing(alloc, olds, news, part)
+}

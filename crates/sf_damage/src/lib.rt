@@ -1,0 +1,18 @@
+//! What of a display has to be painted anew, and what of each layer shows: the points at which two
+//! views have different stacks, and the part of each layer that no opaque layer above it hides.
+//!
+//! A frame is composed over the one before it: only where something changed, and of each layer only
+//! what shows. Layers that did not change cost comparisons, and no operations on regions.
+#![tactic(auto)]
+
+mod changes;
+mod damaged;
+mod differing;
+mod laws;
+mod parts;
+mod same;
+mod shown;
+
+pub use damaged::dirty;
+pub use laws::{equal_stacks_have_equal_images, what_is_hidden_is_nothing};
+pub use shown::visible;
