@@ -7,7 +7,7 @@ ghost use Rattle.sf_surface.specs.Objects.{AreRights, Does, IsFitItem};
 use crate::call::{Gives, QCall, QReply};
 use crate::held::{has_buffer, untaken_refusal};
 use crate::plain::read_token;
-use crate::replies::{answer, gives, refused};
+use crate::replies::{gives, refused};
 use crate::token::{Loose, ReadLease};
 use crate::values::Room;
 use sf_base::{ActorId, Fence, QueueId, Rect};
@@ -15,35 +15,6 @@ use sf_picture::Painted;
 use sf_slots::{Item, Slots};
 use sf_turns::{TableName, Turn};
 use std::marker::PhantomData;
-
-/// Sets how many buffers the consumer may hold.
-pub(crate) fn set_max_acquired<B: TableName>(
-    slots: &mut Slots<Turn<Painted>>,
-    by: ActorId,
-    n: u32,
-    room: Room,
-) -> QReply<B>
-    requires sound { IsSound slots.old }
-    ensures { Does B.table slots.old slots.new by (call.MaxAcquired n) result }
-{
-    answer(
-        sf_consume::set_max_acquired(slots, n),
-        QCall::MaxAcquired(n),
-        room,
-    )
-}
-
-/// Gives the queue up for good.
-pub(crate) fn abandon<B: TableName>(
-    slots: &mut Slots<Turn<Painted>>,
-    by: ActorId,
-    room: Room,
-) -> QReply<B>
-    requires sound { IsSound slots.old }
-    ensures { Does B.table slots.old slots.new by call.Abandon result }
-{
-    answer(sf_consume::abandon(slots), QCall::Abandon, room)
-}
 
 /// A frame as a lease to read.
 fn taken<B: TableName>(queue: QueueId, item: Item<Turn<Painted>>) -> ReadLease<B>

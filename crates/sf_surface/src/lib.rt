@@ -5,19 +5,25 @@
 //! frame as a lease to read and releases it. The right goes on before the work is done.
 #![tactic(auto)]
 
+mod attaching;
 mod call;
+mod connecting;
 mod consuming;
 mod drawing;
 mod entry;
+mod giving_back;
 mod held;
+mod lending;
 mod made;
 mod mark;
 mod object;
 mod plain;
-mod producing;
+mod queueing;
 mod reading;
 mod replies;
+mod requesting;
 mod rights;
+mod settings;
 mod shown;
 mod token;
 mod values;

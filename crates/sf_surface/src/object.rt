@@ -8,15 +8,18 @@ ghost use Rattle.sf_surface.specs.Inside.{HasDefaultSize};
 ghost use Rattle.sf_surface.specs.Marks.{PermitFits, outcome_of};
 ghost use Rattle.sf_surface.specs.Objects.{AreRights, Does};
 
+use crate::attaching::attach;
 use crate::call::{QCall, QReply};
-use crate::consuming::{abandon, acquire, attach_read, detach_read, release, set_max_acquired};
+use crate::connecting::{connect, disconnect};
+use crate::consuming::{acquire, attach_read, detach_read, release};
 use crate::entry::HistEntry;
+use crate::giving_back::{cancel, detach};
+use crate::lending::dequeue;
 use crate::made::MadeCall;
 use crate::mark::QueueMark;
-use crate::producing::{
-    attach, cancel, connect, dequeue, detach, disconnect, queue, request, set_async,
-    set_max_dequeued,
-};
+use crate::queueing::queue;
+use crate::requesting::request;
+use crate::settings::{abandon, set_async, set_max_acquired, set_max_dequeued};
 use crate::shown::{named_of, shown};
 use crate::values::Room;
 use sf_base::{ActorId, NoMemory, QueueId};
