@@ -23,6 +23,7 @@ use Rattle.sf_surface.specs.declared.mark.QueueMark.{QueueMark}
 use Rattle.sf_surface.specs.Calls.{may_wait, told_call}
 use Rattle.sf_surface.specs.Hands.{IsReply}
 use Rattle.sf_surface.specs.Histories.{Answers, Made, Replied, caller, told, told_entry, told_reply}
+use Rattle.sf_surface.specs.Inside.{HasDefaultSize}
 use Rattle.sf_surface.specs.Marks.{PermitFits, SpareFits}
 use Rattle.sf_surface.specs.Named.{named_of, shown_with}
 use Rattle.sf_surface.specs.Objects.{AreRights, Does, IsFitItem, IsItemQueued, IsKept, IsObject, IsSeated, ObjectOf, mark_of}
@@ -74,7 +75,7 @@ module _ {B : Type 0} (table : TableId) where
   counters_low number shown object kept short =
       let calls : List Told = told (mark_of object) object.calls in
       let few = history_few calls in
-      let long : length shown ≡ length calls = ap (λ (xs : List HistEntry). length xs) kept.shows ∙ length-map shown_call (reverse calls) ∙ length-reverse calls in
+      let long : length shown ≡ length calls = ap (λ (xs : List HistEntry). length xs) kept.shows ∙ length-map (reverse calls) shown_call ∙ length-reverse calls in
       let buffers = ap (λ (t : Known). t.settings.buffers) kept.keeps.told in
       let frames = ap (λ (t : Known). t.settings.frames) kept.keeps.told in
       (omega (arith, few.0, long, buffers, short), omega (arith, few.1, long, frames, short))
