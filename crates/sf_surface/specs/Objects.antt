@@ -1,5 +1,5 @@
 -- A queue with the history of its calls, and what a call on it does.
-use Rattle.std.specs.Prelude.{◌≡◌, ℕ, ◌<◌, List, ◌∷◌, ◌++◌, [], map, reverse, Option, Some, Contains}
+use Rattle.std.specs.Prelude.{◌≡◌, ℕ, ◌<◌, List, Option, Some, Contains}
 use Rattle.std.specs.List.{All}
 use Rattle.atomic_table.specs.Seated.{TableId}
 use Rattle.sf_base.specs.declared.ids.ActorId.{ActorId}
@@ -18,7 +18,7 @@ use Rattle.sf_surface.specs.Calls.{told_call}
 use Rattle.sf_surface.specs.Hands.{IsReply}
 use Rattle.sf_surface.specs.Histories.{Made, Answers, FromLog, Queued, caller, told}
 use Rattle.sf_surface.specs.Inside.{HasDefaultSize}
-use Rattle.sf_surface.specs.Shown.{shown_entry}
+use Rattle.sf_surface.specs.Shown.{entries_of}
 use Rattle.sf_surface.specs.Tokens.{Right, IsRightOf, ShowsFrame}
 
 -- the right in a slot is one to its buffer
@@ -79,5 +79,5 @@ module _ {B : Type 0} where
   -- and what its parts say of each other
   pub record IsKept (table : TableId) (number : QueueId) (shown : List HistEntry) (object : ObjectOf B) : Type 0 where
     pub numbered : number ≡ object.queue.number
-    pub shows : shown ≡ map (shown_entry number) (reverse object.calls)
+    pub shows : shown ≡ entries_of (told (mark_of object) object.calls)
     pub keeps : IsObject table object

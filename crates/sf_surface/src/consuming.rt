@@ -1,7 +1,8 @@
 ghost use Rattle.std.specs.Prelude.{◌≡◌, ◌<◌, ◌-◌, ◌^◌};
 ghost use Rattle.sf_slots.specs.Queue.{plain_item, IsSound};
 ghost use Rattle.sf_surface.specs.declared.call.QCall.TheVariants as call;
-ghost use Rattle.sf_surface.specs.Hands.{taken_lease};
+ghost use Rattle.sf_surface.specs.Hands.{own_lease, taken_lease};
+ghost use Rattle.sf_surface.specs.Inside.{IsSameSize};
 ghost use Rattle.sf_surface.specs.Objects.{AreRights, Does, IsFitItem};
 
 use crate::call::{Gives, QCall, QReply};
@@ -10,9 +11,9 @@ use crate::plain::read_token;
 use crate::replies::{gives, refused};
 use crate::token::{Loose, ReadLease};
 use crate::values::Room;
-use sf_base::{ActorId, Fence, QueueId, Rect};
+use sf_base::{ActorId, Fence, QueueId, Rect, SlotId};
 use sf_picture::Painted;
-use sf_slots::{Item, Slots};
+use sf_slots::{Held, Item, Slots};
 use sf_turns::{TableName, Turn};
 use std::marker::PhantomData;
 
@@ -165,6 +166,30 @@ fn loosened<B: TableName>(lease: ReadLease<B>) -> Loose<B>
     Loose { held, turn, of }
 }
 
+/// A loose buffer as a lease of the consumer's own, in the slot where it is now.
+fn owned<B: TableName>(queue: QueueId, slot: SlotId, held: Held, loose: Loose<B>) -> ReadLease<B>
+    requires { IsSameSize held loose.held }
+    ensures { result ≡ own_lease queue slot held loose }
+{
+    let Loose { held: _, turn, of } = loose;
+    ReadLease {
+        queue,
+        slot,
+        frame: 0,
+        held,
+        picture: 0,
+        crop: Rect {
+            x: 0,
+            y: 0,
+            width: 0,
+            height: 0,
+        },
+        fence: Fence::none(),
+        turn,
+        of,
+    }
+}
+
 /// Puts a loose buffer into the queue, held by its consumer.
 pub(crate) fn attach_read<B: TableName>(
     slots: &mut Slots<Turn<Painted>>,
@@ -179,28 +204,10 @@ pub(crate) fn attach_read<B: TableName>(
     ensures { Does B.table slots.old slots.new by (call.AttachRead loose) result }
 {
     match sf_consume::attach_read(slots, loose.held.width, loose.held.height) {
-        Ok((slot, held)) => {
-            let Loose { held: _, turn, of } = loose;
-            gives(
-                room.one(slot.0 as u64),
-                Gives::Read(ReadLease {
-                    queue,
-                    slot,
-                    frame: 0,
-                    held,
-                    picture: 0,
-                    crop: Rect {
-                        x: 0,
-                        y: 0,
-                        width: 0,
-                        height: 0,
-                    },
-                    fence: Fence::none(),
-                    turn,
-                    of,
-                }),
-            )
-        }
+        Ok((slot, held)) => gives(
+            room.one(slot.0 as u64),
+            Gives::Read(owned(queue, slot, held, loose)),
+        ),
         Err(cause) => refused(cause, QCall::AttachRead(loose), room),
     }
 }

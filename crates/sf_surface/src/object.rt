@@ -1,26 +1,12 @@
-ghost use Rattle.std.specs.Prelude.{◌≡◌, ◌<◌, ◌-◌, ◌^◌, [], ◌∷◌, ◌++◌, true, Some, vec_len, vec_capacity};
-ghost use Rattle.sf_base.specs.declared.status.QStatus.TheVariants.{WouldBlock};
-ghost use Rattle.sf_calls.specs.Outcomes.{IfDone, IfNotYet, IfNoMemory};
-ghost use Rattle.sf_slots.specs.Queue.{told_of, IsSound};
-ghost use Rattle.sf_slots.specs.Replies.{refusal_of};
-ghost use Rattle.sf_surface.specs.Calls.{may_wait, told_call};
-ghost use Rattle.sf_surface.specs.Inside.{HasDefaultSize};
-ghost use Rattle.sf_surface.specs.Marks.{PermitFits, outcome_of};
-ghost use Rattle.sf_surface.specs.Objects.{AreRights, Does};
+ghost use Rattle.std.specs.Prelude.{◌≡◌, OnOk};
+ghost use Rattle.sf_surface.specs.Kept.{HasRoom, calls_in};
 
-use crate::attaching::attach;
 use crate::call::{QCall, QReply};
-use crate::connecting::{connect, disconnect};
-use crate::consuming::{acquire, attach_read, detach_read, release};
+use crate::dispatch::dispatch;
 use crate::entry::HistEntry;
-use crate::giving_back::{cancel, detach};
-use crate::lending::dequeue;
-use crate::made::MadeCall;
+use crate::history::History;
 use crate::mark::QueueMark;
-use crate::queueing::queue;
-use crate::requesting::request;
-use crate::settings::{abandon, set_async, set_max_acquired, set_max_dequeued};
-use crate::shown::{named_of, shown};
+use crate::shown::named_of;
 use crate::values::Room;
 use sf_base::{ActorId, NoMemory, QueueId};
 use sf_calls::{Object, Outcome};
@@ -37,104 +23,36 @@ pub struct QueueObject<B: TableName> {
     alloc: Global,
     number: QueueId,
     slots: Slots<Turn<Painted>>,
-    // As records show them, in the order in which they were made.
-    shown: Vec<HistEntry>,
-    // The same calls with their tokens, for proofs alone.
-    made: Vec<MadeCall<B>>,
+    history: History<B>,
 }
 
 impl<B: TableName> Model for QueueObject<B> {
-    ghost use Rattle.std.specs.Prelude.{map, reverse};
-    ghost use Rattle.sf_surface.specs.Kept.{made_of};
+    ghost use Rattle.sf_surface.specs.Kept.{calls_in};
     ghost use Rattle.sf_surface.specs.Objects.{ObjectOf, IsKept};
 
     ghost Value = { ObjectOf B };
 
-    ghost view = { λ o. record { queue = o.slots; calls = reverse (map made_of o.made.items) } };
+    ghost view = { λ o. record { queue = o.slots; calls = calls_in o.history } };
 
-    ghost invariant = { λ o. IsKept B.table o.number o.shown.items (record { queue = o.slots; calls = reverse (map made_of o.made.items) }) };
+    ghost invariant = { λ o. IsKept B.table o.number o.history.shown.items (record { queue = o.slots; calls = calls_in o.history }) };
 }
 
-/// Puts a value last into a list that has room for it.
-fn put<T: Drop>(list: &mut Vec<T>, value: T)
-    requires { vec_len list.old < vec_capacity list.old }
-    ensures { list.new.items ≡ list.old.items ++ value ∷ [] }
+/// Makes room for one more call in a history, and for the values of its reply.
+fn ready<B: TableName>(history: &mut History<B>, alloc: Global) -> Result<Room, NoMemory>
+    ensures shown { history.new.shown.items ≡ history.old.shown.items }
+    ensures calls { calls_in history.new ≡ calls_in history.old }
+    ensures room { OnOk result (HasRoom history.new) }
 {
-    let _ = list.push(value);
-}
-
-/// The outcome of a call that finds no memory or is done.
-fn outcome<B: TableName>(
-    tried: Result<QReply<B>, (NoMemory, QCall<B>)>,
-) -> Outcome<QCall<B>, QReply<B>>
-    ensures { result ≡ outcome_of tried }
-{
-    match tried {
-        Ok(reply) => Outcome::Done(reply),
-        Err((_, call)) => Outcome::NoMemory(call),
-    }
-}
-
-/// Makes a call on the slots.
-fn dispatch<B: TableName>(
-    slots: &mut Slots<Turn<Painted>>,
-    alloc: Global,
-    by: ActorId,
-    number: QueueId,
-    call: QCall<B>,
-    room: Room,
-) -> Outcome<QCall<B>, QReply<B>>
-    requires number { number ≡ slots.old.number }
-    requires buffers { slots.old.settings.buffers < 2 ^ 64 - 1 }
-    requires frames { slots.old.settings.frames < 2 ^ 64 - 1 }
-    requires sized { HasDefaultSize slots.old.settings }
-    requires sound { IsSound slots.old }
-    requires rights { AreRights B.table slots.old }
-    requires permit { PermitFits B.table call }
-    ensures done { IfDone result (Does B.table slots.old slots.new by call) }
-    ensures not_yet { IfNotYet result (λ back. (back ≡ call) × (slots.new ≡ slots.old) × (may_wait call ≡ true) × (refusal_of (told_of slots.old) by (told_call slots.old.number call) ≡ Some WouldBlock)) }
-    ensures no_memory { IfNoMemory result (λ back. (back ≡ call) × (slots.new ≡ slots.old)) }
-{
-    match call {
-        QCall::Connect => Outcome::Done(connect(slots, by, room)),
-        QCall::Disconnect => Outcome::Done(disconnect(slots, by, room)),
-        QCall::MaxDequeued(n) => Outcome::Done(set_max_dequeued(slots, by, n, room)),
-        QCall::Async(on) => Outcome::Done(set_async(slots, by, on, room)),
-        QCall::Dequeue {
-            width,
-            height,
-            wait,
-            permit,
-        } => dequeue(slots, alloc, by, number, width, height, wait, permit, room),
-        QCall::Request(lease) => Outcome::Done(request(slots, by, number, lease, room)),
-        QCall::Queue {
-            lease,
-            picture,
-            time,
-            crop,
-            fence,
-        } => outcome(queue(slots, by, number, lease, picture, time, crop, fence, room)),
-        QCall::Cancel(lease, fence) => {
-            outcome(cancel(slots, alloc, by, number, lease, fence, room))
-        }
-        QCall::Detach(lease) => outcome(detach(slots, alloc, by, number, lease, room)),
-        QCall::Attach(loose) => Outcome::Done(attach(slots, by, number, loose, room)),
-        QCall::MaxAcquired(n) => Outcome::Done(set_max_acquired(slots, by, n, room)),
-        QCall::Abandon => Outcome::Done(abandon(slots, by, room)),
-        QCall::Acquire(expected) => Outcome::Done(acquire(slots, by, number, expected, room)),
-        QCall::Release(lease, fence) => {
-            Outcome::Done(release(slots, by, number, lease, fence, room))
-        }
-        QCall::DetachRead(lease) => Outcome::Done(detach_read(slots, by, number, lease, room)),
-        QCall::AttachRead(loose) => Outcome::Done(attach_read(slots, by, number, loose, room)),
-    }
+    history.reserve()?;
+    Room::new(alloc)
 }
 
 impl<B: TableName> QueueObject<B> {
-    ghost use Rattle.std.specs.Prelude.{◌≡◌, ◌≤◌, [], IfOk, map, reverse};
+    ghost use Rattle.std.specs.Prelude.{◌≡◌, ◌≤◌, [], IfOk};
     ghost use Rattle.sf_slots.specs.Queue.{empty_queue};
-    ghost use Rattle.sf_surface.specs.Objects.{IsObject};
-    ghost use Rattle.sf_surface.specs.Shown.{shown_entry};
+    ghost use Rattle.sf_surface.specs.Histories.{told};
+    ghost use Rattle.sf_surface.specs.Objects.{IsObject, mark_of};
+    ghost use Rattle.sf_surface.specs.Shown.{entries_of};
 
     /// A queue without calls. Width and height are the default size of its buffers, in pixels.
     pub fn new(
@@ -153,8 +71,7 @@ impl<B: TableName> QueueObject<B> {
             alloc,
             number: queue,
             slots: Slots::new(alloc, queue, width, height)?,
-            shown: Vec::new(alloc),
-            made: Vec::new(alloc),
+            history: History::new(alloc),
         })
     }
 
@@ -167,10 +84,10 @@ impl<B: TableName> QueueObject<B> {
 
     /// The calls as records show them, in the order in which they were made.
     pub fn entries(&self) -> &[HistEntry]
-        ensures shown { result.now ≡ map (shown_entry self.now.queue.number) (reverse self.now.calls) }
+        ensures shown { result.now ≡ entries_of (told (mark_of self.now) self.now.calls) }
         ensures kept { IsObject B.table self.now }
     {
-        &self.shown
+        &self.history.shown
     }
 }
 
@@ -216,10 +133,7 @@ impl<B: TableName> Object for QueueObject<B> {
     /// back and nothing is kept.
     fn apply(&mut self, by: u32, call: (u32, QCall<B>)) -> Outcome<(u32, QCall<B>), QReply<B>> {
         let (step, asked) = call;
-        if self.shown.reserve(1).is_err() || self.made.reserve(1).is_err() {
-            return Outcome::NoMemory((step, asked));
-        }
-        let Ok(room) = Room::new(self.alloc) else {
+        let Ok(room) = ready(&mut self.history, self.alloc) else {
             return Outcome::NoMemory((step, asked));
         };
         let _settings = self.slots.settings();
@@ -234,16 +148,7 @@ impl<B: TableName> Object for QueueObject<B> {
             room,
         ) {
             Outcome::Done(reply) => {
-                put(&mut self.shown, shown(by, step, named, &reply));
-                put(
-                    &mut self.made,
-                    MadeCall {
-                        by,
-                        step,
-                        call: kept,
-                        reply: Snapshot::of(&reply),
-                    },
-                );
+                self.history.put(by, step, named, kept, &reply);
                 Outcome::Done(reply)
             }
             Outcome::NotYet(asked) => Outcome::NotYet((step, asked)),

@@ -1,5 +1,5 @@
 ghost use Rattle.std.specs.Prelude.{◌≡◌, Some, None, false};
-ghost use Rattle.sf_surface.specs.Shown.{got_slot, named_of, second_or, shown_with};
+ghost use Rattle.sf_surface.specs.Named.{got_slot, named_of, second_or, shown_with};
 
 use crate::call::{Gives, QCall, QReply};
 use crate::entry::{HistEntry, Named};
