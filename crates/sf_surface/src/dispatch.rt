@@ -10,9 +10,10 @@ ghost use Rattle.sf_surface.specs.Objects.{AreRights, Does};
 
 use crate::attaching::attach;
 use crate::call::{QCall, QReply};
+use crate::cancelling::cancel;
 use crate::connecting::{connect, disconnect};
 use crate::consuming::{acquire, attach_read, detach_read, release};
-use crate::giving_back::{cancel, detach};
+use crate::detaching::detach;
 use crate::lending::dequeue;
 use crate::queueing::queue;
 use crate::requesting::request;

@@ -45,7 +45,8 @@ impl<B: TableName> WriteLease<B> {
         seen: &Seen,
     ) -> Result<WriteLease<B>, DrawFault<WriteLease<B>>>
         requires { seat.old.table ≡ B.table }
-        ensures { DrawsLease self picture.now seen.now seat.old seat.new result }
+        ensures draws { DrawsLease self picture.now seen.now seat.old seat.new result }
+        ensures table { seat.new.table ≡ seat.old.table }
     {
         if !fits(picture, self.held) {
             return Err(DrawFault::BadPicture(self));
@@ -115,7 +116,8 @@ impl<B: TableName> Owing<B> {
         seen: &Seen,
     ) -> Result<(), DrawFault<Owing<B>>>
         requires { seat.old.table ≡ B.table }
-        ensures { PaysOwing self picture.now seen.now seat.old seat.new result }
+        ensures pays { PaysOwing self picture.now seen.now seat.old seat.new result }
+        ensures table { seat.new.table ≡ seat.old.table }
     {
         if !is_same(picture, self.turn.promised()) {
             return Err(DrawFault::BadPicture(self));
@@ -160,6 +162,7 @@ impl<B: TableName> Ending<B> {
         requires { seat.old.table ≡ B.table }
         ensures left { Leaves seat.old self.turn.buffer self.turn.number seat.new }
         ensures exact { IsExactAlone seat.new }
+        ensures table { seat.new.table ≡ seat.old.table }
     {
         let Ending {
             turn,

@@ -7,12 +7,13 @@
 
 mod attaching;
 mod call;
+mod cancelling;
 mod connecting;
 mod consuming;
+mod detaching;
 mod dispatch;
 mod drawing;
 mod entry;
-mod giving_back;
 mod held;
 mod history;
 mod lending;

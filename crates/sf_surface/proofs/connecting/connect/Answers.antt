@@ -1,4 +1,4 @@
-use Rattle.sf_surface.proofs.ProducerLemmas.{connects}
+use Rattle.sf_surface.proofs.ConnectLemmas.{connects}
 use Rattle.sf_surface.proofs.connecting.connect.Goals as goal
 
 pub returns : goal.returns

@@ -1,4 +1,4 @@
-use Rattle.sf_surface.proofs.ProducerLemmas.{disconnects}
+use Rattle.sf_surface.proofs.ConnectLemmas.{disconnects}
 use Rattle.sf_surface.proofs.connecting.disconnect.Goals as goal
 
 pub returns : goal.returns

@@ -4,9 +4,9 @@ use Rattle.sf_surface.specs.declared.call.Gives.TheVariants as gives
 use Rattle.sf_surface.specs.Calls.{write_token}
 use Rattle.sf_surface.specs.Hands.{done_reply}
 use Rattle.sf_surface.specs.Tokens.{IsRightOf, Right, WriteLeaseOf, ending_drawn, turn_after}
-use Rattle.sf_surface.proofs.CallLemmas.{after_right, says}
-use Rattle.sf_surface.proofs.ProducerLemmas.{detach_refused, detach_unlent, detaches}
-use Rattle.sf_surface.proofs.giving_back.detach.Goals as goal
+use Rattle.sf_surface.proofs.LeaseLemmas.{after_right, says}
+use Rattle.sf_surface.proofs.GiveBackLemmas.{detach_refused, detach_unlent, detaches}
+use Rattle.sf_surface.proofs.detaching.detach.Goals as goal
 
 pub returns-then-not-has_buffer-clause-done : goal.returns-then-not-has_buffer-clause-done
 returns-then-not-has_buffer-clause-done g c =
