@@ -103,7 +103,8 @@ pub struct Desk<B: TableName> {
     first: Pass<QueueObject<B>>,
     second: Pass<QueueObject<B>>,
     mark: QueueMark,
-    step: u32,
+    first_step: u32,
+    second_step: u32,
     ghost own: { first.table ≡ lock },
     ghost leads: { first.is_first ≡ true },
     ghost gave: { first.gave ≡ 2 ∷ [] },
@@ -153,18 +154,32 @@ impl<B: TableName> Desk<B> {
             first,
             second,
             mark,
-            step: 0,
+            first_step: 0,
+            second_step: 0,
         })
     }
 
-    /// Makes a caller's call, as the next step.
+    /// Begins a caller's next step.
+    fn begin(&mut self, by: Caller) {
+        match by {
+            Caller::First => self.first_step = self.first_step.wrapping_add(1),
+            Caller::Second => self.second_step = self.second_step.wrapping_add(1),
+        }
+    }
+
+    /// Makes a call of a caller's step.
     fn call<W: Wait>(&mut self, rt: &W, by: Caller, call: QCall<B>) -> Made<B>
         requires { PermitFits B.table call }
     {
-        let asked = (self.step, call);
         match by {
-            Caller::First => ask(rt, &self.lock, &mut self.first, self.mark, asked),
-            Caller::Second => ask(rt, &self.lock, &mut self.second, self.mark, asked),
+            Caller::First => {
+                let asked = (self.first_step, call);
+                ask(rt, &self.lock, &mut self.first, self.mark, asked)
+            }
+            Caller::Second => {
+                let asked = (self.second_step, call);
+                ask(rt, &self.lock, &mut self.second, self.mark, asked)
+            }
         }
     }
 
@@ -175,7 +190,8 @@ impl<B: TableName> Desk<B> {
             mut first,
             second,
             mark: _,
-            step: _,
+            first_step: _,
+            second_step: _,
         } = self;
         first.meet(&lock, second);
         match lock.close(first) {
@@ -383,9 +399,9 @@ impl<B: TableName> Run<B> {
         }
     }
 
-    /// Does what a command asks for, as the next step of the case.
+    /// Does what a command asks for, as the caller's next step.
     pub fn act<W: Wait>(&mut self, rt: &W, by: Caller, command: Command) -> Answer {
-        self.desk.step = self.desk.step.wrapping_add(1);
+        self.desk.begin(by);
         match command {
             Command::Draw(place, shape) => self.draw(place, shape),
             Command::Read(place) => self.read(place),
