@@ -153,5 +153,5 @@ module _ {B : Type 0} (table : TableId) where
   pub attaches_read : (q after : Queue Right) (by : ActorId) (loose : LooseOf) (slot : SlotId) (held : Held) (answer : QReply B) → IsSound q → slot_for false (told_of q) ≡ Some slot.0 → after ≡ seated (taken q slot.0) slot.0 loose.held.width loose.held.height false → Continues q after by (plain.AttachRead loose.held) (reply.Attached slot held) → answer ≡ done_reply (slot.0 ∷ []) (gives.Read (own_lease q.number slot held loose)) None None → Does table q after by (call.AttachRead loose) answer
   attaches_read q after by loose slot held answer sound found left goes is =
       moves table q after (seated (taken q slot.0) slot.0 loose.held.width loose.held.height false) by (call.AttachRead loose) (reply.Attached slot held) answer left
-      (record { number = refl; width = refl; height = refl; rights = taken_seated_keeps table q slot.0 loose.held.width loose.held.height sound (next_free q false slot.0 found sound) })
+      (record { number = refl; width = refl; height = refl; rights = taken_seated_keeps table q slot.0 loose.held.width loose.held.height sound (next_free q sound false slot.0 found) })
       goes is (λ log items. tt) (λ log step there items. items)
