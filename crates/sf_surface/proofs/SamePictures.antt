@@ -53,6 +53,9 @@ picture_decides a b = decides_as _ _ _
 pub same_picture-is : (a b : Picture) → same_picture a b ≡ true → a ≡ b
 same_picture-is a b = (picture_decides a b).0
 
+pub same_picture-same : (a b : Picture) → a ≡ b → same_picture a b ≡ true
+same_picture-same a b = (picture_decides a b).1
+
 -- two tests that hold together are the same
 alike : (x y : Bool) → (x ≡ true → y ≡ true) → (y ≡ true → x ≡ true) → x ≡ y
 alike true y there back = sym (there refl)
@@ -61,7 +64,7 @@ alike false false there back = refl
 
 -- what tells whether two pictures are equal tells whether they are the same
 pub tells_same : (told : Bool) (a b : Picture) → (IsTrue told ↔ (a ≡ b)) → told ≡ same_picture a b
-tells_same told a b is = alike told (same_picture a b) (λ t. (picture_decides a b).1 (grind (is, t))) (λ t. (let e = (picture_decides a b).0 t in grind (is, e)))
+tells_same told a b is = alike told (same_picture a b) (λ t. (picture_decides a b).1 (is.0 t)) (λ t. is.1 ((picture_decides a b).0 t))
 
 -- a negated test that is not met
 pub not_unmet : (b : Bool) → not b ≡ false → b ≡ true
