@@ -61,7 +61,7 @@ alike false false there back = refl
 
 -- what tells whether two pictures are equal tells whether they are the same
 pub tells_same : (told : Bool) (a b : Picture) → (IsTrue told ↔ (a ≡ b)) → told ≡ same_picture a b
-tells_same told a b is = alike told (same_picture a b) (λ t. (picture_decides a b).1 (grind (is, t))) (λ t. (let e = (picture_decides a b).0 t in grind (is, e)))
+tells_same told a b is = alike told (same_picture a b) (λ t. (picture_decides a b).1 (is.0 t)) (λ t. is.1 ((picture_decides a b).0 t))
 
 -- a negated test that is not met
 pub not_unmet : (b : Bool) → not b ≡ false → b ≡ true
