@@ -8,7 +8,7 @@ use Rattle.sf_base.specs.declared.status.QStatus.{QStatus}
 use Rattle.sf_slots.specs.declared.calls.PlainCall.TheVariants as plain
 use Rattle.sf_slots.specs.declared.calls.PlainReply.TheVariants as reply
 use Rattle.sf_slots.specs.declared.settings.Settings.{Settings}
-use Rattle.sf_slots.specs.Queue.{Queue, IsSound, slot_in, configured, without_marks}
+use Rattle.sf_slots.specs.Queue.{Queue, IsSound, slot_in, configured, retired_all, without_marks}
 use Rattle.sf_slots.specs.Tells.{Continues}
 use Rattle.sf_surface.specs.declared.call.QCall.TheVariants as call
 use Rattle.sf_surface.specs.declared.call.QReply.{QReply}

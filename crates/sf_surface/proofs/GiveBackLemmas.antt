@@ -14,7 +14,6 @@ use Rattle.sf_slots.specs.Queue.{Queue, IsSound, told_of, slot_in, lent, returne
 use Rattle.sf_slots.specs.Replies.{refusal_of, is_producer, is_lent, is_buffer}
 use Rattle.sf_slots.specs.Tells.{Continues}
 use Rattle.sf_slots.proofs.Going.{Continues-refused, own_unmet, lent_there}
-use Rattle.sf_queue.specs.declared.lending.Dequeued.{Dequeued}
 use Rattle.sf_queue.specs.Leases as write
 use Rattle.sf_base.specs.Fences.{no_points}
 use Rattle.sf_surface.specs.declared.call.Gives.TheVariants as gives

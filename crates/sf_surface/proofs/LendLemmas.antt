@@ -30,7 +30,6 @@ use Rattle.sf_surface.specs.Objects.{Does}
 use Rattle.sf_surface.specs.Tokens.{Right, WriteLeaseOf, LooseOf}
 use Rattle.sf_surface.proofs.DoesLemmas.{moves, refuses}
 use Rattle.sf_surface.proofs.FitLemmas.{IsFit-lent, IsFit-renewed, IsFit-marked}
-use Rattle.sf_slots.specs.declared.slot.SlotState.TheVariants.{Dequeued}
 use Rattle.sf_surface.proofs.FreeLemmas.{next_free}
 use Rattle.sf_surface.proofs.LeaseLemmas.{first_unlent, unlent}
 

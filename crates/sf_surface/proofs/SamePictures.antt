@@ -53,6 +53,10 @@ picture_decides a b = decides_as _ _ _
 pub same_picture-is : (a b : Picture) → same_picture a b ≡ true → a ≡ b
 same_picture-is a b = (picture_decides a b).0
 
+-- two that are not the same are not equal
+pub other_picture : (a b : Picture) → same_picture a b ≡ false → a ≡ b → ⊥
+other_picture a b other same = let met = (picture_decides a b).1 same in cc (other, met)
+
 -- two tests that hold together are the same
 alike : (x y : Bool) → (x ≡ true → y ≡ true) → (y ≡ true → x ≡ true) → x ≡ y
 alike true y there back = sym (there refl)
