@@ -37,7 +37,7 @@ newest : {A : Type 0} (x : A) (xs : List A) → Contains (x ∷ xs) x
 newest x xs = (zero, omega arith, refl)
 
 earlier : {A : Type 0} (x y : A) (xs : List A) → Contains xs y → Contains (x ∷ xs) y
-earlier x y xs there = let low = there.1.0 in (suc there.0, omega (arith, low), there.1.1)
+earlier x y xs there = let low = there.1 in (suc there.0, omega (arith, low), there.2)
 
 -- the entries of calls, with one call more
 entries_with : (call : Told) (calls : List Told) → entries_of (call ∷ calls) ≡ entries_of calls ++ shown_call call ∷ []
@@ -52,22 +52,22 @@ none_in zero s = refl
 none_in (suc n) zero = refl
 none_in (suc n) (suc s) = none_in n s
 
-module _ {B : Type 0} (table : TableId) where
-  rights_empty : (number : QueueId) (width height : ℕ) → AreRights table (empty_queue number width height)
-  unfolding no_right
-  rights_empty number width height = record {
-    slots = λ s below buffer turn here right. absurd (cc (right, none_in 64 s));
-    items = All-nil (IsFitItem table);
-    seats = All-nil (IsSeated (empty_queue number width height));
-  }
+rights_empty : (table : TableId) (number : QueueId) (width height : ℕ) → AreRights table (empty_queue number width height)
+unfolding no_right
+rights_empty table number width height = record {
+  slots = λ s below buffer turn here right. absurd (cc (right, none_in 64 s));
+  items = All-nil (IsFitItem table);
+  seats = All-nil (IsSeated (empty_queue number width height));
+}
 
+module _ {B : Type 0} (table : TableId) where
   -- a new queue
   pub kept_new : (number : QueueId) (width height : ℕ) → HasDefaultSize (empty_queue {R = Right} number width height).settings → IsToldBy {R = Right} (empty_queue number width height) width height [] → IsKept {B = B} table number [] (record { queue = empty_queue number width height; calls = [] })
   unfolding told
   kept_new number width height sized is_told = record {
     numbered = refl;
     shows = refl;
-    keeps = record { sized = sized; told = is_told; legal = tt; rights = rights_empty number width height; queued = All-nil (IsItemQueued []) };
+    keeps = record { sized = sized; told = is_told; legal = tt; rights = rights_empty table number width height; queued = All-nil (IsItemQueued []) };
   }
 
   -- the counters stay below their ends, since each rise has its call
@@ -128,7 +128,7 @@ module _ {B : Type 0} (table : TableId) where
           legal = subst (λ (m : QueueMark). IsLegal (Answers m) log) (mark_kept does) (replied does kept, kept.legal);
           rights = does.rights kept.rights;
           queued = does.queued log step (newest (entry by (step, asked) reply) old.calls)
-              (All-weaker (IsItemQueued old.calls) (IsItemQueued log) (λ item queued. (queued.0, earlier (entry by (step, asked) reply) queued.0 old.calls queued.1.0, queued.1.1)) old.queue.items kept.queued);
+              (All-weaker (IsItemQueued old.calls) (IsItemQueued log) (λ item queued. (queued.0, earlier (entry by (step, asked) reply) queued.0 old.calls queued.1, queued.2)) old.queue.items kept.queued);
         }
 
     -- and what its parts say of each other

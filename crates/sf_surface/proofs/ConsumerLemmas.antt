@@ -37,7 +37,7 @@ use Rattle.sf_surface.specs.Inside.{untaken_refusal}
 use Rattle.sf_surface.specs.Objects.{AreRights, Does, IsFitItem, IsItemQueued}
 use Rattle.sf_surface.specs.Tokens.{IsRightOf, LooseOf, ReadLeaseOf, Right}
 use Rattle.sf_surface.proofs.DoesLemmas.{moves, refuses}
-use Rattle.sf_surface.proofs.FitLemmas.{IsFit-returned, IsFit-dropped_first, IsFit-handed_over, all-read, cleared_keeps, gone-other, sound_queued}
+use Rattle.sf_surface.proofs.FitLemmas.{AreQueued, IsFit-returned, IsFit-dropped_first, IsFit-handed_over, all-read, cleared_keeps, gone-other, sound_queued}
 use Rattle.std.proofs.lemmas.List.{get_or-set_other}
 use Rattle.sf_slots.specs.declared.slot.SlotState.TheVariants.{Free, Queued, Acquired}
 use Rattle.sf_surface.proofs.FreeLemmas.{next_free}
@@ -94,6 +94,7 @@ left_apart q lease none =
 
 -- a free slot goes to the consumer with a buffer of its own
 taken_seated_keeps : (table : TableId) (q : Queue Right) (s width height : ℕ) → IsSound q → (slot_in q s).state ≡ Free → AreRights table q → AreRights table (seated (taken q s) s width height false)
+unfolding AreQueued
 taken_seated_keeps table q s width height sound free fit =
     let after : Queue Right = seated (taken q s) s width height false in
     let others : (t : ℕ) → ((t ≡ s) → ⊥) → (slot_in after t).held ≡ (slot_in q t).held = λ t other.

@@ -29,14 +29,9 @@ module _ {B : Type 0} where
     pub hands : IsReply q.number asked reply.Done (done_reply [] gives.Nothing None None)
     pub from : (log : List (Made B)) → FromLog log asked gives.Nothing
 
-  -- a queue that has no other frames than before
-  pub HasNoMore : Queue Right → Queue Right → Type 0
-  HasNoMore q left = (log : List (Made B)) → All (IsItemQueued log) q.items → All (IsItemQueued log) left.items
-
   module _ (table : TableId) where
     -- a call that gives nothing is done, and leaves the queue so, or is refused
-    pub answers : (q after left : Queue Right) (by : ActorId) (asked : QCall B) (done : Result (Unit {0}) QStatus) (answer : QReply B) → GivesNothing q asked → Keeps table q left → HasNoMore q left → OnErr done (after ≡ q) → OnOk done (after ≡ left) → Continues q after by (told_call q.number asked) (refused_or (refusal_in done) reply.Done) → answer ≡ plain_reply done asked → Does table q after by asked answer
-    unfolding HasNoMore
+    pub answers : (q after left : Queue Right) (by : ActorId) (asked : QCall B) (done : Result (Unit {0}) QStatus) (answer : QReply B) → GivesNothing q asked → Keeps table q left → ((log : List (Made B)) → All (IsItemQueued log) q.items → All (IsItemQueued log) left.items) → OnErr done (after ≡ q) → OnOk done (after ≡ left) → Continues q after by (told_call q.number asked) (refused_or (refusal_in done) reply.Done) → answer ≡ plain_reply done asked → Does table q after by asked answer
     answers q after left by asked (Ok done) answer nothing keeps fewer unchanged met goes is =
         moves table q after left by asked reply.Done answer met keeps goes
         (subst (IsReply q.number asked reply.Done) (sym is) nothing.hands)
@@ -46,14 +41,12 @@ module _ {B : Type 0} where
 
     -- other settings
     pub sets : (q after : Queue Right) (by : ActorId) (asked : QCall B) (settings : Settings) (done : Result (Unit {0}) QStatus) (answer : QReply B) → IsSound q → settings.width ≡ q.settings.width → settings.height ≡ q.settings.height → GivesNothing q asked → OnErr done (after ≡ q) → OnOk done (after ≡ configured q settings) → Continues q after by (told_call q.number asked) (refused_or (refusal_in done) reply.Done) → answer ≡ plain_reply done asked → Does table q after by asked answer
-    unfolding HasNoMore
     sets q after by asked settings done answer sound wide high nothing unchanged met goes is =
         answers q after (configured q settings) by asked done answer nothing (configured_keeps table q settings sound wide high)
         (λ log items. subst (All (IsItemQueued log)) (sym (configured_items q settings)) items) unchanged met goes is
 
     -- the queue is given up
     pub gives_up : (q after : Queue Right) (by : ActorId) (asked : QCall B) (done : Result (Unit {0}) QStatus) (answer : QReply B) → GivesNothing q asked → OnErr done (after ≡ q) → OnOk done (after ≡ given_up q) → Continues q after by (told_call q.number asked) (refused_or (refusal_in done) reply.Done) → answer ≡ plain_reply done asked → Does table q after by asked answer
-    unfolding HasNoMore
     gives_up q after by asked done answer nothing unchanged met goes is =
         answers q after (given_up q) by asked done answer nothing
         (record { number = refl; width = refl; height = refl; rights = λ rights. given_up_keeps table q })
