@@ -1,0 +1,85 @@
+-- The calls that were made on a queue, the newest first, with the tokens that they brought and gave, and what they tell.
+use Rattle.std.specs.Prelude.{◌≡◌, ℕ, Bool, true, List, [], ◌∷◌, Option, Some, None, Contains}
+use Rattle.sf_base.specs.declared.ids.ActorId.{ActorId}
+use Rattle.sf_base.specs.declared.ids.QueueId.{QueueId}
+use Rattle.sf_base.specs.declared.fences.Fence.{Fence}
+use Rattle.sf_base.specs.declared.geometry.Rect.{Rect}
+use Rattle.sf_base.specs.declared.status.QStatus.TheVariants as status
+use Rattle.sf_calls.specs.declared.object.Entry.{Entry}
+use Rattle.sf_calls.specs.declared.object.Answer.{Answer}
+use Rattle.sf_calls.specs.declared.object.Answer.TheVariants.{Replies, Waits}
+use Rattle.sf_picture.specs.declared.picture.Picture.{Picture}
+use Rattle.sf_slots.specs.declared.calls.Entry.{Entry as Told}
+use Rattle.sf_slots.specs.declared.calls.PlainCall.{PlainCall}
+use Rattle.sf_slots.specs.declared.calls.PlainReply.{PlainReply}
+use Rattle.sf_slots.specs.declared.calls.PlainReply.TheVariants as plain
+use Rattle.sf_slots.specs.Replies.{reply_after}
+use Rattle.sf_turns.specs.Views.{heir_expecting}
+use Rattle.sf_surface.specs.declared.call.Gives.{Gives}
+use Rattle.sf_surface.specs.declared.call.Gives.TheVariants as gives
+use Rattle.sf_surface.specs.declared.call.QCall.{QCall}
+use Rattle.sf_surface.specs.declared.call.QCall.TheVariants as call
+use Rattle.sf_surface.specs.declared.call.QReply.{QReply}
+use Rattle.sf_surface.specs.declared.mark.QueueMark.{QueueMark}
+use Rattle.sf_surface.specs.Calls.{told_call, may_wait}
+use Rattle.sf_surface.specs.Hands.{IsReply, done_reply, owes}
+use Rattle.sf_surface.specs.Tokens.{Right, WriteLeaseOf, ending_of, turn_of}
+
+-- a call with its reply: the caller, the caller's step, the call and the reply with their tokens
+abbrev pub Made : Type 0 → Type 0
+Made B = Entry (ℕ × QCall B) (QReply B)
+
+abbrev pub caller : ℕ → ActorId
+caller by = record { 0 = by }
+
+module _ {B : Type 0} where
+  -- what a call tells of the queue, after what was told before it
+  abbrev pub told_entry : QueueMark → List Told → Made B → Told
+  told_entry mark earlier made = record {
+    caller = caller made.by;
+    step = made.call.0;
+    call = told_call mark.queue made.call.1;
+    reply = reply_after mark.width mark.height earlier (caller made.by) (told_call mark.queue made.call.1);
+  }
+
+  -- what calls tell, the newest first
+  unfoldable pub told : QueueMark → List (Made B) → List Told
+  told mark [] = []
+  told mark (made ∷ earlier) = told_entry mark (told mark earlier) made ∷ told mark earlier
+
+  -- the reply of the queue to a caller's call after these
+  abbrev pub told_reply : QueueMark → List (Made B) → ℕ → QCall B → PlainReply
+  told_reply mark log by asked = reply_after mark.width mark.height (told mark log) (caller by) (told_call mark.queue asked)
+
+  -- the call queued the frame, and this is the right to read it: it follows the lease's, and expects the picture that
+  -- was drawn or promised
+  pub record Queues (made : Made B) (frame : ℕ) (right : Right) : Type 0 where
+    pub step : ℕ
+    pub lease : WriteLeaseOf
+    pub picture : Picture
+    pub time : Option ℕ
+    pub crop : Rect
+    pub fence : Fence
+    pub queue : QueueId
+    pub call : made.call ≡ (step, call.Queue lease picture time crop fence)
+    pub reply : made.reply ≡ done_reply (lease.slot.0 ∷ frame ∷ []) (owes queue lease frame picture lease.work) (ending_of lease.work picture) None
+    pub follows : right ≡ heir_expecting (turn_of lease.work) picture
+
+  -- one of the calls queued it
+  abbrev pub Queued : List (Made B) → ℕ → Right → Type 0
+  Queued log frame right = (made : Made B) × (Contains log made) × (Queues made frame right)
+
+  -- a frame that is given is one that a call queued, with the right to read it
+  abbrev pub FromLog : List (Made B) → QCall B → Gives B → Type 0
+  FromLog log (call.Acquire expected) (gives.Read lease) = Queued log lease.frame lease.turn
+  FromLog log asked given = Unit {0}
+
+  -- what the object of one thread replies
+  pub record Replied (mark : QueueMark) (log : List (Made B)) (by : ℕ) (asked : QCall B) (reply : QReply B) : Type 0 where
+    pub answer : IsReply mark.queue asked (told_reply mark log by asked) reply
+    pub from : FromLog log asked reply.gives
+
+  -- what the object of one thread answers: a dequeue that may wait waits where no slot is free
+  abbrev pub Answers : QueueMark → List (Made B) → ℕ → ℕ × QCall B → Answer (QReply B) → Type 0
+  Answers mark log by asked (Replies reply) = Replied mark log by asked.1 reply
+  Answers mark log by asked Waits = (may_wait asked.1 ≡ true) × (told_reply mark log by asked.1 ≡ plain.Refused status.WouldBlock)

@@ -1,0 +1,77 @@
+ghost use Rattle.std.specs.Prelude.{◌≡◌, IfOk, IfErr, OnErr};
+ghost use Rattle.sf_slots.specs.Queue.{IsSound};
+ghost use Rattle.sf_surface.specs.declared.call.QCall.TheVariants as call;
+ghost use Rattle.sf_surface.specs.Objects.{Does};
+
+use crate::call::{Gives, QCall, QReply};
+use crate::held::{has_buffer, unlent_refusal};
+use crate::plain::write_token;
+use crate::replies::refused;
+use crate::rights::{Finished, finish};
+use crate::token::WriteLease;
+use crate::values::Room;
+use sf_base::{ActorId, Fence, NoMemory, QStatus, QueueId};
+use sf_picture::Painted;
+use sf_queue::{cancel_allowed, lent_refusal};
+use sf_slots::Slots;
+use sf_turns::{TableName, Turn};
+use std::alloc::Global;
+
+/// Gives a lent buffer back unqueued.
+pub(crate) fn cancel<B: TableName>(
+    slots: &mut Slots<Turn<Painted>>,
+    alloc: Global,
+    by: ActorId,
+    queue: QueueId,
+    lease: WriteLease<B>,
+    fence: Fence,
+    room: Room,
+) -> Result<QReply<B>, (NoMemory, QCall<B>)>
+    requires number { queue ≡ slots.old.number }
+    requires sound { IsSound slots.old }
+    ensures done { IfOk result (Does B.table slots.old slots.new by (call.Cancel lease fence)) }
+    ensures unchanged { OnErr result (slots.new ≡ slots.old) }
+    ensures back { IfErr result (λ back. back.1 ≡ call.Cancel lease fence) }
+{
+    let said = write_token(queue, &lease);
+    if !has_buffer(slots, said.slot, said.held) {
+        let cause = unlent_refusal(slots, by);
+        return Ok(refused(cause, QCall::Cancel(lease, fence), room));
+    }
+    if let Some(cause) = lent_refusal(slots, by, said.slot, said.held.number, false) {
+        return Ok(refused(cause, QCall::Cancel(lease, fence), room));
+    }
+    let WriteLease {
+        queue: of_queue,
+        slot,
+        held,
+        requested,
+        fence: own,
+        work,
+        of,
+    } = lease;
+    match finish::<B>(alloc, work) {
+        Ok(Finished { heir, ends }) => {
+            cancel_allowed(slots, by, said.slot, said.held.number, heir, fence);
+            Ok(QReply {
+                status: QStatus::Ok,
+                values: room.none(),
+                gives: Gives::Nothing,
+                ends,
+                spare: None,
+            })
+        }
+        Err((no_memory, work)) => {
+            let lease = WriteLease {
+                queue: of_queue,
+                slot,
+                held,
+                requested,
+                fence: own,
+                work,
+                of,
+            };
+            Err((no_memory, QCall::Cancel(lease, fence)))
+        }
+    }
+}

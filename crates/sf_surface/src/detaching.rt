@@ -1,0 +1,80 @@
+ghost use Rattle.std.specs.Prelude.{◌≡◌, IfOk, IfErr, OnErr};
+ghost use Rattle.sf_slots.specs.Queue.{IsSound};
+ghost use Rattle.sf_surface.specs.declared.call.QCall.TheVariants as call;
+ghost use Rattle.sf_surface.specs.Objects.{Does};
+
+use crate::call::{Gives, QCall, QReply};
+use crate::held::{has_buffer, unlent_refusal};
+use crate::plain::write_token;
+use crate::replies::refused;
+use crate::rights::{Finished, finish};
+use crate::token::{Loose, WriteLease};
+use crate::values::Room;
+use sf_base::{ActorId, NoMemory, QStatus, QueueId};
+use sf_picture::Painted;
+use sf_queue::{detach_allowed, lent_refusal};
+use sf_slots::Slots;
+use sf_turns::{TableName, Turn};
+use std::alloc::Global;
+
+/// Takes a lent buffer out of the queue.
+pub(crate) fn detach<B: TableName>(
+    slots: &mut Slots<Turn<Painted>>,
+    alloc: Global,
+    by: ActorId,
+    queue: QueueId,
+    lease: WriteLease<B>,
+    room: Room,
+) -> Result<QReply<B>, (NoMemory, QCall<B>)>
+    requires number { queue ≡ slots.old.number }
+    requires sound { IsSound slots.old }
+    ensures done { IfOk result (Does B.table slots.old slots.new by (call.Detach lease)) }
+    ensures unchanged { OnErr result (slots.new ≡ slots.old) }
+    ensures back { IfErr result (λ back. back.1 ≡ call.Detach lease) }
+{
+    let said = write_token(queue, &lease);
+    if !has_buffer(slots, said.slot, said.held) {
+        let cause = unlent_refusal(slots, by);
+        return Ok(refused(cause, QCall::Detach(lease), room));
+    }
+    if let Some(cause) = lent_refusal(slots, by, said.slot, said.held.number, true) {
+        return Ok(refused(cause, QCall::Detach(lease), room));
+    }
+    let WriteLease {
+        queue: of_queue,
+        slot,
+        held,
+        requested,
+        fence: own,
+        work,
+        of,
+    } = lease;
+    match finish::<B>(alloc, work) {
+        Ok(Finished { heir, ends }) => {
+            detach_allowed(slots, by, said.slot, said.held.number);
+            Ok(QReply {
+                status: QStatus::Ok,
+                values: room.none(),
+                gives: Gives::Free(Loose {
+                    held,
+                    turn: heir,
+                    of,
+                }),
+                ends,
+                spare: None,
+            })
+        }
+        Err((no_memory, work)) => {
+            let lease = WriteLease {
+                queue: of_queue,
+                slot,
+                held,
+                requested,
+                fence: own,
+                work,
+                of,
+            };
+            Err((no_memory, QCall::Detach(lease)))
+        }
+    }
+}

@@ -1,0 +1,174 @@
+ghost use Rattle.std.specs.Prelude.{◌≡◌};
+ghost use Rattle.sf_surface.specs.Tokens.{is_size_of};
+
+use crate::plain::is_same;
+use crate::token::{Ending, Owing, WriteLease};
+use crate::work::Work;
+use sf_base::Seen;
+use sf_picture::{Painted, Picture};
+use sf_slots::Held;
+use sf_turns::{TableName, TurnSeat};
+use std::alloc::Global;
+use std::marker::PhantomData;
+
+/// Why nothing was drawn. The token comes back as it was handed in.
+#[derive(Debug, Drop)]
+pub enum DrawFault<T> {
+    /// The picture is not one that may be drawn in it.
+    BadPicture(T),
+    /// The fence is not signalled, or an earlier turn at the pixels has not left.
+    NotYet(T),
+    NoMemory(T),
+}
+
+/// Whether a picture has a buffer's size.
+fn fits(picture: &Picture, held: Held) -> bool
+    ensures { result ≡ is_size_of picture.now held }
+{
+    picture.width == held.width && picture.height == held.height
+}
+
+impl<B: TableName> WriteLease<B> {
+    ghost use Rattle.std.specs.Prelude.{◌≡◌};
+    ghost use Rattle.sf_surface.specs.Drawing.{DrawsLease};
+
+    /// Draws a picture of the buffer's size in it, over all that it held.
+    ///
+    /// BadPicture exactly where the picture has another size. NotYet exactly where nothing was drawn
+    /// yet and a point of the fence is not signalled under what was seen, or a load of this call
+    /// showed that an earlier turn has not left.
+    pub fn draw(
+        self,
+        alloc: Global,
+        seat: &mut TurnSeat<Painted>,
+        picture: &Picture,
+        seen: &Seen,
+    ) -> Result<WriteLease<B>, DrawFault<WriteLease<B>>>
+        requires { seat.old.table ≡ B.table }
+        ensures draws { DrawsLease self picture.now seen.now seat.old seat.new result }
+        ensures table { seat.new.table ≡ seat.old.table }
+    {
+        if !fits(picture, self.held) {
+            return Err(DrawFault::BadPicture(self));
+        }
+        let Ok(copy) = picture.copy(alloc) else {
+            return Err(DrawFault::NoMemory(self));
+        };
+        let WriteLease {
+            queue,
+            slot,
+            held,
+            requested,
+            fence,
+            work,
+            of,
+        } = self;
+        let work = match work {
+            Work::Drawn(inside, pixels) => Ok(Work::Drawn(inside, pixels.repaint(copy))),
+            Work::Fresh(turn) => {
+                if fence.first_open(seen).is_some() {
+                    Err(turn)
+                } else {
+                    match turn.enter(seat) {
+                        Ok((inside, pixels)) => Ok(Work::Drawn(inside, pixels.repaint(copy))),
+                        Err(turn) => Err(turn),
+                    }
+                }
+            }
+        };
+        match work {
+            Ok(work) => Ok(WriteLease {
+                queue,
+                slot,
+                held,
+                requested,
+                fence,
+                work,
+                of,
+            }),
+            Err(turn) => Err(DrawFault::NotYet(WriteLease {
+                queue,
+                slot,
+                held,
+                requested,
+                fence,
+                work: Work::Fresh(turn),
+                of,
+            })),
+        }
+    }
+}
+
+impl<B: TableName> Owing<B> {
+    ghost use Rattle.std.specs.Prelude.{◌≡◌};
+    ghost use Rattle.sf_surface.specs.Drawing.{PaysOwing};
+
+    /// Draws the promised picture, and leaves.
+    ///
+    /// BadPicture exactly where the picture is not the promised one. NotYet exactly where a point of
+    /// the fence is not signalled under what was seen, or a load of this call showed that an earlier
+    /// turn has not left.
+    pub fn draw(
+        self,
+        alloc: Global,
+        seat: &mut TurnSeat<Painted>,
+        picture: &Picture,
+        seen: &Seen,
+    ) -> Result<(), DrawFault<Owing<B>>>
+        requires { seat.old.table ≡ B.table }
+        ensures pays { PaysOwing self picture.now seen.now seat.old seat.new result }
+        ensures table { seat.new.table ≡ seat.old.table }
+    {
+        if !is_same(picture, self.turn.promised()) {
+            return Err(DrawFault::BadPicture(self));
+        }
+        if self.fence.first_open(seen).is_some() {
+            return Err(DrawFault::NotYet(self));
+        }
+        let Ok(copy) = picture.copy(alloc) else {
+            return Err(DrawFault::NoMemory(self));
+        };
+        let Owing {
+            queue,
+            slot,
+            frame,
+            fence,
+            turn,
+            of: _,
+        } = self;
+        match turn.enter(seat) {
+            Ok((busy, pixels)) => {
+                busy.leave(seat, pixels.repaint(copy));
+                Ok(())
+            }
+            Err(turn) => Err(DrawFault::NotYet(Owing {
+                queue,
+                slot,
+                frame,
+                fence,
+                turn,
+                of: PhantomData,
+            })),
+        }
+    }
+}
+
+impl<B: TableName> Ending<B> {
+    ghost use Rattle.std.specs.Prelude.{◌≡◌};
+    ghost use Rattle.sf_turns.specs.Views.{IsExactAlone, Leaves};
+
+    /// Leaves, with the pixels as they were drawn.
+    pub fn end(self, seat: &mut TurnSeat<Painted>)
+        requires { seat.old.table ≡ B.table }
+        ensures left { Leaves seat.old self.turn.buffer self.turn.number seat.new }
+        ensures exact { IsExactAlone seat.new }
+        ensures table { seat.new.table ≡ seat.old.table }
+    {
+        let Ending {
+            turn,
+            pixels,
+            of: _,
+        } = self;
+        turn.leave(seat, pixels);
+    }
+}

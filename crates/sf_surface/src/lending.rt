@@ -1,0 +1,168 @@
+ghost use Rattle.std.specs.Prelude.{◌≡◌, ℕ, ◌<◌, ◌≤◌, ◌-◌, ◌^◌, IfOk, IfErr, Some, None, true, false, if◌then◌else◌};
+ghost use Rattle.sf_base.specs.declared.status.QStatus.TheVariants.{WouldBlock};
+ghost use Rattle.sf_calls.specs.Outcomes.{IfDone, IfNotYet, IfNoMemory};
+ghost use Rattle.sf_slots.specs.declared.calls.PlainCall.TheVariants as plain;
+ghost use Rattle.sf_slots.specs.Queue.{told_of, IsSound};
+ghost use Rattle.sf_slots.specs.Replies.{refusal_of, size_asked};
+ghost use Rattle.sf_slots.specs.Told.{slot_for};
+ghost use Rattle.sf_turns.specs.Views.{first_turn};
+ghost use Rattle.sf_surface.specs.declared.call.QCall.TheVariants as call;
+ghost use Rattle.sf_surface.specs.Hands.{blank_of, lent_reply};
+ghost use Rattle.sf_surface.specs.Inside.{HasDefaultSize, IsNextSlot, sized_buffer};
+ghost use Rattle.sf_surface.specs.Objects.{AreRights, Does};
+ghost use Rattle.sf_surface.specs.Tokens.{IsRightOf};
+
+use crate::call::{Gives, QCall, QReply};
+use crate::replies::refused;
+use crate::token::WriteLease;
+use crate::values::Room;
+use crate::work::Work;
+use sf_base::{ActorId, QStatus, QueueId};
+use sf_calls::Outcome;
+use sf_picture::{Painted, blank, paint};
+use sf_queue::{Dequeued, dequeue_needs};
+use sf_slots::{Settings, Slots};
+use sf_turns::{Permit, TableName, Turn};
+use std::alloc::Global;
+use std::marker::PhantomData;
+
+/// The size that is asked for, where 0 by 0 means the default.
+fn size_asked(settings: &Settings, width: u32, height: u32) -> (u32, u32)
+    ensures { result ≡ size_asked settings.now width height }
+{
+    if width == 0 && height == 0 {
+        (settings.width, settings.height)
+    } else {
+        (width, height)
+    }
+}
+
+/// The first right to a new buffer of this size, transparent black. Want of memory hands the permit
+/// back.
+fn open(
+    alloc: Global,
+    permit: Permit<Painted>,
+    width: u32,
+    height: u32,
+) -> Result<Turn<Painted>, Permit<Painted>>
+    requires wide { 1 ≤ width }
+    requires narrow { width ≤ 512 }
+    requires high { 1 ≤ height }
+    requires low { height ≤ 512 }
+    ensures ok { IfOk result (λ turn. turn ≡ first_turn permit (blank_of (sized_buffer width height))) }
+    ensures back { IfErr result (λ back. back ≡ permit) }
+{
+    let pixels = match paint(alloc, blank(alloc, width, height)) {
+        Ok(pixels) => pixels,
+        Err(_) => return Err(permit),
+    };
+    match permit.open(pixels) {
+        Ok(turn) => Ok(turn),
+        Err((_, permit, _)) => Err(permit),
+    }
+}
+
+/// Whether the buffer in the slot that a dequeue lends is requested.
+fn is_next_requested(slots: &Slots<Turn<Painted>>) -> bool
+    ensures { (s : ℕ) → slot_for true (told_of slots.now) ≡ Some s → IsNextSlot slots.now s result }
+{
+    match slots.next_free(true) {
+        Some(slot) => slots.requested(slot),
+        None => false,
+    }
+}
+
+/// The reply to a dequeue that lent a buffer, from a slot whose buffer was requested or not.
+fn lends<B: TableName>(
+    queue: QueueId,
+    given: Dequeued<Turn<Painted>>,
+    was_requested: bool,
+    spare: Option<Permit<Painted>>,
+    room: Room,
+) -> QReply<B>
+    requires { IsRightOf B.table given.held given.right }
+    ensures { result ≡ lent_reply queue given (if given.reallocated then false else was_requested) spare }
+{
+    let Dequeued {
+        slot,
+        held,
+        reallocated,
+        fence,
+        right,
+        old: _,
+    } = given;
+    QReply {
+        status: QStatus::Ok,
+        values: room.three_with(slot.0 as u64, held.number, reallocated as u64, &fence),
+        gives: Gives::Write(WriteLease {
+            queue,
+            slot,
+            held,
+            requested: if reallocated { false } else { was_requested },
+            fence,
+            work: Work::Fresh(right),
+            of: PhantomData,
+        }),
+        ends: None,
+        spare,
+    }
+}
+
+/// Lends a buffer: a new one where there is none of the size, with transparent black pixels.
+pub(crate) fn dequeue<B: TableName>(
+    slots: &mut Slots<Turn<Painted>>,
+    alloc: Global,
+    by: ActorId,
+    queue: QueueId,
+    width: u32,
+    height: u32,
+    wait: bool,
+    permit: Permit<Painted>,
+    room: Room,
+) -> Outcome<QCall<B>, QReply<B>>
+    requires number { queue ≡ slots.old.number }
+    requires numbered { slots.old.settings.buffers < 2 ^ 64 - 1 }
+    requires sized { HasDefaultSize slots.old.settings }
+    requires rights { AreRights B.table slots.old }
+    requires table { permit.table ≡ B.table }
+    requires sound { IsSound slots.old }
+    ensures done { IfDone result (Does B.table slots.old slots.new by (call.Dequeue width height wait permit)) }
+    ensures not_yet { IfNotYet result (λ back. (back ≡ call.Dequeue width height wait permit) × (slots.new ≡ slots.old) × (wait ≡ true)
+        × (refusal_of (told_of slots.old) by (plain.Dequeue width height wait) ≡ Some WouldBlock)) }
+    ensures no_memory { IfNoMemory result (λ back. (back ≡ call.Dequeue width height wait permit) × (slots.new ≡ slots.old)) }
+{
+    let was_requested = is_next_requested(slots);
+    match dequeue_needs(slots, by, width, height) {
+        Err(cause) => {
+            let call = QCall::Dequeue {
+                width,
+                height,
+                wait,
+                permit,
+            };
+            match cause {
+                QStatus::WouldBlock if wait => Outcome::NotYet(call),
+                _ => Outcome::Done(refused(cause, call, room)),
+            }
+        }
+        Ok(true) => {
+            let size = size_asked(&slots.settings(), width, height);
+            match open(alloc, permit, size.0, size.1) {
+                Ok(turn) => match sf_queue::dequeue(slots, by, width, height, Some(turn)) {
+                    Ok(given) => Outcome::Done(lends(queue, given, was_requested, None, room)),
+                    Err(_) => unreachable!(),
+                },
+                Err(permit) => Outcome::NoMemory(QCall::Dequeue {
+                    width,
+                    height,
+                    wait,
+                    permit,
+                }),
+            }
+        }
+        Ok(false) => match sf_queue::dequeue(slots, by, width, height, None) {
+            Ok(given) => Outcome::Done(lends(queue, given, was_requested, Some(permit), room)),
+            Err(_) => unreachable!(),
+        },
+    }
+}

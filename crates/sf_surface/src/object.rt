@@ -1,0 +1,158 @@
+ghost use Rattle.std.specs.Prelude.{◌≡◌, OnOk};
+ghost use Rattle.sf_surface.specs.Kept.{HasRoom, calls_in};
+
+use crate::call::{QCall, QReply};
+use crate::dispatch::dispatch;
+use crate::entry::HistEntry;
+use crate::history::History;
+use crate::mark::QueueMark;
+use crate::shown::named_of;
+use crate::values::Room;
+use sf_base::{ActorId, NoMemory, QueueId};
+use sf_calls::{Object, Outcome};
+use sf_picture::Painted;
+use sf_slots::Slots;
+use sf_turns::{TableName, Turn};
+use std::alloc::Global;
+use std::marker::Model;
+use std::snapshot::Snapshot;
+
+/// A BufferQueue with the history of its calls.
+#[derive(Drop)]
+pub struct QueueObject<B: TableName> {
+    alloc: Global,
+    number: QueueId,
+    slots: Slots<Turn<Painted>>,
+    history: History<B>,
+}
+
+impl<B: TableName> Model for QueueObject<B> {
+    ghost use Rattle.sf_surface.specs.Kept.{calls_in};
+    ghost use Rattle.sf_surface.specs.Objects.{ObjectOf, IsKept};
+
+    ghost Value = { ObjectOf B };
+
+    ghost view = { λ o. record { queue = o.slots; calls = calls_in o.history } };
+
+    ghost invariant = { λ o. IsKept B.table o.number o.history.shown.items (record { queue = o.slots; calls = calls_in o.history }) };
+}
+
+/// Makes room for one more call in a history, and for the values of its reply.
+fn ready<B: TableName>(history: &mut History<B>, alloc: Global) -> Result<Room, NoMemory>
+    ensures shown { history.new.shown.items ≡ history.old.shown.items }
+    ensures calls { calls_in history.new ≡ calls_in history.old }
+    ensures room { OnOk result (HasRoom history.new) }
+{
+    history.reserve()?;
+    Room::new(alloc)
+}
+
+impl<B: TableName> QueueObject<B> {
+    ghost use Rattle.std.specs.Prelude.{◌≡◌, ◌≤◌, [], IfOk};
+    ghost use Rattle.sf_slots.specs.Queue.{empty_queue};
+    ghost use Rattle.sf_surface.specs.Histories.{told};
+    ghost use Rattle.sf_surface.specs.Objects.{IsObject, mark_of};
+    ghost use Rattle.sf_surface.specs.Shown.{entries_of};
+
+    /// A queue without calls. Width and height are the default size of its buffers, in pixels.
+    pub fn new(
+        alloc: Global,
+        queue: QueueId,
+        width: u32,
+        height: u32,
+    ) -> Result<QueueObject<B>, NoMemory>
+        requires wide { 1 ≤ width }
+        requires narrow { width ≤ 512 }
+        requires high { 1 ≤ height }
+        requires low { height ≤ 512 }
+        ensures { IfOk result (λ object. object ≡ record { queue = empty_queue queue width height; calls = [] }) }
+    {
+        Ok(QueueObject {
+            alloc,
+            number: queue,
+            slots: Slots::new(alloc, queue, width, height)?,
+            history: History::new(alloc),
+        })
+    }
+
+    /// The number of the queue.
+    pub fn queue(&self) -> QueueId
+        ensures { result ≡ self.now.queue.number }
+    {
+        self.number
+    }
+
+    /// The calls as records show them, in the order in which they were made.
+    pub fn entries(&self) -> &[HistEntry]
+        ensures shown { result.now ≡ entries_of (told (mark_of self.now) self.now.calls) }
+        ensures kept { IsObject B.table self.now }
+    {
+        &self.history.shown
+    }
+}
+
+impl<B: TableName> Object for QueueObject<B> {
+    ghost use Rattle.std.specs.Prelude.{◌≡◌};
+    ghost use Rattle.sf_surface.specs.Histories.{Answers};
+    ghost use Rattle.sf_surface.specs.Marks.{PermitFits, SpareFits};
+    ghost use Rattle.sf_surface.specs.Objects.{mark_of};
+
+    type Call = (u32, QCall<B>);
+
+    type Reply = QReply<B>;
+
+    type PlainCall = (u32, QCall<B>);
+
+    type PlainReply = QReply<B>;
+
+    type Mark = QueueMark;
+
+    ghost history = { λ o. o.calls };
+
+    ghost mark = { mark_of };
+
+    ghost plain_call = { λ c. c };
+
+    ghost plain_reply = { λ r. r };
+
+    ghost call_fits = { λ m c. PermitFits B.table c.1 };
+
+    ghost reply_fits = { λ m r. SpareFits B.table r };
+
+    ghost answers = { Answers };
+
+    fn legal(&self) {
+        let _ = &self.slots;
+    }
+
+    /// Makes a call for a step of an actor, or for a vsync where the caller is 0, and keeps it in the
+    /// history. A token of another queue, and a lease that is queued with another picture than was
+    /// drawn in it, count as ones that name no slot; a token whose buffer is not the one in its slot,
+    /// by number and size, means no buffer there. A refused call hands back what it brought. A
+    /// dequeue that may wait is not made where no slot is free. For want of memory the call comes
+    /// back and nothing is kept.
+    fn apply(&mut self, by: u32, call: (u32, QCall<B>)) -> Outcome<(u32, QCall<B>), QReply<B>> {
+        let (step, asked) = call;
+        let Ok(room) = ready(&mut self.history, self.alloc) else {
+            return Outcome::NoMemory((step, asked));
+        };
+        let _settings = self.slots.settings();
+        let named = named_of(self.number, &asked);
+        let kept = Snapshot::of(&asked);
+        match dispatch(
+            &mut self.slots,
+            self.alloc,
+            ActorId(by),
+            self.number,
+            asked,
+            room,
+        ) {
+            Outcome::Done(reply) => {
+                self.history.put(by, step, named, kept, &reply);
+                Outcome::Done(reply)
+            }
+            Outcome::NotYet(asked) => Outcome::NotYet((step, asked)),
+            Outcome::NoMemory(asked) => Outcome::NoMemory((step, asked)),
+        }
+    }
+}

@@ -1,0 +1,123 @@
+ghost use Rattle.std.specs.Prelude.{◌≡◌, ◌<◌, ◌-◌, ◌^◌, IfOk, IfErr, OnErr};
+ghost use Rattle.sf_slots.specs.Queue.{IsSound};
+ghost use Rattle.sf_surface.specs.declared.call.QCall.TheVariants as call;
+ghost use Rattle.sf_surface.specs.Objects.{Does};
+
+use crate::call::{Gives, QCall, QReply};
+use crate::held::{has_buffer, unlent_refusal};
+use crate::plain::queued_token;
+use crate::replies::refused;
+use crate::rights::{Promised, promise};
+use crate::token::{Owing, WriteLease};
+use crate::values::Room;
+use sf_base::{ActorId, Fence, NoMemory, QStatus, QueueId, Rect};
+use sf_picture::{Painted, Picture};
+use sf_queue::{QueueOrder, queue_allowed, queue_refusal};
+use sf_slots::Slots;
+use sf_turns::{TableName, Turn};
+use std::marker::PhantomData;
+
+/// Queues a lent buffer as a frame that shows the picture.
+pub(crate) fn queue<B: TableName>(
+    slots: &mut Slots<Turn<Painted>>,
+    by: ActorId,
+    queue: QueueId,
+    lease: WriteLease<B>,
+    picture: Picture,
+    time: Option<u64>,
+    crop: Rect,
+    fence: Fence,
+    room: Room,
+) -> Result<QReply<B>, (NoMemory, QCall<B>)>
+    requires number { queue ≡ slots.old.number }
+    requires numbered { slots.old.settings.frames < 2 ^ 64 - 1 }
+    requires sound { IsSound slots.old }
+    ensures done { IfOk result (Does B.table slots.old slots.new by (call.Queue lease picture time crop fence)) }
+    ensures unchanged { OnErr result (slots.new ≡ slots.old) }
+    ensures back { IfErr result (λ back. back.1 ≡ call.Queue lease picture time crop fence) }
+{
+    let said = queued_token(queue, &lease, &picture);
+    if !has_buffer(slots, said.slot, said.held) {
+        let cause = unlent_refusal(slots, by);
+        let call = QCall::Queue {
+            lease,
+            picture,
+            time,
+            crop,
+            fence,
+        };
+        return Ok(refused(cause, call, room));
+    }
+    let (number, width, height) = (picture.number, picture.width, picture.height);
+    let refusal = queue_refusal(slots, by, said.slot, said.held.number, width, height, crop);
+    if let Some(cause) = refusal {
+        let call = QCall::Queue {
+            lease,
+            picture,
+            time,
+            crop,
+            fence,
+        };
+        return Ok(refused(cause, call, room));
+    }
+    let WriteLease {
+        queue: of_queue,
+        slot,
+        held,
+        requested,
+        fence: own,
+        work,
+        of,
+    } = lease;
+    let Promised { heir, owed, ends } = match promise::<B>(work, picture) {
+        Ok(promised) => promised,
+        Err((no_memory, work, picture)) => {
+            let lease = WriteLease {
+                queue: of_queue,
+                slot,
+                held,
+                requested,
+                fence: own,
+                work,
+                of,
+            };
+            let call = QCall::Queue {
+                lease,
+                picture,
+                time,
+                crop,
+                fence,
+            };
+            return Err((no_memory, call));
+        }
+    };
+    let order = QueueOrder {
+        slot: said.slot,
+        buffer: said.held.number,
+        picture: number,
+        width,
+        height,
+        time,
+        fence,
+        crop,
+        right: heir,
+    };
+    let frame = queue_allowed(slots, by, order);
+    Ok(QReply {
+        status: QStatus::Ok,
+        values: room.two(slot.0 as u64, frame),
+        gives: match owed {
+            Some(turn) => Gives::Owes(Owing {
+                queue,
+                slot,
+                frame,
+                fence: own,
+                turn,
+                of: PhantomData,
+            }),
+            None => Gives::Nothing,
+        },
+        ends,
+        spare: None,
+    })
+}
