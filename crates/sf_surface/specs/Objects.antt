@@ -55,7 +55,8 @@ module _ {B : Type 0} where
     pub hands : IsReply old.number asked answered reply
     pub rights : AreRights table old → AreRights table new
     pub from : (log : List (Made B)) → All (IsItemQueued log) old.items → FromLog log asked reply.gives
-    pub queued : (log : List (Made B)) (step : ℕ) → Contains log (entry by.0 (step, asked) reply) → All (IsItemQueued log) old.items → All (IsItemQueued log) new.items
+    pub queued : (log : List (Made B)) (step : ℕ) → Contains log (entry by.0 (step, asked) reply)
+        → All (IsItemQueued log) old.items → All (IsItemQueued log) new.items
 
 -- a queue of rights, and its calls
 pub record ObjectOf (B : Type 0) : Type 0 where

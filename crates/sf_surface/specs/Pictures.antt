@@ -26,4 +26,5 @@ same_fill a b = same_rect a.rect b.rect && same_colour a.colour b.colour
 
 -- two pictures of one number, size and format, with the same fills
 abbrev pub same_picture : Picture → Picture → Bool
-same_picture a b = nat_eq a.number b.number && (nat_eq a.width b.width && (nat_eq a.height b.height && (same_format a.format b.format && pointwise same_fill a.fills b.fills)))
+same_picture a b =
+    nat_eq a.number b.number && (nat_eq a.width b.width && (nat_eq a.height b.height && (same_format a.format b.format && pointwise same_fill a.fills b.fills)))

@@ -55,7 +55,8 @@ pub(crate) fn dispatch<B: TableName>(
     requires rights { AreRights B.table slots.old }
     requires permit { PermitFits B.table call }
     ensures done { IfDone result (Does B.table slots.old slots.new by call) }
-    ensures not_yet { IfNotYet result (λ back. (back ≡ call) × (slots.new ≡ slots.old) × (may_wait call ≡ true) × (refusal_of (told_of slots.old) by (told_call slots.old.number call) ≡ Some WouldBlock)) }
+    ensures not_yet { IfNotYet result (λ back. (back ≡ call) × (slots.new ≡ slots.old) × (may_wait call ≡ true)
+        × (refusal_of (told_of slots.old) by (told_call slots.old.number call) ≡ Some WouldBlock)) }
     ensures no_memory { IfNoMemory result (λ back. (back ≡ call) × (slots.new ≡ slots.old)) }
 {
     match call {

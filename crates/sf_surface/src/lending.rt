@@ -127,7 +127,8 @@ pub(crate) fn dequeue<B: TableName>(
     requires table { permit.table ≡ B.table }
     requires sound { IsSound slots.old }
     ensures done { IfDone result (Does B.table slots.old slots.new by (call.Dequeue width height wait permit)) }
-    ensures not_yet { IfNotYet result (λ back. (back ≡ call.Dequeue width height wait permit) × (slots.new ≡ slots.old) × (wait ≡ true) × (refusal_of (told_of slots.old) by (plain.Dequeue width height wait) ≡ Some WouldBlock)) }
+    ensures not_yet { IfNotYet result (λ back. (back ≡ call.Dequeue width height wait permit) × (slots.new ≡ slots.old) × (wait ≡ true)
+        × (refusal_of (told_of slots.old) by (plain.Dequeue width height wait) ≡ Some WouldBlock)) }
     ensures no_memory { IfNoMemory result (λ back. (back ≡ call.Dequeue width height wait permit) × (slots.new ≡ slots.old)) }
 {
     let was_requested = is_next_requested(slots);

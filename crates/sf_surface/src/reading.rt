@@ -26,9 +26,27 @@ impl<B: TableName> Model for Reading<B> {
 
     ghost Value = { ReadLeaseOf };
 
-    ghost view = { λ l. record { queue = l.queue; slot = l.slot; frame = l.frame; held = l.held; picture = l.picture; crop = l.crop; fence = l.fence; turn = l.turn } };
+    ghost view = { λ l. record {
+      queue = l.queue;
+      slot = l.slot;
+      frame = l.frame;
+      held = l.held;
+      picture = l.picture;
+      crop = l.crop;
+      fence = l.fence;
+      turn = l.turn;
+    } };
 
-    ghost invariant = { λ l. IsReadLease B.table (record { queue = l.queue; slot = l.slot; frame = l.frame; held = l.held; picture = l.picture; crop = l.crop; fence = l.fence; turn = l.turn }) };
+    ghost invariant = { λ l. IsReadLease B.table (record {
+      queue = l.queue;
+      slot = l.slot;
+      frame = l.frame;
+      held = l.held;
+      picture = l.picture;
+      crop = l.crop;
+      fence = l.fence;
+      turn = l.turn;
+    }) };
 }
 
 /// A reading that was handed on and has yet to end.

@@ -28,7 +28,14 @@ impl<B: TableName> Model for WriteLease<B> {
 
     ghost view = { λ l. record { queue = l.queue; slot = l.slot; held = l.held; requested = l.requested; fence = l.fence; work = l.work } };
 
-    ghost invariant = { λ l. IsWriteLease B.table (record { queue = l.queue; slot = l.slot; held = l.held; requested = l.requested; fence = l.fence; work = l.work }) };
+    ghost invariant = { λ l. IsWriteLease B.table (record {
+      queue = l.queue;
+      slot = l.slot;
+      held = l.held;
+      requested = l.requested;
+      fence = l.fence;
+      work = l.work;
+    }) };
 }
 
 /// A drawing that was promised to a queued frame and is not done yet. The right expects a picture of
@@ -77,9 +84,27 @@ impl<B: TableName> Model for ReadLease<B> {
 
     ghost Value = { ReadLeaseOf };
 
-    ghost view = { λ l. record { queue = l.queue; slot = l.slot; frame = l.frame; held = l.held; picture = l.picture; crop = l.crop; fence = l.fence; turn = l.turn } };
+    ghost view = { λ l. record {
+      queue = l.queue;
+      slot = l.slot;
+      frame = l.frame;
+      held = l.held;
+      picture = l.picture;
+      crop = l.crop;
+      fence = l.fence;
+      turn = l.turn;
+    } };
 
-    ghost invariant = { λ l. IsReadLease B.table (record { queue = l.queue; slot = l.slot; frame = l.frame; held = l.held; picture = l.picture; crop = l.crop; fence = l.fence; turn = l.turn }) };
+    ghost invariant = { λ l. IsReadLease B.table (record {
+      queue = l.queue;
+      slot = l.slot;
+      frame = l.frame;
+      held = l.held;
+      picture = l.picture;
+      crop = l.crop;
+      fence = l.fence;
+      turn = l.turn;
+    }) };
 }
 
 /// A buffer that is in no queue, with the right to its pixels.
