@@ -116,8 +116,8 @@ fn consuming(name: &str, words: &mut SplitWhitespace<'_>) -> Option<Command> {
 pub fn parse(words: &mut SplitWhitespace<'_>) -> Option<Command> {
     let name = words.next()?;
     match name {
-        "dequeue" | "dequeuewait" | "request" | "draw" | "queue" | "cancel" | "detach"
-        | "attach" => producing(name, words),
+        "dequeue" | "dequeuewait" | "request" | "draw" | "queue" | "cancel" | "detach" | "attach" =>
+            producing(name, words),
         "acquire" | "read" | "release" | "detachread" | "attachread" => consuming(name, words),
         _ => setting(name, words),
     }

@@ -13,9 +13,8 @@ use sf_picture::Painted;
 use sf_surface::{Gives, Loose, QCall, QReply, QueueMark, QueueObject, ReadLease, WriteLease};
 use sf_turns::{Stock, TableName, TurnSeat};
 use std::alloc::Global;
-use std::io;
-use std::mem;
 use std::sync::Wait;
+use std::{io, mem};
 
 /// Who makes a call: the actor 1 or 2.
 #[derive(Clone, Copy)]

@@ -52,8 +52,7 @@ pub fn rect(words: &mut SplitWhitespace<'_>) -> Option<Rect> {
 }
 
 /// The next words, as a point: a timeline from 1 to 64, and a value.
-pub fn point(words: &mut SplitWhitespace<'_>) -> Option<(TimelineId, u64)>
-{
+pub fn point(words: &mut SplitWhitespace<'_>) -> Option<(TimelineId, u64)> {
     let timeline = number32(words)?;
     let value = number64(words)?;
     if timeline < 1 || timeline > 64 {

@@ -1,8 +1,9 @@
-use Rattle.std.proofs.Common.{◌≡◌, ap, arith, ℕ}
+use Rattle.std.proofs.Common.{◌≡◌, ap, arith, subst, ℕ}
 use Rattle.sf_base.specs.Points.{greatest}
 use Rattle.sf_turns.specs.Views.{SeatView}
 use Rattle.sf_base.proofs.PointLemmas.{greatest-last, value_here}
-use Rattle.sf_surface.specs.Tokens.{Right}
+use Rattle.sf_txn.specs.Counts.{HasRisen}
+use Rattle.sf_surface.specs.Tokens.{ReadLeaseOf, Right}
 use Rattle.sf_surface.proofs.Seen.{seen_on, risen_by_one}
 use Rattle.sf_surface.proofs.reading.ReadLeaseLease.drawn.Goals as goal
 
@@ -11,7 +12,9 @@ returns-clause-keeps g c = λ other known.
     seen_on other.turn.buffer other.turn.number _ _ _ (ap (λ (v : SeatView). v.seen) c.ready.ensures.observed.1.0) known
 
 pub returns-clause-looks : goal.returns-clause-looks
-returns-clause-looks g c = risen_by_one _ _ c.ready.ensures.risen (ap (λ (t : Right). t.loads) c.ready.ensures.counted)
+returns-clause-looks g c =
+    subst (λ (l : ReadLeaseOf). HasRisen l.turn.loads c.ready.new.self.loads) c.self.view_is
+    (risen_by_one c.self.inside.turn.loads c.ready.new.self.loads c.ready.ensures.risen (ap (λ (t : Right). t.loads) c.ready.ensures.counted))
 
 pub returns-clause-known : goal.returns-clause-known
 returns-clause-known g c =
