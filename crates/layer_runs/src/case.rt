@@ -171,6 +171,18 @@ impl Case {
         }
     }
 
+    /// Prints a view's frame, composed over that of the view before.
+    fn compose_again(&self, rt: &impl Print, view: Option<View>) -> io::Result<bool> {
+        match (&self.before, view) {
+            (Some(before), Some(view)) => {
+                let frame = compose::again(self.alloc, before, &view, &self.contents);
+                scene::print_frame(rt, "again", frame)?;
+                Ok(true)
+            }
+            _ => Ok(false),
+        }
+    }
+
     /// Does what a line says of the view before. Answers whether it says something.
     fn use_view(
         &mut self,
@@ -186,6 +198,10 @@ impl Case {
             "dirty" => {
                 let view = scene::viewed(self.alloc, &self.tree, words);
                 self.compare(rt, view)
+            }
+            "again" => {
+                let view = scene::viewed(self.alloc, &self.tree, words);
+                self.compose_again(rt, view)
             }
             _ => Ok(false),
         }

@@ -6,7 +6,8 @@ ghost use Rattle.sf_region.specs.Points.{IsInBounds, far, neg_far};
 
 use crate::words::{colour, number32, rect};
 use sf_base::{Format, Items, Rect};
-use sf_compose::{compose_frame, compose_one};
+use sf_compose::{compose_frame, compose_one, compose_seen};
+use sf_damage::{dirty, visible};
 use sf_picture::{Fill, Painted, Picture, paint};
 use sf_region::Region;
 use sf_view::{Content, Drawn, View};
@@ -118,6 +119,26 @@ fn composed(alloc: Global, view: &View, contents: &[Painted], part: &Region) -> 
     Some(frame)
 }
 
+/// Composes a part into a frame, of each layer only what shows.
+pub fn add_seen(
+    alloc: Global,
+    view: &View,
+    contents: &[Painted],
+    part: &Region,
+    frame: &mut Vec<u8>,
+) -> Option<()> {
+    let Some(sources) = sources(alloc, view.drawn.as_slice(), contents) else {
+        return None;
+    };
+    let Ok(shown) = visible(alloc, view) else {
+        return None;
+    };
+    if frame.len() != 4 * (view.width as usize * view.height as usize) {
+        return None;
+    }
+    compose_seen(alloc, view, contents, &sources, &shown, part, frame).ok()
+}
+
 /// Whether so many pixels from one on lie where a region's may.
 fn is_near(from: i32, extent: u32) -> bool
     ensures { IsTrue result → (neg_far ≤ℤ from) × ((from +ℤ pos extent) ≤ℤ far) }
@@ -156,6 +177,28 @@ pub fn part(
 ) -> Option<Vec<u8>> {
     let region = region(alloc, words)?;
     composed(alloc, view, contents, &region)
+}
+
+/// The bytes of a frame of sevens after what shows in these rectangles was composed into it.
+pub fn seen(
+    alloc: Global,
+    view: &View,
+    contents: &[Painted],
+    words: &mut SplitWhitespace<'_>,
+) -> Option<Vec<u8>> {
+    let part = region(alloc, words)?;
+    let size = 4 * (view.width as usize * view.height as usize);
+    let mut frame = vec![in alloc; 7u8; size].ok()?;
+    add_seen(alloc, view, contents, &part, &mut frame)?;
+    Some(frame)
+}
+
+/// The bytes of a view's frame, composed over the frame of the view before where the two differ.
+pub fn again(alloc: Global, before: &View, view: &View, contents: &[Painted]) -> Option<Vec<u8>> {
+    let mut frame = whole(alloc, before, contents)?;
+    let part = dirty(alloc, before, view).ok()?;
+    add_seen(alloc, view, contents, &part, &mut frame)?;
+    Some(frame)
 }
 
 fn print_run(rt: &impl Print, count: u32, pixel: Option<[u8; 4]>) -> io::Result<()> {

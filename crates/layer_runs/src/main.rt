@@ -20,6 +20,8 @@
 //! | `shows WIDTH HEIGHT` | the points at which each drawn layer shows, from the back; with layers after it, of these in order |
 //! | `keep WIDTH HEIGHT` | what a display shows is kept as the view before; with layers after it, what it shows of these |
 //! | `dirty WIDTH HEIGHT` | where what a display shows, of all or of these layers, differs from the view before |
+//! | `seen WIDTH HEIGHT RECTANGLE ..` | as `part`, of each layer only what shows |
+//! | `again WIDTH HEIGHT` | the pixels of a display, composed over those of the view before where the two differ |
 //! | `buffer LAYER FRAME` | the transaction shows a frame of queue 1 on a layer |
 //! | `barrier LAYER FRAME`, `token N`, `desire TIME` | what else a transaction holds |
 //! | `show` | all that the transaction holds |

@@ -138,8 +138,20 @@ fn part(
     compose::part(alloc, &view, contents, words)
 }
 
+/// The same, of each layer only what shows.
+fn seen(
+    alloc: Global,
+    tree: &Tree,
+    contents: &[Painted],
+    words: &mut SplitWhitespace<'_>,
+) -> Option<Vec<u8>> {
+    let (width, height) = size(words)?;
+    let view = view_of(alloc, tree, width, height).ok()?;
+    compose::seen(alloc, &view, contents, words)
+}
+
 /// Prints the pixels of what a line asks for, or that there are none.
-fn print_frame(rt: &impl Print, name: &str, pixels: Option<Vec<u8>>) -> io::Result<()> {
+pub fn print_frame(rt: &impl Print, name: &str, pixels: Option<Vec<u8>>) -> io::Result<()> {
     match pixels {
         Some(bytes) => {
             println!(rt; "{name}:")?;
@@ -174,6 +186,7 @@ pub fn ask(
         },
         "frame" => print_frame(rt, name, frame(alloc, tree, contents, words))?,
         "part" => print_frame(rt, name, part(alloc, tree, contents, words))?,
+        "seen" => print_frame(rt, name, seen(alloc, tree, contents, words))?,
         _ => return Ok(false),
     }
     Ok(true)

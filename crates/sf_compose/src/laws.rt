@@ -2,6 +2,7 @@ ghost use Rattle.std.specs.Prelude.{◌≡◌, ℕ, List, pos};
 ghost use Rattle.sf_picture.specs.declared.picture.Picture.{Picture};
 ghost use Rattle.sf_view.specs.Stacks.{view_image};
 ghost use Rattle.sf_view.specs.Views.{ViewOf};
+ghost use Rattle.sf_compose.specs.Again.{ComposingAgainIsWhole};
 ghost use Rattle.sf_compose.specs.Readings.{AreReadable, read_image};
 ghost use Rattle.sf_compose.specs.Sources.{HasSources};
 
@@ -13,4 +14,10 @@ pub fn what_is_read_is_the_image()
     ensures image { (picture : ℕ → Picture) (view : ViewOf) (contents : List Picture) (sources : List ℕ) →
         HasSources picture view contents sources →
         (x y : ℕ) → read_image contents view sources x y ≡ view_image picture view (pos x) (pos y) }
+{}
+
+/// Where the points at which two views differ were composed anew over the frame of the old one, and
+/// no other point changed, the frame is that of the new one.
+pub fn composing_what_differs_gives_the_frame()
+    ensures { ComposingAgainIsWhole }
 {}

@@ -123,7 +123,7 @@ fn seen_colour(colour: Rgba, opaque: bool) -> Rgba
 }
 
 // Paints a drawn layer over the points of an area that are in its clip.
-fn paint_layer<C: Pixels>(
+pub fn paint_layer<C: Pixels>(
     drawn: &Drawn,
     contents: &[C],
     source: u32,

@@ -10,10 +10,12 @@ mod ground;
 mod laws;
 mod layer;
 mod pixels;
+mod seen;
 mod spans;
 mod whole;
 
 pub use compose::compose_one;
-pub use laws::what_is_read_is_the_image;
+pub use laws::{composing_what_differs_gives_the_frame, what_is_read_is_the_image};
 pub use pixels::Pixels;
+pub use seen::compose_seen;
 pub use whole::compose_frame;

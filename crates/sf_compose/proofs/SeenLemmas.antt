@@ -1,0 +1,119 @@
+-- Layers that are painted only where they show.
+use Rattle.std.proofs.Common.{◌≡◌, ℕ, zero, suc, ◌+◌, ◌-◌, ◌<◌, ◌≤◌, ◌&&◌, ◌||◌, Bool, true, false, if◌then◌else◌, List, [], ◌∷◌, length, get_or, take, drop, refl, ap, ◌∙◌, sym, arith, ℤ, pos, inl, inr}
+use Rattle.std.specs.List.{AllZip, list_any}
+use Rattle.std.proofs.Math.Seq.{take-length}
+use Rattle.std.proofs.lemmas.Bool.{and_parts, both_ways, eqb-true, false_from_ne_true, false≢true, or_cases, or_left, or_right}
+use Rattle.std.proofs.lemmas.List.Folds.{list_any_more}
+use Rattle.sf_base.specs.Geometry.{covers}
+use Rattle.sf_base.specs.declared.geometry.Rect.{Rect}
+use Rattle.sf_base.specs.declared.pixel.Rgba.{Rgba}
+use Rattle.sf_damage.specs.Visible.{AreVisible, hides_all, hides_at, shows_at}
+use Rattle.sf_picture.specs.declared.picture.Picture.{Picture}
+use Rattle.sf_region.specs.Canonical.{IsDisjoint}
+use Rattle.sf_region.specs.Points.{has}
+use Rattle.sf_view.specs.Views.{is_in_clip}
+use Rattle.sf_view.specs.declared.content.Content.TheVariants as content
+use Rattle.sf_view.specs.declared.drawn.Drawn.{Drawn}
+use Rattle.sf_compose.specs.declared.area.Area.{Area}
+use Rattle.sf_compose.specs.Painting.{is_in_area, Paints}
+use Rattle.sf_compose.specs.Readings.{AreReadable, IsReadable, pixel_from, under_drawn, under_one}
+use Rattle.sf_compose.proofs.PaintLemmas.{painted-solid, Paints-clipped, Paints-none, Paints-over, Paints-same, Paints-then}
+
+-- rectangles that share no point
+
+has_at : (rs : List Rect) (i : ℕ) (d : Rect) (x y : ℤ) → i < length rs → covers (get_or rs i d) x y ≡ true → has rs x y ≡ true
+has_at [] i d x y h t = absurd (omega arith)
+has_at (r ∷ rs) zero d x y h t = or_left (covers r x y) (has rs x y) t
+has_at (r ∷ rs) (suc i) d x y h t = or_right (covers r x y) (has rs x y) (has_at rs i d x y (omega arith) t)
+
+apart_at : (rs : List Rect) (i : ℕ) (d : Rect) (x y : ℤ) → IsDisjoint rs → i < length rs → has (take i rs) x y ≡ true → covers (get_or rs i d) x y ≡ true → ⊥
+apart_at [] i d x y apart h t u = absurd (omega arith)
+apart_at (r ∷ rs) zero d x y apart h t u = absurd (false≢true t)
+apart_at (r ∷ rs) (suc i) d x y apart h t u = elim (or_cases (covers r x y) (has (take i rs) x y) t) [
+  | inl here ↦ both_ways (has rs x y) (apart.0 x y here) (has_at rs i d x y (omega arith) u)
+  | inr later ↦ apart_at rs i d x y apart.1 (omega arith) later u
+]
+
+both_or : (a h c : Bool) → (a && (h || c)) ≡ ((a && h) || (a && c))
+both_or true h c = refl
+both_or false h c = refl
+
+-- one rectangle more
+pub Paints-part : (w : ℕ) (area part : Area) (parts : List Rect) (i : ℕ) (d : Rect) (f : ℕ → ℕ → Rgba → Rgba) (old mid new : List ℕ) → IsDisjoint parts → i < length parts → Paints w (λ x y. is_in_area area x y && has (take i parts) (pos x) (pos y)) f old mid → Paints w (is_in_area part) f mid new → ((x y : ℕ) → is_in_area part x y ≡ (is_in_area area x y && covers (get_or parts i d) (pos x) (pos y))) → Paints w (λ x y. is_in_area area x y && has (take (i + 1) parts) (pos x) (pos y)) f old new
+Paints-part w area part parts i d f old mid new apart h a b points =
+    Paints-then w (λ x y. is_in_area area x y && has (take i parts) (pos x) (pos y)) (is_in_area part) (λ x y. is_in_area area x y && has (take (i + 1) parts) (pos x) (pos y)) f old mid new a b
+    (λ x y. ap (λ (t : Bool). is_in_area area x y && t) (list_any_more (λ rect. covers rect (pos x) (pos y)) parts i d h)
+    ∙ (both_or (is_in_area area x y) (has (take i parts) (pos x) (pos y)) (covers (get_or parts i d) (pos x) (pos y))
+    ∙ ap (λ (t : Bool). (is_in_area area x y && has (take i parts) (pos x) (pos y)) || t) (sym (points x y))))
+    (λ x y t. false_from_ne_true (is_in_area part x y) (λ u.
+    apart_at parts i d (pos x) (pos y) apart h (and_parts (is_in_area area x y) _ t).1 (and_parts (is_in_area area x y) _ (sym (points x y) ∙ u)).1))
+
+right_false : (a : Bool) → (a && false) ≡ false
+right_false true = refl
+right_false false = refl
+
+-- no rectangle yet
+pub Paints-no_part : (w : ℕ) (area : Area) (f : ℕ → ℕ → Rgba → Rgba) (old : List ℕ) → Paints w (λ x y. is_in_area area x y && has [] (pos x) (pos y)) f old old
+Paints-no_part w area f old = Paints-none w (λ x y. is_in_area area x y && has [] (pos x) (pos y)) f old (λ x y. right_false (is_in_area area x y))
+
+-- what is hidden
+
+-- what lies below an opaque layer of whole alpha is not seen
+one-hides : (contents : List Picture) (d : Drawn) (source : ℕ) (x y : ℤ) (under other : Rgba) → hides_at x y d ≡ true → under_one contents x y under d source ≡ under_one contents x y other d source
+one-hides contents d source x y under other h =
+    let parts = and_parts (hides_all d) (is_in_clip d x y) h in
+    let whole = and_parts d.opaque _ parts.0 in
+    let alpha : d.alpha ≡ 255 = eqb-true d.alpha 255 whole.1 in
+    let solid : (pixel_from contents d source x y).a ≡ 255 = rw whole.0 refl in
+    rw (parts.1, alpha) (painted-solid under other (pixel_from contents d source x y) solid)
+
+layers-hide : (contents : List Picture) (x y : ℤ) (layers : List Drawn) (sources : List ℕ) → AllZip (λ drawn source. IsReadable contents drawn.content source) layers sources → list_any (hides_at x y) layers ≡ true → (under other : Rgba) → under_drawn contents x y under layers sources ≡ under_drawn contents x y other layers sources
+layers-hide contents x y [] sources all h under other = absurd (false≢true h)
+layers-hide contents x y (d ∷ ds) [] all h under other = absurd all
+layers-hide contents x y (d ∷ ds) (s ∷ ss) all h under other = elim (or_cases (hides_at x y d) (list_any (hides_at x y) ds) h) [
+  | inl here ↦ ap (λ (ground : Rgba). under_drawn contents x y ground ds ss) (one-hides contents d s x y under other here)
+  | inr later ↦ layers-hide contents x y ds ss all.1 later (under_one contents x y under d s) (under_one contents x y other d s)
+]
+
+-- a layer that is painted where it shows alone counts as one that is painted whole
+seen-step : (contents : List Picture) (d : Drawn) (ds : List Drawn) (s : ℕ) (ss : List ℕ) (x y : ℤ) (shown : Bool) (under : Rgba) → AllZip (λ drawn source. IsReadable contents drawn.content source) ds ss → shown ≡ shows_at d ds x y → under_drawn contents x y (if shown then under_one contents x y under d s else under) ds ss ≡ under_drawn contents x y (under_one contents x y under d s) ds ss
+seen-step contents d ds s ss x y shown under all is = rw is (by_tests (is_in_clip d x y) (list_any (hides_at x y) ds) refl refl)
+  where
+    by_tests : (c h : Bool) → is_in_clip d x y ≡ c → list_any (hides_at x y) ds ≡ h → under_drawn contents x y (if shows_at d ds x y then under_one contents x y under d s else under) ds ss ≡ under_drawn contents x y (under_one contents x y under d s) ds ss
+    by_tests true false t u = rw (t, u) refl
+    by_tests true true t u = rw (t, u) (layers-hide contents x y ds ss all u under _)
+    by_tests false h t u = rw t refl
+
+-- one layer, where it shows, and then those above it
+pub Paints-seen : (w : ℕ) (area : Area) (contents : List Picture) (layers : List Drawn) (sources : List ℕ) (shows : List (List Rect)) (d : Drawn) (ds : List Drawn) (s : ℕ) (ss : List ℕ) (region : List Rect) (regions : List (List Rect)) (old mid new : List ℕ) → (d ∷ ds) ≡ layers → (s ∷ ss) ≡ sources → (region ∷ regions) ≡ shows → AreReadable contents layers sources → AreVisible layers shows → Paints w (λ x y. is_in_area area x y && has region (pos x) (pos y)) (λ x y under. under_one contents (pos x) (pos y) under d s) old mid → Paints w (is_in_area area) (λ x y under. under_drawn contents (pos x) (pos y) under ds ss) mid new → Paints w (is_in_area area) (λ x y under. under_drawn contents (pos x) (pos y) under layers sources) old new
+Paints-seen w area contents layers sources shows d ds s ss region regions old mid new is_layers is_sources is_shows readable visible a b =
+    let all : AllZip (λ drawn source. IsReadable contents drawn.content source) (d ∷ ds) (s ∷ ss) = rw (← is_layers, ← is_sources) at readable.all in
+    let seen : AreVisible (d ∷ ds) (region ∷ regions) = rw (← is_layers, ← is_shows) at visible in
+    rw (← is_layers, ← is_sources) (
+    Paints-same w (is_in_area area) (is_in_area area)
+    (λ x y under. under_drawn contents (pos x) (pos y) (if has region (pos x) (pos y) then under_one contents (pos x) (pos y) under d s else under) ds ss)
+    (λ x y under. under_drawn contents (pos x) (pos y) under (d ∷ ds) (s ∷ ss)) old new
+    (Paints-over w (is_in_area area) (λ x y under. if has region (pos x) (pos y) then under_one contents (pos x) (pos y) under d s else under) (λ x y under. under_drawn contents (pos x) (pos y) under ds ss) old mid new
+    (Paints-clipped w (λ x y. is_in_area area x y && has region (pos x) (pos y)) (is_in_area area) (λ x y. has region (pos x) (pos y)) (λ x y under. under_one contents (pos x) (pos y) under d s) old mid a (λ x y. refl)) b)
+    (λ x y. refl)
+    (λ x y under t. seen-step contents d ds s ss (pos x) (pos y) (has region (pos x) (pos y)) under all.1 (seen.0 (pos x) (pos y))))
+
+-- lists as a first and others
+
+pub first-others : {A : Type 0} (xs : List A) (d : A) → 1 ≤ length xs → get_or xs 0 d ∷ take (length xs - 1) (drop 1 xs) ≡ xs
+first-others [] d some = absurd (omega arith)
+first-others (x ∷ xs) d some =
+    let less : suc (length xs) - 1 ≡ length xs = omega arith in
+    ap (λ others. x ∷ others) (rw less (take-length xs))
+
+-- what stands for a drawn layer of an empty list
+abbrev pub no_layer : Drawn
+no_layer = record {
+  layer = record { 0 = 0 };
+  clip = record { x = pos 0; y = pos 0; width = 0; height = 0 };
+  place = (pos 0, pos 0);
+  alpha = 0;
+  opaque = false;
+  content = content.Colour (record { r = 0; g = 0; b = 0; a = 0 });
+  orient = 0;
+}

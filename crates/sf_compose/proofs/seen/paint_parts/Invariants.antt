@@ -1,0 +1,11 @@
+use Rattle.std.proofs.Common.{map, take, pos, ◌&&◌}
+use Rattle.sf_region.specs.Points.{has}
+use Rattle.sf_compose.specs.Painting.{is_in_area, Paints}
+use Rattle.sf_compose.specs.Readings.{under_one}
+use Rattle.sf_compose.proofs.seen.paint_parts.Given as goal
+
+abbrev pub invariant-loop-part : goal.invariant-loop-part
+invariant-loop-part g l =
+    Paints l.width (λ x y. is_in_area l.area x y && has (take l.part-index l.parts) (pos x) (pos y))
+    (λ x y under. under_one (map g.C.Pixels.picture l.contents) (pos x) (pos y) under l.drawn l.source)
+    l.fn.frame l.frame

@@ -1,0 +1,27 @@
+-- Frames that are composed over the frame before.
+use Rattle.std.specs.Prelude.{◌≡◌, ℕ, ◌+◌, ◌*◌, ◌<◌, List, pos}
+use Rattle.sf_base.specs.Bytes.{pixel_in}
+use Rattle.sf_base.specs.declared.geometry.Rect.{Rect}
+use Rattle.sf_damage.specs.Damage.{Damages}
+use Rattle.sf_picture.specs.declared.picture.Picture.{Picture}
+use Rattle.sf_view.specs.Stacks.{view_image}
+use Rattle.sf_view.specs.Views.{ViewOf}
+use Rattle.sf_compose.specs.Frames.{KeepsRest, ShowsPart}
+
+-- each point of the display has the colour of the view's image
+pub record ShowsView (picture : ℕ → Picture) (view : ViewOf) (frame : List ℕ) : Type 0 where
+  pub pixels : (x y : ℕ) → x < view.width → y < view.height → pixel_in frame (y * view.width + x) ≡ view_image picture view (pos x) (pos y)
+
+-- the part in which two views differ shows the new one, and no other point of the frame of the old one changed
+pub record IsComposedAgain (picture : ℕ → Picture) (old new : ViewOf) (part : List Rect) (before after : List ℕ) : Type 0 where
+  pub wide : old.width ≡ new.width
+  pub high : old.height ≡ new.height
+  pub damage : Damages old new part
+  pub last : ShowsView picture old before
+  pub shown : ShowsPart new part (λ x y. view_image picture new (pos x) (pos y)) after
+  pub rest : KeepsRest new part before after
+
+-- then the whole frame shows the new one
+abbrev pub ComposingAgainIsWhole : Type 0
+ComposingAgainIsWhole = (picture : ℕ → Picture) (old new : ViewOf) (part : List Rect) (before after : List ℕ) →
+    IsComposedAgain picture old new part before after → ShowsView picture new after

@@ -1,0 +1,127 @@
+ghost use Rattle.std.specs.Prelude.{◌≡◌, ◌*◌, ◌≤◌, ◌&&◌, length, map, OnErr, OnOk, pos};
+ghost use Rattle.sf_base.specs.Geometry.{covers};
+ghost use Rattle.sf_compose.specs.Frames.{KeepsRest, Repaints, ShowsPart};
+ghost use Rattle.sf_compose.specs.Painting.{is_in_area, Paints};
+ghost use Rattle.sf_compose.specs.Readings.{AreReadable, IsReadable, read_image, under_drawn, under_one};
+ghost use Rattle.sf_compose.specs.Seen.{ArePaintable, IsPaintable};
+ghost use Rattle.sf_damage.specs.Visible.{AreVisible};
+ghost use Rattle.sf_region.specs.Canonical.{IsDisjoint};
+ghost use Rattle.sf_region.specs.Points.{has};
+
+use crate::area::{Area, cut};
+use crate::ground::paint_ground;
+use crate::layer::paint_layer;
+use crate::pixels::Pixels;
+use sf_base::{NoMemory, Rect};
+use sf_region::Region;
+use sf_view::{Drawn, View};
+use std::alloc::Global;
+
+// Paints a drawn layer over the points of an area that lie in rectangles, no two of which share a
+// point.
+fn paint_parts<C: Pixels>(
+    drawn: &Drawn,
+    contents: &[C],
+    source: u32,
+    parts: &[Rect],
+    frame: &mut [u8],
+    width: u32,
+    area: Area,
+)
+    requires readable { IsReadable (map C.picture contents.now) drawn.now.content source }
+    requires paintable { IsPaintable drawn.now }
+    requires disjoint { IsDisjoint parts.now }
+    requires wide { area.right ≤ width }
+    requires room { 4 * (area.bottom * width) ≤ length frame.old }
+    ensures { Paints width (λ x y. is_in_area area x y && has parts.now (pos x) (pos y)) (λ x y under.
+        under_one (map C.picture contents.now) (pos x) (pos y) under drawn.now source) frame.old frame.new }
+{
+    for part in parts {
+        paint_layer(drawn, contents, source, frame, width, cut(area, part));
+    }
+}
+
+// Paints drawn layers over an area, from the back, each only where it shows.
+fn paint_seen<C: Pixels>(
+    layers: &[Drawn],
+    contents: &[C],
+    sources: &[u32],
+    shows: &[Region],
+    frame: &mut [u8],
+    width: u32,
+    area: Area,
+)
+    requires readable { AreReadable (map C.picture contents.now) layers.now sources.now }
+    requires paintable { ArePaintable layers.now }
+    requires visible { AreVisible layers.now shows.now }
+    requires wide { area.right ≤ width }
+    requires room { 4 * (area.bottom * width) ≤ length frame.old }
+    ensures { Paints width (is_in_area area) (λ x y under.
+        under_drawn (map C.picture contents.now) (pos x) (pos y) under layers.now sources.now) frame.old frame.new }
+{
+    let [drawn, above @ ..] = layers else {
+        return;
+    };
+    let [source, later @ ..] = sources else {
+        return;
+    };
+    let [show, others @ ..] = shows else {
+        return;
+    };
+    paint_parts(drawn, contents, *source, show.rects(), frame, width, area);
+    paint_seen(above, contents, later, others, frame, width, area);
+}
+
+// Composes the points of the display that lie in a rectangle, of each layer only what shows.
+fn compose_rect_seen<C: Pixels>(
+    view: &View,
+    contents: &[C],
+    sources: &[u32],
+    shows: &[Region],
+    rect: &Rect,
+    frame: &mut [u8],
+)
+    requires readable { AreReadable (map C.picture contents.now) view.now.drawn sources.now }
+    requires visible { AreVisible view.now.drawn shows.now }
+    requires room { length frame.old ≡ 4 * (view.now.width * view.now.height) }
+    ensures { Repaints view.now.width view.now.height (λ x y. covers rect.now (pos x) (pos y))
+        (read_image (map C.picture contents.now) view.now sources.now) frame.old frame.new }
+{
+    let display = Area {
+        left: 0,
+        right: view.width,
+        top: 0,
+        bottom: view.height,
+    };
+    let area = cut(display, rect);
+    let layers = view.drawn.as_slice();
+    paint_ground(frame, view.width, area, layers);
+    paint_seen(layers, contents, sources, shows, frame, view.width, area);
+}
+
+/// Composes a view into a part of a frame as `compose_one` does, with the same bytes, and paints of
+/// each layer only what shows of it: `shows` has for each drawn layer, from the back, the points that
+/// no opaque layer above it hides, as `sf_damage::visible` gives them. After want of memory the frame
+/// is as it was.
+pub fn compose_seen<C: Pixels>(
+    _alloc: Global,
+    view: &View,
+    contents: &[C],
+    sources: &[u32],
+    shows: &[Region],
+    part: &Region,
+    frame: &mut [u8],
+) -> Result<(), NoMemory>
+    requires readable { AreReadable (map C.picture contents.now) view.now.drawn sources.now }
+    requires visible { AreVisible view.now.drawn shows.now }
+    requires room { length frame.old ≡ 4 * (view.now.width * view.now.height) }
+    ensures image { OnOk result (ShowsPart view.now part.now
+        (read_image (map C.picture contents.now) view.now sources.now) frame.new) }
+    ensures err { OnErr result (frame.new ≡ frame.old) }
+    ensures rest { KeepsRest view.now part.now frame.old frame.new }
+{
+    for rect in part.rects() {
+        compose_rect_seen(view, contents, sources, shows, rect, frame);
+    }
+    Ok(())
+}
