@@ -10,8 +10,8 @@ mod answers;
 mod table;
 
 use answers::{Answer, told};
-use sf_script::LONGEST_SCRIPT;
 use sf_io::{ReadFault, ReadSource, read_all};
+use sf_script::LONGEST_SCRIPT;
 use std::env;
 use std::io::{self, Write};
 use std::process::ExitCode;
