@@ -1,5 +1,5 @@
 -- What looks make of pending transactions, and what they show.
-use Rattle.std.specs.Prelude.{◌≡◌, ℕ, List, map}
+use Rattle.std.specs.Prelude.{◌≡◌, List, map}
 use Rattle.std.specs.List.{All, AllZip}
 use Rattle.sf_txn.specs.Leases.{IsLookedBuffer}
 use Rattle.sf_txn.specs.declared.lease.Lease.{Ghosts}
