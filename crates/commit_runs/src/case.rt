@@ -1,8 +1,8 @@
+use crate::frames::frame_of;
 use crate::words::{number32, number64, text};
 use anyhow::{Result, bail, ensure};
 use page_lease::Page;
-use sf_base::{Fence, LayerId, NoMemory, QueueId, Rect, Seen, TimelineId};
-use sf_layer::Shown;
+use sf_base::{Fence, LayerId, NoMemory, Seen, TimelineId};
 use sf_ready::{Facts, hold_of};
 use sf_txn::{BufferOp, Transaction};
 use std::alloc::Global;
@@ -129,23 +129,5 @@ fn frame(alloc: Global, words: &mut SplitWhitespace) -> Result<BufferOp<Page>> {
     );
     let mut fence = Fence::none();
     fence.add(TimelineId(timeline), number64(words)?);
-    let Ok(lease) = Page::new(alloc, 1) else {
-        bail!("no memory")
-    };
-    Ok(BufferOp {
-        layer,
-        shown: Shown {
-            queue: QueueId(1),
-            frame,
-            picture: 1,
-            crop: Rect {
-                x: 0,
-                y: 0,
-                width: 1,
-                height: 1,
-            },
-        },
-        fence,
-        lease,
-    })
+    frame_of(alloc, layer, frame, fence, 1)
 }

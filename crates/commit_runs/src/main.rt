@@ -14,13 +14,17 @@
 //! | `seen TIMELINE VALUE` | what was observed of a timeline |
 //! | `ask EXPECTED` | the hold at this expected present time |
 //! | `line` | a line of transactions begins: nothing arrived |
-//! | `send ACTOR STEP TOKEN` | a transaction of this client's step arrives for a token |
+//! | `page LAYER NUMBER` | the transaction that is sent next shows a page, whose write ends as the write of its number |
+//! | `send ACTOR STEP TOKEN` | it arrives for a token, of this client's step |
 //! | `take` | the compositor takes what arrived into its queues |
 //! | `head TOKEN`, `pop TOKEN` | the token's first pending transaction, which `pop` takes out |
+//! | `number NUMBER` | the token of the pending transaction of this number |
+//! | `look COUNT` | of what is pending, which pages are written for who knows of so many ended writes |
 //! | `tokens`, `arrivals` | the tokens with something pending; all that arrived |
 #![tactic(auto)]
 
 mod case;
+mod frames;
 mod line;
 mod words;
 
@@ -60,12 +64,13 @@ fn follow(rt: &HostRuntime, cases: &mut Cases, line: &str) -> Result<()> {
             cases.line = Line::new(rt.alloc())?;
             Ok(())
         }
+        "page" => cases.line.show(rt.alloc(), &mut words),
         "ask" => {
             let answer = cases.case.answer(rt.alloc(), &mut words)?;
             println!(rt; "{answer}")?;
             Ok(())
         }
-        "send" | "take" | "head" | "pop" | "tokens" | "arrivals" => {
+        "send" | "take" | "head" | "pop" | "number" | "look" | "tokens" | "arrivals" => {
             let answer = cases.line.answer(rt.alloc(), form, &mut words)?;
             println!(rt; "{answer}")?;
             Ok(())

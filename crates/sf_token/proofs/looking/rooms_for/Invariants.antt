@@ -1,0 +1,12 @@
+use Rattle.std.proofs.Common.{◌≡◌, map, take, vec_capacity, vec_len}
+use Rattle.std.specs.List.{AllByRecursion}
+use Rattle.slab.specs.Slab.{get}
+use Rattle.sf_token.specs.Rooms.{HasRoom}
+use Rattle.sf_token.specs.declared.looking.Room.{Room}
+use Rattle.sf_token.proofs.looking.rooms_for.Given as goal
+
+abbrev pub invariant-loop-key : goal.invariant-loop-key
+invariant-loop-key g l = record {
+  keys : map (λ (room : Room). room.key) l.rooms.items ≡ take l.key-index l.order;
+  rooms : AllByRecursion (λ (room : Room). HasRoom (get l.slots room.key) (vec_len room.drawn) (vec_capacity room.drawn)) l.rooms.items;
+}
