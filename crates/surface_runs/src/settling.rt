@@ -32,33 +32,45 @@ fn end<B: TableName>(seat: &mut TurnSeat<Painted>, ends: Option<Ending<B>>) -> b
 }
 
 /// Takes a reply apart: its drawing ends, and its token is left.
+fn replied<B: TableName>(seat: &mut TurnSeat<Painted>, reply: QReply<B>) -> After<B>
+    requires { seat.old.table ≡ B.table }
+    ensures { seat.new.table ≡ seat.old.table }
+{
+    let QReply {
+        status,
+        values,
+        gives,
+        ends,
+        spare,
+    } = reply;
+    let ended = end(seat, ends);
+    let kind = Kind::of(&gives);
+    let answer = Answer::Reply(status, values, kind, ended, spare.is_some());
+    After {
+        token: gives,
+        answer,
+    }
+}
+
+/// What is left of a call that was not made: nothing, since what it brought is let go.
+fn refused<B: TableName>(fault: CallFault<(u32, QCall<B>)>) -> After<B> {
+    let answer = match fault {
+        CallFault::NotYet(_) => Answer::NotYet,
+        CallFault::NoMemory(_) => Answer::NoMemory,
+    };
+    After {
+        token: Gives::Nothing,
+        answer,
+    }
+}
+
+/// What a call leaves.
 pub fn settle<B: TableName>(seat: &mut TurnSeat<Painted>, made: Made<B>) -> After<B>
     requires { seat.old.table ≡ B.table }
     ensures { seat.new.table ≡ seat.old.table }
 {
     match made {
-        Ok(reply) => {
-            let QReply {
-                status,
-                values,
-                gives,
-                ends,
-                spare,
-            } = reply;
-            let ended = end(seat, ends);
-            let kind = Kind::of(&gives);
-            After {
-                token: gives,
-                answer: Answer::Reply(status, values, kind, ended, spare.is_some()),
-            }
-        }
-        Err(CallFault::NotYet(_)) => After {
-            token: Gives::Nothing,
-            answer: Answer::NotYet,
-        },
-        Err(CallFault::NoMemory(_)) => After {
-            token: Gives::Nothing,
-            answer: Answer::NoMemory,
-        },
+        Ok(reply) => replied(seat, reply),
+        Err(fault) => refused(fault),
     }
 }
