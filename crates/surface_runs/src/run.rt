@@ -1,5 +1,5 @@
 //! What the callers of a case do.
-ghost use Rattle.std.specs.Prelude.{◌≡◌, ◌≤◌};
+ghost use Rattle.std.specs.Prelude.{◌≡◌};
 ghost use Rattle.sf_surface.specs.Marks.{PermitFits};
 
 use crate::answer::Answer;
@@ -154,9 +154,11 @@ impl<B: TableName> Run<B> {
         }
     }
 
-    fn see(&mut self, timeline: TimelineId, value: u64) -> Answer
-        requires { (1 ≤ timeline.0) × (timeline.0 ≤ 64) }
-    {
+    /// The timeline is seen at this value from now on, where it is one of the 64.
+    fn see(&mut self, timeline: TimelineId, value: u64) -> Answer {
+        if timeline.0 < 1 || timeline.0 > 64 {
+            return Answer::NoCommand;
+        }
         self.seen.values[timeline.0 as usize - 1] = value;
         Answer::Seen
     }
