@@ -1,4 +1,4 @@
-use Rattle.std.proofs.Common.{◌≡◌, ◌∙◌, ap, arith, ℕ, zero, List, [], ◌∷◌, map, sym, subst}
+use Rattle.std.proofs.Common.{◌≡◌, ◌∙◌, ap, arith, ℕ, zero, List, map, sym, subst}
 use Rattle.std.specs.List.{Contains}
 use Rattle.sf_calls.specs.declared.object.Entry.{Entry}
 use Rattle.sf_calls.specs.Views.{PassView}

@@ -1,4 +1,4 @@
-use Rattle.std.proofs.Common.{◌≡◌, ◌∙◌, ap, ℕ, List, [], ◌∷◌, Some, sym, subst}
+use Rattle.std.proofs.Common.{◌∙◌, ap, ℕ, ◌∷◌, Some, subst}
 use Rattle.std.specs.List.{Contains}
 use Rattle.sf_calls.specs.Passes.{giving, given}
 use Rattle.sf_calls.specs.Views.{PassView}
