@@ -1,5 +1,6 @@
 -- What the names and the transaction numbers of an actor hold, as far as its steps tell it.
-use Rattle.std.specs.Prelude.{ℕ, Bool, true, false, not, ◌==◌, ◌&&◌, if◌then◌else◌, List, [], ◌∷◌, ◌++◌, filter, get_or, slice_set, Option, Some, None, replicate}
+use Rattle.std.specs.Prelude.{ℕ, Bool, true, false, not, ◌==◌, ◌&&◌, if◌then◌else◌, List, []}
+use Rattle.std.specs.Prelude.{◌∷◌, ◌++◌, filter, get_or, slice_set, Option, Some, None, replicate}
 use Rattle.std.specs.Option.{option_or}
 use Rattle.sf_base.specs.declared.ids.LayerId.{LayerId}
 use Rattle.sf_base.specs.declared.ids.QueueId.{QueueId}

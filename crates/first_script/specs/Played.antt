@@ -1,5 +1,6 @@
 -- What is played of a scene so far.
-use Rattle.std.specs.Prelude.{ℕ, ◌==◌, ◌&&◌, if◌then◌else◌, Bool, true, false, List, [], ◌∷◌, length, map, filter_map, is_some, option_map, Option, None, Some}
+use Rattle.std.specs.Prelude.{ℕ, ◌==◌, ◌&&◌, if◌then◌else◌, Bool, true, false, List, []}
+use Rattle.std.specs.Prelude.{◌∷◌, length, map, filter_map, is_some, option_map, Option, None, Some}
 use Rattle.std.specs.List.{list_all}
 use Rattle.sf_scene.specs.Scene as whole
 use Rattle.sf_scene.specs.declared.change.Change.{Change as WholeChange}

@@ -1,6 +1,7 @@
 ghost use Rattle.std.specs.Prelude.{◌≡◌, IfOk, map, filter_map, true};
 ghost use Rattle.std.specs.List.{list_all};
-ghost use Rattle.first_script.specs.Played.{at_root, first_token, played_actor, played_change, played_scene, played_step, plays, plays_actors, plays_step, plays_steps, uses_token, without_points};
+ghost use Rattle.first_script.specs.Played.{at_root, first_token, played_actor, played_change, played_scene, played_step};
+ghost use Rattle.first_script.specs.Played.{plays, plays_actors, plays_step, plays_steps, uses_token, without_points};
 
 use crate::scene::{ActorScript, Change, Scene, Step};
 use sf_base::Items;

@@ -1,7 +1,8 @@
 -- What a played run means: a relation between a scene and the records of a run. It speaks of these
 -- alone, and of no state of a program, so that it can be said of any way to play a scene. What the
 -- records do not show of the steps and the calls, their answers whole, is some tale that fits them.
-use Rattle.std.specs.Prelude.{◌≡◌, ◌≢◌, ℕ, ◌+◌, ◌*◌, ◌<◌, ◌==◌, ◌||◌, Bool, true, not, if◌then◌else◌, List, [], ◌∷◌, ◌++◌, All, Option, None, Some, filter, length, map, reverse, take}
+use Rattle.std.specs.Prelude.{◌≡◌, ◌≢◌, ℕ, ◌+◌, ◌*◌, ◌<◌, ◌==◌, ◌||◌, Bool, true, not}
+use Rattle.std.specs.Prelude.{if◌then◌else◌, List, [], ◌∷◌, ◌++◌, All, Option, None, Some, filter, length, map, reverse, take}
 use Rattle.std.specs.List.{AllZip, flat_map, list_any, range_with_len}
 use Rattle.std.specs.Option.{option_map}
 use Rattle.sf_picture.specs.declared.picture.Picture.{Picture}

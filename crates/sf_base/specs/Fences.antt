@@ -1,7 +1,8 @@
 -- Fences: sets of points (timeline, value). Of each timeline the greatest value stands for all
 -- its points, at the place before the timeline's number; 0 stands for none, since a point of
 -- value 0 is signalled from the start and changes nothing.
-use Rattle.std.specs.Prelude.{ℕ, ◌+◌, ◌-◌, ◌≤◌, ◌↔◌, max, nat_le, if◌then◌else◌, List, [], ◌∷◌, replicate, slice_index, slice_set, Option, None, Some}
+use Rattle.std.specs.Prelude.{ℕ, ◌+◌, ◌-◌, ◌≤◌, ◌↔◌, max, nat_le, if◌then◌else◌}
+use Rattle.std.specs.Prelude.{List, [], ◌∷◌, replicate, slice_index, slice_set, Option, None, Some}
 use Rattle.sf_base.specs.declared.fences.Fence.{Fence}
 use Rattle.sf_base.specs.declared.fences.Seen.{Seen}
 

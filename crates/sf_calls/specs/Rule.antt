@@ -1,6 +1,7 @@
 -- What holds between any two atomic steps at a lock, and what each kind of step tells. The word 0
 -- is the next ticket, the word 1 the ticket that is served, and the slot has the object.
-use Rattle.std.specs.Prelude.{◌≡◌, ℕ, ◌+◌, ◌<◌, ◌≤◌, ◌^◌, ◌==◌, true, false, Option, Some, None, List, [], ◌∷◌, ◌⊎◌, length, slice_index, Contains, sum_by, if◌then◌else◌, ◌≢◌}
+use Rattle.std.specs.Prelude.{◌≡◌, ℕ, ◌+◌, ◌<◌, ◌≤◌, ◌^◌, ◌==◌, true, false, Option, Some, None}
+use Rattle.std.specs.Prelude.{List, [], ◌∷◌, ◌⊎◌, length, slice_index, Contains, sum_by, if◌then◌else◌, ◌≢◌}
 use mathlib.Core.Option.{some, none}
 use lib.ListN.{get_elem?}
 use Rattle.atomic_table.specs.Table.{State, Me, Step}

@@ -1,5 +1,6 @@
 -- Which items an acquire drops, and what it leaves.
-use Rattle.std.specs.Prelude.{◌≡◌, ◌<◌, ℕ, ◌+◌, Bool, true, false, not, ◌==◌, ◌&&◌, nat_le, List, length, Option, Some, None, is_some, unwrap_or, slice_get, Result, Ok, Err}
+use Rattle.std.specs.Prelude.{◌≡◌, ◌<◌, ℕ, ◌+◌, Bool, true, false, not, ◌==◌, ◌&&◌, nat_le}
+use Rattle.std.specs.Prelude.{List, length, Option, Some, None, is_some, unwrap_or, slice_get, Result, Ok, Err}
 use Rattle.std.specs.Option.{option_map}
 use Rattle.sf_base.specs.declared.status.QStatus.{QStatus}
 use Rattle.sf_slots.specs.declared.calls.PlainReply.{PlainReply}

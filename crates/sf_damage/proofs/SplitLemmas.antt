@@ -4,19 +4,19 @@ use Rattle.std.proofs.lemmas.Bool.{and_from, and_parts, not-true, not_from_false
 use Rattle.std.proofs.Common.{inl, inr}
 
 -- a point is in the result exactly where it is in the part and `D` holds: `here` tells it of the half that passes a
--- test, where `D1` says the same as `D`, and `there` of the other half, where `D2` does
-pub split_points : (r here there part inside outside c : Bool) (D D1 D2 : Type 0) → r ≡ (here || there) → inside ≡ (part && c) → outside ≡ (part && not c) → ((here ≡ true) ↔ ((inside ≡ true) × D1)) → ((there ≡ true) ↔ ((outside ≡ true) × D2)) → (part ≡ true → c ≡ true → D1 ↔ D) → (part ≡ true → c ≡ false → D2 ↔ D) → (r ≡ true) ↔ ((part ≡ true) × D)
-split_points r here there part inside outside c D D1 D2 e i o h t same_in same_out = (to, from c refl)
+-- test, where `DHere` says the same as `D`, and `there` of the other half, where `DThere` does
+pub split_points : (r here there part inside outside c : Bool) (D DHere DThere : Type 0) → r ≡ (here || there) → inside ≡ (part && c) → outside ≡ (part && not c) → ((here ≡ true) ↔ ((inside ≡ true) × DHere)) → ((there ≡ true) ↔ ((outside ≡ true) × DThere)) → (part ≡ true → c ≡ true → DHere ↔ D) → (part ≡ true → c ≡ false → DThere ↔ D) → (r ≡ true) ↔ ((part ≡ true) × D)
+split_points r here there part inside outside c D DHere DThere e i o h t same_in same_out = (to, from c refl)
   where
     of_here : here ≡ true → (part ≡ true) × D
     of_here q =
-        let a : (inside ≡ true) × D1 = h.0 q in
+        let a : (inside ≡ true) × DHere = h.0 q in
         let both : (part ≡ true) × (c ≡ true) = and_parts part c (sym i ∙ a.0) in
         (both.0, (same_in both.0 both.1).0 a.1)
 
     of_there : there ≡ true → (part ≡ true) × D
     of_there q =
-        let a : (outside ≡ true) × D2 = t.0 q in
+        let a : (outside ≡ true) × DThere = t.0 q in
         let both : (part ≡ true) × (not c ≡ true) = and_parts part (not c) (sym o ∙ a.0) in
         (both.0, (same_out both.0 (not-true c both.1)).0 a.1)
 

@@ -3,8 +3,10 @@ ghost use Rattle.std.specs.Io.KnownBytes.{Appends};
 ghost use Rattle.std.specs.List.{flat_map};
 ghost use Rattle.sf_io.specs.Causes.{Rose};
 ghost use Rattle.sf_io.specs.Streams.{TookPrefix};
-ghost use Rattle.sf_record.specs.Fitting.{ArrivalFits, BufferFits, CallFits, CommitFits, FaultFits, Fits32, Fits64, FrameFits, HeldFits, HistoryFits, ListFits, RecordFits, ReplyFits, SceneFits, StuckFits, TimelineFits, VsyncFits};
-ghost use Rattle.sf_record.specs.Records.{AppendsFirst, arrival_bytes, body_of, buffer_bytes, bytes_of, commit_bytes, held_bytes, history_entry_bytes, list_bytes, record_bytes, reply_bytes, scene_bytes, stuck_bytes, tag_of, timeline_bytes, u32_bytes, u64_bytes, vsync_bytes};
+ghost use Rattle.sf_record.specs.Fitting.{ArrivalFits, BufferFits, CallFits, CommitFits, FaultFits, Fits32, Fits64, FrameFits, HeldFits};
+ghost use Rattle.sf_record.specs.Fitting.{HistoryFits, ListFits, RecordFits, ReplyFits, SceneFits, StuckFits, TimelineFits, VsyncFits};
+ghost use Rattle.sf_record.specs.Records.{AppendsFirst, arrival_bytes, body_of, buffer_bytes, bytes_of, commit_bytes, held_bytes, history_entry_bytes, list_bytes};
+ghost use Rattle.sf_record.specs.Records.{record_bytes, reply_bytes, scene_bytes, stuck_bytes, tag_of, timeline_bytes, u32_bytes, u64_bytes, vsync_bytes};
 
 use crate::record::{
     ArrivalEntry, Commit, CommittedBuffer, Frame, HeldEntry, HistoryEntry, QueueHistory, Record,

@@ -1,5 +1,6 @@
 -- Rows of regions as spans, and what combining does to them.
-use Rattle.std.specs.Prelude.{ℕ, pos, ◌-◌, ◌-ℤ◌, ◌<◌, ◌≤◌, ◌≡◌, Bool, true, false, not, ◌&&◌, ◌||◌, if◌then◌else◌, nat_le, nat_lt, List, [], ◌∷◌, ◌++◌, Option, Some, None}
+use Rattle.std.specs.Prelude.{ℕ, pos, ◌-◌, ◌-ℤ◌, ◌<◌, ◌≤◌, ◌≡◌, Bool, true, false, not, ◌&&◌}
+use Rattle.std.specs.Prelude.{◌||◌, if◌then◌else◌, nat_le, nat_lt, List, [], ◌∷◌, ◌++◌, Option, Some, None}
 use Rattle.sf_base.specs.declared.geometry.Rect.{Rect}
 use Rattle.sf_region.specs.Edges.{left, right, top, bottom, first_place, past_all}
 use Rattle.sf_region.specs.declared.spans.Span.{Span}

@@ -1,5 +1,6 @@
 -- Channels of rows by their places: what the kernels' inner steps compute, byte by byte.
-use Rattle.std.specs.Prelude.{ℕ, ◌+◌, ◌-◌, ◌*◌, ◌/◌, ◌%◌, ◌<◌, ◌≤◌, ◌≡◌, min, List, ◌∷◌, [], length, slice_index, if◌then◌else◌, ◌==◌}
+use Rattle.std.specs.Prelude.{ℕ, ◌+◌, ◌-◌, ◌*◌, ◌/◌, ◌%◌, ◌<◌, ◌≤◌, ◌≡◌}
+use Rattle.std.specs.Prelude.{min, List, ◌∷◌, [], length, slice_index, if◌then◌else◌, ◌==◌}
 use Rattle.sf_base.specs.Blend.{product, blended}
 use Rattle.sf_base.specs.declared.pixel.Rgba.{Rgba}
 

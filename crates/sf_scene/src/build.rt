@@ -1,7 +1,8 @@
 ghost use Rattle.std.specs.Prelude.{◌≡◌, ◌≤◌, ◌<◌, ◌+◌, ◌++◌, ◌∷◌, [], false, length, All, IfOk};
 ghost use Rattle.sf_scene.specs.Limits.{IsActor, IsHeader, IsPick, IsRgba, StepFits, most_actors};
 ghost use Rattle.sf_scene.specs.Ranges.{IsCapture, IsDisplay, IsFill, IsHit, IsMirror, IsPicture, IsQueue, IsStack, IsTimeline};
-ghost use Rattle.sf_scene.specs.Scene.{bare_scene, fills_so_far, has_actor, has_capture, has_display, has_hit, has_layer, has_picture, has_queue, has_timeline, last_of, steps_so_far, with_fill, with_step};
+ghost use Rattle.sf_scene.specs.Scene.{bare_scene, fills_so_far, has_actor, has_capture, has_display, has_hit, has_layer};
+ghost use Rattle.sf_scene.specs.Scene.{has_picture, has_queue, has_timeline, last_of, steps_so_far, with_fill, with_step};
 
 use crate::declarations::{CaptureDecl, DisplayDecl, HitDecl, Pick, QueueDecl};
 use crate::scene::Scene;

@@ -3,7 +3,8 @@ ghost use Rattle.sf_words.specs.Text.{words_of};
 ghost use Rattle.sf_words.specs.Reading.{Gives};
 ghost use Rattle.sf_scene.specs.Ranges.{IsChange, IsPlace};
 ghost use Rattle.sf_scene.specs.declared.change.Change.TheVariants as change;
-ghost use Rattle.sf_script.specs.Changes.{change_at, changed_at, coloured_at, created_at, cropped_at, depth_at, framed_at, moved_at, parent_at, place_at, raised_at, related_at, with_flag_at, with_number_at};
+ghost use Rattle.sf_script.specs.Changes.{change_at, changed_at, coloured_at, created_at, cropped_at, depth_at, framed_at};
+ghost use Rattle.sf_script.specs.Changes.{moved_at, parent_at, place_at, raised_at, related_at, with_flag_at, with_number_at};
 
 use crate::keywords::change_form;
 use crate::line::ChangeForm;

@@ -5,7 +5,8 @@ ghost use Rattle.sf_words.specs.Reading.{Gives, number_at};
 ghost use Rattle.sf_scene.specs.Limits.{IsHeader, most_actors};
 ghost use Rattle.sf_scene.specs.Ranges.{IsFill, IsQueue, IsTimeline};
 ghost use Rattle.sf_scene.specs.Scene.{has_actor, has_queue, has_timeline};
-ghost use Rattle.sf_script.specs.Declarations.{fill_at, format_at, format_of, header_at, new_actor_at, new_number_at, new_picture_at, new_queue_at, new_timeline_at, version_at, versioned_format_at};
+ghost use Rattle.sf_script.specs.Declarations.{fill_at, format_at, format_of, header_at, new_actor_at, new_number_at};
+ghost use Rattle.sf_script.specs.Declarations.{new_picture_at, new_queue_at, new_timeline_at, version_at, versioned_format_at};
 ghost use Rattle.sf_script.specs.Fits.{ActorFits, IsNew, PictureFits};
 
 use crate::line::Header;

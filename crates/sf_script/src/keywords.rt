@@ -1,6 +1,7 @@
 ghost use Rattle.std.specs.Prelude.{◌≡◌, Bool, true, IfSome};
 ghost use Rattle.sf_script.specs.Draft.{is_of};
-ghost use Rattle.sf_script.specs.Keywords.{change_form_of, consumer_form_of, keyword_of, plain_keyword_of, producer_form_of, second_keyword_of, step_form_of, transaction_form_of, versioned_keyword_of};
+ghost use Rattle.sf_script.specs.Keywords.{change_form_of, consumer_form_of, keyword_of, plain_keyword_of, producer_form_of};
+ghost use Rattle.sf_script.specs.Keywords.{second_keyword_of, step_form_of, transaction_form_of, versioned_keyword_of};
 
 use crate::line::{ChangeForm, Keyword, PointForm, QueueForm, Side, StepForm};
 use sf_words::is;

@@ -5,7 +5,9 @@ ghost use Rattle.sf_scene.specs.Limits.{StepFits};
 ghost use Rattle.sf_scene.specs.Ranges.{IsName};
 ghost use Rattle.sf_script.specs.Fits.{NameFits, NamedFits};
 ghost use Rattle.sf_script.specs.Memory.{GivesUnless};
-ghost use Rattle.sf_script.specs.Steps.{acquire_at, as_name_at, async_at, attach_at, dequeue_at, detach_at, draw_at, most_at, on_point_at, on_queue_at, plain, queue_at, request_at, return_at, step_at, step_of_attach, step_of_dequeue, step_of_detach, step_of_most, step_of_return, step_on_point, step_on_queue};
+ghost use Rattle.sf_script.specs.Steps.{acquire_at, as_name_at, async_at, attach_at, dequeue_at, detach_at, draw_at, most_at};
+ghost use Rattle.sf_script.specs.Steps.{on_point_at, on_queue_at, plain, queue_at, request_at, return_at, step_at, step_of_attach};
+ghost use Rattle.sf_script.specs.Steps.{step_of_dequeue, step_of_detach, step_of_most, step_of_return, step_on_point, step_on_queue};
 
 use crate::draft::Draft;
 use crate::fault::LineFault;

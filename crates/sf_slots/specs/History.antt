@@ -13,7 +13,8 @@ use Rattle.sf_slots.specs.declared.settings.Settings.{Settings}
 use Rattle.sf_slots.specs.declared.slot.Slot.{Slot}
 use Rattle.sf_slots.specs.declared.slot.SlotState.{SlotState}
 use Rattle.sf_slots.specs.declared.slot.SlotState.TheVariants.{Free, Dequeued}
-use Rattle.sf_slots.specs.Events.{Event, Make, Lend, Hand, Take, Back, Gone, Mark, Unmark, Dequeuing, Producer, Consumer, state_after, buffer_after, requested_after, frame_after, fence_after, freed_after, items_after, buffers_made, frames_queued}
+use Rattle.sf_slots.specs.Events.{Event, Make, Lend, Hand, Take, Back, Gone, Mark, Unmark, Dequeuing, Producer, Consumer, state_after}
+use Rattle.sf_slots.specs.Events.{buffer_after, requested_after, frame_after, fence_after, freed_after, items_after, buffers_made, frames_queued}
 use Rattle.sf_slots.specs.Told.{Told, same_state, usable_with, replaced_slot}
 
 -- a call that was not refused

@@ -1,6 +1,7 @@
 -- The reply to each call: the first refusal whose test is met, in the order of the tests, or else what
 -- the call gives.
-use Rattle.std.specs.Prelude.{ℕ, ◌+◌, Bool, true, false, not, ◌==◌, ◌||◌, ◌&&◌, nat_lt, nat_le, if◌then◌else◌, pos, ◌+ℤ◌, int_le, List, [], ◌∷◌, Option, Some, None, is_some, is_none, unwrap_or, slice_get}
+use Rattle.std.specs.Prelude.{ℕ, ◌+◌, Bool, true, false, not, ◌==◌, ◌||◌, ◌&&◌, nat_lt, nat_le, if◌then◌else◌}
+use Rattle.std.specs.Prelude.{pos, ◌+ℤ◌, int_le, List, [], ◌∷◌, Option, Some, None, is_some, is_none, unwrap_or, slice_get}
 use Rattle.sf_base.specs.Fences.{no_points}
 use Rattle.sf_base.specs.declared.geometry.Rect.{Rect}
 use Rattle.sf_base.specs.declared.ids.ActorId.{ActorId}

@@ -1,5 +1,6 @@
 -- What decides a queue's replies, and what is asked of it.
-use Rattle.std.specs.Prelude.{ℕ, ◌+◌, ◌-◌, Bool, true, false, not, ◌||◌, ◌&&◌, nat_lt, if◌then◌else◌, List, length, take, drop, Option, Some, None, is_some, slice_get, slice_index_or, count_by}
+use Rattle.std.specs.Prelude.{ℕ, ◌+◌, ◌-◌, Bool, true, false, not, ◌||◌, ◌&&◌, nat_lt, if◌then◌else◌}
+use Rattle.std.specs.Prelude.{List, length, take, drop, Option, Some, None, is_some, slice_get, slice_index_or, count_by}
 use Rattle.std.specs.List.{list_any, position}
 use Rattle.std.specs.Option.{option_or}
 use Rattle.sf_base.specs.Fences.{no_points}

@@ -1,4 +1,5 @@
-ghost use Rattle.std.specs.Prelude.{◌≡◌, ◌<◌, ◌≤◌, ◌+◌, [], ◌∷◌, ◌++◌, IfOk, IsSome, length, map, replicate, slice_index_or, true, false, ◌-◌, ◌^◌, count_by};
+ghost use Rattle.std.specs.Prelude.{◌≡◌, ◌<◌, ◌≤◌, ◌+◌, [], ◌∷◌, ◌++◌, IfOk, IsSome};
+ghost use Rattle.std.specs.Prelude.{length, map, replicate, slice_index_or, true, false, ◌-◌, ◌^◌, count_by};
 ghost use Rattle.sf_slots.specs.declared.slot.SlotState.TheVariants as state;
 ghost use Rattle.sf_slots.specs.Told.{unused, usable, count_in, is_in, forbids};
 ghost use Rattle.sf_slots.specs.Queue.{Queue, IsSound, slot_in, right_in, told_of, empty_queue, lent, taken, seated, next_held, marked, returned, cleared, emptied, IsOut};

@@ -1,5 +1,6 @@
 -- What is found out of layers on the way to a draw order.
-use Rattle.std.specs.Prelude.{◌≡◌, ℕ, ◌<◌, ◌≤◌, Bool, List, length, Option, Some, None, slice_index_or, slice_get, slice_set, ◌∷◌, ◌++◌, [], filter, true, false, not, ℤ}
+use Rattle.std.specs.Prelude.{◌≡◌, ℕ, ◌<◌, ◌≤◌, Bool, List, length, Option, Some, None, slice_index_or}
+use Rattle.std.specs.Prelude.{slice_get, slice_set, ◌∷◌, ◌++◌, [], filter, true, false, not, ℤ}
 use Rattle.std.specs.List.{All, AllZip}
 use Rattle.sf_base.specs.declared.ids.LayerId.{LayerId}
 use Rattle.sf_layer.specs.declared.layer.Layer.{Layer}

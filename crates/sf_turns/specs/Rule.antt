@@ -1,7 +1,8 @@
 -- What holds between any two atomic steps on the table of turns, and what each kind of step tells.
 -- Per buffer the table has a word, which counts the turns that left, and a slot, the home of the
 -- pixels. The last word counts nothing.
-use Rattle.std.specs.Prelude.{◌≡◌, ℕ, ◌+◌, ◌-◌, ◌<◌, ◌≤◌, ◌^◌, true, false, Option, Some, None, List, [], ◌∷◌, ◌++◌, ◌⊎◌, length, take, drop, slice_index, slice_index_or, sum_by, ◌≢◌}
+use Rattle.std.specs.Prelude.{◌≡◌, ℕ, ◌+◌, ◌-◌, ◌<◌, ◌≤◌, ◌^◌, true, false, Option, Some, None, List}
+use Rattle.std.specs.Prelude.{[], ◌∷◌, ◌++◌, ◌⊎◌, length, take, drop, slice_index, slice_index_or, sum_by, ◌≢◌}
 use mathlib.Core.Option.{some, none}
 use lib.ListN.{get_elem?}
 use Rattle.atomic_table.specs.Table.{State, Me, Step}

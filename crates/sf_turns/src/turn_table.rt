@@ -1,11 +1,13 @@
 //! The table that all seats and tokens of a run share, and each step of a seat on it.
-ghost use Rattle.std.specs.Prelude.{◌≡◌, ℕ, ◌+◌, ◌%◌, ◌-◌, ◌<◌, ◌≤◌, ◌^◌, ◌≢◌, true, false, [], ◌∷◌, ◌++◌, Some, None, length, take, drop, replicate, IfOk, IfErr};
+ghost use Rattle.std.specs.Prelude.{◌≡◌, ℕ, ◌+◌, ◌%◌, ◌-◌, ◌<◌, ◌≤◌, ◌^◌, ◌≢◌, true};
+ghost use Rattle.std.specs.Prelude.{false, [], ◌∷◌, ◌++◌, Some, None, length, take, drop, replicate, IfOk, IfErr};
 ghost use Rattle.sf_turns.specs.declared.protocol.Home.TheVariants.{Vacant, Full, Said};
 ghost use Rattle.sf_turns.specs.declared.protocol.Stage.TheVariants as stage;
 ghost use Rattle.sf_turns.specs.Counts.{IsExact};
 ghost use Rattle.sf_base.specs.Points.{greatest};
 ghost use Rattle.sf_turns.specs.declared.protocol.Token.{Token};
-ghost use Rattle.sf_turns.specs.Rule.{opened, loaded, note, told, issuing, heir, endowing, endowed, cutting, cut_off, lending, lent, absorbed, handed, departed_with, at_stage, IsAlone, IsAside, HasSeen, Stays};
+ghost use Rattle.sf_turns.specs.Rule.{opened, loaded, note, told, issuing, heir, endowing, endowed, cutting, cut_off, lending};
+ghost use Rattle.sf_turns.specs.Rule.{lent, absorbed, handed, departed_with, at_stage, IsAlone, IsAside, HasSeen, Stays};
 
 use crate::protocol::{
     Announce, Ask, Audit, Begin, Clear, Cut, Endow, Enter, Finish, HandIn, Home, Issue, Knows,
