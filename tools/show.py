@@ -1,10 +1,12 @@
 #!/usr/bin/env python3
-"""Plays a scene and writes its frames as PNG files.
+"""Plays a scene and writes what comes of it: its frames as PNG files, and the run as text and as a timeline.
 
     show.py [--proved] [SCENE [FOLDER]]
 
 SCENE is scenes/phone.sf if it is not given, and FOLDER is out/NAME for a scene NAME.sf, beside the
-folder crates/. The records are written there too, as records.bin, for tools/records.py.
+folder crates/. Beside the frames stand records.bin (the records, for tools/records.py), dump.txt (a
+sentence for each record) and trace.json (for chrome://tracing or Perfetto). What the run comes to is
+told on standard output, and the fault of a script that is no scene is shown at its place.
 
 Without --proved the program is compiled and run as it stands, by `rt try`: that takes less than a
 minute, and no proof is asked for. Such a run may write at most 1 MiB of records. With --proved
@@ -14,12 +16,16 @@ status: that of the program (0 played, 2 the script is no scene), or 1 where the
 where words are wrong or a file cannot be read or written.
 """
 
+import json
 import os
 import subprocess
 import sys
 
+from explaining import explained
 from pictures import write_frames
 from stream import faults, read
+from summing import summed
+from timeline import trace
 from wording import sentence
 
 TOP = os.path.dirname(os.path.dirname(os.path.abspath(__file__)))
@@ -54,6 +60,18 @@ def play(command, scene):
     return ended.returncode, ended.stdout
 
 
+def write_text(folder, name, text):
+    with open(os.path.join(folder, name), "w", encoding="utf-8") as file:
+        file.write(text)
+
+
+def explain(scene, fault):
+    """Shows the fault of a script on standard error."""
+    with open(scene, "rb") as script:
+        for line in explained(os.path.relpath(scene), script.read(), fault):
+            print(line, file=sys.stderr)
+
+
 def show(command, scene, folder):
     waiting = "compiles and plays it, unproved (half a minute to a minute)" if command == "try" else "proves, builds and plays it"
     print(f"{os.path.relpath(scene)}: {waiting}", file=sys.stderr, flush=True)
@@ -67,10 +85,15 @@ def show(command, scene, folder):
     os.makedirs(folder, exist_ok=True)
     with open(os.path.join(folder, "records.bin"), "wb") as file:
         file.write(data)
+    write_text(folder, "dump.txt", "".join(sentence(record) + "\n" for record in records))
+    write_text(folder, "trace.json", json.dumps(trace(records), indent=1) + "\n")
     for path in write_frames(folder, records):
         print(os.path.relpath(path))
-    if records[0].tag == "SFLT":
-        complain(sentence(records[0]))
+    if records[0].tag == "SFLT" and records[0].fields is not None:
+        explain(scene, records[0].fields)
+    else:
+        for line in summed(records):
+            print(line)
     return status
 
 

@@ -48,9 +48,13 @@ class Show(unittest.TestCase):
 
     def test_frames_and_records_are_written_and_the_frames_named(self):
         ended = self.show("scene.sf", "frames")
-        self.assertEqual((ended.returncode, ended.stdout), (0, os.path.join("frames", "frame-1.png") + "\n"))
+        path, *told = ended.stdout.splitlines()
+        self.assertEqual((ended.returncode, path), (0, os.path.join("frames", "frame-1.png")))
+        self.assertIn("1 commits, 0 of them rejected", told)
         self.assertIn("unproved", ended.stderr)
-        self.assertEqual(sorted(os.listdir(self.path("frames"))), ["frame-1.png", "records.bin"])
+        self.assertEqual(sorted(os.listdir(self.path("frames"))), ["dump.txt", "frame-1.png", "records.bin", "trace.json"])
+        with open(self.path("frames/dump.txt"), encoding="utf-8") as file:
+            self.assertEqual(file.read().splitlines()[-1], "DONE the run is whole")
         with open(self.path("frames/records.bin"), "rb") as file:
             self.assertEqual(file.read(), RED)
         self.assertEqual(self.called(), ["try", show.PROGRAM, "a scene"])
@@ -69,7 +73,13 @@ class Show(unittest.TestCase):
     def test_a_script_fault_is_told(self):
         ended = self.show("scene.sf", "frames", data=record("SFLT", 0, 0, 0), status=2)
         self.assertEqual((ended.returncode, ended.stdout), (2, ""))
-        self.assertIn("SFLT script fault: no scene", ended.stderr)
+        self.assertIn("scene.sf: the script is a scene, but has forms that are read and not played yet", ended.stderr)
+
+    def test_a_fault_is_shown_at_its_place(self):
+        ended = self.show("scene.sf", "frames", data=record("SFLT", 1, 1, 2), status=2)
+        self.assertEqual(ended.returncode, 2)
+        self.assertIn("scene.sf:1:1: unknown word", ended.stderr)
+        self.assertIn(" 1 | a scene", ended.stderr)
 
     def test_a_run_without_an_answer_is_told(self):
         for data, status in ((b"", 1), (b"", 2), (SCEN, 4), (b"", 6)):
