@@ -12,6 +12,7 @@ use Rattle.std.specs.Map.{keys_of, lookup, remove_entry, values_of}
 use Rattle.std.specs.Option.{option_and_then, option_to_list}
 use Rattle.std.specs.Ordering.{match_ordering, nat_cmp}
 use Rattle.std.specs.declared.cmp.Ordering.TheVariants.{Greater, Less}
+use Rattle.slab.specs.Slab.{Slab, Updates, get}
 use Rattle.sf_txn.specs.Transactions.{without_first}
 use Rattle.sf_txn.specs.declared.lease.Lease.{Ghosts}
 use Rattle.sf_token.specs.Looking.{IsLookedArrival}
@@ -185,7 +186,7 @@ module _ {L : Type 0} where
     picked-remove n es is h s = picked-same f g _ (kept_of f g key others _ (rest_apart n es is h s)) ∙ picked-rest f n es h
 
   -- a key that was vacant takes a transaction, whose number is above all others
-  pub filed_more : (f g : ℕ → Option (Arrival L)) (key : ℕ) (a : Arrival L) (es : List (ℕ × ℕ)) → ((other : ℕ) → other ≢ key → g other ≡ f other) → f key ≡ None → g key ≡ Some a → AreFiled f es
+  filed_more : (f g : ℕ → Option (Arrival L)) (key : ℕ) (a : Arrival L) (es : List (ℕ × ℕ)) → ((other : ℕ) → other ≢ key → g other ≡ f other) → f key ≡ None → g key ≡ Some a → AreFiled f es
       → AllByRecursion (λ earlier. earlier.number < a.number) (picked f (values_of es))
       → AreFiled g (insert_entry nat_cmp es a.number key) × (picked g (values_of (insert_entry nat_cmp es a.number key)) ≡ picked f (values_of es) ++ a ∷ [])
   filed_more f g key a es others none some h below =
@@ -195,6 +196,17 @@ module _ {L : Type 0} where
         ap (λ list. picked g (values_of list)) last ∙ ap (picked g) (map-append (λ (e : ℕ × ℕ). e.1) es ((a.number, key) ∷ [])) ∙ picked-snoc g (values_of es) key a some
             ∙ ap (λ xs. xs ++ a ∷ []) (picked-same f g (values_of es) (kept_of f g key others (values_of es) apart)),
       )
+
+  -- the same of a slab with room, and of keys that a map has then
+  pub filed_push : (slots reserved new : Slab (Arrival L)) (key vacant number : ℕ) (a : Arrival L) (es entries : List (ℕ × ℕ)) → reserved ≡ record slots { capacity = reserved.capacity }
+      → key ≡ reserved.vacant_key → vacant ≡ reserved.vacant_key → get reserved key ≡ None → Updates reserved new key (Some a) → number ≡ a.number → entries ≡ insert_entry nat_cmp es number vacant
+      → AreFiled (get slots) es → AllByRecursion (λ earlier. earlier.number < a.number) (picked (get slots) (values_of es))
+      → AreFiled (get new) entries × (picked (get new) (values_of entries) ≡ picked (get slots) (values_of es) ++ a ∷ [])
+  filed_push slots reserved new key vacant number a es entries kept is told none updates numbered put h below =
+      let same = λ (k : ℕ). ap (λ (s : Slab (Arrival L)). get s k) kept in
+      let all = put ∙ ap (λ n. insert_entry nat_cmp es n vacant) numbered ∙ ap (λ k. insert_entry nat_cmp es a.number k) (told ∙ sym is) in
+      let more = filed_more (get slots) (get new) key a es (λ other apart. updates.others other apart ∙ same other) (sym (same key) ∙ none) updates.changed h below in
+      (subst (λ (list : List (ℕ × ℕ)). AreFiled (get new) list) (sym all) more.0, ap (λ list. picked (get new) (values_of list)) all ∙ more.1)
 
   -- looks leave each number its key
   pub AreFiled-looked : {E R C : Type 0} (lease : Ghosts L E R C) (f g : ℕ → Option (Arrival L)) (es : List (ℕ × ℕ)) → ((key : ℕ) → IsSome (f key) → IsSome (g key))
