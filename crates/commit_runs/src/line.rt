@@ -57,8 +57,13 @@ impl Line {
     fn send(&mut self, words: &mut SplitWhitespace<'_>) -> Option<Reply> {
         let actor = number32(words)?;
         let step = number32(words)?;
-        self.next.address(token(words)?);
-        let txn = mem::replace(&mut self.next, Transaction::new(self.alloc));
+        let token = token(words)?;
+        self.arrive(actor, step, token)
+    }
+
+    fn arrive(&mut self, actor: u32, step: u32, token: TokenId) -> Option<Reply> {
+        let mut txn = mem::replace(&mut self.next, Transaction::new(self.alloc));
+        txn.address(token);
         match self.arrivals.apply(actor, ArriveCall::Send(step, txn)) {
             Outcome::Done(ArriveReply::Number(number)) => Some(Reply::Sent(number)),
             _ => None,

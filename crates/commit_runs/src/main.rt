@@ -35,7 +35,6 @@ use reply::Reply;
 use std::alloc::Global;
 use std::io;
 use std::io::{BufRead, BufReader};
-use std::str::SplitWhitespace;
 
 // What the lines so far made.
 #[derive(Drop)]
@@ -53,18 +52,15 @@ impl Runs {
         })
     }
 
-    // Begins a case or a line of transactions.
-    fn begin(
-        &mut self,
-        alloc: Global,
-        form: &str,
-        words: &mut SplitWhitespace<'_>,
-    ) -> Option<Reply> {
-        if form == "case" {
-            self.case = Case::new(alloc, words.next()?)?;
-        } else {
-            self.line = Line::new(alloc)?;
-        }
+    // Begins a case of this name.
+    fn begin_case(&mut self, alloc: Global, name: &str) -> Option<Reply> {
+        self.case = Case::new(alloc, name)?;
+        Some(Reply::Done)
+    }
+
+    // Begins a line of transactions.
+    fn begin_line(&mut self, alloc: Global) -> Option<Reply> {
+        self.line = Line::new(alloc)?;
         Some(Reply::Done)
     }
 
@@ -72,13 +68,12 @@ impl Runs {
     fn follow(&mut self, alloc: Global, line: &str) -> Option<Reply> {
         let mut words = line.split_whitespace();
         let form = words.next()?;
-        if form == "case" || form == "line" {
-            return self.begin(alloc, form, &mut words);
+        match form {
+            "case" => self.begin_case(alloc, words.next()?),
+            "line" => self.begin_line(alloc),
+            form if is_of_line(form) => self.line.follow(form, &mut words),
+            form => self.case.follow(alloc, form, &mut words),
         }
-        if is_of_line(form) {
-            return self.line.follow(form, &mut words);
-        }
-        self.case.follow(alloc, form, &mut words)
     }
 }
 
@@ -108,13 +103,18 @@ fn step(rt: &impl Print, alloc: Global, runs: &mut Runs, line: &str) -> io::Resu
     }
 }
 
-fn main(rt: HostRuntime) -> io::Result<()> {
-    let Some(mut runs) = Runs::new(rt.alloc()) else {
-        return println!(rt; "no memory");
-    };
+// Does what the lines of the input say.
+fn run(rt: &HostRuntime, runs: &mut Runs) -> io::Result<()> {
     for line in BufReader::new(rt.alloc(), rt.reader())?.lines(rt.alloc()) {
         let line = line?;
-        step(&rt, rt.alloc(), &mut runs, line.as_str().trim())?;
+        step(rt, rt.alloc(), runs, line.as_str().trim())?;
     }
     Ok(())
+}
+
+fn main(rt: HostRuntime) -> io::Result<()> {
+    match Runs::new(rt.alloc()) {
+        Some(mut runs) => run(&rt, &mut runs),
+        None => println!(rt; "no memory"),
+    }
 }
