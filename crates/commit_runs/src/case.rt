@@ -1,17 +1,17 @@
-use crate::frames::frame_of;
-use crate::words::{number32, number64, text};
-use anyhow::{Result, bail, ensure};
+use crate::frames::show;
+use crate::reply::{Held, Reply};
+use crate::words::{fence, layer, number64, timeline};
 use page_lease::Page;
-use sf_base::{Fence, LayerId, NoMemory, Seen, TimelineId};
+use sf_base::Seen;
 use sf_ready::{Facts, hold_of};
-use sf_txn::{BufferOp, Transaction};
+use sf_txn::Transaction;
 use std::alloc::Global;
 use std::str::SplitWhitespace;
 
 /// A transaction, and what its hold is decided from.
 #[derive(Drop)]
 pub struct Case {
-    name: String,
+    pub name: String,
     txn: Transaction<Page>,
     drawn: Vec<bool>,
     facts: Facts,
@@ -20,9 +20,9 @@ pub struct Case {
 
 impl Case {
     /// An empty transaction, before anything was committed or signalled.
-    pub fn new(alloc: Global, name: &str) -> Result<Case> {
-        Ok(Case {
-            name: String::from_str(alloc, name)?,
+    pub fn new(alloc: Global, name: &str) -> Option<Case> {
+        Some(Case {
+            name: String::from_str(alloc, name).ok()?,
             txn: Transaction::new(alloc),
             drawn: Vec::new(alloc),
             facts: Facts::new(alloc),
@@ -30,104 +30,81 @@ impl Case {
         })
     }
 
-    /// Does what a line of this form says of the case.
-    pub fn change(&mut self, alloc: Global, form: &str, words: &mut SplitWhitespace) -> Result<()> {
+    /// Does what a line of this form says of the case; None where that can't be done.
+    pub fn follow(
+        &mut self,
+        alloc: Global,
+        form: &str,
+        words: &mut SplitWhitespace<'_>,
+    ) -> Option<Reply> {
         match form {
+            "ask" => self.ask(number64(words)?),
             "desire" | "buffer" | "barrier" => self.fill(alloc, form, words),
-            "frame" | "fresh" | "pressed" | "vsync" | "calm" => self.tell(form, words),
             "seen" => self.observe(words),
-            _ => bail!("unknown form {form}"),
+            "frame" | "fresh" | "pressed" => self.tell(form, words),
+            _ => self.begin(form),
         }
     }
 
     // Fills the transaction.
-    fn fill(&mut self, alloc: Global, form: &str, words: &mut SplitWhitespace) -> Result<()> {
+    fn fill(
+        &mut self,
+        alloc: Global,
+        form: &str,
+        words: &mut SplitWhitespace<'_>,
+    ) -> Option<Reply> {
         match form {
-            "desire" => {
-                self.txn.desire(number64(words)?);
-                Ok(())
-            }
-            "barrier" => {
-                let layer = LayerId(number32(words)?);
-                granted(self.txn.add_barrier(layer, number64(words)?))
-            }
-            _ => {
-                let buffer = frame(alloc, words)?;
-                ensure!(buffer.layer.0 > 0, "layers are numbered from 1");
-                self.drawn.push(text(words)? == "drawn")?;
-                ensure!(self.txn.set_buffer(buffer).is_ok(), "no memory");
-                Ok(())
-            }
+            "desire" => self.txn.desire(number64(words)?),
+            "barrier" => self.txn.add_barrier(layer(words)?, number64(words)?).ok()?,
+            _ => self.show(alloc, words)?,
         }
+        Some(Reply::Done)
+    }
+
+    // It shows a frame.
+    fn show(&mut self, alloc: Global, words: &mut SplitWhitespace<'_>) -> Option<()> {
+        let layer = layer(words)?;
+        let frame = number64(words)?;
+        let fence = fence(words)?;
+        self.drawn.push(words.next()? == "drawn").ok()?;
+        show(&mut self.txn, alloc, layer, frame, fence, 1)
     }
 
     // Tells what was committed, or what the layers are like.
-    fn tell(&mut self, form: &str, words: &mut SplitWhitespace) -> Result<()> {
+    fn tell(&mut self, form: &str, words: &mut SplitWhitespace<'_>) -> Option<Reply> {
+        let layer = layer(words)?;
         match form {
-            "vsync" => {
-                self.facts.begin_vsync();
-                Ok(())
-            }
-            "calm" => {
-                self.facts.clear_pressed();
-                Ok(())
-            }
-            "frame" => {
-                let layer = LayerId(number32(words)?);
-                granted(self.facts.add_frame(layer, number64(words)?))
-            }
-            "fresh" => granted(self.facts.add_fresh(LayerId(number32(words)?))),
-            _ => granted(self.facts.add_pressed(LayerId(number32(words)?))),
+            "frame" => self.facts.add_frame(layer, number64(words)?).ok()?,
+            "fresh" => self.facts.add_fresh(layer).ok()?,
+            _ => self.facts.add_pressed(layer).ok()?,
         }
+        Some(Reply::Done)
+    }
+
+    // A vsync begins, or no layer has backpressure any more.
+    fn begin(&mut self, form: &str) -> Option<Reply> {
+        match form {
+            "vsync" => self.facts.begin_vsync(),
+            "calm" => self.facts.clear_pressed(),
+            _ => return None,
+        }
+        Some(Reply::Done)
     }
 
     // Tells what was observed of a timeline.
-    fn observe(&mut self, words: &mut SplitWhitespace) -> Result<()> {
-        let timeline = number32(words)? as usize;
-        ensure!(
-            (1..=64).contains(&timeline),
-            "timelines are numbered 1 to 64"
-        );
-        self.seen.values[timeline - 1] = number64(words)?;
-        Ok(())
+    fn observe(&mut self, words: &mut SplitWhitespace<'_>) -> Option<Reply> {
+        let timeline = timeline(words)?;
+        self.seen.values[timeline.0 as usize - 1] = number64(words)?;
+        Some(Reply::Done)
     }
 
-    /// What holds the transaction at the expected present time of the line: the hold's number and
-    /// the hold, or that nothing does.
-    pub fn answer(&self, alloc: Global, words: &mut SplitWhitespace) -> Result<String> {
-        let expected = number64(words)?;
-        ensure!(
-            self.drawn.len() == self.txn.buffers().len(),
-            "a buffer took the place of another"
-        );
-        let name = &self.name;
+    // What holds the transaction at this expected present time; None where a buffer took the place
+    // of another.
+    fn ask(&self, expected: u64) -> Option<Reply> {
+        if self.drawn.len() != self.txn.buffers().len() {
+            return None;
+        }
         let hold = hold_of(&self.txn, &self.drawn, &self.facts, &self.seen, expected);
-        Ok(match hold {
-            Some(hold) => {
-                let number = hold.number();
-                format!(in alloc; "{name} at {expected}: {number} {hold:?}")?
-            }
-            None => format!(in alloc; "{name} at {expected}: ready")?,
-        })
+        Some(Reply::Held(Held { expected, hold }))
     }
-}
-
-// What was asked was done.
-fn granted(answer: std::result::Result<(), NoMemory>) -> Result<()> {
-    ensure!(answer.is_ok(), "no memory");
-    Ok(())
-}
-
-// A frame of queue 1 for a layer, with an acquire fence of one point.
-fn frame(alloc: Global, words: &mut SplitWhitespace) -> Result<BufferOp<Page>> {
-    let layer = LayerId(number32(words)?);
-    let frame = number64(words)?;
-    let timeline = number32(words)?;
-    ensure!(
-        1 <= timeline && timeline <= 64,
-        "timelines are numbered 1 to 64"
-    );
-    let mut fence = Fence::none();
-    fence.add(TimelineId(timeline), number64(words)?);
-    frame_of(alloc, layer, frame, fence, 1)
 }

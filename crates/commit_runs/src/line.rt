@@ -1,8 +1,8 @@
-use crate::frames::frame_of;
-use crate::words::{number32, text};
-use anyhow::{Result, bail, ensure};
+use crate::frames::show;
+use crate::reply::Reply;
+use crate::words::{layer, number32, token};
 use page_lease::{Ends, Page, Writes};
-use sf_base::{ActorId, Fence, LayerId, TokenId};
+use sf_base::{Fence, TokenId};
 use sf_calls::{Object, Outcome};
 use sf_token::{Arrivals, ArriveCall, ArriveReply, Arrived, TokenQueues};
 use sf_txn::Transaction;
@@ -15,6 +15,7 @@ use std::str::SplitWhitespace;
 /// the earlier ones of their tokens.
 #[derive(Drop)]
 pub struct Line {
+    alloc: Global,
     arrivals: Arrivals<Page, Brand>,
     queues: TokenQueues<Page>,
     // The transaction that is sent next.
@@ -23,145 +24,131 @@ pub struct Line {
 
 impl Line {
     /// Nothing arrived yet.
-    pub fn new(alloc: Global) -> Result<Line> {
-        let (Ok(arrivals), Ok(queues)) = (Arrivals::new(alloc), TokenQueues::new(alloc)) else {
-            bail!("no memory")
-        };
-        Ok(Line {
-            arrivals,
-            queues,
+    pub fn new(alloc: Global) -> Option<Line> {
+        Some(Line {
+            alloc,
+            arrivals: Arrivals::new(alloc).ok()?,
+            queues: TokenQueues::new(alloc).ok()?,
             next: Transaction::new(alloc),
         })
     }
 
-    /// The transaction that is sent next shows frame 1 of a layer, with a page.
-    pub fn show(&mut self, alloc: Global, words: &mut SplitWhitespace) -> Result<()> {
-        let layer = LayerId(number32(words)?);
-        let buffer = frame_of(alloc, layer, 1, Fence::none(), number32(words)?)?;
-        ensure!(buffer.layer.0 > 0, "layers are numbered from 1");
-        ensure!(self.next.set_buffer(buffer).is_ok(), "no memory");
-        Ok(())
-    }
-
-    /// Does what a line of this form asks, and tells what came out.
-    pub fn answer(
-        &mut self,
-        alloc: Global,
-        form: &str,
-        words: &mut SplitWhitespace,
-    ) -> Result<String> {
+    /// Does what a line of this form asks, and tells what came out; None where that can't be done.
+    pub fn follow(&mut self, form: &str, words: &mut SplitWhitespace<'_>) -> Option<Reply> {
         match form {
-            "send" => self.send(alloc, words),
-            "take" => self.take(alloc),
-            "head" => {
-                let token = TokenId(number32(words)?);
-                shown(alloc, token, self.queues.head(token))
-            }
-            "pop" => {
-                let token = TokenId(number32(words)?);
-                let gone = self.queues.pop(token);
-                shown(alloc, token, gone.as_ref())
-            }
-            "number" => {
-                let number = number32(words)?;
-                addressed(alloc, number, self.queues.get(number))
-            }
-            "look" => self.look(alloc, number32(words)?),
-            "tokens" => self.tokens(alloc),
-            "arrivals" => self.told(alloc),
-            _ => bail!("unknown form {form}"),
+            "page" => self.show(words),
+            "send" => self.send(words),
+            "take" => self.take(),
+            "look" => self.look(number32(words)?),
+            "pop" => Some(self.pop(token(words)?)),
+            _ => self.tell(form, words),
         }
     }
 
+    // The transaction that is sent next shows frame 1 of a layer, with a page.
+    fn show(&mut self, words: &mut SplitWhitespace<'_>) -> Option<Reply> {
+        let layer = layer(words)?;
+        let page = number32(words)?;
+        show(&mut self.next, self.alloc, layer, 1, Fence::none(), page)?;
+        Some(Reply::Done)
+    }
+
     // The next transaction arrives: of this client, at this step, for this token.
-    fn send(&mut self, alloc: Global, words: &mut SplitWhitespace) -> Result<String> {
+    fn send(&mut self, words: &mut SplitWhitespace<'_>) -> Option<Reply> {
         let actor = number32(words)?;
         let step = number32(words)?;
-        let mut txn = mem::replace(&mut self.next, Transaction::new(alloc));
-        txn.address(TokenId(number32(words)?));
+        let token = token(words)?;
+        self.arrive(actor, step, token)
+    }
+
+    fn arrive(&mut self, actor: u32, step: u32, token: TokenId) -> Option<Reply> {
+        let mut txn = mem::replace(&mut self.next, Transaction::new(self.alloc));
+        txn.address(token);
         match self.arrivals.apply(actor, ArriveCall::Send(step, txn)) {
-            Outcome::Done(ArriveReply::Number(number)) => {
-                Ok(format!(in alloc; "sent: number {number}")?)
-            }
-            _ => bail!("no memory"),
+            Outcome::Done(ArriveReply::Number(number)) => Some(Reply::Sent(number)),
+            _ => None,
         }
     }
 
     // The compositor takes what arrived into its queues.
-    fn take(&mut self, alloc: Global) -> Result<String> {
-        let Outcome::Done(ArriveReply::Batch(batch)) = self.arrivals.apply(0, ArriveCall::Take)
-        else {
-            bail!("no memory")
-        };
-        let mut told = String::from_str(alloc, "taken:")?;
-        for arrived in batch.list {
-            told.push_str(format!(in alloc; " {}", arrived.number)?.as_str())?;
-            self.push(arrived)?;
+    fn take(&mut self) -> Option<Reply> {
+        match self.arrivals.apply(0, ArriveCall::Take) {
+            Outcome::Done(ArriveReply::Batch(batch)) => {
+                let numbers = numbers_of(self.alloc, &batch.list)?;
+                push_all(&mut self.queues, batch.list)?;
+                Some(Reply::Taken(numbers))
+            }
+            _ => None,
         }
-        Ok(told)
-    }
-
-    fn push(&mut self, arrived: Arrived<Page>) -> Result<()> {
-        ensure!(self.queues.last() < arrived.number, "numbers rise");
-        ensure!(self.queues.push(arrived).is_ok(), "no memory");
-        Ok(())
     }
 
     // What someone who knows that so many writes ended sees of the pages of what is pending.
-    fn look(&mut self, alloc: Global, count: u32) -> Result<String> {
+    fn look(&mut self, count: u32) -> Option<Reply> {
         let mut eye = Writes {
             count,
             ends: Ends::new(),
         };
-        let Ok(looks) = self.queues.look(&mut eye) else {
-            bail!("no memory")
+        Some(Reply::Looked(self.queues.look(&mut eye).ok()?))
+    }
+
+    // A token's first pending transaction goes.
+    fn pop(&mut self, token: TokenId) -> Reply {
+        let number = match self.queues.pop(token) {
+            Some(arrived) => Some(arrived.number),
+            None => None,
         };
-        let mut told = String::from_str(alloc, "looked:")?;
-        for one in looks {
-            told.push_str(format!(in alloc; " {}", one.number)?.as_str())?;
-            for is_drawn in one.drawn.as_slice() {
-                told.push_str(if *is_drawn { " drawn" } else { " owed" })?;
+        Reply::OfToken(token, number)
+    }
+
+    // A token's first pending transaction.
+    fn head(&self, token: TokenId) -> Reply {
+        let number = match self.queues.head(token) {
+            Some(arrived) => Some(arrived.number),
+            None => None,
+        };
+        Reply::OfToken(token, number)
+    }
+
+    // The token of the pending transaction of a number.
+    fn token_of(&self, number: u32) -> Reply {
+        let token = match self.queues.get(number) {
+            Some(arrived) => Some(arrived.txn.token()),
+            None => None,
+        };
+        Reply::OfNumber(number, token)
+    }
+
+    // Tells what is pending, or what arrived.
+    fn tell(&self, form: &str, words: &mut SplitWhitespace<'_>) -> Option<Reply> {
+        match form {
+            "head" => Some(self.head(token(words)?)),
+            "number" => Some(self.token_of(number32(words)?)),
+            "tokens" => Some(Reply::Tokens(self.queues.tokens().ok()?)),
+            "arrivals" => {
+                let entries = Vec::from_slice(self.alloc, self.arrivals.entries()).ok()?;
+                Some(Reply::Arrived(entries))
             }
-            told.push_str(",")?;
+            _ => None,
         }
-        Ok(told)
-    }
-
-    fn tokens(&self, alloc: Global) -> Result<String> {
-        let Ok(tokens) = self.queues.tokens() else {
-            bail!("no memory")
-        };
-        let mut told = String::from_str(alloc, "tokens:")?;
-        for token in tokens {
-            told.push_str(format!(in alloc; " {}", token.0)?.as_str())?;
-        }
-        Ok(told)
-    }
-
-    // All that arrived, in order.
-    fn told(&self, alloc: Global) -> Result<String> {
-        let mut told = String::from_str(alloc, "arrived:")?;
-        for entry in self.arrivals.entries() {
-            let ActorId(actor) = entry.actor;
-            let one = format!(in alloc; " {actor}.{} for {},", entry.step, entry.token.0)?;
-            told.push_str(one.as_str())?;
-        }
-        Ok(told)
     }
 }
 
-// A pending transaction of a token, if there is one.
-fn shown(alloc: Global, token: TokenId, arrived: Option<&Arrived<Page>>) -> Result<String> {
-    Ok(match arrived {
-        Some(arrived) => format!(in alloc; "token {}: number {}", token.0, arrived.number)?,
-        None => format!(in alloc; "token {}: nothing", token.0)?,
-    })
+// The numbers of what was taken.
+fn numbers_of(alloc: Global, list: &[Arrived<Page>]) -> Option<Vec<u32>> {
+    let mut numbers = Vec::new(alloc);
+    for arrived in list {
+        numbers.push(arrived.number).ok()?;
+    }
+    Some(numbers)
 }
 
-// The token of the pending transaction of a number, if there is one.
-fn addressed(alloc: Global, number: u32, arrived: Option<&Arrived<Page>>) -> Result<String> {
-    Ok(match arrived {
-        Some(arrived) => format!(in alloc; "number {number}: token {}", arrived.txn.token().0)?,
-        None => format!(in alloc; "number {number}: nothing")?,
-    })
+// Transactions go into the queues, if their numbers rise.
+fn push_all(queues: &mut TokenQueues<Page>, list: Vec<Arrived<Page>>) -> Option<()> {
+    for arrived in list {
+        if queues.last() >= arrived.number {
+            return None;
+        }
+        queues.push(arrived).ok()?;
+    }
+    Some(())
 }

@@ -1,5 +1,5 @@
 //! Asks of transactions what holds them. It reads cases from standard input and answers each
-//! `ask` with a line of its own. Empty lines and lines that begin with `#` are skipped.
+//! `ask` with a line of its own. Empty lines and lines that begin with `#` are skipped; of a line that can't be done it says so.
 //!
 //! | Line | What it says |
 //! |---|---|
@@ -26,67 +26,95 @@
 mod case;
 mod frames;
 mod line;
+mod reply;
 mod words;
 
-use anyhow::Result;
 use case::Case;
 use line::Line;
+use reply::Reply;
 use std::alloc::Global;
+use std::io;
 use std::io::{BufRead, BufReader};
-use words::text;
 
 // What the lines so far made.
 #[derive(Drop)]
-struct Cases {
+struct Runs {
     case: Case,
     line: Line,
 }
 
-impl Cases {
+impl Runs {
     // A case without a name, and a line of nothing.
-    fn new(alloc: Global) -> Result<Cases> {
-        let case = Case::new(alloc, "unnamed")?;
-        let line = Line::new(alloc)?;
-        Ok(Cases { case, line })
+    fn new(alloc: Global) -> Option<Runs> {
+        Some(Runs {
+            case: Case::new(alloc, "unnamed")?,
+            line: Line::new(alloc)?,
+        })
+    }
+
+    // Begins a case of this name.
+    fn begin_case(&mut self, alloc: Global, name: &str) -> Option<Reply> {
+        self.case = Case::new(alloc, name)?;
+        Some(Reply::Done)
+    }
+
+    // Begins a line of transactions.
+    fn begin_line(&mut self, alloc: Global) -> Option<Reply> {
+        self.line = Line::new(alloc)?;
+        Some(Reply::Done)
+    }
+
+    // Does what a line of the input says; None where that can't be done.
+    fn follow(&mut self, alloc: Global, line: &str) -> Option<Reply> {
+        let mut words = line.split_whitespace();
+        let form = words.next()?;
+        match form {
+            "case" => self.begin_case(alloc, words.next()?),
+            "line" => self.begin_line(alloc),
+            form if is_of_line(form) => self.line.follow(form, &mut words),
+            form => self.case.follow(alloc, form, &mut words),
+        }
     }
 }
 
-// Does what a line says of a case.
-fn follow(rt: &HostRuntime, cases: &mut Cases, line: &str) -> Result<()> {
-    let mut words = line.split_whitespace();
-    let form = text(&mut words)?;
-    match form {
-        "case" => {
-            cases.case = Case::new(rt.alloc(), text(&mut words)?)?;
-            Ok(())
-        }
-        "line" => {
-            cases.line = Line::new(rt.alloc())?;
-            Ok(())
-        }
-        "page" => cases.line.show(rt.alloc(), &mut words),
-        "ask" => {
-            let answer = cases.case.answer(rt.alloc(), &mut words)?;
-            println!(rt; "{answer}")?;
-            Ok(())
-        }
-        "send" | "take" | "head" | "pop" | "number" | "look" | "tokens" | "arrivals" => {
-            let answer = cases.line.answer(rt.alloc(), form, &mut words)?;
-            println!(rt; "{answer}")?;
-            Ok(())
-        }
-        _ => cases.case.change(rt.alloc(), form, &mut words),
+// Whether this form of line asks something of a line of transactions.
+fn is_of_line(form: &str) -> bool {
+    matches!(
+        form,
+        "page" | "send" | "take" | "head" | "pop" | "number" | "look" | "tokens" | "arrivals"
+    )
+}
+
+// A line that says nothing: it is empty or a comment.
+fn is_silent(line: &str) -> bool {
+    line.is_empty() || line.starts_with('#')
+}
+
+// Does what a line of the input says, and prints what it answers.
+fn step(rt: &impl Print, alloc: Global, runs: &mut Runs, line: &str) -> io::Result<()> {
+    if is_silent(line) {
+        return Ok(());
+    }
+    match runs.follow(alloc, line) {
+        Some(Reply::Done) => Ok(()),
+        Some(Reply::Held(held)) => println!(rt; "{} at {held}", runs.case.name),
+        Some(reply) => println!(rt; "{reply}"),
+        None => println!(rt; "{line}: not done"),
     }
 }
 
-fn main(rt: HostRuntime) -> Result<()> {
-    let mut cases = Cases::new(rt.alloc())?;
+// Does what the lines of the input say.
+fn run(rt: &HostRuntime, runs: &mut Runs) -> io::Result<()> {
     for line in BufReader::new(rt.alloc(), rt.reader())?.lines(rt.alloc()) {
         let line = line?;
-        let line = line.trim();
-        if !line.is_empty() && !line.starts_with('#') {
-            follow(&rt, &mut cases, line)?;
-        }
+        step(rt, rt.alloc(), runs, line.as_str().trim())?;
     }
     Ok(())
+}
+
+fn main(rt: HostRuntime) -> io::Result<()> {
+    match Runs::new(rt.alloc()) {
+        Some(mut runs) => run(&rt, &mut runs),
+        None => println!(rt; "no memory"),
+    }
 }

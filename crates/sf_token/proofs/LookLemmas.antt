@@ -14,7 +14,7 @@ use Rattle.sf_txn.specs.declared.lease.Lease.{Ghosts}
 use Rattle.sf_token.specs.Looking.{AllLeases, IsLookedArrival, looks_at, looks_of}
 use Rattle.sf_token.specs.Pending.{Arrival, IsRisingFrom}
 use Rattle.sf_token.specs.Rooms.{AreLooked, Fits, IsLookedSlot}
-use Rattle.sf_token.specs.Slots.{AreKeys, picked}
+use Rattle.sf_token.specs.Slots.{picked}
 use Rattle.sf_token.specs.declared.looking.Room.{Room}
 use Rattle.sf_token.specs.declared.looks.Looks.{Looks}
 use Rattle.sf_token.proofs.SlotLemmas.{each_apart, kept_of, picked-same, picked-snoc}
@@ -110,14 +110,7 @@ module _ {L E R C : Type 0} (lease : Ghosts L E R C) where
       picked_new : picked h (done ++ key ∷ []) ≡ picked g done ++ s.to ∷ []
       picked_new = picked-snoc h done key s.to s.has ∙ ap (λ xs. xs ++ s.to ∷ []) (picked-same g h done (kept_of g h key others done apart))
 
-  all_kept : (f g : ℕ → Option (Arrival L)) (keys : List ℕ) → ((key : ℕ) → IsSome (f key) → IsSome (g key)) → AllByRecursion (λ key. IsSome (f key)) keys → AllByRecursion (λ key. IsSome (g key)) keys
-  all_kept f g [] kept all = tt
-  all_kept f g (key ∷ keys) kept all = (kept key all.0, all_kept f g keys kept all.1)
-
-  -- looks leave each key its transaction, and the numbers rising
-  pub AreKeys-looked : (f g : ℕ → Option (Arrival L)) (keys : List ℕ) → ((key : ℕ) → IsSome (f key) → IsSome (g key)) → AreKeys f keys → AreKeys g keys
-  AreKeys-looked f g keys kept h = record { taken = all_kept f g keys kept h.taken; distinct = h.distinct }
-
+  -- looks leave the numbers rising
   pub rising-looked : (before last : ℕ) (old new : List (Arrival L)) → AllZip (IsLookedArrival lease) old new → IsRisingFrom before old last → IsRisingFrom before new last
   rising-looked before last [] [] all h = h
   rising-looked before last [] (y ∷ ys) all h = absurd all

@@ -3,7 +3,6 @@ ghost use Rattle.sf_token.specs.Arrivals.{entry_of, sent};
 
 use crate::arrived::Arrived;
 use crate::home::LeaseHome;
-use crate::room::append;
 use sf_base::{ActorId, NoMemory, TokenId};
 use sf_calls::{Entry, Object, Outcome};
 use sf_txn::{Lease, Transaction};
@@ -145,38 +144,32 @@ impl<L: Lease + Drop, N: LeaseHome<L>> Object for Arrivals<L, N> {
                 let number = self.entries.len() as u32 + 1;
                 let actor = ActorId(by);
                 let token = txn.token();
-                append(&mut self.entries, ArrvEntry { actor, step, token });
+                self.entries.push_reserved(ArrvEntry { actor, step, token });
                 let arrived = Arrived {
                     number,
                     actor,
                     step,
                     txn,
                 };
-                append(&mut self.waiting, arrived);
+                self.waiting.push_reserved(arrived);
                 let reply = ArriveReply::Number(number);
                 let told = Snapshot::of(&reply);
-                append(
-                    &mut self.calls,
-                    Entry {
-                        by,
-                        call: asked,
-                        reply: told,
-                    },
-                );
+                self.calls.push_reserved(Entry {
+                    by,
+                    call: asked,
+                    reply: told,
+                });
                 Outcome::Done(reply)
             }
             ArriveCall::Take => {
                 let list = mem::replace(&mut self.waiting, Vec::new(self.alloc));
                 let reply = ArriveReply::Batch(Batch { list });
                 let told = Snapshot::of(&reply);
-                append(
-                    &mut self.calls,
-                    Entry {
-                        by,
-                        call: asked,
-                        reply: told,
-                    },
-                );
+                self.calls.push_reserved(Entry {
+                    by,
+                    call: asked,
+                    reply: told,
+                });
                 Outcome::Done(reply)
             }
             call => Outcome::NoMemory(call),

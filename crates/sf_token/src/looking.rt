@@ -1,6 +1,7 @@
 ghost use Rattle.std.specs.Prelude.{◌≡◌, ◌≢◌, ◌≤◌, ◌+◌, ℕ, [], IfOk, IsSome, length, map, nat_eq};
 ghost use Rattle.std.specs.List.{All, AllByRecursion, IsDistinct};
 ghost use Rattle.std.specs.Vec.{vec_capacity, vec_len};
+ghost use Rattle.std.specs.BTreeMap.{values};
 ghost use Rattle.sf_txn.specs.Leases.{IsEyeAfter, IsShownTo};
 ghost use Rattle.slab.specs.Slab.{get};
 ghost use Rattle.sf_token.specs.Looking.{IsLookedArrival, looks_at};
@@ -8,11 +9,11 @@ ghost use Rattle.sf_token.specs.Rooms.{AreLooked, Fits, HasRoom, IsLookedSlot};
 
 use crate::arrived::Arrived;
 use crate::looks::Looks;
-use crate::room::append;
 use sf_base::{Items, NoMemory};
 use sf_txn::Lease;
 use slab::Slab;
 use std::alloc::Global;
+use std::collections::BTreeMap;
 
 /// A key, with an empty list that has room for what a look at each buffer of its transaction shows.
 #[derive(Drop)]
@@ -36,19 +37,19 @@ fn room_for<L: Lease + Drop>(
     Ok(Room { key, drawn })
 }
 
-/// Room for what looks at each key's transaction show, key by key.
+/// Room for what looks at each key's transaction show, key by key, by rising number.
 pub fn rooms_for<L: Lease + Drop>(
     alloc: Global,
     slots: &Slab<Arrived<L>>,
-    order: &[usize],
+    keys: &BTreeMap<u32, usize>,
 ) -> Result<Vec<Room>, NoMemory>
-    requires { AllByRecursion (λ key. IsSome (get slots.now key)) order.now }
-    ensures keys { IfOk result (λ rooms. map (λ room. room.key) rooms.items ≡ order.now) }
+    requires { AllByRecursion (λ key. IsSome (get slots.now key)) (values keys.now) }
+    ensures keys { IfOk result (λ rooms. map (λ room. room.key) rooms.items ≡ values keys.now) }
     ensures rooms { IfOk result (λ rooms. AllByRecursion
         (λ room. HasRoom (get slots.now room.key) (vec_len room.drawn) (vec_capacity room.drawn)) rooms.items) }
 {
     let mut rooms = Vec::new(alloc);
-    for key in order {
+    for key in keys.values() {
         rooms.push(room_for(alloc, slots, *key)?)?;
     }
     Ok(rooms)
@@ -104,6 +105,6 @@ pub fn look_each<L: Lease + Drop>(
     ensures { AreLooked L.Lease eye.old eye.new (get slots.old) (get slots.new) (map (λ room. room.key) rooms.items) looks.new.items }
 {
     for room in rooms {
-        append(looks, look_in(slots, eye, room));
+        looks.push_reserved(look_in(slots, eye, room));
     }
 }

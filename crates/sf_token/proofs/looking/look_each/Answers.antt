@@ -34,9 +34,9 @@ loop-room-preserved g c =
     record {
       can = tt;
       finite = tt;
-      looked = (done ++ key ∷ [], append_assoc done (key ∷ []) rest ∙ all, rw c.append.ensures.items looked);
+      looked = (done ++ key ∷ [], append_assoc done (key ∷ []) rest ∙ all, rw c.push_reserved.ensures.items looked);
       same = same_left (get c.args.slots.now) (get c.loop-room.slots) (get c.look_in.new.slots) key c.look_in.ensures.others _ apart.1 same.1;
       rooms = (rw steps.0 at h.rooms).1;
       fits = (rw steps.0 at h.fits).1;
-      room = omega (arith, h.room, steps.1, c.append.ensures.len, c.append.ensures.capacity);
+      room = omega (arith, h.room, steps.1, c.push_reserved.ensures.len, c.push_reserved.ensures.capacity);
     }
