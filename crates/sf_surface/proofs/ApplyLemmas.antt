@@ -1,6 +1,5 @@
 -- What a queue with its history keeps, over a call.
 use Rattle.std.proofs.Common.{◌≡◌, ℕ, ◌<◌, ◌-◌, ◌^◌, suc, zero, List, [], ◌∷◌, ◌++◌, Option, None, Some, length, get_or, map, replicate, reverse, arith, ap, ◌∙◌, sym, refl, subst, true}
-use Rattle.std.specs.List.{All}
 use Rattle.std.proofs.lemmas.List.{length-map, length-reverse, map-append, reverse-append}
 use Rattle.std.proofs.lemmas.List.Elements.{All-nil}
 use Rattle.atomic_table.specs.Seated.{TableId}

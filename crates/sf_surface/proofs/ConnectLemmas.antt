@@ -1,5 +1,5 @@
 -- What connecting and disconnecting do to the queue.
-use Rattle.std.proofs.Common.{◌≡◌, ℕ, ◌-◌, false, List, [], ◌∷◌, inl, inr, ap, ◌∙◌, sym, refl, subst, Some, None}
+use Rattle.std.proofs.Common.{◌≡◌, ℕ, ◌-◌, false, List, [], ◌∷◌, inl, inr, ap, ◌∙◌, refl, Some, None}
 use Rattle.std.specs.List.{range_with_len}
 use Rattle.std.proofs.lemmas.Bool.{cases_Bool}
 use Rattle.atomic_table.specs.Seated.{TableId}
@@ -16,7 +16,7 @@ use Rattle.sf_surface.specs.Objects.{Does}
 use Rattle.sf_surface.specs.Tokens.{Right}
 use Rattle.sf_surface.proofs.DoesLemmas.{Keeps, Kept, retired_same}
 use Rattle.sf_surface.proofs.SettingLemmas.{answers, sets}
-use Rattle.std.specs.Prelude.{OnErr, OnOk, Result, Ok, Err}
+use Rattle.std.specs.Prelude.{OnErr, OnOk, Result}
 use Rattle.sf_slots.specs.Effects.{all_vacated, disconnected, refusal_in, vacated, vacated_all}
 use Rattle.sf_slots.specs.History.{is_back_or_lent}
 use Rattle.sf_slots.specs.Told.{usable}

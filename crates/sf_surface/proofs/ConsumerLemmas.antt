@@ -1,9 +1,7 @@
 -- What the consumer's calls do to the queue.
-use Rattle.std.proofs.Common.{◌≡◌, ℕ, ◌+◌, ◌<◌, Bool, true, false, not, ◌==◌, ◌&&◌, nat_le, suc, zero, List, [], ◌∷◌, get_or, slice_get, arith, ap, ◌∙◌, sym, refl, subst, Option, Some, None}
+use Rattle.std.proofs.Common.{◌≡◌, ℕ, ◌<◌, Bool, true, false, not, ◌==◌, ◌&&◌, nat_le, suc, zero, List, [], ◌∷◌, get_or, slice_get, arith, ap, ◌∙◌, sym, refl, subst, Option, Some, None}
 use Rattle.std.specs.Prelude.{if◌then◌else◌}
-use Rattle.std.specs.List.{All}
 use Rattle.std.proofs.lemmas.Bool.Decides.{nat_tests}
-use Rattle.std.proofs.lemmas.List.Elements.{All-drop}
 use Rattle.atomic_table.specs.Seated.{TableId}
 use Rattle.sf_base.specs.declared.fences.Fence.{Fence}
 use Rattle.sf_base.specs.declared.ids.ActorId.{ActorId}
@@ -42,7 +40,7 @@ use Rattle.sf_calls.specs.Histories.{entry}
 use Rattle.sf_surface.specs.declared.call.QCall.{QCall}
 use Rattle.sf_surface.proofs.StoredLemmas.{named_itself, puts_back}
 use Rattle.std.proofs.lemmas.List.{get_or-set_other}
-use Rattle.sf_slots.specs.declared.slot.SlotState.TheVariants.{Free, Queued, Acquired}
+use Rattle.sf_slots.specs.declared.slot.SlotState.TheVariants.{Free, Acquired}
 use Rattle.sf_surface.proofs.FreeLemmas.{next_free}
 
 neither : (a b : Bool) → b ≡ false → (a && b) ≡ false

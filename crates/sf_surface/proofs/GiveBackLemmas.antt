@@ -1,5 +1,5 @@
 -- What cancelling and detaching a lent buffer do to the queue.
-use Rattle.std.proofs.Common.{◌≡◌, ◌-◌, ◌<◌, true, false, not, [], ◌∷◌, ap, ◌∙◌, sym, refl, subst, Some, None}
+use Rattle.std.proofs.Common.{◌≡◌, ◌<◌, true, false, not, [], ◌∷◌, ap, ◌∙◌, sym, refl, subst, Some, None}
 use Rattle.atomic_table.specs.Seated.{TableId}
 use Rattle.sf_base.specs.declared.fences.Fence.{Fence}
 use Rattle.sf_base.specs.declared.ids.ActorId.{ActorId}
@@ -10,7 +10,7 @@ use Rattle.sf_slots.specs.declared.calls.PlainReply.TheVariants as reply
 use Rattle.sf_slots.specs.declared.calls.WriteToken.{WriteToken}
 use Rattle.sf_slots.specs.declared.slot.Held.{Held}
 use Rattle.sf_slots.specs.Told.{slot_at}
-use Rattle.sf_slots.specs.Queue.{Queue, IsSound, told_of, slot_in, lent, returned, cleared}
+use Rattle.sf_slots.specs.Queue.{Queue, IsSound, told_of, slot_in, returned, cleared}
 use Rattle.sf_slots.specs.Replies.{refusal_of, is_producer, is_lent, is_buffer}
 use Rattle.sf_slots.specs.Tells.{Continues}
 use Rattle.sf_slots.proofs.Going.{Continues-refused, lent_is_out, lent_there, own_unmet}

@@ -1,5 +1,5 @@
 -- What the calls that lend a buffer and make it known do to the queue.
-use Rattle.std.proofs.Common.{◌≡◌, ℕ, ◌<◌, Bool, true, false, not, [], ◌∷◌, ap, ◌∙◌, sym, refl, subst, Some, None}
+use Rattle.std.proofs.Common.{◌≡◌, ℕ, ◌<◌, Bool, true, false, [], ◌∷◌, ap, ◌∙◌, sym, refl, subst, Some, None}
 use Rattle.std.specs.Prelude.{if◌then◌else◌}
 use Rattle.atomic_table.specs.Seated.{TableId}
 use Rattle.sf_base.specs.declared.ids.ActorId.{ActorId}

@@ -1,5 +1,5 @@
 -- What the calls that give nothing do to the queue: they set limits and modes, or give it up.
-use Rattle.std.proofs.Common.{◌≡◌, ◌∙◌, ℕ, List, [], ap, refl, subst, sym, Result, Ok, Err, None}
+use Rattle.std.proofs.Common.{◌≡◌, ◌∙◌, List, [], ap, refl, subst, sym, Result, Ok, Err, None}
 use Rattle.std.specs.Prelude.{OnOk, OnErr}
 use Rattle.atomic_table.specs.Seated.{TableId}
 use Rattle.sf_base.specs.declared.ids.ActorId.{ActorId}
@@ -16,7 +16,7 @@ use Rattle.sf_surface.specs.declared.call.QReply.{QReply}
 use Rattle.sf_surface.specs.Calls.{told_call}
 use Rattle.sf_surface.specs.Hands.{IsReply, done_reply, plain_reply}
 use Rattle.sf_surface.specs.Histories.{FromLog, Made, left_by}
-use Rattle.sf_surface.specs.Objects.{AreAll, Does}
+use Rattle.sf_surface.specs.Objects.{Does}
 use Rattle.sf_surface.specs.Tokens.{Right}
 use Rattle.sf_surface.proofs.DoesLemmas.{Keeps, Kept, configured_keeps, configured_kept, moves_only, refuses}
 use Rattle.sf_surface.proofs.FitLemmas.{given_up_keeps}

@@ -1,5 +1,5 @@
 -- The calls that were made on a queue, the newest first, with the tokens that they brought and gave, and what they tell.
-use Rattle.std.specs.Prelude.{◌≡◌, ℕ, ◌==◌, Bool, true, if◌then◌else◌, List, [], ◌∷◌, Option, Some, None, Contains}
+use Rattle.std.specs.Prelude.{◌≡◌, ℕ, ◌==◌, true, if◌then◌else◌, List, [], ◌∷◌, Option, Some, None, Contains}
 use Rattle.sf_base.specs.declared.ids.ActorId.{ActorId}
 use Rattle.sf_base.specs.declared.ids.QueueId.{QueueId}
 use Rattle.sf_base.specs.declared.fences.Fence.{Fence}
@@ -10,7 +10,6 @@ use Rattle.sf_calls.specs.declared.object.Answer.{Answer}
 use Rattle.sf_calls.specs.declared.object.Answer.TheVariants.{Replies, Waits}
 use Rattle.sf_picture.specs.declared.picture.Picture.{Picture}
 use Rattle.sf_slots.specs.declared.calls.Entry.{Entry as Told}
-use Rattle.sf_slots.specs.declared.calls.PlainCall.{PlainCall}
 use Rattle.sf_slots.specs.declared.calls.PlainReply.{PlainReply}
 use Rattle.sf_slots.specs.declared.calls.PlainReply.TheVariants as plain
 use Rattle.sf_slots.specs.declared.slot.Held.{Held}
@@ -107,6 +106,7 @@ module _ {B : Type 0} where
   ComesFrom log (call.Acquire expected) (gives.Read lease) spare = Queued log lease.frame lease.turn × Stored log lease.slot.0 lease.held lease.turn
   ComesFrom log asked given spare = Unit {0}
 
+  -- the same of a whole reply
   abbrev pub FromLog : List (Made B) → QCall B → QReply B → Type 0
   FromLog log asked reply = ComesFrom log asked reply.gives reply.spare
 
