@@ -38,7 +38,7 @@ pub record Left : Type 0 where
   pub held : Held
   pub turn : Right
 
--- what was left last in a slot, where this call left something or nothing after others
+-- what was left last in a slot, by what a call left, if anything, and what was left before it
 abbrev pub left_after : Option Left → Option Left → ℕ → Option Left
 left_after None before s = before
 left_after (Some left) before s = if left.slot == s then Some left else before
