@@ -1,9 +1,7 @@
 -- What a queue with its history keeps, over a call.
 use Rattle.std.proofs.Common.{◌≡◌, ℕ, ◌<◌, ◌-◌, ◌^◌, suc, zero, List, [], ◌∷◌, ◌++◌, Option, None, Some, length, get_or, map, replicate, reverse, arith, ap, ◌∙◌, sym, refl, subst, true}
-use Rattle.std.specs.Prelude.{Contains}
-use Rattle.std.specs.List.{All}
 use Rattle.std.proofs.lemmas.List.{length-map, length-reverse, map-append, reverse-append}
-use Rattle.std.proofs.lemmas.List.Elements.{All-nil, All-weaker}
+use Rattle.std.proofs.lemmas.List.Elements.{All-nil}
 use Rattle.atomic_table.specs.Seated.{TableId}
 use Rattle.sf_base.specs.declared.ids.QueueId.{QueueId}
 use Rattle.sf_base.specs.declared.status.QStatus.TheVariants.{WouldBlock}
@@ -12,6 +10,7 @@ use Rattle.sf_slots.specs.declared.calls.Entry.{Entry as Told}
 use Rattle.sf_slots.specs.declared.calls.PlainReply.{PlainReply}
 use Rattle.sf_slots.specs.declared.calls.PlainReply.TheVariants as plain
 use Rattle.sf_slots.specs.declared.item.Item.{Item}
+use Rattle.sf_slots.specs.declared.slot.Held.{Held}
 use Rattle.sf_slots.specs.Queue.{Queue, empty_queue, told_of}
 use Rattle.sf_slots.specs.Replies.{given_by, refusal_of, refused_or, reply_told}
 use Rattle.sf_slots.specs.Tells.{IsNext, IsToldBy}
@@ -22,22 +21,15 @@ use Rattle.sf_surface.specs.declared.entry.HistEntry.{HistEntry}
 use Rattle.sf_surface.specs.declared.mark.QueueMark.{QueueMark}
 use Rattle.sf_surface.specs.Calls.{may_wait, told_call}
 use Rattle.sf_surface.specs.Hands.{IsReply}
-use Rattle.sf_surface.specs.Histories.{Answers, Made, Replied, caller, told, told_entry, told_reply}
+use Rattle.sf_surface.specs.Histories.{Answers, Made, Replied, Stored, caller, told, told_entry, told_reply}
 use Rattle.sf_surface.specs.Inside.{HasDefaultSize}
 use Rattle.sf_surface.specs.Marks.{PermitFits, SpareFits}
 use Rattle.sf_surface.specs.Named.{named_of, shown_with}
-use Rattle.sf_surface.specs.Objects.{AreRights, Does, IsFitItem, IsItemQueued, IsKept, IsObject, IsSeated, ObjectOf, mark_of}
+use Rattle.sf_surface.specs.Objects.{AreAll, Does, IsFitItem, IsFrameOf, IsKept, IsObject, IsSeated, ObjectOf, mark_of}
 use Rattle.sf_surface.specs.Shown.{entries_of, shown_call}
-use Rattle.sf_surface.specs.Tokens.{Right}
+use Rattle.sf_surface.specs.Tokens.{IsRightOf, Right}
 use Rattle.sf_surface.proofs.CountLemmas.{history_few}
 use Rattle.sf_surface.proofs.ShownLemmas.{tells}
-
--- the newest element of a list, and those before it
-newest : {A : Type 0} (x : A) (xs : List A) → Contains (x ∷ xs) x
-newest x xs = (zero, omega arith, refl)
-
-earlier : {A : Type 0} (x y : A) (xs : List A) → Contains xs y → Contains (x ∷ xs) y
-earlier x y xs there = let low = there.1 in (suc there.0, omega (arith, low), there.2)
 
 -- the entries of calls, with one call more
 entries_with : (call : Told) (calls : List Told) → entries_of (call ∷ calls) ≡ entries_of calls ++ shown_call call ∷ []
@@ -52,11 +44,11 @@ none_in zero s = refl
 none_in (suc n) zero = refl
 none_in (suc n) (suc s) = none_in n s
 
-rights_empty : (table : TableId) (number : QueueId) (width height : ℕ) → AreRights table (empty_queue number width height)
+rights_empty : (P : ℕ → Held → Right → Type 0) (F : Item Right → Type 0) (number : QueueId) (width height : ℕ) → AreAll P F (empty_queue number width height)
 unfolding no_right
-rights_empty table number width height = record {
+rights_empty P F number width height = record {
   slots = λ s below buffer turn here right. absurd (cc (right, none_in 64 s));
-  items = All-nil (IsFitItem table);
+  items = All-nil F;
   seats = All-nil (IsSeated (empty_queue number width height));
 }
 
@@ -67,7 +59,13 @@ module _ {B : Type 0} (table : TableId) where
   kept_new number width height sized is_told = record {
     numbered = refl;
     shows = refl;
-    keeps = record { sized = sized; told = is_told; legal = tt; rights = rights_empty table number width height; queued = All-nil (IsItemQueued []) };
+    keeps = record {
+      sized = sized;
+      told = is_told;
+      legal = tt;
+      rights = rights_empty (λ s held right. IsRightOf table held right) (IsFitItem table) number width height;
+      stored = rights_empty (Stored {B = B} []) (IsFrameOf []) number width height;
+    };
   }
 
   -- the counters stay below their ends, since each rise has its call
@@ -98,7 +96,7 @@ module _ {B : Type 0} (table : TableId) where
     replied : Does table old.queue after (caller by) asked reply → IsObject table old → Replied (mark_of old) old.calls by asked reply
     replied does kept = record {
       answer = subst (λ (r : PlainReply). IsReply old.queue.number asked r reply) (goes_on does kept).reply does.hands;
-      from = does.from old.calls kept.queued;
+      from = does.from old.calls kept.stored;
     }
 
     -- the call's reply, and its permit
@@ -127,8 +125,7 @@ module _ {B : Type 0} (table : TableId) where
           told = tells_wide;
           legal = subst (λ (m : QueueMark). IsLegal (Answers m) log) (mark_kept does) (replied does kept, kept.legal);
           rights = does.rights kept.rights;
-          queued = does.queued log step (newest (entry by (step, asked) reply) old.calls)
-              (All-weaker (IsItemQueued old.calls) (IsItemQueued log) (λ item queued. (queued.0, earlier (entry by (step, asked) reply) queued.0 old.calls queued.1, queued.2)) old.queue.items kept.queued);
+          stored = does.stored old.calls step kept.stored;
         }
 
     -- and what its parts say of each other

@@ -1,11 +1,9 @@
 -- The slot that is used next is free.
-use Rattle.std.proofs.Common.{◌≡◌, ℕ, ◌<◌, ◌&&◌, Bool, true, false, not, is_some, List, [], ◌∷◌, length, get_or, take, arith, ap, ◌∙◌, sym, refl, subst, Option, Some, None}
+use Rattle.std.proofs.Common.{◌≡◌, ℕ, ◌<◌, ◌&&◌, Bool, true, false, not, is_some, get_or, take, arith, ap, ◌∙◌, sym, refl, subst, Option, Some, None}
 use Rattle.std.specs.Prelude.{IfSome, slice_get}
-use Rattle.std.specs.List.{position}
 use Rattle.std.specs.Option.{option_or}
 use Rattle.std.proofs.lemmas.List.{length-take, get_or-take}
 use Rattle.std.proofs.lemmas.List.Quantifiers.{position-Some}
-use Rattle.sf_slots.specs.declared.slot.Slot.{Slot}
 use Rattle.sf_slots.specs.declared.slot.SlotState.{SlotState}
 use Rattle.sf_slots.specs.declared.slot.SlotState.TheVariants.{Free, Dequeued, Queued, Acquired}
 use Rattle.sf_slots.specs.Told.{unused, is_in, is_bare, same_state, usable, slot_for, lowest_bare, first_freed}

@@ -1,5 +1,5 @@
 -- What cancelling and detaching a lent buffer do to the queue.
-use Rattle.std.proofs.Common.{◌≡◌, ◌-◌, ◌<◌, true, false, not, [], ◌∷◌, ap, ◌∙◌, sym, refl, subst, Some, None}
+use Rattle.std.proofs.Common.{◌≡◌, ◌<◌, true, false, not, [], ◌∷◌, ap, ◌∙◌, sym, refl, subst, Some, None}
 use Rattle.atomic_table.specs.Seated.{TableId}
 use Rattle.sf_base.specs.declared.fences.Fence.{Fence}
 use Rattle.sf_base.specs.declared.ids.ActorId.{ActorId}
@@ -10,10 +10,10 @@ use Rattle.sf_slots.specs.declared.calls.PlainReply.TheVariants as reply
 use Rattle.sf_slots.specs.declared.calls.WriteToken.{WriteToken}
 use Rattle.sf_slots.specs.declared.slot.Held.{Held}
 use Rattle.sf_slots.specs.Told.{slot_at}
-use Rattle.sf_slots.specs.Queue.{Queue, IsSound, told_of, slot_in, lent, returned, cleared}
+use Rattle.sf_slots.specs.Queue.{Queue, IsSound, told_of, slot_in, returned, cleared}
 use Rattle.sf_slots.specs.Replies.{refusal_of, is_producer, is_lent, is_buffer}
 use Rattle.sf_slots.specs.Tells.{Continues}
-use Rattle.sf_slots.proofs.Going.{Continues-refused, own_unmet, lent_there}
+use Rattle.sf_slots.proofs.Going.{Continues-refused, lent_is_out, lent_there, own_unmet}
 use Rattle.sf_queue.specs.Leases as write
 use Rattle.sf_base.specs.Fences.{no_points}
 use Rattle.sf_surface.specs.declared.call.Gives.TheVariants as gives
@@ -22,10 +22,14 @@ use Rattle.sf_surface.specs.declared.call.QReply.{QReply}
 use Rattle.sf_surface.specs.Calls.{write_token}
 use Rattle.sf_surface.specs.Hands.{done_reply, refused_reply}
 use Rattle.sf_surface.specs.Inside.{unlent_refusal}
-use Rattle.sf_surface.specs.Objects.{Does}
+use Rattle.sf_surface.specs.Histories.{Left, left_by}
+use Rattle.sf_surface.specs.Objects.{Does, IsFitItem}
 use Rattle.sf_surface.specs.Tokens.{IsRightOf, IsWriteLease, Right, WriteLeaseOf, ending_drawn, turn_after}
-use Rattle.sf_surface.proofs.DoesLemmas.{moves, refuses}
+use Rattle.sf_surface.proofs.DoesLemmas.{moves, moves_only, refuses}
 use Rattle.sf_surface.proofs.FitLemmas.{IsFit-returned, cleared_keeps, sound_queued}
+use Rattle.sf_surface.proofs.StoredLemmas.{named_itself, puts_back}
+use Rattle.sf_base.specs.declared.ids.SlotId.{SlotId}
+use Rattle.sf_calls.specs.Histories.{entry}
 use Rattle.std.specs.Prelude.{not}
 use Rattle.sf_slots.specs.declared.slot.SlotState.TheVariants.{Dequeued}
 use Rattle.sf_surface.proofs.LeaseLemmas.{after_right, first_unlent, meant_is, unlent}
@@ -38,16 +42,24 @@ module _ {B : Type 0} (table : TableId) where
       (subst (λ (t : WriteToken). Continues q q by (plain.Cancel t fence) (reply.Refused cause)) same (Continues-refused q by (plain.Cancel said fence) cause met)) is
 
   -- a lease goes back
-  pub cancels : (q after : Queue Right) (by : ActorId) (lease : WriteLeaseOf) (fence : Fence) (said : WriteToken) (answer : QReply B) → said ≡ write_token q.number lease → (slot_in q said.slot.0).held ≡ Some said.held → IsWriteLease table lease → after ≡ returned q said.slot.0 (turn_after lease.work) fence → Continues q after by (plain.Cancel said fence) reply.Done → answer ≡ done_reply [] gives.Nothing (ending_drawn lease.work) None → Does table q after by (call.Cancel lease fence) answer
-  cancels q after by lease fence said answer same there keeps left goes is =
+  pub cancels : (q after : Queue Right) (by : ActorId) (lease : WriteLeaseOf) (fence : Fence) (said : WriteToken) (answer : QReply B) → said ≡ write_token q.number lease → IsSound q → (slot_in q said.slot.0).held ≡ Some said.held → IsWriteLease table lease → refusal_of (told_of q) by (write.lent_call false (write.lease_of (told_of q) said.slot said.held.number)) ≡ None → after ≡ returned q said.slot.0 (turn_after lease.work) fence → Continues q after by (plain.Cancel said fence) reply.Done → answer ≡ done_reply [] gives.Nothing (ending_drawn lease.work) None → Does table q after by (call.Cancel lease fence) answer
+  cancels q after by lease fence said answer same sound there keeps none left goes is =
+      let turn : Right = turn_after lease.work in
       let held_from : said.held ≡ lease.held = ap (λ (t : WriteToken). t.held) same in
-      let fits : (buffer : Held) → (slot_in q said.slot.0).held ≡ Some buffer → IsRightOf table buffer (turn_after lease.work) = λ buffer here.
+      let fits : (buffer : Held) → (slot_in q said.slot.0).held ≡ Some buffer → IsRightOf table buffer turn = λ buffer here.
       let both : Some said.held ≡ Some buffer = sym there ∙ here in
-      subst (λ (h : Held). IsRightOf table h (turn_after lease.work)) (sym held_from ∙ cc (both)) (after_right table lease.held lease.work keeps.right keeps.drawn) in
-      moves table q after (returned q said.slot.0 (turn_after lease.work) fence) by (call.Cancel lease fence) reply.Done answer left
-      (record { number = refl; width = refl; height = refl; rights = IsFit-returned table q said.slot.0 (turn_after lease.work) fence fits })
+      subst (λ (h : Held). IsRightOf table h turn) (sym held_from ∙ cc (both)) (after_right table lease.held lease.work keeps.right keeps.drawn) in
+      let meant : WriteToken = write.lease_of (told_of q) said.slot said.held.number in
+      let lent_out : (slot_in q said.slot.0).state ≡ Dequeued = lent_there (told_of q) said.slot meant.held [] (own_unmet (told_of q) by (plain.Cancel meant no_points) none) in
+      let named : said.slot ≡ lease.slot = named_itself q lease.queue lease.slot said.slot said.held sound (ap (λ (t : WriteToken). t.slot) same) there in
+      let own : Left = record { slot = lease.slot.0; held = lease.held; turn = turn } in
+      moves table q after (returned q said.slot.0 turn fence) by (call.Cancel lease fence) reply.Done answer left
+      (record { number = refl; width = refl; height = refl })
+      (IsFit-returned (λ s held right. IsRightOf table held right) (IsFitItem table) q said.slot.0 turn fence fits)
       (subst (λ (t : WriteToken). Continues q after by (plain.Cancel t fence) reply.Done) same goes)
-      is (λ log items. tt) (λ log step there items. items)
+      is (λ log stored. tt)
+      (λ log step stored. puts_back q log (entry by.0 (step, call.Cancel lease fence) answer) own said.slot.0 said.held fence sound there (ap (λ (s : SlotId). s.0) named) held_from
+      (lent_is_out (slot_in q said.slot.0).state lent_out) (ap (λ (r : QReply B). left_by (call.Cancel lease fence) r.gives) is) stored)
 
   -- a lease whose buffer is not there
   pub detach_unlent : (q : Queue Right) (by : ActorId) (lease : WriteLeaseOf) (said : WriteToken) (cause : QStatus) (answer : QReply B) → said ≡ write_token q.number lease → IsSound q → (said.slot.0 < 64 → is_buffer (slot_in q said.slot.0).held said.held ≡ false) → cause ≡ unlent_refusal q.settings by → answer ≡ refused_reply cause (call.Detach lease) → Does table q q by (call.Detach lease) answer
@@ -71,10 +83,11 @@ module _ {B : Type 0} (table : TableId) where
       let meant : WriteToken = write.lease_of (told_of q) said.slot said.held.number in
       let is_lent_out : (slot_in q said.slot.0).state ≡ Dequeued =
       lent_there (told_of q) said.slot meant.held ((not (slot_at (told_of q) said.slot.0).requested, BadValue) ∷ []) (own_unmet (told_of q) by (plain.Detach meant) none) in
-      moves table q after (cleared q said.slot.0) by (call.Detach lease) reply.Done answer left
-      (record { number = refl; width = refl; height = refl; rights = λ rights. (cleared_keeps table q said.slot.0 (λ queued. cc (is_lent_out, queued)) (sound_queued table q sound) rights).1 })
+      moves_only table q after (cleared q said.slot.0) by (call.Detach lease) reply.Done answer left
+      (record { number = refl; width = refl; height = refl })
+      (λ P F of_item rights. (cleared_keeps P F q said.slot.0 (λ queued. cc (is_lent_out, queued)) (sound_queued q sound) rights).1)
       (subst (λ (t : WriteToken). Continues q after by (plain.Detach t) reply.Done) same goes)
-      is (λ log items. tt) (λ log step there items. items)
+      is (λ log stored. tt) (ap (λ (r : QReply B). left_by (call.Detach lease) r.gives) is)
 
 -- a cancel that the queue itself refuses
 pub cancel_refused : {B : Type 0} (table : TableId) (q : Queue Right) (by : ActorId) (lease : WriteLeaseOf) (fence : Fence) (said : WriteToken) (cause : QStatus) (answer : QReply B) → said ≡ write_token q.number lease → (slot_in q said.slot.0).held ≡ Some said.held → Some cause ≡ refusal_of (told_of q) by (write.lent_call false (write.lease_of (told_of q) said.slot said.held.number)) → answer ≡ refused_reply cause (call.Cancel lease fence) → Does table q q by (call.Cancel lease fence) answer

@@ -1,5 +1,5 @@
 -- What the calls that lend a buffer and make it known do to the queue.
-use Rattle.std.proofs.Common.{◌≡◌, ℕ, ◌<◌, Bool, true, false, not, [], ◌∷◌, ap, ◌∙◌, sym, refl, subst, Some, None}
+use Rattle.std.proofs.Common.{◌≡◌, ℕ, ◌<◌, Bool, true, false, [], ◌∷◌, ap, ◌∙◌, sym, refl, subst, Some, None}
 use Rattle.std.specs.Prelude.{if◌then◌else◌}
 use Rattle.atomic_table.specs.Seated.{TableId}
 use Rattle.sf_base.specs.declared.ids.ActorId.{ActorId}
@@ -24,11 +24,11 @@ use Rattle.sf_surface.specs.declared.call.QReply.{QReply}
 use Rattle.sf_surface.specs.declared.work.Work.TheVariants as work
 use Rattle.sf_surface.specs.Calls.{write_token}
 use Rattle.sf_surface.specs.Hands.{blank_of, done_reply, lent_reply, points_of, refused_reply, requested_lease, attached_lease}
-use Rattle.sf_surface.specs.Histories.{FromLog}
+use Rattle.sf_surface.specs.Histories.{FromLog, left_by}
 use Rattle.sf_surface.specs.Inside.{IsNextSlot, sized_buffer, unlent_refusal}
 use Rattle.sf_surface.specs.Objects.{Does}
 use Rattle.sf_surface.specs.Tokens.{Right, WriteLeaseOf, LooseOf}
-use Rattle.sf_surface.proofs.DoesLemmas.{moves, refuses}
+use Rattle.sf_surface.proofs.DoesLemmas.{moves_only, refuses}
 use Rattle.sf_surface.proofs.FitLemmas.{IsFit-lent, IsFit-renewed, IsFit-marked}
 use Rattle.sf_surface.proofs.FreeLemmas.{next_free}
 use Rattle.sf_surface.proofs.LeaseLemmas.{first_unlent, unlent}
@@ -43,10 +43,10 @@ module _ {B : Type 0} (table : TableId) where
 
   pub requests : (q after : Queue Right) (by : ActorId) (lease : WriteLeaseOf) (said : WriteToken) (answer : QReply B) → said ≡ write_token q.number lease → after ≡ marked q said.slot.0 → Continues q after by (plain.Request said) (reply.Requested said.held) → answer ≡ done_reply (lease.slot.0 ∷ lease.held.number ∷ lease.held.width ∷ lease.held.height ∷ []) (gives.Write (requested_lease lease)) None None → Does table q after by (call.Request lease) answer
   requests q after by lease said answer same left goes is =
-      moves table q after (marked q said.slot.0) by (call.Request lease) (reply.Requested lease.held) answer left
-      (record { number = refl; width = refl; height = refl; rights = IsFit-marked table q said.slot.0 })
+      moves_only table q after (marked q said.slot.0) by (call.Request lease) (reply.Requested lease.held) answer left
+      (record { number = refl; width = refl; height = refl }) (λ P F of_item rights. IsFit-marked P F q said.slot.0 rights)
       (subst (λ (t : WriteToken). Continues q after by (plain.Request t) (reply.Requested t.held)) same goes)
-      is (λ log items. subst (λ (r : QReply B). FromLog log (call.Request lease) r.gives) (sym is) tt) (λ log step there items. items)
+      is (λ log stored. subst (FromLog log (call.Request lease)) (sym is) tt) (ap (λ (r : QReply B). left_by (call.Request lease) r.gives) is)
 
   -- the slot's own buffer is lent
   pub lends_own : (q after : Queue Right) (by : ActorId) (width height : ℕ) (wait was : Bool) (permit : PermitView) (given : Dequeued Right) → IsNextSlot q given.slot.0 was → IsReused q after given → Continues q after by (plain.Dequeue width height wait) (reply.Dequeued given.slot given.held (if given.reallocated then false else (slot_in q given.slot.0).requested) given.reallocated given.fence) → Does {B = B} table q after by (call.Dequeue width height wait permit) (lent_reply q.number given (if given.reallocated then false else was) (Some permit))
@@ -54,11 +54,11 @@ module _ {B : Type 0} (table : TableId) where
       let requested : Bool = if given.reallocated then false else was in
       let kept : (if given.reallocated then false else (slot_in q given.slot.0).requested) ≡ requested = ap (λ (b : Bool). if given.reallocated then false else b) (sym next.requested_is) in
       let old : given.reallocated ≡ false = is.reallocated in
-      moves table q after (lent q given.slot.0) by (call.Dequeue width height wait permit) (reply.Dequeued given.slot given.held requested given.reallocated given.fence) (lent_reply q.number given requested (Some permit)) is.after
-      (record { number = refl; width = refl; height = refl; rights = IsFit-lent table q given.slot.0 })
+      moves_only table q after (lent q given.slot.0) by (call.Dequeue width height wait permit) (reply.Dequeued given.slot given.held requested given.reallocated given.fence) (lent_reply q.number given requested (Some permit)) is.after
+      (record { number = refl; width = refl; height = refl }) (λ P F of_item rights. IsFit-lent P F q given.slot.0 rights)
       (subst (λ (b : Bool). Continues q after by (plain.Dequeue width height wait) (reply.Dequeued given.slot given.held b given.reallocated given.fence)) kept goes)
       (rw old (given.right, refl))
-      (λ log items. tt) (λ log step there items. items)
+      (λ log stored. stored.slots given.slot.0 next.below given.held given.right is.held is.right) refl
 
   -- a new buffer is lent
   pub lends_new : (q after : Queue Right) (by : ActorId) (width height : ℕ) (wait was : Bool) (permit : PermitView) (fresh : Right) (given : Dequeued Right) → IsSound q → IsNextSlot q given.slot.0 was → IsRenewed q after (size_asked q.settings width height) fresh given → fresh ≡ first_turn permit (blank_of (sized_buffer (size_asked q.settings width height).0 (size_asked q.settings width height).1)) → Continues q after by (plain.Dequeue width height wait) (reply.Dequeued given.slot given.held (if given.reallocated then false else (slot_in q given.slot.0).requested) given.reallocated given.fence) → Does {B = B} table q after by (call.Dequeue width height wait permit) (lent_reply q.number given (if given.reallocated then false else was) None)
@@ -69,15 +69,15 @@ module _ {B : Type 0} (table : TableId) where
       let new : given.reallocated ≡ true = is.reallocated in
       let blank : blank_of given.held ≡ blank_of (sized_buffer size.0 size.1) = ap blank_of is.held in
       let right : given.right ≡ first_turn permit (blank_of given.held) = is.right ∙ opened ∙ ap (λ (p : Picture). first_turn permit p) (sym blank) in
-      moves table q after (seated (lent q given.slot.0) given.slot.0 size.0 size.1 false) by (call.Dequeue width height wait permit) (reply.Dequeued given.slot given.held requested given.reallocated given.fence) (lent_reply q.number given requested None) is.after
-      (record { number = refl; width = refl; height = refl; rights = IsFit-renewed table q given.slot.0 size.0 size.1 false sound next.free })
+      moves_only table q after (seated (lent q given.slot.0) given.slot.0 size.0 size.1 false) by (call.Dequeue width height wait permit) (reply.Dequeued given.slot given.held requested given.reallocated given.fence) (lent_reply q.number given requested None) is.after
+      (record { number = refl; width = refl; height = refl }) (λ P F of_item rights. IsFit-renewed P F q given.slot.0 size.0 size.1 false sound next.free rights)
       (subst (λ (b : Bool). Continues q after by (plain.Dequeue width height wait) (reply.Dequeued given.slot given.held b given.reallocated given.fence)) kept goes)
       (rw new (ap (λ (turn : Right). done_reply (given.slot.0 ∷ given.held.number ∷ 1 ∷ points_of given.fence) (gives.Write (record { queue = q.number; slot = given.slot; held = given.held; requested = false; fence = given.fence; work = work.Fresh turn })) None None) right))
-      (λ log items. tt) (λ log step there items. items)
+      (λ log stored. tt) refl
 
   -- a loose buffer comes into the queue, and is lent
   pub attaches : (q after : Queue Right) (by : ActorId) (loose : LooseOf) (slot : SlotId) (held : Held) (answer : QReply B) → IsSound q → slot_for false (told_of q) ≡ Some slot.0 → after ≡ seated (lent q slot.0) slot.0 loose.held.width loose.held.height true → Continues q after by (plain.Attach loose.held) (reply.Attached slot held) → answer ≡ done_reply (slot.0 ∷ held.number ∷ []) (gives.Write (attached_lease q.number slot held loose)) None None → Does table q after by (call.Attach loose) answer
   attaches q after by loose slot held answer sound next left goes is =
-      moves table q after (seated (lent q slot.0) slot.0 loose.held.width loose.held.height true) by (call.Attach loose) (reply.Attached slot held) answer left
-      (record { number = refl; width = refl; height = refl; rights = IsFit-renewed table q slot.0 loose.held.width loose.held.height true sound (next_free q sound false slot.0 next) })
-      goes is (λ log items. tt) (λ log step there items. items)
+      moves_only table q after (seated (lent q slot.0) slot.0 loose.held.width loose.held.height true) by (call.Attach loose) (reply.Attached slot held) answer left
+      (record { number = refl; width = refl; height = refl }) (λ P F of_item rights. IsFit-renewed P F q slot.0 loose.held.width loose.held.height true sound (next_free q sound false slot.0 next) rights)
+      goes is (λ log stored. subst (FromLog log (call.Attach loose)) (sym is) tt) (ap (λ (r : QReply B). left_by (call.Attach loose) r.gives) is)

@@ -1,9 +1,9 @@
 -- What a loose buffer's right says of the buffer, and of one of the same size.
-use Rattle.std.proofs.Common.{◌≡◌, ℕ, ◌≤◌, ◌==◌, true, arith, subst, sym, ap, ◌∙◌}
+use Rattle.std.proofs.Common.{◌≡◌, ℕ, ◌≤◌, arith, ap, ◌∙◌}
 use Rattle.std.proofs.lemmas.Bool.Decides.{nat_tests}
 use Rattle.atomic_table.specs.Seated.{TableId}
 use Rattle.sf_slots.specs.declared.slot.Held.{Held}
-use Rattle.sf_surface.specs.Tokens.{IsPictureOf, IsRightOf, Right, is_size_of}
+use Rattle.sf_surface.specs.Tokens.{IsRightOf, Right, is_size_of}
 
 -- a buffer has a size that pictures have
 pub record HasBufferSize (held : Held) : Type 0 where

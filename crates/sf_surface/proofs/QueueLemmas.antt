@@ -1,10 +1,8 @@
 -- What queueing a frame does to the queue.
-use Rattle.std.proofs.Common.{◌≡◌, ℕ, ◌+◌, ◌-◌, ◌<◌, Bool, true, false, not, ◌==◌, ◌&&◌, List, [], ◌∷◌, inl, inr, length, arith, ap, ◌∙◌, sym, refl, subst, Option, Some, None}
+use Rattle.std.proofs.Common.{◌≡◌, ℕ, ◌+◌, ◌<◌, Bool, true, false, not, ◌==◌, ◌&&◌, List, [], ◌∷◌, inl, inr, arith, ap, ◌∙◌, sym, refl, subst, Option, Some, None}
 use Rattle.std.specs.Prelude.{if◌then◌else◌}
-use Rattle.std.specs.List.{All}
 use Rattle.std.proofs.lemmas.Bool.{cases_Bool}
 use Rattle.std.proofs.lemmas.Bool.Decides.{nat_tests}
-use Rattle.std.proofs.lemmas.List.Elements.{All-push, All-take}
 use Rattle.atomic_table.specs.Seated.{TableId}
 use Rattle.sf_base.specs.declared.fences.Fence.{Fence}
 use Rattle.sf_base.specs.declared.geometry.Rect.{Rect}
@@ -21,11 +19,13 @@ use Rattle.sf_slots.specs.declared.calls.WriteToken.{WriteToken}
 use Rattle.sf_slots.specs.declared.item.Item.{Item}
 use Rattle.sf_slots.specs.declared.settings.Settings.{Settings}
 use Rattle.sf_slots.specs.declared.slot.Held.{Held}
+use Rattle.sf_slots.specs.declared.slot.Slot.{Slot}
+use Rattle.sf_slots.specs.declared.slot.SlotState.TheVariants.{Dequeued}
 use Rattle.sf_slots.specs.Told.{Told, slot_at}
-use Rattle.sf_slots.specs.Queue.{Queue, IsSound, told_of, slot_in, last_in, replacing, enqueued}
+use Rattle.sf_slots.specs.Queue.{IsOut, Queue, IsSound, told_of, slot_in, last_in, replacing, enqueued}
 use Rattle.sf_slots.specs.Replies.{Refusal, refusal_of, is_producer, is_lent, is_buffer, is_crop_of}
 use Rattle.sf_slots.specs.Tells.{Continues}
-use Rattle.sf_slots.proofs.Going.{Continues-refused, unmet, own_unmet}
+use Rattle.sf_slots.proofs.Going.{Continues-refused, lent_is_out, lent_there, own_unmet, unmet}
 use Rattle.sf_queue.specs.declared.queueing.QueueOrder.{QueueOrder}
 use Rattle.sf_queue.specs.Leases as write
 use Rattle.sf_queue.specs.Orders.{call_of, item_of, order_call, queue_call}
@@ -35,18 +35,21 @@ use Rattle.sf_turns.specs.Views.{heir_expecting, issued_with}
 use Rattle.sf_surface.specs.Rights.{owed_of}
 use Rattle.sf_surface.specs.declared.call.Gives.{Gives}
 use Rattle.sf_surface.specs.declared.call.Gives.TheVariants as gives
+use Rattle.sf_surface.specs.declared.call.QCall.{QCall}
 use Rattle.sf_surface.specs.declared.call.QCall.TheVariants as call
 use Rattle.sf_surface.specs.declared.call.QReply.{QReply}
 use Rattle.sf_surface.specs.declared.work.Work.{Work}
 use Rattle.sf_surface.specs.declared.work.Work.TheVariants as work
 use Rattle.sf_surface.specs.Calls.{named_slot, no_slot, queued_token, shows_other}
 use Rattle.sf_surface.specs.Hands.{done_reply, owes, refused_reply}
+use Rattle.sf_surface.specs.Histories.{Left, Made, Stored, left_by}
 use Rattle.sf_surface.specs.Inside.{order_from, unlent_refusal}
-use Rattle.sf_surface.specs.Objects.{Does, IsFitItem, IsItemQueued, IsSeated}
+use Rattle.sf_surface.specs.Objects.{Does, IsFitItem, IsFrameOf, IsSeated}
 use Rattle.sf_surface.specs.Tokens.{Issued, IsPictureOf, IsRightOf, Right, WriteLeaseOf, ending_of, is_size_of, turn_of}
 use Rattle.sf_surface.proofs.DoesLemmas.{moves, refuses}
 use Rattle.sf_surface.proofs.FitLemmas.{IsFit-enqueued}
 use Rattle.sf_surface.proofs.LeaseLemmas.{first_unlent, meant_is, says, unlent}
+use Rattle.sf_surface.proofs.StoredLemmas.{below_64, more_left, named_itself, newest, stored_now}
 
 -- the tests of a queue call behind that of its lease
 later_tests : Told → WriteToken → ℕ → ℕ → Rect → List Refusal
@@ -57,12 +60,13 @@ not_false : (b : Bool) → not b ≡ false → b ≡ true
 not_false true same = refl
 not_false false same = absurd (cc (same))
 
--- a frame that is queued has a picture of the buffer's size, and its crop lies in the buffer
-pub record IsAllowed (held : Held) (width height : ℕ) (crop : Rect) : Type 0 where
+-- a frame that is queued comes from a lent slot, has a picture of the buffer's size, and its crop lies in the buffer
+pub record IsAllowed (slot : Slot) (held : Held) (width height : ℕ) (crop : Rect) : Type 0 where
+  pub lent : slot.state ≡ Dequeued
   pub sized : ((width == held.width) && (height == held.height)) ≡ true
   pub inside : is_crop_of held crop ≡ true
 
-allowed : (told : Told) (by : ActorId) (said : WriteToken) (number width height : ℕ) (time : Option ℕ) (crop : Rect) (fence : Fence) → refusal_of told by (plain.Queue said number width height time crop fence) ≡ None → IsAllowed said.held width height crop
+allowed : (told : Told) (by : ActorId) (said : WriteToken) (number width height : ℕ) (time : Option ℕ) (crop : Rect) (fence : Fence) → refusal_of told by (plain.Queue said number width height time crop fence) ≡ None → IsAllowed (slot_at told said.slot.0) said.held width height crop
 allowed told by said number width height time crop fence none =
     let fourth : List Refusal = (not (is_crop_of said.held crop), BadValue) ∷ [] in
     let third : List Refusal = (not ((width == said.held.width) && (height == said.held.height)), BadValue) ∷ fourth in
@@ -72,6 +76,7 @@ allowed told by said number width height time crop fence none =
     let b = unmet (not (slot_at told said.slot.0).requested) BadValue third a.1 in
     let c = unmet (not ((width == said.held.width) && (height == said.held.height))) BadValue fourth b.1 in
     record {
+      lent = lent_there told said.slot said.held second own;
       sized = not_false ((width == said.held.width) && (height == said.held.height)) c.0;
       inside = not_false (is_crop_of said.held crop) (unmet (not (is_crop_of said.held crop)) BadValue [] c.1).0;
     }
@@ -90,12 +95,12 @@ sized_like held picture other size like =
       };
     }
 
--- what a replaced item leaves
-replacing_keeps : (q : Queue Right) (found : Option (Item Right)) (P : Item Right → Type 0) → All P q.items → ((replacing q found).number ≡ q.number) × ((replacing q found).settings ≡ q.settings) × All P (replacing q found).items
-replacing_keeps q None P items = (refl, refl, items)
-replacing_keeps q (Some last) P items = elim (cases_Bool last.droppable) [
-  | inl met ↦ rw met (refl, refl, All-take P (length q.items - 1) q.items items)
-  | inr kept ↦ rw kept (refl, refl, items)
+-- a replaced item changes neither the number nor the settings
+replacing_same : (q : Queue Right) (found : Option (Item Right)) → ((replacing q found).number ≡ q.number) × ((replacing q found).settings ≡ q.settings)
+replacing_same q None = (refl, refl)
+replacing_same q (Some last) = elim (cases_Bool last.droppable) [
+  | inl met ↦ rw met (refl, refl)
+  | inr kept ↦ rw kept (refl, refl)
 ]
 
 -- a lease in which another picture was drawn names no slot
@@ -106,10 +111,23 @@ slot_met false s low = refl
 pub shows_queued : (queue : QueueId) (lease : WriteLeaseOf) (picture : Picture) (said : WriteToken) → said ≡ queued_token queue lease picture → said.slot.0 < 64 → shows_other lease.work picture ≡ false
 shows_queued queue lease picture said same low = slot_met (shows_other lease.work picture) (named_slot queue lease.queue lease.slot) (subst (λ (t : WriteToken). t.slot.0 < 64) same low)
 
+-- a lease whose buffer is there names its own slot
+queued_itself : (q : Queue Right) (lease : WriteLeaseOf) (picture : Picture) (said : WriteToken) → IsSound q → said ≡ queued_token q.number lease picture → (slot_in q said.slot.0).held ≡ Some said.held → said.slot ≡ lease.slot
+queued_itself q lease picture said sound same there =
+    let shows = shows_queued q.number lease picture said same (below_64 q said.slot.0 said.held sound there) in
+    let named : said.slot ≡ named_slot q.number lease.queue lease.slot =
+    ap (λ (t : WriteToken). t.slot) same ∙ ap (λ (b : Bool). if b then no_slot else named_slot q.number lease.queue lease.slot) shows in
+    named_itself q lease.queue lease.slot said.slot said.held sound named there
+
 -- the refusal of a queue call, by what is asked of the queue before
 pub queue_met : (q : Queue Right) (by : ActorId) (said : WriteToken) (number width height : ℕ) (time : Option ℕ) (crop : Rect) (fence : Fence) (cause : QStatus) → (slot_in q said.slot.0).held ≡ Some said.held → Some cause ≡ refusal_of (told_of q) by (queue_call (write.lease_of (told_of q) said.slot said.held.number) width height crop) → refusal_of (told_of q) by (plain.Queue said number width height time crop fence) ≡ Some cause
 queue_met q by said number width height time crop fence cause there met =
     ap (λ (h : Held). refusal_of (told_of q) by (plain.Queue (record { slot = said.slot; held = h; requested = false; fence = no_points; drawn = false }) 0 width height None crop no_points)) (sym (meant_is q said there)) ∙ sym met
+
+-- a lease that is queued leaves the right to read it
+owes_leaves : (B : Type 0) (queue : QueueId) (lease : WriteLeaseOf) (frame : ℕ) (picture : Picture) (time : Option ℕ) (crop : Rect) (fence : Fence) (found : Work) → left_by {B = B} (call.Queue lease picture time crop fence) (owes queue lease frame picture found) ≡ Some (record { slot = lease.slot.0; held = lease.held; turn = heir_expecting (turn_of lease.work) picture })
+owes_leaves B queue lease frame picture time crop fence (work.Fresh turn) = refl
+owes_leaves B queue lease frame picture time crop fence (work.Drawn inside pixels) = refl
 
 module _ {B : Type 0} (table : TableId) where
   pub queue_unlent : (q : Queue Right) (by : ActorId) (lease : WriteLeaseOf) (picture : Picture) (time : Option ℕ) (crop : Rect) (fence : Fence) (said : WriteToken) (cause : QStatus) (answer : QReply B) → said ≡ queued_token q.number lease picture → IsSound q → (said.slot.0 < 64 → is_buffer (slot_in q said.slot.0).held said.held ≡ false) → cause ≡ unlent_refusal q.settings by → answer ≡ refused_reply cause (call.Queue lease picture time crop fence) → Does table q q by (call.Queue lease picture time crop fence) answer
@@ -127,10 +145,11 @@ module _ {B : Type 0} (table : TableId) where
       (subst (λ (t : WriteToken). Continues q q by (plain.Queue t picture.number picture.width picture.height time crop fence) (reply.Refused cause)) same (Continues-refused q by (plain.Queue said picture.number picture.width picture.height time crop fence) cause met)) is
 
   -- a frame is queued
-  queues_from : (q after : Queue Right) (by : ActorId) (lease : WriteLeaseOf) (picture : Picture) (time : Option ℕ) (crop : Rect) (fence : Fence) (said : WriteToken) (answer : QReply B) → said ≡ queued_token q.number lease picture → (slot_in q said.slot.0).held ≡ Some said.held → IsRightOf table lease.held (turn_of lease.work) → refusal_of (told_of q) by (order_call (told_of q) (order_from said picture time crop fence (heir_expecting (turn_of lease.work) picture))) ≡ None → after ≡ enqueued q (item_of q (order_from said picture time crop fence (heir_expecting (turn_of lease.work) picture))) → Continues q after by (call_of (order_from said picture time crop fence (heir_expecting (turn_of lease.work) picture)) said) (reply.Queued (q.settings.frames + 1)) → answer ≡ done_reply (lease.slot.0 ∷ (q.settings.frames + 1) ∷ []) (owes q.number lease (q.settings.frames + 1) picture lease.work) (ending_of lease.work picture) None → Does table q after by (call.Queue lease picture time crop fence) answer
-  queues_from q after by lease picture time crop fence said answer same there right none left goes is =
+  queues_from : (q after : Queue Right) (by : ActorId) (lease : WriteLeaseOf) (picture : Picture) (time : Option ℕ) (crop : Rect) (fence : Fence) (said : WriteToken) (answer : QReply B) → said ≡ queued_token q.number lease picture → IsSound q → (slot_in q said.slot.0).held ≡ Some said.held → IsRightOf table lease.held (turn_of lease.work) → refusal_of (told_of q) by (order_call (told_of q) (order_from said picture time crop fence (heir_expecting (turn_of lease.work) picture))) ≡ None → after ≡ enqueued q (item_of q (order_from said picture time crop fence (heir_expecting (turn_of lease.work) picture))) → Continues q after by (call_of (order_from said picture time crop fence (heir_expecting (turn_of lease.work) picture)) said) (reply.Queued (q.settings.frames + 1)) → answer ≡ done_reply (lease.slot.0 ∷ (q.settings.frames + 1) ∷ []) (owes q.number lease (q.settings.frames + 1) picture lease.work) (ending_of lease.work picture) None → Does table q after by (call.Queue lease picture time crop fence) answer
+  queues_from q after by lease picture time crop fence said answer same sound there right none left goes is =
       let turn : Right = turn_of lease.work in
-      let item : Item Right = item_of q (order_from said picture time crop fence (heir_expecting turn picture)) in
+      let heir : Right = heir_expecting turn picture in
+      let item : Item Right = item_of q (order_from said picture time crop fence heir) in
       let held_is : item.held ≡ said.held = meant_is q said there in
       let held_from : item.held ≡ lease.held = held_is ∙ ap (λ (t : WriteToken). t.held) same in
       let may = allowed (told_of q) by (write.lease_of (told_of q) said.slot said.held.number) picture.number picture.width picture.height time crop fence none in
@@ -141,21 +160,33 @@ module _ {B : Type 0} (table : TableId) where
         shows = record { number = refl; inside = may.inside };
       } in
       let seated_item : IsSeated q item = there ∙ ap (λ (h : Held). Some h) (sym held_is) in
-      let kept = replacing_keeps q (last_in q.items) (λ item. Unit {0}) (λ k d low. tt) in
-      moves table q after (enqueued q item) by (call.Queue lease picture time crop fence) (reply.Queued (q.settings.frames + 1)) answer left
-      (record { number = kept.0; width = ap (λ (s : Settings). s.width) kept.1; height = ap (λ (s : Settings). s.height) kept.1; rights = IsFit-enqueued table q item fit_item seated_item })
+      let named : said.slot.0 ≡ lease.slot.0 = ap (λ (s : SlotId). s.0) (queued_itself q lease picture said sound same there) in
+      let out : IsOut (slot_in q lease.slot.0).state = subst (λ (n : ℕ). IsOut (slot_in q n).state) named (lent_is_out (slot_in q said.slot.0).state may.lent) in
+      let own : Left = record { slot = lease.slot.0; held = lease.held; turn = heir } in
+      let asked : QCall B = call.Queue lease picture time crop fence in
+      let leaves : left_by asked answer.gives ≡ Some own =
+      ap (λ (r : QReply B). left_by asked r.gives) is ∙ owes_leaves B q.number lease (q.settings.frames + 1) picture time crop fence lease.work in
+      let same_rest = replacing_same q (last_in q.items) in
+      moves table q after (enqueued q item) by asked (reply.Queued (q.settings.frames + 1)) answer left
+      (record { number = same_rest.0; width = ap (λ (s : Settings). s.width) same_rest.1; height = ap (λ (s : Settings). s.height) same_rest.1 })
+      (IsFit-enqueued (λ s held right. IsRightOf table held right) (IsFitItem table) (λ item fits. fits.right) q item fit_item seated_item)
       (subst (λ (t : WriteToken). Continues q after by (plain.Queue t picture.number picture.width picture.height time crop fence) (reply.Queued (q.settings.frames + 1))) same goes)
       is
-      (λ log items. tt)
-      (λ log step there items.
-      All-push (IsItemQueued log) (replacing q (last_in q.items)).items item (replacing_keeps q (last_in q.items) (IsItemQueued log) items).2
-      (entry by.0 (step, call.Queue lease picture time crop fence) answer, there, record { step = step; lease = lease; picture = picture; time = time; crop = crop; fence = fence; queue = q.number; call = refl; reply = is; follows = refl }))
+      (λ log stored. tt)
+      (λ log step stored.
+      let made : Made B = entry by.0 (step, asked) answer in
+      let now : Stored (made ∷ log) lease.slot.0 lease.held heir = stored_now log made own leaves in
+      let frame : IsFrameOf (made ∷ log) item = record {
+        queued = (made, newest made log, record { step = step; lease = lease; picture = picture; time = time; crop = crop; fence = fence; queue = q.number; call = refl; reply = is; follows = refl });
+        stored = subst (λ (n : ℕ). Stored (made ∷ log) n item.held heir) (sym named) (subst (λ (h : Held). Stored (made ∷ log) lease.slot.0 h heir) (sym held_from) now);
+      } in
+      IsFit-enqueued (Stored (made ∷ log)) (IsFrameOf (made ∷ log)) (λ item is. is.stored) q item frame seated_item (more_left q log made own sound leaves out stored))
 
-  pub queues : (q after : Queue Right) (by : ActorId) (lease : WriteLeaseOf) (picture : Picture) (time : Option ℕ) (crop : Rect) (fence : Fence) (said : WriteToken) (order : QueueOrder Right) (answer : QReply B) → said ≡ queued_token q.number lease picture → order ≡ order_from said picture time crop fence (heir_expecting (turn_of lease.work) picture) → (slot_in q said.slot.0).held ≡ Some said.held → IsRightOf table lease.held (turn_of lease.work) → refusal_of (told_of q) by (order_call (told_of q) order) ≡ None → after ≡ enqueued q (item_of q order) → ((lease : WriteToken) → write.IsLeaseOf (told_of q) order.slot order.buffer lease → Continues q after by (call_of order lease) (reply.Queued (q.settings.frames + 1))) → answer ≡ done_reply (lease.slot.0 ∷ (q.settings.frames + 1) ∷ []) (owes q.number lease (q.settings.frames + 1) picture lease.work) (ending_of lease.work picture) None → Does table q after by (call.Queue lease picture time crop fence) answer
-  queues q after by lease picture time crop fence said order answer same ordered there right none left goes is =
+  pub queues : (q after : Queue Right) (by : ActorId) (lease : WriteLeaseOf) (picture : Picture) (time : Option ℕ) (crop : Rect) (fence : Fence) (said : WriteToken) (order : QueueOrder Right) (answer : QReply B) → said ≡ queued_token q.number lease picture → order ≡ order_from said picture time crop fence (heir_expecting (turn_of lease.work) picture) → IsSound q → (slot_in q said.slot.0).held ≡ Some said.held → IsRightOf table lease.held (turn_of lease.work) → refusal_of (told_of q) by (order_call (told_of q) order) ≡ None → after ≡ enqueued q (item_of q order) → ((lease : WriteToken) → write.IsLeaseOf (told_of q) order.slot order.buffer lease → Continues q after by (call_of order lease) (reply.Queued (q.settings.frames + 1))) → answer ≡ done_reply (lease.slot.0 ∷ (q.settings.frames + 1) ∷ []) (owes q.number lease (q.settings.frames + 1) picture lease.work) (ending_of lease.work picture) None → Does table q after by (call.Queue lease picture time crop fence) answer
+  queues q after by lease picture time crop fence said order answer same ordered sound there right none left goes is =
       let from : QueueOrder Right = order_from said picture time crop fence (heir_expecting (turn_of lease.work) picture) in
       let says_order : write.IsLeaseOf (told_of q) order.slot order.buffer said = subst (λ (o : QueueOrder Right). write.IsLeaseOf (told_of q) o.slot o.buffer said) (sym ordered) (says q said there) in
-      queues_from q after by lease picture time crop fence said answer same there right
+      queues_from q after by lease picture time crop fence said answer same sound there right
       (subst (λ (o : QueueOrder Right). refusal_of (told_of q) by (order_call (told_of q) o) ≡ None) ordered none)
       (subst (λ (o : QueueOrder Right). after ≡ enqueued q (item_of q o)) ordered left)
       (subst (λ (o : QueueOrder Right). Continues q after by (call_of o said) (reply.Queued (q.settings.frames + 1))) ordered (goes said says_order)) is

@@ -1,5 +1,5 @@
 -- What a call tells the record of a queue's history before it is made, and what its reply adds.
-use Rattle.std.specs.Prelude.{ℕ, Bool, true, false, if◌then◌else◌, List, [], ◌∷◌, Option, Some, None, unwrap_or}
+use Rattle.std.specs.Prelude.{ℕ, Bool, true, false, if◌then◌else◌, List, [], ◌∷◌, Some, None, unwrap_or}
 use Rattle.sf_base.specs.Statuses.{number_of}
 use Rattle.sf_base.specs.declared.ids.QueueId.{QueueId}
 use Rattle.sf_base.specs.declared.ids.SlotId.{SlotId}

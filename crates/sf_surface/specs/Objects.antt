@@ -1,5 +1,5 @@
 -- A queue with the history of its calls, and what a call on it does.
-use Rattle.std.specs.Prelude.{◌≡◌, ℕ, ◌<◌, List, Option, Some, Contains}
+use Rattle.std.specs.Prelude.{◌≡◌, ℕ, ◌<◌, List, ◌∷◌, Option, Some}
 use Rattle.std.specs.List.{All}
 use Rattle.atomic_table.specs.Seated.{TableId}
 use Rattle.sf_base.specs.declared.ids.ActorId.{ActorId}
@@ -16,34 +16,43 @@ use Rattle.sf_surface.specs.declared.entry.HistEntry.{HistEntry}
 use Rattle.sf_surface.specs.declared.mark.QueueMark.{QueueMark}
 use Rattle.sf_surface.specs.Calls.{told_call}
 use Rattle.sf_surface.specs.Hands.{IsReply}
-use Rattle.sf_surface.specs.Histories.{Made, Answers, FromLog, Queued, caller, told}
+use Rattle.sf_surface.specs.Histories.{Made, Answers, FromLog, Queued, Stored, told}
 use Rattle.sf_surface.specs.Inside.{HasDefaultSize}
 use Rattle.sf_surface.specs.Shown.{entries_of}
 use Rattle.sf_surface.specs.Tokens.{Right, IsRightOf, ShowsFrame}
 
--- the right in a slot is one to its buffer
-abbrev pub IsFitSlot : TableId → Option Held → Option Right → Type 0
-IsFitSlot table held right = (buffer : Held) (turn : Right) → held ≡ Some buffer → right ≡ Some turn → IsRightOf table buffer turn
+-- the right in a slot, where one lies there, is such a one to the slot's buffer
+abbrev pub IsSlotOf : (Held → Right → Type 0) → Option Held → Option Right → Type 0
+IsSlotOf P held right = (buffer : Held) (turn : Right) → held ≡ Some buffer → right ≡ Some turn → P buffer turn
+
+-- a frame's slot has its buffer
+abbrev pub IsSeated : Queue Right → Item Right → Type 0
+IsSeated q item = (slot_in q item.slot.0).held ≡ Some item.held
+
+-- each right in a slot is such a one to the slot's buffer; each frame is such a one, and its slot has its buffer
+pub record AreAll (P : ℕ → Held → Right → Type 0) (F : Item Right → Type 0) (q : Queue Right) : Type 0 where
+  pub slots : (s : ℕ) → s < 64 → IsSlotOf (P s) (slot_in q s).held (right_in q s)
+  pub items : All F q.items
+  pub seats : All (IsSeated q) q.items
 
 -- a frame's right is one to its buffer, and expects the frame's picture, in which its crop lies
 pub record IsFitItem (table : TableId) (item : Item Right) : Type 0 where
   pub right : IsRightOf table item.held item.right
   pub shows : ShowsFrame item.held item.picture item.crop item.right
 
--- a frame's slot has its buffer
-abbrev pub IsSeated : Queue Right → Item Right → Type 0
-IsSeated q item = (slot_in q item.slot.0).held ≡ Some item.held
-
 -- all rights in a queue are those to their buffers
-pub record AreRights (table : TableId) (q : Queue Right) : Type 0 where
-  pub slots : (s : ℕ) → s < 64 → IsFitSlot table (slot_in q s).held (right_in q s)
-  pub items : All (IsFitItem table) q.items
-  pub seats : All (IsSeated q) q.items
+abbrev pub AreRights : TableId → Queue Right → Type 0
+AreRights table = AreAll (λ s held right. IsRightOf table held right) (IsFitItem table)
 
 module _ {B : Type 0} where
-  -- one of the calls queued the frame, with its right
-  abbrev pub IsItemQueued : List (Made B) → Item Right → Type 0
-  IsItemQueued log item = Queued log item.frame item.right
+  -- one of the calls queued the frame, with its right, which was left last in its slot
+  pub record IsFrameOf (log : List (Made B)) (item : Item Right) : Type 0 where
+    pub queued : Queued log item.frame item.right
+    pub stored : Stored log item.slot.0 item.held item.right
+
+  -- all rights in a queue are those that its calls left last in their slots
+  abbrev pub AreStored : List (Made B) → Queue Right → Type 0
+  AreStored log = AreAll (Stored log) (IsFrameOf log)
 
   -- what a call does to the queue, whatever history the queue has
   pub record Does (table : TableId) (old new : Queue Right) (by : ActorId) (asked : QCall B) (reply : QReply B) : Type 0 where
@@ -54,9 +63,8 @@ module _ {B : Type 0} where
     pub continues : Continues old new by (told_call old.number asked) answered
     pub hands : IsReply old.number asked answered reply
     pub rights : AreRights table old → AreRights table new
-    pub from : (log : List (Made B)) → All (IsItemQueued log) old.items → FromLog log asked reply.gives
-    pub queued : (log : List (Made B)) (step : ℕ) → Contains log (entry by.0 (step, asked) reply)
-        → All (IsItemQueued log) old.items → All (IsItemQueued log) new.items
+    pub from : (log : List (Made B)) → AreStored log old → FromLog log asked reply
+    pub stored : (log : List (Made B)) (step : ℕ) → AreStored log old → AreStored (entry by.0 (step, asked) reply ∷ log) new
 
 -- a queue of rights, and its calls
 pub record ObjectOf (B : Type 0) : Type 0 where
@@ -69,13 +77,13 @@ module _ {B : Type 0} where
   mark_of object = record { queue = object.queue.number; width = object.queue.settings.width; height = object.queue.settings.height }
 
   -- what a queue with its history keeps: each reply is what the calls before it say, and the calls tell of the queue, of
-  -- its frames and of their rights
+  -- its frames and of the rights in its slots
   pub record IsObject (table : TableId) (object : ObjectOf B) : Type 0 where
     pub sized : HasDefaultSize object.queue.settings
     pub told : IsToldBy object.queue object.queue.settings.width object.queue.settings.height (told (mark_of object) object.calls)
     pub legal : IsLegal (Answers (mark_of object)) object.calls
     pub rights : AreRights table object.queue
-    pub queued : All (IsItemQueued object.calls) object.queue.items
+    pub stored : AreStored object.calls object.queue
 
   -- and what its parts say of each other
   pub record IsKept (table : TableId) (number : QueueId) (shown : List HistEntry) (object : ObjectOf B) : Type 0 where

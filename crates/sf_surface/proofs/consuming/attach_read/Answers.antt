@@ -1,4 +1,4 @@
-use Rattle.std.proofs.Common.{◌≡◌, ◌∙◌, ap, false, refl, subst, sym, ℕ, [], ◌∷◌, None}
+use Rattle.std.proofs.Common.{◌∙◌, ap, false, subst, [], ◌∷◌, None}
 use Rattle.sf_base.specs.declared.ids.QueueId.{QueueId}
 use Rattle.sf_slots.specs.declared.calls.PlainCall.TheVariants as plain
 use Rattle.sf_slots.specs.declared.calls.PlainReply.TheVariants as reply

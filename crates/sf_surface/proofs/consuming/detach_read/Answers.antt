@@ -1,4 +1,4 @@
-use Rattle.std.proofs.Common.{◌∙◌, ap, refl, subst, ℕ, List, [], None}
+use Rattle.std.proofs.Common.{◌∙◌, ap, refl, subst, None}
 use Rattle.sf_base.specs.declared.ids.QueueId.{QueueId}
 use Rattle.sf_slots.specs.declared.calls.PlainCall.TheVariants as plain
 use Rattle.sf_slots.specs.declared.calls.PlainReply.TheVariants as reply
@@ -8,7 +8,6 @@ use Rattle.sf_surface.specs.declared.call.Gives.TheVariants as gives
 use Rattle.sf_surface.specs.declared.call.QCall.TheVariants as call
 use Rattle.sf_surface.specs.Calls.{read_token}
 use Rattle.sf_surface.specs.Hands.{done_reply}
-use Rattle.sf_surface.specs.Tokens.{LooseOf, ReadLeaseOf}
 use Rattle.sf_surface.proofs.ConsumerLemmas.{detach_untaken, detaches_read, reads}
 use Rattle.sf_surface.proofs.DoesLemmas.{refuses}
 use Rattle.sf_surface.proofs.consuming.detach_read.Goals as goal

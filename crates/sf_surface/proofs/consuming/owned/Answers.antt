@@ -1,4 +1,4 @@
-use Rattle.std.proofs.Common.{◌≡◌, ◌∙◌, ap, refl, sym}
+use Rattle.std.proofs.Common.{◌∙◌, ap, refl, sym}
 use Rattle.sf_surface.specs.Tokens.{LooseOf}
 use Rattle.sf_surface.proofs.LooseLemmas.{right_moved}
 use Rattle.sf_surface.proofs.consuming.owned.Goals as goal

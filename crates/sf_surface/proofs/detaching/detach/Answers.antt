@@ -1,10 +1,10 @@
-use Rattle.std.proofs.Common.{◌≡◌, ◌∙◌, ap, refl, subst, sym, [], None}
+use Rattle.std.proofs.Common.{◌∙◌, ap, refl, sym, None}
 use Rattle.sf_base.specs.declared.ids.QueueId.{QueueId}
 use Rattle.sf_surface.specs.declared.call.Gives.TheVariants as gives
 use Rattle.sf_surface.specs.Calls.{write_token}
 use Rattle.sf_surface.specs.Hands.{done_reply}
-use Rattle.sf_surface.specs.Tokens.{IsRightOf, Right, WriteLeaseOf, ending_drawn, turn_after}
-use Rattle.sf_surface.proofs.LeaseLemmas.{after_right, says}
+use Rattle.sf_surface.specs.Tokens.{WriteLeaseOf, ending_drawn, turn_after}
+use Rattle.sf_surface.proofs.LeaseLemmas.{says}
 use Rattle.sf_surface.proofs.GiveBackLemmas.{detach_refused, detach_unlent, detaches}
 use Rattle.sf_surface.proofs.detaching.detach.Goals as goal
 

@@ -6,4 +6,4 @@ use Rattle.sf_surface.proofs.settings.abandon.Goals as goal
 pub returns : goal.returns
 returns g c =
     gives_up g.B.TableName.table c.args.slots.now c.abandon.new.q c.args.by call.Abandon c.abandon.result c.answer.result
-    (record { hands = refl; from = λ log. tt }) c.abandon.ensures.unchanged c.abandon.ensures.done (c.abandon.ensures.history c.args.by) c.answer.ensures
+    (record { hands = refl; from = λ log. tt; leaves = refl }) c.abandon.ensures.unchanged c.abandon.ensures.done (c.abandon.ensures.history c.args.by) c.answer.ensures

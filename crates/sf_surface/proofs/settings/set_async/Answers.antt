@@ -7,4 +7,4 @@ pub returns : goal.returns
 returns g c =
     let q = c.args.slots.now in
     sets g.B.TableName.table q c.set_async.new.q c.args.by (call.Async c.args.on) (record q.settings { asynchronous = c.args.on }) c.set_async.result c.answer.result c.requires.sound refl refl
-    (record { hands = refl; from = λ log. tt }) c.set_async.ensures.unchanged c.set_async.ensures.done (c.set_async.ensures.history c.args.by) c.answer.ensures
+    (record { hands = refl; from = λ log. tt; leaves = refl }) c.set_async.ensures.unchanged c.set_async.ensures.done (c.set_async.ensures.history c.args.by) c.answer.ensures

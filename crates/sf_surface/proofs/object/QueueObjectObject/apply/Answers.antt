@@ -1,4 +1,4 @@
-use Rattle.std.proofs.Common.{◌≡◌, ◌∙◌, ap, arith, ℕ, List, [], ◌∷◌, ◌++◌, subst, sym, true}
+use Rattle.std.proofs.Common.{◌≡◌, ◌∙◌, ap, arith, List, [], ◌∷◌, ◌++◌, subst, sym, true}
 use Rattle.sf_base.specs.declared.status.QStatus.TheVariants.{WouldBlock}
 use Rattle.sf_calls.specs.Histories.{entry}
 use Rattle.sf_slots.specs.declared.calls.PlainReply.TheVariants as plain

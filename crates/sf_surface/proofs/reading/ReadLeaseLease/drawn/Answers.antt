@@ -1,4 +1,4 @@
-use Rattle.std.proofs.Common.{◌≡◌, ap, arith, subst, ℕ}
+use Rattle.std.proofs.Common.{ap, arith, subst, ℕ}
 use Rattle.sf_base.specs.Points.{greatest}
 use Rattle.sf_turns.specs.Views.{SeatView}
 use Rattle.sf_base.proofs.PointLemmas.{greatest-last, value_here}

@@ -1,4 +1,4 @@
-use Rattle.std.proofs.Common.{◌≡◌, ◌∙◌, ap, sym, refl, subst, inl, inr}
+use Rattle.std.proofs.Common.{◌∙◌, ap, sym, refl, subst, inl, inr}
 use Rattle.sf_base.specs.Fences.{IsSignalled}
 use Rattle.sf_turns.specs.Views.{Leaves}
 use Rattle.sf_surface.specs.Drawing.{IsShort, MayEnter}
