@@ -198,7 +198,15 @@ impl Case {
         };
         match (&self.before, scene::viewed(self.alloc, &self.tree, words)) {
             (Some(before), Some(view)) => {
-                let frame = turns::turns(rt, self.alloc, work, count, before, &view, &self.contents);
+                let frame = turns::turns(
+                    rt,
+                    self.alloc,
+                    work,
+                    count,
+                    before,
+                    &view,
+                    &self.contents,
+                );
                 scene::print_frame(rt, "turns", frame)?;
                 Ok(true)
             }

@@ -145,7 +145,10 @@ pub fn add_by<R: Threads + Sync>(
     let Some(sources) = sources(alloc, view.drawn.as_slice(), contents) else {
         return None;
     };
-    if workers < 1 || workers > 16 || frame.len() != 4 * (view.width as usize * view.height as usize) {
+    if workers < 1
+        || workers > 16
+        || frame.len() != 4 * (view.width as usize * view.height as usize)
+    {
         return None;
     }
     compose(rt, workers, view, contents, &sources, part, frame).ok()

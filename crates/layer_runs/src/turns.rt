@@ -92,7 +92,9 @@ pub fn marks(alloc: Global, tree: &Tree, before: &View, count: u32) -> Option<us
         let view = view_of(alloc, tree, before.width, before.height).ok()?;
         let part = dirty(alloc, before, &view).ok()?;
         let shown = visible(alloc, &view).ok()?;
-        total = total.saturating_add(part.rects().len()).saturating_add(shown.len());
+        total = total
+            .saturating_add(part.rects().len())
+            .saturating_add(shown.len());
     }
     Some(total)
 }

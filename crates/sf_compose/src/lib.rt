@@ -17,7 +17,9 @@ mod spans;
 mod whole;
 
 pub use crew::{compose, compose_seen_by};
-pub use laws::{composing_what_differs_gives_the_frame, what_is_read_is_the_image};
+pub use laws::{
+    composing_has_one_frame, composing_what_differs_gives_the_frame, what_is_read_is_the_image,
+};
 pub use one::compose_one;
 pub use pixels::Pixels;
 pub use seen::compose_seen;
