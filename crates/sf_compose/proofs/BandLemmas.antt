@@ -1,5 +1,5 @@
 -- Bands of rows, and the frame that they are together.
-use Rattle.std.proofs.Common.{◌≡◌, ℕ, zero, suc, ◌+◌, ◌-◌, ◌*◌, ◌/◌, ◌%◌, ◌<◌, ◌≤◌, Bool, if◌then◌else◌, List, length, get_or, take, drop, refl, ap, ◌∙◌, sym, inl, inr, arith}
+use Rattle.std.proofs.Common.{◌≡◌, ℕ, zero, suc, ◌+◌, ◌-◌, ◌*◌, ◌/◌, ◌<◌, ◌≤◌, Bool, if◌then◌else◌, List, length, get_or, drop, ap, ◌∙◌, inl, inr, arith}
 use Rattle.std.specs.Prelude.{min}
 use Rattle.std.specs.Fork.{IsChunk, slice_chunk}
 use Rattle.std.proofs.Math.Nat.{div-add-mod, div-mul-le_self, mod-lt, mul-div_cancel, mul-le-mul_right}

@@ -1,4 +1,4 @@
-use Rattle.std.proofs.Common.{◌∙◌, ℕ, List, ap, map, sym, subst}
+use Rattle.std.proofs.Common.{◌∙◌, List, ap, map, sym, subst}
 use Rattle.sf_base.specs.Geometry.{covers}
 use Rattle.sf_view.specs.Views.{ViewOf}
 use Rattle.sf_view.specs.declared.drawn.Drawn.{Drawn}
