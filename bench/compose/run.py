@@ -76,15 +76,18 @@ class Scene:
         return "\n".join(lines + ["apply"] + ask) + "\n"
 
 
-def phone(opaque):
-    """A phone's screen: a wallpaper's colour, an app's frame, a camera's, and a bar that lets light through."""
-    def view(picture):
+def phone(opaque=False, app=1, camera=2):
+    """A phone's screen: a wallpaper's colour, an app's frame, a camera's, and a bar that lets light through.
+
+    The second view shows the pictures of these numbers as the app's and the camera's frames."""
+    def view(app, camera):
         return [Colour((0, 0, 64, 255), (0, 0, 360, 640), opaque=opaque),
-                Buffer(picture, (0, 48), (0, 0, 360, 512), opaque=opaque),
-                Buffer(2, (100, 200), (0, 0, 160, 120), opaque=opaque),
+                Buffer(app, (0, 48), (0, 0, 360, 512), opaque=opaque),
+                Buffer(camera, (100, 200), (0, 0, 160, 120), opaque=opaque),
                 Colour((255, 255, 255, 255), (0, 0, 360, 48), alpha=230)]
-    pictures = ["360 512 0 0 360 512 32 64 96 255", "360 512 0 0 360 512 128 96 32 255", "160 120 0 0 160 120 192 192 192 255"]
-    return Scene((360, 640), pictures, view(0), view(1))
+    pictures = ["360 512 0 0 360 512 32 64 96 255", "360 512 0 0 360 512 128 96 32 255",
+                "160 120 0 0 160 120 192 192 192 255", "160 120 0 0 160 120 90 90 90 255"]
+    return Scene((360, 640), pictures, view(0, 2), view(app, camera))
 
 
 def panes():
@@ -172,11 +175,12 @@ def by_workers(times):
 
 
 def of_marks(times):
+    ground = best(times, [("whole", 40, ours(tiles(0), "whole"))])["whole"]
     for count in (64, 128, 256):
         scene = tiles(count)
         spent = best(times, [("marks", 200, marks(scene)), ("whole", 40, ours(scene, "whole"))])
-        print("%d layers, one of which moves: what the display shows, what changed and what shows take %s together, composing all %s"
-              % (count, micro(spent["marks"]), micro(spent["whole"])))
+        print("%d layers, one of which moves: what the display shows, what changed and what shows take %s together; composing 64 x 64 pixels of each %s"
+              % (count, micro(spent["marks"]), micro(spent["whole"] - ground)))
 
 
 def main():
@@ -185,8 +189,10 @@ def main():
         program = os.path.join(folder, "peer")
         flags = subprocess.run(["pkg-config", "--cflags", "--libs", "pixman-1"], stdout=subprocess.PIPE, check=True).stdout.decode().split()
         subprocess.run(["cc", "-O2", "-o", program, os.path.join(HERE, "peer.c")] + flags, check=True)
-        beside_pixman(program, "phone scene", phone(False), times)
-        beside_pixman(program, "phone scene of opaque layers", phone(True), times)
+        beside_pixman(program, "phone, a new frame of the app each time", phone(), times)
+        beside_pixman(program, "the same of opaque layers", phone(opaque=True), times)
+        beside_pixman(program, "phone, a new frame of the camera each time", phone(app=0, camera=3), times)
+        beside_pixman(program, "256 tiles, one of which moves", tiles(256), times, 201)
     by_workers(times)
     of_marks(times)
 
