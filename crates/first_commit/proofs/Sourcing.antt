@@ -9,6 +9,8 @@ use Rattle.std.proofs.lemmas.List.Elements.{All-cons, All-filter, All-head, All-
 use Rattle.std.proofs.lemmas.List.{length-map, take_more}
 use Rattle.std.proofs.lemmas.List.Folds.{find_at}
 use Rattle.std.proofs.lemmas.Option.{slice_get_past}
+use Rattle.sf_base.specs.Geometry.{LiesWithin}
+use Rattle.sf_base.specs.declared.geometry.Rect.{Rect}
 use Rattle.sf_base.specs.declared.ids.LayerId.{LayerId}
 use Rattle.sf_base.specs.declared.pixel.Rgba.{Rgba}
 use Rattle.sf_layer.specs.declared.kind.Kind.{Kind}
@@ -21,7 +23,7 @@ use Rattle.first_surface.specs.Leases.{IsReadLease, ReadLeaseOf}
 use Rattle.sf_tree.specs.DrawOrder.{draw_order}
 use Rattle.sf_tree.specs.Layers.{is_numbered, layer_of}
 use Rattle.sf_compose.specs.Readings.{AreReadable, IsReadable, content_at}
-use Rattle.sf_compose.specs.Sources.{HasSource, HasSources, LiesIn}
+use Rattle.sf_compose.specs.Sources.{HasSource, HasSources}
 use Rattle.sf_view.specs.declared.content.Content.{Content}
 use Rattle.sf_view.specs.declared.content.Content.TheVariants as content
 use Rattle.sf_view.specs.declared.drawn.Drawn.{Drawn}
@@ -44,7 +46,7 @@ at_most : (a b : ℤ) → int_le a b ≡ true → a ≤ℤ b
 at_most a b h = grind (arith, ints)
 
 -- the part of a frame that is shown lies in the pixels of its lease
-pub crop-lies : (lease : ReadLeaseOf) → IsReadLease lease → LiesIn lease.pixels lease.token.crop
+pub crop-lies : (lease : ReadLeaseOf) → IsReadLease lease → LiesWithin lease.token.crop lease.pixels.width lease.pixels.height
 crop-lies lease is =
     let size : ((lease.pixels.width == lease.token.held.width) ≡ true) × ((lease.pixels.height == lease.token.held.height) ≡ true) = both (lease.pixels.width == lease.token.held.width) (lease.pixels.height == lease.token.held.height) is.pixels.size in
     let width : lease.pixels.width ≡ lease.token.held.width = eqb-true _ _ size.0 in
@@ -55,10 +57,8 @@ crop-lies lease is =
     let first = both (int_le (pos 0) crop.x) (int_le (pos 0) crop.y) sides.0 in
     let last = both (int_le (crop.x +ℤ pos crop.width) (pos lease.token.held.width)) (int_le (crop.y +ℤ pos crop.height) (pos lease.token.held.height)) sides.1 in
     record {
-      left = at_most _ _ first.0;
-      top = at_most _ _ first.1;
-      right = rw width (at_most _ _ last.0);
-      bottom = rw height (at_most _ _ last.1);
+      across = record { low = at_most _ _ first.0; high = rw width (at_most _ _ last.0) };
+      down = record { low = at_most _ _ first.1; high = rw height (at_most _ _ last.1) };
     }
 
 found_too : (layer : ℕ) (xs : List ShownLease) → find (is_on layer) (map showing_of xs) ≡ option_map showing_of (find (is_lease_on layer) xs)
@@ -91,7 +91,7 @@ held-found shown layer (content.Buffer frame) k h stands is =
     record {
       within = at.1;
       same = same;
-      crop = λ d. subst (LiesIn (get_or shown k d).lease.pixels) (ap (λ (s : Shown). s.crop) (same d)) (crop-lies (get_or shown k d).lease (is d at.1));
+      crop = λ d. subst (λ (crop : Rect). LiesWithin crop (get_or shown k d).lease.pixels.width (get_or shown k d).lease.pixels.height) (ap (λ (s : Shown). s.crop) (same d)) (crop-lies (get_or shown k d).lease (is d at.1));
     }
 
 pub held-none : (shown : List ShownLease) (layer : LayerId) (shows : Content) → position (is_lease_on layer.0) shown ≡ None → StandsFor shown layer shows → IsHeldAt shown shows 0
@@ -129,7 +129,7 @@ has_one pictures (x ∷ xs) (content.Buffer frame) source all held =
     let same : lease.lease.pixels ≡ pictures frame.picture = shows ∙ ap pictures number in
     record {
       content = get_or-pixels (x ∷ xs) source x held.within ∙ ap Some same;
-      crop = subst (λ (p : Picture). LiesIn p frame.crop) same (held.crop x);
+      crop = subst (λ (p : Picture). LiesWithin frame.crop p.width p.height) same (held.crop x);
     }
 
 -- what each drawn layer shows can be read, and is the picture of its frame

@@ -2,10 +2,10 @@
 use Rattle.std.specs.Prelude.{◌≡◌, ℕ, ◌<◌, List, length, map, Some, slice_index_or}
 use Rattle.std.specs.List.{AllZip, find}
 use Rattle.std.specs.Option.{option_map}
+use Rattle.sf_base.specs.Geometry.{LiesWithin}
 use Rattle.sf_base.specs.declared.ids.LayerId.{LayerId}
 use Rattle.sf_layer.specs.declared.shown.Shown.{Shown}
 use Rattle.sf_picture.specs.declared.picture.Picture.{Picture}
-use Rattle.sf_compose.specs.Sources.{LiesIn}
 use Rattle.sf_view.specs.declared.content.Content.{Content}
 use Rattle.sf_view.specs.declared.content.Content.TheVariants as content
 use Rattle.sf_view.specs.declared.drawn.Drawn.{Drawn}
@@ -29,7 +29,7 @@ pub record HasFrame (shown : List ShownLease) (drawn : Drawn) : Type 0 where
 pub record Holds (shown : List ShownLease) (frame : Shown) (source : ℕ) : Type 0 where
   pub within : source < length shown
   pub same : (d : ShownLease) → shown_by (showing_of (slice_index_or shown source d)) ≡ frame
-  pub crop : (d : ShownLease) → LiesIn (slice_index_or shown source d).lease.pixels frame.crop
+  pub crop : (d : ShownLease) → LiesWithin frame.crop (slice_index_or shown source d).lease.pixels.width (slice_index_or shown source d).lease.pixels.height
 
 -- a buffer that is shown has its lease at this place
 abbrev pub IsHeldAt : List ShownLease → Content → ℕ → Type 0

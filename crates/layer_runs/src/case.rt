@@ -1,7 +1,7 @@
 ghost use Rattle.std.specs.Prelude.{◌≤◌};
 
 use crate::words::number32;
-use crate::{compose, damage, fill, operation, read, scene};
+use crate::{compose, damage, fill, operation, read, scene, turns};
 use page_lease::Page;
 use sf_base::{LayerId, NoMemory};
 use sf_layer::{Kind, Op, Parent};
@@ -12,6 +12,7 @@ use sf_view::View;
 use std::alloc::{AllocError, Global};
 use std::io;
 use std::str::SplitWhitespace;
+use std::thread::Threads;
 
 /// What a case has come to.
 #[derive(Drop)]
@@ -183,10 +184,55 @@ impl Case {
         }
     }
 
+    /// Prints the last of frames of the view before and of another in turns.
+    fn take_turns<R: Print + Threads + Sync>(
+        &self,
+        rt: &R,
+        words: &mut SplitWhitespace<'_>,
+    ) -> io::Result<bool> {
+        let Some(work) = words.next().and_then(turns::parse) else {
+            return Ok(false);
+        };
+        let Some(count) = number32(words) else {
+            return Ok(false);
+        };
+        match (&self.before, scene::viewed(self.alloc, &self.tree, words)) {
+            (Some(before), Some(view)) => {
+                let frame = turns::turns(
+                    rt,
+                    self.alloc,
+                    work,
+                    count,
+                    before,
+                    &view,
+                    &self.contents,
+                );
+                scene::print_frame(rt, "turns", frame)?;
+                Ok(true)
+            }
+            _ => Ok(false),
+        }
+    }
+
+    /// Prints what comes of looking many times at what changed since the view before.
+    fn mark(&self, rt: &impl Print, words: &mut SplitWhitespace<'_>) -> io::Result<bool> {
+        let Some(count) = number32(words) else {
+            return Ok(false);
+        };
+        let Some(before) = &self.before else {
+            return Ok(false);
+        };
+        match turns::marks(self.alloc, &self.tree, before, count) {
+            Some(total) => println!(rt; "marks: {total}")?,
+            None => println!(rt; "marks: no memory")?,
+        }
+        Ok(true)
+    }
+
     /// Does what a line says of the view before. Answers whether it says something.
-    fn use_view(
+    fn use_view<R: Print + Threads + Sync>(
         &mut self,
-        rt: &impl Print,
+        rt: &R,
         name: &str,
         words: &mut SplitWhitespace<'_>,
     ) -> io::Result<bool> {
@@ -203,12 +249,14 @@ impl Case {
                 let view = scene::viewed(self.alloc, &self.tree, words);
                 self.compose_again(rt, view)
             }
+            "turns" => self.take_turns(rt, words),
+            "marks" => self.mark(rt, words),
             _ => Ok(false),
         }
     }
 
     /// Does what a line says that begins with a name.
-    fn do_named(&mut self, rt: &impl Print, line: &str) -> io::Result<bool> {
+    fn do_named<R: Print + Threads + Sync>(&mut self, rt: &R, line: &str) -> io::Result<bool> {
         let mut words = line.split_whitespace();
         let Some(name) = words.next() else {
             return Ok(false);
@@ -235,7 +283,7 @@ impl Case {
     }
 
     /// Does what a line says.
-    pub fn follow(&mut self, rt: &impl Print, line: &str) -> io::Result<()> {
+    pub fn follow<R: Print + Threads + Sync>(&mut self, rt: &R, line: &str) -> io::Result<()> {
         if line.starts_with("case ") {
             println!(rt; "{line}")?;
             *self = Case::new(self.alloc)?;

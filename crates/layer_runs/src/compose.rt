@@ -1,12 +1,12 @@
 ghost use Rattle.std.specs.List.{AllZip};
 ghost use Rattle.std.specs.Prelude.{◌≡◌, ◌+ℤ◌, ◌≤◌, ◌≤ℤ◌, IfSome, IsTrue, pos};
+ghost use Rattle.sf_base.specs.Geometry.{IsWithin, LiesWithin};
 ghost use Rattle.sf_compose.specs.Readings.{IsReadable};
-ghost use Rattle.sf_compose.specs.Sources.{LiesIn};
 ghost use Rattle.sf_region.specs.Points.{IsInBounds, far, neg_far};
 
 use crate::words::{colour, number32, rect};
 use sf_base::{Format, Items, Rect};
-use sf_compose::{compose_frame, compose_one, compose_seen};
+use sf_compose::{compose, compose_frame, compose_one, compose_seen};
 use sf_damage::{dirty, visible};
 use sf_picture::{Fill, Painted, Picture, paint};
 use sf_region::Region;
@@ -14,6 +14,7 @@ use sf_view::{Content, Drawn, View};
 use std::alloc::Global;
 use std::io;
 use std::str::SplitWhitespace;
+use std::thread::Threads;
 
 /// How many fills or rectangles a line has at most.
 const MOST_PARTS: u32 = 64;
@@ -55,14 +56,14 @@ pub fn painted(alloc: Global, number: usize, words: &mut SplitWhitespace<'_>) ->
 
 /// Whether so many pixels from one on lie within a size.
 fn is_within(from: i32, extent: u32, size: u32) -> bool
-    ensures { IsTrue result → (pos 0 ≤ℤ from) × ((from +ℤ pos extent) ≤ℤ pos size) }
+    ensures { IsTrue result → IsWithin from extent size }
 {
     0 <= from && i64::from(from) + i64::from(extent) <= i64::from(size)
 }
 
 /// Whether a rectangle lies in a picture.
 fn lies_in(picture: &Picture, rect: &Rect) -> bool
-    ensures { IsTrue result → LiesIn picture.now rect.now }
+    ensures { IsTrue result → LiesWithin rect.now picture.now.width picture.now.height }
 {
     is_within(rect.x, rect.width, picture.width) && is_within(rect.y, rect.height, picture.height)
 }
@@ -108,15 +109,49 @@ pub fn whole(alloc: Global, view: &View, contents: &[Painted]) -> Option<Vec<u8>
     compose_frame(alloc, view, contents, &sources).ok()
 }
 
-/// The bytes of a frame of sevens after a part was composed into it.
-fn composed(alloc: Global, view: &View, contents: &[Painted], part: &Region) -> Option<Vec<u8>> {
+/// A frame of sevens.
+fn sevens(alloc: Global, view: &View) -> Option<Vec<u8>> {
+    let size = 4 * (view.width as usize * view.height as usize);
+    vec![in alloc; 7u8; size].ok()
+}
+
+/// Composes a part into a frame.
+pub fn add(
+    alloc: Global,
+    view: &View,
+    contents: &[Painted],
+    part: &Region,
+    frame: &mut Vec<u8>,
+) -> Option<()> {
     let Some(sources) = sources(alloc, view.drawn.as_slice(), contents) else {
         return None;
     };
-    let size = 4 * (view.width as usize * view.height as usize);
-    let mut frame = vec![in alloc; 7u8; size].ok()?;
-    compose_one(alloc, view, contents, &sources, part, &mut frame).ok()?;
-    Some(frame)
+    if frame.len() != 4 * (view.width as usize * view.height as usize) {
+        return None;
+    }
+    compose_one(alloc, view, contents, &sources, part, frame).ok()
+}
+
+/// Composes a part into a frame by so many workers.
+pub fn add_by<R: Threads + Sync>(
+    rt: &R,
+    workers: u32,
+    alloc: Global,
+    view: &View,
+    contents: &[Painted],
+    part: &Region,
+    frame: &mut Vec<u8>,
+) -> Option<()> {
+    let Some(sources) = sources(alloc, view.drawn.as_slice(), contents) else {
+        return None;
+    };
+    if workers < 1
+        || workers > 16
+        || frame.len() != 4 * (view.width as usize * view.height as usize)
+    {
+        return None;
+    }
+    compose(rt, workers, view, contents, &sources, part, frame).ok()
 }
 
 /// Composes a part into a frame, of each layer only what shows.
@@ -175,8 +210,25 @@ pub fn part(
     contents: &[Painted],
     words: &mut SplitWhitespace<'_>,
 ) -> Option<Vec<u8>> {
-    let region = region(alloc, words)?;
-    composed(alloc, view, contents, &region)
+    let part = region(alloc, words)?;
+    let mut frame = sevens(alloc, view)?;
+    add(alloc, view, contents, &part, &mut frame)?;
+    Some(frame)
+}
+
+/// The same, by so many workers.
+pub fn crew<R: Threads + Sync>(
+    rt: &R,
+    workers: u32,
+    alloc: Global,
+    view: &View,
+    contents: &[Painted],
+    words: &mut SplitWhitespace<'_>,
+) -> Option<Vec<u8>> {
+    let part = region(alloc, words)?;
+    let mut frame = sevens(alloc, view)?;
+    add_by(rt, workers, alloc, view, contents, &part, &mut frame)?;
+    Some(frame)
 }
 
 /// The bytes of a frame of sevens after what shows in these rectangles was composed into it.
@@ -187,8 +239,7 @@ pub fn seen(
     words: &mut SplitWhitespace<'_>,
 ) -> Option<Vec<u8>> {
     let part = region(alloc, words)?;
-    let size = 4 * (view.width as usize * view.height as usize);
-    let mut frame = vec![in alloc; 7u8; size].ok()?;
+    let mut frame = sevens(alloc, view)?;
     add_seen(alloc, view, contents, &part, &mut frame)?;
     Some(frame)
 }

@@ -13,6 +13,7 @@ use sf_view::{View, ancestry, view_in_order, view_of};
 use std::alloc::Global;
 use std::io;
 use std::str::SplitWhitespace;
+use std::thread::Threads;
 
 /// Whether a transaction may carry these operations.
 fn are_operations(ops: &[(LayerId, Op)]) -> bool
@@ -150,6 +151,20 @@ fn seen(
     compose::seen(alloc, &view, contents, words)
 }
 
+/// The same as of a part, by the number of workers that the line says.
+fn crew<R: Threads + Sync>(
+    rt: &R,
+    alloc: Global,
+    tree: &Tree,
+    contents: &[Painted],
+    words: &mut SplitWhitespace<'_>,
+) -> Option<Vec<u8>> {
+    let workers = number32(words)?;
+    let (width, height) = size(words)?;
+    let view = view_of(alloc, tree, width, height).ok()?;
+    compose::crew(rt, workers, alloc, &view, contents, words)
+}
+
 /// Prints the pixels of what a line asks for, or that there are none.
 pub fn print_frame(rt: &impl Print, name: &str, pixels: Option<Vec<u8>>) -> io::Result<()> {
     match pixels {
@@ -162,8 +177,8 @@ pub fn print_frame(rt: &impl Print, name: &str, pixels: Option<Vec<u8>>) -> io::
 }
 
 /// Prints what a line asks of a tree. Answers whether it asks for something.
-pub fn ask(
-    rt: &impl Print,
+pub fn ask<R: Print + Threads + Sync>(
+    rt: &R,
     alloc: Global,
     tree: &Tree,
     contents: &[Painted],
@@ -187,6 +202,7 @@ pub fn ask(
         "frame" => print_frame(rt, name, frame(alloc, tree, contents, words))?,
         "part" => print_frame(rt, name, part(alloc, tree, contents, words))?,
         "seen" => print_frame(rt, name, seen(alloc, tree, contents, words))?,
+        "crew" => print_frame(rt, name, crew(rt, alloc, tree, contents, words))?,
         _ => return Ok(false),
     }
     Ok(true)

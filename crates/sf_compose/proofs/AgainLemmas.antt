@@ -1,5 +1,5 @@
 -- A frame that is composed over the frame before.
-use Rattle.std.proofs.Common.{◌≡◌, ℕ, ◌+◌, ◌*◌, ◌<◌, Bool, true, false, ◌&&◌, List, refl, sym, ◌∙◌, ap, subst, pos, ℤ}
+use Rattle.std.proofs.Common.{◌≡◌, ℕ, ◌+◌, ◌*◌, ◌<◌, Bool, true, false, ◌&&◌, if◌then◌else◌, List, length, refl, sym, ◌∙◌, ap, subst, pos, ℤ}
 use Rattle.std.specs.Prelude.{nat_eq}
 use Rattle.std.proofs.lemmas.Bool.{both_ways}
 use Rattle.sf_base.proofs.Deciding.{rgba_decides}
@@ -12,7 +12,9 @@ use Rattle.sf_region.specs.Points.{has}
 use Rattle.sf_view.specs.Image.{opaque_black}
 use Rattle.sf_view.specs.Stacks.{Sheet, stack, under_stack, view_image}
 use Rattle.sf_view.specs.Views.{ViewOf}
-use Rattle.sf_compose.specs.Again.{IsComposedAgain, ShowsView}
+use Rattle.sf_compose.specs.Again.{IsComposed, IsComposedAgain, ShowsView}
+use Rattle.sf_compose.specs.Frames.{frame_bytes}
+use Rattle.sf_compose.proofs.RowLemmas.{frame-from}
 
 -- colours that can't differ are equal
 same_colour : (p q : Rgba) → ((p ≡ q → ⊥) → ⊥) → p ≡ q
@@ -42,3 +44,15 @@ composed_again picture old new part before after a = record {
     by_test : (x y : ℕ) → x < new.width → y < new.height → (b : Bool) → has part (pos x) (pos y) ≡ b → pixel_in after (y * new.width + x) ≡ view_image picture new (pos x) (pos y)
     by_test x y wide high true t = a.shown.pixels x y wide high t
     by_test x y wide high false t = a.rest.pixels x y wide high t ∙ (last x y wide high ∙ same_beside picture old new part (pos x) (pos y) a.damage t)
+
+-- the bytes of a frame, from what its part shows and what stays
+composed_bytes : (view : ViewOf) (part : List Rect) (image : ℕ → ℕ → Rgba) (before after : List ℕ) → length before ≡ 4 * (view.width * view.height) → IsComposed view part image before after → after ≡ frame_bytes (λ x y. if has part (pos x) (pos y) then image x y else pixel_in before (y * view.width + x)) view.width view.height
+composed_bytes view part image before after size a =
+    frame-from after (λ x y. if has part (pos x) (pos y) then image x y else pixel_in before (y * view.width + x)) view.width view.height (a.rest.size ∙ size) (λ x y wide high. by_test x y wide high (has part (pos x) (pos y)) refl)
+  where
+    by_test : (x y : ℕ) → x < view.width → y < view.height → (b : Bool) → has part (pos x) (pos y) ≡ b → pixel_in after (y * view.width + x) ≡ (if has part (pos x) (pos y) then image x y else pixel_in before (y * view.width + x))
+    by_test x y wide high true t = rw t (a.shown.pixels x y wide high t)
+    by_test x y wide high false t = rw t (a.rest.pixels x y wide high t)
+
+pub one_frame : (view : ViewOf) (part : List Rect) (image : ℕ → ℕ → Rgba) (before one other : List ℕ) → length before ≡ 4 * (view.width * view.height) → IsComposed view part image before one → IsComposed view part image before other → one ≡ other
+one_frame view part image before one other size a b = composed_bytes view part image before one size a ∙ sym (composed_bytes view part image before other size b)

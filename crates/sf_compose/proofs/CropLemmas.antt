@@ -6,9 +6,8 @@ use Rattle.sf_base.specs.declared.geometry.Rect.{Rect}
 use Rattle.sf_picture.specs.declared.picture.Picture.{Picture}
 use Rattle.sf_base.specs.Bytes.{pixel_in}
 use Rattle.sf_picture.specs.Pixels.{pixel_at, ShowsPicture}
-use Rattle.sf_base.specs.Geometry.{is_within}
+use Rattle.sf_base.specs.Geometry.{is_within, LiesWithin}
 use Rattle.sf_view.specs.Contents.{unsigned}
-use Rattle.sf_compose.specs.Sources.{LiesIn}
 
 pub both_left : (a b : Bool) → (a && b) ≡ true → a ≡ true
 both_left true b h = refl
@@ -63,11 +62,11 @@ row_small row column w h low few narrow inside =
     omega (arith, above, next)
 
 -- a pixel of a row of a crop
-pub crop_pixel : (picture : Picture) (bytes : List ℕ) (rect : Rect) (across down : ℤ) (y left right column row base i : ℕ) → ShowsPicture picture bytes → LiesIn picture rect → left < right → is_within across rect.width (pos left) ≡ true → is_within across rect.width (pos (right - 1)) ≡ true → is_within down rect.height (pos y) ≡ true → column ≡ unsigned ((pos left +ℤ neg_ℤ across) +ℤ rect.x) → row ≡ unsigned ((pos y +ℤ neg_ℤ down) +ℤ rect.y) → base + left ≤ i → i < base + right → pixel_in bytes ((row * picture.width + column) + (i - (base + left))) ≡ pixel_at picture (unsigned ((pos (i - base) +ℤ neg_ℤ across) +ℤ rect.x)) (unsigned ((pos y +ℤ neg_ℤ down) +ℤ rect.y))
+pub crop_pixel : (picture : Picture) (bytes : List ℕ) (rect : Rect) (across down : ℤ) (y left right column row base i : ℕ) → ShowsPicture picture bytes → LiesWithin rect picture.width picture.height → left < right → is_within across rect.width (pos left) ≡ true → is_within across rect.width (pos (right - 1)) ≡ true → is_within down rect.height (pos y) ≡ true → column ≡ unsigned ((pos left +ℤ neg_ℤ across) +ℤ rect.x) → row ≡ unsigned ((pos y +ℤ neg_ℤ down) +ℤ rect.y) → base + left ≤ i → i < base + right → pixel_in bytes ((row * picture.width + column) + (i - (base + left))) ≡ pixel_at picture (unsigned ((pos (i - base) +ℤ neg_ℤ across) +ℤ rect.x)) (unsigned ((pos y +ℤ neg_ℤ down) +ℤ rect.y))
 crop_pixel picture bytes rect across down y left right column row base i shows lies ordered first last within is_column is_row from to =
-    let narrow = columns_below left right rect.width picture.width column across rect.x ordered first last lies.left lies.right is_column in
-    let low : row < picture.height = rw is_row (place_below y rect.height picture.height down rect.y within lies.top lies.bottom) in
-    let moved = place_moved left (i - base) rect.width across rect.x (omega arith) first lies.left in
+    let narrow = columns_below left right rect.width picture.width column across rect.x ordered first last lies.across.low lies.across.high is_column in
+    let low : row < picture.height = rw is_row (place_below y rect.height picture.height down rect.y within lies.down.low lies.down.high) in
+    let moved = place_moved left (i - base) rect.width across rect.x (omega arith) first lies.across.low in
     let there : unsigned ((pos (i - base) +ℤ neg_ℤ across) +ℤ rect.x) ≡ column + (i - (base + left)) = omega (arith, moved, is_column, from) in
     let at : (row * picture.width + column) + (i - (base + left)) ≡ row * picture.width + (column + (i - (base + left))) = omega arith in
     rw (at, there, sym is_row) (shows.pixels (column + (i - (base + left))) row (omega (arith, narrow, from, to)) low)

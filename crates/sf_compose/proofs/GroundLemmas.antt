@@ -6,6 +6,7 @@ use Rattle.std.proofs.lemmas.Bool.Decides.{nat_tests}
 use Rattle.std.proofs.lemmas.Int.{ints}
 use Rattle.sf_base.specs.Geometry.{covers}
 use Rattle.sf_base.specs.declared.pixel.Rgba.{Rgba}
+use Rattle.sf_damage.proofs.VisibleLemmas.{painted-solid}
 use Rattle.sf_picture.specs.declared.picture.Picture.{Picture}
 use Rattle.sf_view.specs.Image.{opaque_black}
 use Rattle.sf_view.specs.Views.{is_in_clip}
@@ -16,11 +17,10 @@ use Rattle.sf_compose.specs.declared.area.Area.{Area}
 use Rattle.sf_compose.specs.Ground.{ground_under, hides, is_solid, is_solid_colour, spans}
 use Rattle.sf_compose.specs.Painting.{is_in_area, Paints}
 use Rattle.sf_compose.specs.Readings.{AreReadable, IsReadable, pixel_from, under_drawn, under_one}
-use Rattle.sf_compose.proofs.PaintLemmas.{painted-solid}
 
 -- what is painted as it was
-pub Paints-kept : (w : ℕ) (p : ℕ → ℕ → Bool) (f : ℕ → ℕ → Rgba → Rgba) (old : List ℕ) → ((x y : ℕ) (under : Rgba) → f x y under ≡ under) → Paints w p f old old
-Paints-kept w p f old same = record { size = refl; pixels = λ x y wide. by_test (p x y) (f x y _) _ (same x y _) }
+pub Paints-kept : (w base : ℕ) (p : ℕ → ℕ → Bool) (f : ℕ → ℕ → Rgba → Rgba) (old : List ℕ) → ((x y : ℕ) (under : Rgba) → f x y under ≡ under) → Paints w base p f old old
+Paints-kept w base p f old same = record { size = refl; pixels = λ x y wide low. by_test (p x y) (f x y _) _ (same x y _) }
   where
     by_test : (b : Bool) (now was : Rgba) → now ≡ was → was ≡ (if b then now else was)
     by_test true now was e = sym e

@@ -1,5 +1,5 @@
 -- Painting over parts of a frame, one part after another, and one layer after another.
-use Rattle.std.proofs.Common.{◌≡◌, ℕ, suc, ◌+◌, ◌-◌, ◌*◌, ◌/◌, ◌<◌, ◌≤◌, Bool, true, false, ◌||◌, ◌&&◌, if◌then◌else◌, List, inl, inr, refl, ap, ◌∙◌, sym, subst, arith, nat_le, nat_lt}
+use Rattle.std.proofs.Common.{◌≡◌, ℕ, suc, ◌+◌, ◌-◌, ◌*◌, ◌<◌, ◌≤◌, Bool, true, false, ◌||◌, ◌&&◌, if◌then◌else◌, List, inl, inr, refl, ap, ◌∙◌, sym, subst, arith, nat_le, nat_lt}
 use Rattle.std.specs.Prelude.{max}
 use Rattle.std.proofs.lemmas.Bool.{cases_lt}
 use Rattle.std.proofs.lemmas.Bool.Decides.{nat_tests}
@@ -8,60 +8,61 @@ use Rattle.sf_base.specs.declared.pixel.Rgba.{Rgba}
 use Rattle.sf_base.specs.Blend.{blended, product}
 use Rattle.sf_base.specs.Paint.{painted}
 use Rattle.sf_base.specs.Bytes.{pixel_in}
+use Rattle.sf_damage.proofs.VisibleLemmas.{nothing-left}
 use Rattle.sf_view.specs.Image.{opaque_black}
 use Rattle.sf_compose.specs.Frames.{is_in_box, Repaints}
 use Rattle.sf_compose.specs.Painting.{Paints, PaintsSpan}
 
 -- no point
-pub Paints-none : (w : ℕ) (p : ℕ → ℕ → Bool) (f : ℕ → ℕ → Rgba → Rgba) (old : List ℕ) → ((x y : ℕ) → p x y ≡ false) → Paints w p f old old
-Paints-none w p f old none = record { size = refl; pixels = λ x y wide. rw (none x y) refl }
+pub Paints-none : (w base : ℕ) (p : ℕ → ℕ → Bool) (f : ℕ → ℕ → Rgba → Rgba) (old : List ℕ) → ((x y : ℕ) → p x y ≡ false) → Paints w base p f old old
+Paints-none w base p f old none = record { size = refl; pixels = λ x y wide low. rw (none x y) refl }
 
 -- two tests and two ways to paint that agree
-pub Paints-same : (w : ℕ) (p q : ℕ → ℕ → Bool) (f g : ℕ → ℕ → Rgba → Rgba) (old new : List ℕ) → Paints w p f old new → ((x y : ℕ) → q x y ≡ p x y) → ((x y : ℕ) (under : Rgba) → p x y ≡ true → f x y under ≡ g x y under) → Paints w q g old new
-Paints-same w p q f g old new a tests paints = record {
+pub Paints-same : (w base : ℕ) (p q : ℕ → ℕ → Bool) (f g : ℕ → ℕ → Rgba → Rgba) (old new : List ℕ) → Paints w base p f old new → ((x y : ℕ) → q x y ≡ p x y) → ((x y : ℕ) (under : Rgba) → p x y ≡ true → f x y under ≡ g x y under) → Paints w base q g old new
+Paints-same w base p q f g old new a tests paints = record {
   size = a.size;
-  pixels = λ x y wide. by_test x y wide (p x y) refl;
+  pixels = λ x y wide low. by_test x y wide low (p x y) refl;
 }
   where
-    by_test : (x y : ℕ) → x < w → (t : Bool) → p x y ≡ t → pixel_in new (y * w + x) ≡ (if q x y then g x y (pixel_in old (y * w + x)) else pixel_in old (y * w + x))
-    by_test x y wide true t = rw (tests x y, t) ((rw t at (a.pixels x y wide)) ∙ paints x y (pixel_in old (y * w + x)) t)
-    by_test x y wide false t = rw (tests x y, t) (rw t at (a.pixels x y wide))
+    by_test : (x y : ℕ) → x < w → base ≤ y → (t : Bool) → p x y ≡ t → pixel_in new ((y - base) * w + x) ≡ (if q x y then g x y (pixel_in old ((y - base) * w + x)) else pixel_in old ((y - base) * w + x))
+    by_test x y wide low true t = rw (tests x y, t) ((rw t at (a.pixels x y wide low)) ∙ paints x y (pixel_in old ((y - base) * w + x)) t)
+    by_test x y wide low false t = rw (tests x y, t) (rw t at (a.pixels x y wide low))
 
 -- the points that pass one test, and then others
-pub Paints-then : (w : ℕ) (p q r : ℕ → ℕ → Bool) (f : ℕ → ℕ → Rgba → Rgba) (old mid new : List ℕ) → Paints w p f old mid → Paints w q f mid new → ((x y : ℕ) → r x y ≡ (p x y || q x y)) → ((x y : ℕ) → p x y ≡ true → q x y ≡ false) → Paints w r f old new
-Paints-then w p q r f old mid new a b either apart = record {
+pub Paints-then : (w base : ℕ) (p q r : ℕ → ℕ → Bool) (f : ℕ → ℕ → Rgba → Rgba) (old mid new : List ℕ) → Paints w base p f old mid → Paints w base q f mid new → ((x y : ℕ) → r x y ≡ (p x y || q x y)) → ((x y : ℕ) → p x y ≡ true → q x y ≡ false) → Paints w base r f old new
+Paints-then w base p q r f old mid new a b either apart = record {
   size = b.size ∙ a.size;
-  pixels = λ x y wide. by_test x y wide (p x y) (q x y) refl refl;
+  pixels = λ x y wide low. by_test x y wide low (p x y) (q x y) refl refl;
 }
   where
-    by_test : (x y : ℕ) → x < w → (s t : Bool) → p x y ≡ s → q x y ≡ t → pixel_in new (y * w + x) ≡ (if r x y then f x y (pixel_in old (y * w + x)) else pixel_in old (y * w + x))
-    by_test x y wide true true s t = let no : true ≡ false = sym t ∙ apart x y s in cc
-    by_test x y wide true false s t = rw (either x y, s) ((rw t at (b.pixels x y wide)) ∙ (rw s at (a.pixels x y wide)))
-    by_test x y wide false true s t = rw (either x y, s, t) ((rw t at (b.pixels x y wide)) ∙ ap (f x y) (rw s at (a.pixels x y wide)))
-    by_test x y wide false false s t = rw (either x y, s, t) ((rw t at (b.pixels x y wide)) ∙ (rw s at (a.pixels x y wide)))
+    by_test : (x y : ℕ) → x < w → base ≤ y → (s t : Bool) → p x y ≡ s → q x y ≡ t → pixel_in new ((y - base) * w + x) ≡ (if r x y then f x y (pixel_in old ((y - base) * w + x)) else pixel_in old ((y - base) * w + x))
+    by_test x y wide low true true s t = let no : true ≡ false = sym t ∙ apart x y s in cc
+    by_test x y wide low true false s t = rw (either x y, s) ((rw t at (b.pixels x y wide low)) ∙ (rw s at (a.pixels x y wide low)))
+    by_test x y wide low false true s t = rw (either x y, s, t) ((rw t at (b.pixels x y wide low)) ∙ ap (f x y) (rw s at (a.pixels x y wide low)))
+    by_test x y wide low false false s t = rw (either x y, s, t) ((rw t at (b.pixels x y wide low)) ∙ (rw s at (a.pixels x y wide low)))
 
 -- the same points once more
-pub Paints-over : (w : ℕ) (p : ℕ → ℕ → Bool) (f g : ℕ → ℕ → Rgba → Rgba) (old mid new : List ℕ) → Paints w p f old mid → Paints w p g mid new → Paints w p (λ x y under. g x y (f x y under)) old new
-Paints-over w p f g old mid new a b = record {
+pub Paints-over : (w base : ℕ) (p : ℕ → ℕ → Bool) (f g : ℕ → ℕ → Rgba → Rgba) (old mid new : List ℕ) → Paints w base p f old mid → Paints w base p g mid new → Paints w base p (λ x y under. g x y (f x y under)) old new
+Paints-over w base p f g old mid new a b = record {
   size = b.size ∙ a.size;
-  pixels = λ x y wide. by_test x y wide (p x y) refl;
+  pixels = λ x y wide low. by_test x y wide low (p x y) refl;
 }
   where
-    by_test : (x y : ℕ) → x < w → (s : Bool) → p x y ≡ s → pixel_in new (y * w + x) ≡ (if p x y then g x y (f x y (pixel_in old (y * w + x))) else pixel_in old (y * w + x))
-    by_test x y wide true s = rw s ((rw s at (b.pixels x y wide)) ∙ ap (g x y) (rw s at (a.pixels x y wide)))
-    by_test x y wide false s = rw s ((rw s at (b.pixels x y wide)) ∙ (rw s at (a.pixels x y wide)))
+    by_test : (x y : ℕ) → x < w → base ≤ y → (s : Bool) → p x y ≡ s → pixel_in new ((y - base) * w + x) ≡ (if p x y then g x y (f x y (pixel_in old ((y - base) * w + x))) else pixel_in old ((y - base) * w + x))
+    by_test x y wide low true s = rw s ((rw s at (b.pixels x y wide low)) ∙ ap (g x y) (rw s at (a.pixels x y wide low)))
+    by_test x y wide low false s = rw s ((rw s at (b.pixels x y wide low)) ∙ (rw s at (a.pixels x y wide low)))
 
 -- the points of an area that pass a further test
-pub Paints-clipped : (w : ℕ) (p q clip : ℕ → ℕ → Bool) (f : ℕ → ℕ → Rgba → Rgba) (old new : List ℕ) → Paints w p f old new → ((x y : ℕ) → p x y ≡ (q x y && clip x y)) → Paints w q (λ x y under. if clip x y then f x y under else under) old new
-Paints-clipped w p q clip f old new a both = record {
+pub Paints-clipped : (w base : ℕ) (p q clip : ℕ → ℕ → Bool) (f : ℕ → ℕ → Rgba → Rgba) (old new : List ℕ) → Paints w base p f old new → ((x y : ℕ) → p x y ≡ (q x y && clip x y)) → Paints w base q (λ x y under. if clip x y then f x y under else under) old new
+Paints-clipped w base p q clip f old new a both = record {
   size = a.size;
-  pixels = λ x y wide. by_test x y wide (q x y) (clip x y) refl refl;
+  pixels = λ x y wide low. by_test x y wide low (q x y) (clip x y) refl refl;
 }
   where
-    by_test : (x y : ℕ) → x < w → (s t : Bool) → q x y ≡ s → clip x y ≡ t → pixel_in new (y * w + x) ≡ (if q x y then (if clip x y then f x y (pixel_in old (y * w + x)) else pixel_in old (y * w + x)) else pixel_in old (y * w + x))
-    by_test x y wide true true s t = rw (s, t) (rw (both x y, s, t) at (a.pixels x y wide))
-    by_test x y wide true false s t = rw (s, t) (rw (both x y, s, t) at (a.pixels x y wide))
-    by_test x y wide false t s u = rw s (rw (both x y, s) at (a.pixels x y wide))
+    by_test : (x y : ℕ) → x < w → base ≤ y → (s t : Bool) → q x y ≡ s → clip x y ≡ t → pixel_in new ((y - base) * w + x) ≡ (if q x y then (if clip x y then f x y (pixel_in old ((y - base) * w + x)) else pixel_in old ((y - base) * w + x)) else pixel_in old ((y - base) * w + x))
+    by_test x y wide low true true s t = rw (s, t) (rw (both x y, s, t) at (a.pixels x y wide low))
+    by_test x y wide low true false s t = rw (s, t) (rw (both x y, s, t) at (a.pixels x y wide low))
+    by_test x y wide low false t s u = rw s (rw (both x y, s) at (a.pixels x y wide low))
 
 in_row : (left right y a b : ℕ) → is_in_box left right y (y + 1) a b ≡ true → (left ≤ a) × (a < right) × (b ≡ y)
 in_row left right y a b t = (grind (arith, nat_tests), grind (arith, nat_tests), grind (arith, nat_tests))
@@ -75,45 +76,45 @@ row_end w x y z in_row before =
     let e : suc y * w ≡ y * w + w = omega arith in
     omega (arith, h, e)
 
--- a row of an area
-pub Paints-row : (w left right y : ℕ) (f : ℕ → ℕ → Rgba → Rgba) (g : ℕ → Rgba → Rgba) (old new : List ℕ) → left < right → right ≤ w → PaintsSpan old new (y * w + left) (y * w + right) g → ((x : ℕ) (under : Rgba) → left ≤ x → x < right → g (y * w + x) under ≡ f x y under) → Paints w (is_in_box left right y (y + 1)) f old new
-Paints-row w left right y f g old new ordered narrow span same = record { size = span.size; pixels = λ a b wide. by_test a b wide (is_in_box left right y (y + 1) a b) refl }
+row_painted : (w base left right y : ℕ) (f : ℕ → ℕ → Rgba → Rgba) (g : ℕ → Rgba → Rgba) (old new : List ℕ) → base ≤ y → left < right → right ≤ w → PaintsSpan old new ((y - base) * w + left) ((y - base) * w + right) g → ((x : ℕ) (under : Rgba) → left ≤ x → x < right → g ((y - base) * w + x) under ≡ f x y under) → Paints w base (is_in_box left right y (y + 1)) f old new
+row_painted w base left right y f g old new first ordered narrow span same = record { size = span.size; pixels = λ a b wide low. by_test a b wide low (is_in_box left right y (y + 1) a b) refl }
   where
-    inside_row : (a : ℕ) → left ≤ a → a < right → pixel_in new (y * w + a) ≡ f a y (pixel_in old (y * w + a))
-    inside_row a from to = span.inside (y * w + a) (omega arith) (omega arith) ∙ same a (pixel_in old (y * w + a)) from to
+    inside_row : (a : ℕ) → left ≤ a → a < right → pixel_in new ((y - base) * w + a) ≡ f a y (pixel_in old ((y - base) * w + a))
+    inside_row a from to = span.inside ((y - base) * w + a) (omega arith) (omega arith) ∙ same a (pixel_in old ((y - base) * w + a)) from to
 
-    by_test : (a b : ℕ) → a < w → (t : Bool) → is_in_box left right y (y + 1) a b ≡ t → pixel_in new (b * w + a) ≡ (if is_in_box left right y (y + 1) a b then f a b (pixel_in old (b * w + a)) else pixel_in old (b * w + a))
-    by_test a b wide true t =
+    by_test : (a b : ℕ) → a < w → base ≤ b → (t : Bool) → is_in_box left right y (y + 1) a b ≡ t → pixel_in new ((b - base) * w + a) ≡ (if is_in_box left right y (y + 1) a b then f a b (pixel_in old ((b - base) * w + a)) else pixel_in old ((b - base) * w + a))
+    by_test a b wide low true t =
         let e : (left ≤ a) × (a < right) × (b ≡ y) = in_row left right y a b t in
         rw (t, e.2) (inside_row a e.0 e.1)
-    by_test a b wide false t = rw t (elim (cases_lt b y) [
+    by_test a b wide low false t = rw t (elim (cases_lt b y) [
       | inl higher ↦
-          let end : b * w + a ≤ y * w = row_end w a b y (omega arith) higher in
-          let strict : suc b * w ≤ y * w = mul-le-mul_right w higher in
-          let e : suc b * w ≡ b * w + w = omega arith in
-          span.below (b * w + a) (omega (arith, strict, e))
+          let before : b - base < y - base = omega arith in
+          let strict : suc (b - base) * w ≤ (y - base) * w = mul-le-mul_right w before in
+          let e : suc (b - base) * w ≡ (b - base) * w + w = omega arith in
+          span.below ((b - base) * w + a) (omega (arith, strict, e))
       | inr from ↦ elim (cases_lt y b) [
         | inl lower ↦
-            let end : y * w + right ≤ b * w = row_end w right y b narrow lower in
-            span.above (b * w + a) (omega (arith, end))
+            let end : (y - base) * w + right ≤ (b - base) * w = row_end w right (y - base) (b - base) narrow (omega arith) in
+            span.above ((b - base) * w + a) (omega (arith, end))
         | inr to ↦
             let here : b ≡ y = omega arith in
-            let there : b * w ≡ y * w = ap (λ n. n * w) here in
+            let there : (b - base) * w ≡ (y - base) * w = ap (λ n. (n - base) * w) here in
             elim (cases_lt a left) [
-              | inl before ↦ span.below (b * w + a) (omega (arith, there))
+              | inl before ↦ span.below ((b - base) * w + a) (omega (arith, there))
               | inr began ↦ elim (cases_lt a right) [
                 | inl within ↦
                     let yes : is_in_box left right y (y + 1) a b ≡ true = its_row left right y a b (omega arith) within here in
                     let no : true ≡ false = sym yes ∙ t in
                     cc
-                | inr beyond ↦ span.above (b * w + a) (omega (arith, there))
+                | inr beyond ↦ span.above ((b - base) * w + a) (omega (arith, there))
               ]
             ]
       ]
     ])
 
-nothing-left : (x : ℕ) → (x * 0 + 127) / 255 ≡ 0
-nothing-left x = let none : x * 0 ≡ 0 = omega arith in rw none refl
+-- a row of an area, which starts at a pixel
+pub Paints-row : (w base left right y start : ℕ) (f : ℕ → ℕ → Rgba → Rgba) (g : ℕ → Rgba → Rgba) (old new : List ℕ) → start ≡ (y - base) * w → base ≤ y → left < right → right ≤ w → PaintsSpan old new (start + left) (start + right) g → ((x : ℕ) (under : Rgba) → left ≤ x → x < right → g (start + x) under ≡ f x y under) → Paints w base (is_in_box left right y (y + 1)) f old new
+Paints-row w base left right y start f g old new is first ordered narrow span same = row_painted w base left right y f g old new first ordered narrow (rw is at span) (λ x under from to. rw is at (same x under from to))
 
 -- opaque black leaves nothing of what it is painted over
 pub painted-black : (under : Rgba) → painted under opaque_black 255 ≡ opaque_black
@@ -121,18 +122,15 @@ unfolding painted blended product
 painted-black under = rw (nothing-left under.r, nothing-left under.g, nothing-left under.b, nothing-left under.a) refl
 
 -- layers over a ground are an image
-pub Repaints-paints : (w h : ℕ) (p q : ℕ → ℕ → Bool) (f g : ℕ → ℕ → Rgba → Rgba) (image : ℕ → ℕ → Rgba) (old mid new : List ℕ) (v : ℕ) → v ≡ w → Paints v p f old mid → Paints w p g mid new → ((x y : ℕ) → x < w → y < h → q x y ≡ p x y) → ((x y : ℕ) (under : Rgba) → p x y ≡ true → g x y (f x y under) ≡ image x y) → Repaints w h q image old new
-Repaints-paints w h p q f g image old mid new v e ground b tests paints = record {
-  size = b.size ∙ ground.size;
-  pixels = λ x y wide high. by_test x y wide high (p x y) refl;
+pub Repaints-paints : (w base bottom : ℕ) (p q : ℕ → ℕ → Bool) (f g : ℕ → ℕ → Rgba → Rgba) (image : ℕ → ℕ → Rgba) (old mid new : List ℕ) → Paints w base p f old mid → Paints w base p g mid new → ((x y : ℕ) → x < w → base ≤ y → y < bottom → q x y ≡ p x y) → ((x y : ℕ) (under : Rgba) → p x y ≡ true → g x y (f x y under) ≡ image x y) → Repaints w base bottom q image old new
+Repaints-paints w base bottom p q f g image old mid new a b tests paints = record {
+  size = b.size ∙ a.size;
+  pixels = λ x y wide low high. by_test x y wide low high (p x y) refl;
 }
   where
-    a : Paints w p f old mid
-    a = subst (λ (n : ℕ). Paints n p f old mid) e ground
-
-    by_test : (x y : ℕ) → x < w → y < h → (s : Bool) → p x y ≡ s → pixel_in new (y * w + x) ≡ (if q x y then image x y else pixel_in old (y * w + x))
-    by_test x y wide high true s = rw (tests x y wide high, s) ((rw s at (b.pixels x y wide)) ∙ (ap (g x y) (rw s at (a.pixels x y wide)) ∙ paints x y (pixel_in old (y * w + x)) s))
-    by_test x y wide high false s = rw (tests x y wide high, s) ((rw s at (b.pixels x y wide)) ∙ (rw s at (a.pixels x y wide)))
+    by_test : (x y : ℕ) → x < w → base ≤ y → y < bottom → (s : Bool) → p x y ≡ s → pixel_in new ((y - base) * w + x) ≡ (if q x y then image x y else pixel_in old ((y - base) * w + x))
+    by_test x y wide low high true s = rw (tests x y wide low high, s) ((rw s at (b.pixels x y wide low)) ∙ (ap (g x y) (rw s at (a.pixels x y wide low)) ∙ paints x y (pixel_in old ((y - base) * w + x)) s))
+    by_test x y wide low high false s = rw (tests x y wide low high, s) ((rw s at (b.pixels x y wide low)) ∙ (rw s at (a.pixels x y wide low)))
 
 pub rows_apart : (left right top y a b : ℕ) → is_in_box left right top y a b ≡ true → is_in_box left right y (y + 1) a b ≡ false
 rows_apart left right top y a b t = grind (arith, nat_tests)
@@ -166,14 +164,5 @@ pub its_point : (left right top bottom a b : ℕ) → left ≤ a → a < right �
 its_point left right top bottom a b p q r s = grind (arith, nat_tests)
 
 -- a loop over the rows of an area that ended
-pub Paints-ended : (w left right top y bottom : ℕ) (f : ℕ → ℕ → Rgba → Rgba) (old new : List ℕ) → Paints w (is_in_box left right top y) f old new → y ≡ bottom → Paints w (is_in_box left right top bottom) f old new
-Paints-ended w left right top y bottom f old new a ended = subst (λ (n : ℕ). Paints w (is_in_box left right top n) f old new) ended a
-
-cover-whole : (a : ℕ) → a ≡ 255 → 255 - (a * 255 + 127) / 255 ≡ 0
-cover-whole a e = rw e refl
-
--- what is painted by a solid source does not depend on what lies under it
-pub painted-solid : (under other source : Rgba) → source.a ≡ 255 → painted under source 255 ≡ painted other source 255
-unfolding painted blended product
-painted-solid under other source solid =
-    rw (cover-whole source.a solid, nothing-left under.r, nothing-left under.g, nothing-left under.b, nothing-left under.a, nothing-left other.r, nothing-left other.g, nothing-left other.b, nothing-left other.a) refl
+pub Paints-ended : (w base left right top y bottom : ℕ) (f : ℕ → ℕ → Rgba → Rgba) (old new : List ℕ) → Paints w base (is_in_box left right top y) f old new → y ≡ bottom → Paints w base (is_in_box left right top bottom) f old new
+Paints-ended w base left right top y bottom f old new a ended = subst (λ (n : ℕ). Paints w base (is_in_box left right top n) f old new) ended a

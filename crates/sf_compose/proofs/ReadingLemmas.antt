@@ -2,6 +2,7 @@
 use Rattle.std.proofs.Common.{◌≡◌, ℕ, zero, suc, ◌<◌, length, get_or, arith, Bool, true, false, List, [], ◌∷◌, filter, map, refl, sym, ℤ, pos, subst}
 use Rattle.std.specs.List.{AllZip}
 use Rattle.std.proofs.lemmas.Option.{get_or_from_slice_get, slice_get_within}
+use Rattle.sf_base.specs.Geometry.{LiesWithin}
 use Rattle.sf_base.specs.declared.pixel.Rgba.{Rgba}
 use Rattle.sf_layer.specs.declared.shown.Shown.{Shown}
 use Rattle.sf_picture.specs.declared.picture.Picture.{Picture}
@@ -13,7 +14,7 @@ use Rattle.sf_view.specs.Image.{opaque_black}
 use Rattle.sf_view.specs.Stacks.{sheet_of, stack, under_stack, view_image}
 use Rattle.sf_view.specs.Views.{ViewOf, is_in_clip}
 use Rattle.sf_compose.specs.Readings.{AreReadable, content_at, IsReadable, no_picture, read_image, under_drawn}
-use Rattle.sf_compose.specs.Sources.{HasSource, HasSources, IsSource, LiesIn}
+use Rattle.sf_compose.specs.Sources.{HasSource, HasSources, IsSource}
 
 content_at-source : (picture : ℕ → Picture) (contents : List Picture) (shown : Shown) (source : ℕ) → IsSource picture contents shown source → content_at contents source ≡ picture shown.picture
 content_at-source picture contents shown source s = get_or_from_slice_get contents source (picture shown.picture) no_picture s.content
@@ -22,7 +23,7 @@ IsReadable-source : (picture : ℕ → Picture) (contents : List Picture) (shows
 IsReadable-source picture contents (content.Colour _) source s = tt
 IsReadable-source picture contents (content.Buffer shown) source s = record {
   within = slice_get_within contents source (picture shown.picture) s.content;
-  crop = subst (λ (p : Picture). LiesIn p shown.crop) (sym (content_at-source picture contents shown source s)) s.crop;
+  crop = subst (λ (p : Picture). LiesWithin shown.crop p.width p.height) (sym (content_at-source picture contents shown source s)) s.crop;
 }
 
 all_readable : (picture : ℕ → Picture) (contents : List Picture) (layers : List Drawn) (sources : List ℕ) → AllZip (λ drawn source. HasSource picture contents drawn.content source) layers sources → AllZip (λ drawn source. IsReadable contents drawn.content source) layers sources

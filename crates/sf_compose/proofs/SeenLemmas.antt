@@ -7,6 +7,7 @@ use Rattle.std.proofs.lemmas.List.Folds.{list_any_more}
 use Rattle.sf_base.specs.Geometry.{covers}
 use Rattle.sf_base.specs.declared.geometry.Rect.{Rect}
 use Rattle.sf_base.specs.declared.pixel.Rgba.{Rgba}
+use Rattle.sf_damage.proofs.VisibleLemmas.{painted-solid}
 use Rattle.sf_damage.specs.Visible.{AreVisible, hides_all, hides_at, shows_at}
 use Rattle.sf_picture.specs.declared.picture.Picture.{Picture}
 use Rattle.sf_region.specs.Canonical.{IsDisjoint}
@@ -17,7 +18,7 @@ use Rattle.sf_view.specs.declared.drawn.Drawn.{Drawn}
 use Rattle.sf_compose.specs.declared.area.Area.{Area}
 use Rattle.sf_compose.specs.Painting.{is_in_area, Paints}
 use Rattle.sf_compose.specs.Readings.{AreReadable, IsReadable, pixel_from, under_drawn, under_one}
-use Rattle.sf_compose.proofs.PaintLemmas.{painted-solid, Paints-clipped, Paints-none, Paints-over, Paints-same, Paints-then}
+use Rattle.sf_compose.proofs.PaintLemmas.{Paints-clipped, Paints-none, Paints-over, Paints-same, Paints-then}
 
 -- rectangles that share no point
 
@@ -39,9 +40,9 @@ both_or true h c = refl
 both_or false h c = refl
 
 -- one rectangle more
-pub Paints-part : (w : ℕ) (area part : Area) (parts : List Rect) (i : ℕ) (d : Rect) (f : ℕ → ℕ → Rgba → Rgba) (old mid new : List ℕ) → IsDisjoint parts → i < length parts → Paints w (λ x y. is_in_area area x y && has (take i parts) (pos x) (pos y)) f old mid → Paints w (is_in_area part) f mid new → ((x y : ℕ) → is_in_area part x y ≡ (is_in_area area x y && covers (get_or parts i d) (pos x) (pos y))) → Paints w (λ x y. is_in_area area x y && has (take (i + 1) parts) (pos x) (pos y)) f old new
-Paints-part w area part parts i d f old mid new apart h a b points =
-    Paints-then w (λ x y. is_in_area area x y && has (take i parts) (pos x) (pos y)) (is_in_area part) (λ x y. is_in_area area x y && has (take (i + 1) parts) (pos x) (pos y)) f old mid new a b
+pub Paints-part : (w base : ℕ) (area part : Area) (parts : List Rect) (i : ℕ) (d : Rect) (f : ℕ → ℕ → Rgba → Rgba) (old mid new : List ℕ) → IsDisjoint parts → i < length parts → Paints w base (λ x y. is_in_area area x y && has (take i parts) (pos x) (pos y)) f old mid → Paints w base (is_in_area part) f mid new → ((x y : ℕ) → is_in_area part x y ≡ (is_in_area area x y && covers (get_or parts i d) (pos x) (pos y))) → Paints w base (λ x y. is_in_area area x y && has (take (i + 1) parts) (pos x) (pos y)) f old new
+Paints-part w base area part parts i d f old mid new apart h a b points =
+    Paints-then w base (λ x y. is_in_area area x y && has (take i parts) (pos x) (pos y)) (is_in_area part) (λ x y. is_in_area area x y && has (take (i + 1) parts) (pos x) (pos y)) f old mid new a b
     (λ x y. ap (λ (t : Bool). is_in_area area x y && t) (list_any_more (λ rect. covers rect (pos x) (pos y)) parts i d h)
     ∙ (both_or (is_in_area area x y) (has (take i parts) (pos x) (pos y)) (covers (get_or parts i d) (pos x) (pos y))
     ∙ ap (λ (t : Bool). (is_in_area area x y && has (take i parts) (pos x) (pos y)) || t) (sym (points x y))))
@@ -53,8 +54,8 @@ right_false true = refl
 right_false false = refl
 
 -- no rectangle yet
-pub Paints-no_part : (w : ℕ) (area : Area) (f : ℕ → ℕ → Rgba → Rgba) (old : List ℕ) → Paints w (λ x y. is_in_area area x y && has [] (pos x) (pos y)) f old old
-Paints-no_part w area f old = Paints-none w (λ x y. is_in_area area x y && has [] (pos x) (pos y)) f old (λ x y. right_false (is_in_area area x y))
+pub Paints-no_part : (w base : ℕ) (area : Area) (f : ℕ → ℕ → Rgba → Rgba) (old : List ℕ) → Paints w base (λ x y. is_in_area area x y && has [] (pos x) (pos y)) f old old
+Paints-no_part w base area f old = Paints-none w base (λ x y. is_in_area area x y && has [] (pos x) (pos y)) f old (λ x y. right_false (is_in_area area x y))
 
 -- what is hidden
 
@@ -85,16 +86,16 @@ seen-step contents d ds s ss x y shown under all is = rw is (by_tests (is_in_cli
     by_tests false h t u = rw t refl
 
 -- one layer, where it shows, and then those above it
-pub Paints-seen : (w : ℕ) (area : Area) (contents : List Picture) (layers : List Drawn) (sources : List ℕ) (shows : List (List Rect)) (d : Drawn) (ds : List Drawn) (s : ℕ) (ss : List ℕ) (region : List Rect) (regions : List (List Rect)) (old mid new : List ℕ) → (d ∷ ds) ≡ layers → (s ∷ ss) ≡ sources → (region ∷ regions) ≡ shows → AreReadable contents layers sources → AreVisible layers shows → Paints w (λ x y. is_in_area area x y && has region (pos x) (pos y)) (λ x y under. under_one contents (pos x) (pos y) under d s) old mid → Paints w (is_in_area area) (λ x y under. under_drawn contents (pos x) (pos y) under ds ss) mid new → Paints w (is_in_area area) (λ x y under. under_drawn contents (pos x) (pos y) under layers sources) old new
-Paints-seen w area contents layers sources shows d ds s ss region regions old mid new is_layers is_sources is_shows readable visible a b =
+pub Paints-seen : (w base : ℕ) (area : Area) (contents : List Picture) (layers : List Drawn) (sources : List ℕ) (shows : List (List Rect)) (d : Drawn) (ds : List Drawn) (s : ℕ) (ss : List ℕ) (region : List Rect) (regions : List (List Rect)) (old mid new : List ℕ) → (d ∷ ds) ≡ layers → (s ∷ ss) ≡ sources → (region ∷ regions) ≡ shows → AreReadable contents layers sources → AreVisible layers shows → Paints w base (λ x y. is_in_area area x y && has region (pos x) (pos y)) (λ x y under. under_one contents (pos x) (pos y) under d s) old mid → Paints w base (is_in_area area) (λ x y under. under_drawn contents (pos x) (pos y) under ds ss) mid new → Paints w base (is_in_area area) (λ x y under. under_drawn contents (pos x) (pos y) under layers sources) old new
+Paints-seen w base area contents layers sources shows d ds s ss region regions old mid new is_layers is_sources is_shows readable visible a b =
     let all : AllZip (λ drawn source. IsReadable contents drawn.content source) (d ∷ ds) (s ∷ ss) = rw (← is_layers, ← is_sources) at readable.all in
     let seen : AreVisible (d ∷ ds) (region ∷ regions) = rw (← is_layers, ← is_shows) at visible in
     rw (← is_layers, ← is_sources) (
-    Paints-same w (is_in_area area) (is_in_area area)
+    Paints-same w base (is_in_area area) (is_in_area area)
     (λ x y under. under_drawn contents (pos x) (pos y) (if has region (pos x) (pos y) then under_one contents (pos x) (pos y) under d s else under) ds ss)
     (λ x y under. under_drawn contents (pos x) (pos y) under (d ∷ ds) (s ∷ ss)) old new
-    (Paints-over w (is_in_area area) (λ x y under. if has region (pos x) (pos y) then under_one contents (pos x) (pos y) under d s else under) (λ x y under. under_drawn contents (pos x) (pos y) under ds ss) old mid new
-    (Paints-clipped w (λ x y. is_in_area area x y && has region (pos x) (pos y)) (is_in_area area) (λ x y. has region (pos x) (pos y)) (λ x y under. under_one contents (pos x) (pos y) under d s) old mid a (λ x y. refl)) b)
+    (Paints-over w base (is_in_area area) (λ x y under. if has region (pos x) (pos y) then under_one contents (pos x) (pos y) under d s else under) (λ x y under. under_drawn contents (pos x) (pos y) under ds ss) old mid new
+    (Paints-clipped w base (λ x y. is_in_area area x y && has region (pos x) (pos y)) (is_in_area area) (λ x y. has region (pos x) (pos y)) (λ x y under. under_one contents (pos x) (pos y) under d s) old mid a (λ x y. refl)) b)
     (λ x y. refl)
     (λ x y under t. seen-step contents d ds s ss (pos x) (pos y) (has region (pos x) (pos y)) under all.1 (seen.0 (pos x) (pos y))))
 

@@ -10,7 +10,7 @@ use Rattle.sf_base.specs.Bytes.{pixel_in}
 use Rattle.sf_compose.specs.Painting.{PaintsSpan}
 
 -- four bytes that are equal make equal pixels
-pixel_same : (xs ys : List ℕ) (i j : ℕ) → ((c : ℕ) → c < 4 → get_or xs (4 * i + c) 0 ≡ get_or ys (4 * j + c) 0) → pixel_in xs i ≡ pixel_in ys j
+pub pixel_same : (xs ys : List ℕ) (i j : ℕ) → ((c : ℕ) → c < 4 → get_or xs (4 * i + c) 0 ≡ get_or ys (4 * j + c) 0) → pixel_in xs i ≡ pixel_in ys j
 pixel_same xs ys i j same =
     let here : 4 * i + 0 ≡ 4 * i = omega arith in
     let there : 4 * j + 0 ≡ 4 * j = omega arith in

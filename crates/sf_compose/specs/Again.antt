@@ -1,7 +1,8 @@
 -- Frames that are composed over the frame before.
-use Rattle.std.specs.Prelude.{◌≡◌, ℕ, ◌+◌, ◌*◌, ◌<◌, List, pos}
+use Rattle.std.specs.Prelude.{◌≡◌, ℕ, ◌+◌, ◌*◌, ◌<◌, List, length, pos}
 use Rattle.sf_base.specs.Bytes.{pixel_in}
 use Rattle.sf_base.specs.declared.geometry.Rect.{Rect}
+use Rattle.sf_base.specs.declared.pixel.Rgba.{Rgba}
 use Rattle.sf_damage.specs.Damage.{Damages}
 use Rattle.sf_picture.specs.declared.picture.Picture.{Picture}
 use Rattle.sf_view.specs.Stacks.{view_image}
@@ -25,3 +26,13 @@ pub record IsComposedAgain (picture : ℕ → Picture) (old new : ViewOf) (part 
 abbrev pub ComposingAgainIsWhole : Type 0
 ComposingAgainIsWhole = (picture : ℕ → Picture) (old new : ViewOf) (part : List Rect) (before after : List ℕ) →
     IsComposedAgain picture old new part before after → ShowsView picture new after
+
+-- the part shows an image, and no other point of the frame changed
+pub record IsComposed (view : ViewOf) (part : List Rect) (image : ℕ → ℕ → Rgba) (before after : List ℕ) : Type 0 where
+  pub shown : ShowsPart view part image after
+  pub rest : KeepsRest view part before after
+
+-- two frames that were composed alike are the same bytes
+abbrev pub ComposingHasOneFrame : Type 0
+ComposingHasOneFrame = (view : ViewOf) (part : List Rect) (image : ℕ → ℕ → Rgba) (before one other : List ℕ) → length before ≡ 4 * (view.width * view.height) →
+    IsComposed view part image before one → IsComposed view part image before other → one ≡ other

@@ -1,5 +1,6 @@
 -- The bytes of a frame, four to a pixel, row by row from the top.
-use Rattle.std.specs.Prelude.{◌≡◌, ℕ, ◌+◌, ◌*◌, ◌<◌, Bool, true, false, if◌then◌else◌, List, [], ◌∷◌, length, pos, nat_le, nat_lt, ◌&&◌}
+use Rattle.std.specs.Prelude.{◌≡◌, ℕ, ◌+◌, ◌-◌, ◌*◌, ◌<◌, ◌≤◌, Bool, true}
+use Rattle.std.specs.Prelude.{false, if◌then◌else◌, List, [], ◌∷◌, length, pos, nat_le, nat_lt, ◌&&◌}
 use Rattle.std.specs.List.{flat_map, range_with_len}
 use Rattle.sf_base.specs.declared.geometry.Rect.{Rect}
 use Rattle.sf_base.specs.declared.pixel.Rgba.{Rgba}
@@ -21,10 +22,11 @@ pub record KeepsRest (view : ViewOf) (part : List Rect) (old new : List ℕ) : T
 abbrev pub is_in_box : ℕ → ℕ → ℕ → ℕ → ℕ → ℕ → Bool
 is_in_box left right top bottom x y = (nat_le left x && nat_lt x right) && (nat_le top y && nat_lt y bottom)
 
--- of a frame of this size, the points that pass a test have the colours of an image, and no other changed
-pub record Repaints (width height : ℕ) (test : ℕ → ℕ → Bool) (image : ℕ → ℕ → Rgba) (old new : List ℕ) : Type 0 where
+-- of rows of this width, from one on and before another, the points that pass a test have the colours of an image, and no other changed
+pub record Repaints (width top bottom : ℕ) (test : ℕ → ℕ → Bool) (image : ℕ → ℕ → Rgba) (old new : List ℕ) : Type 0 where
   pub size : length new ≡ length old
-  pub pixels : (x y : ℕ) → x < width → y < height → pixel_in new (y * width + x) ≡ (if test x y then image x y else pixel_in old (y * width + x))
+  pub pixels : (x y : ℕ) → x < width → top ≤ y → y < bottom
+      → pixel_in new ((y - top) * width + x) ≡ (if test x y then image x y else pixel_in old ((y - top) * width + x))
 
 abbrev pub four_bytes : Rgba → List ℕ
 four_bytes pixel = pixel.r ∷ pixel.g ∷ pixel.b ∷ pixel.a ∷ []

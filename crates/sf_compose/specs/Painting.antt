@@ -1,5 +1,5 @@
 -- Painting over a part of a frame: each pixel of the part becomes what is painted over what it was.
-use Rattle.std.specs.Prelude.{◌≡◌, ℕ, ◌+◌, ◌*◌, ◌<◌, ◌≤◌, Bool, if◌then◌else◌, List, length}
+use Rattle.std.specs.Prelude.{◌≡◌, ℕ, ◌+◌, ◌-◌, ◌*◌, ◌<◌, ◌≤◌, Bool, if◌then◌else◌, List, length}
 use Rattle.sf_base.specs.declared.pixel.Rgba.{Rgba}
 use Rattle.sf_compose.specs.declared.area.Area.{Area}
 use Rattle.sf_compose.specs.Frames.{is_in_box}
@@ -16,8 +16,8 @@ pub record PaintsSpan (old new : List ℕ) (start end : ℕ) (paint : ℕ → Rg
 abbrev pub is_in_area : Area → ℕ → ℕ → Bool
 is_in_area area x y = is_in_box area.left area.right area.top area.bottom x y
 
--- of a frame of this width, the points that pass a test are painted, and no other changed
-pub record Paints (width : ℕ) (test : ℕ → ℕ → Bool) (paint : ℕ → ℕ → Rgba → Rgba) (old new : List ℕ) : Type 0 where
+-- of rows of this width from one on, the points that pass a test are painted, and no other changed
+pub record Paints (width top : ℕ) (test : ℕ → ℕ → Bool) (paint : ℕ → ℕ → Rgba → Rgba) (old new : List ℕ) : Type 0 where
   pub size : length new ≡ length old
-  pub pixels : (x y : ℕ) → x < width
-      → pixel_in new (y * width + x) ≡ (if test x y then paint x y (pixel_in old (y * width + x)) else pixel_in old (y * width + x))
+  pub pixels : (x y : ℕ) → x < width → top ≤ y
+      → pixel_in new ((y - top) * width + x) ≡ (if test x y then paint x y (pixel_in old ((y - top) * width + x)) else pixel_in old ((y - top) * width + x))

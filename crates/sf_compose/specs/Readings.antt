@@ -1,6 +1,7 @@
 -- What is read of the contents for the layers of a view.
 use Rattle.std.specs.Prelude.{ℕ, ◌<◌, if◌then◌else◌, List, [], ◌∷◌, length, slice_index_or, ℤ, pos}
 use Rattle.std.specs.List.{AllZip}
+use Rattle.sf_base.specs.Geometry.{LiesWithin}
 use Rattle.sf_base.specs.Paint.{painted}
 use Rattle.sf_base.specs.declared.format.Format.TheVariants as format
 use Rattle.sf_base.specs.declared.pixel.Rgba.{Rgba}
@@ -12,7 +13,6 @@ use Rattle.sf_view.specs.declared.drawn.Drawn.{Drawn}
 use Rattle.sf_view.specs.Contents.{pixel_of, source_of}
 use Rattle.sf_view.specs.Image.{opaque_black}
 use Rattle.sf_view.specs.Views.{ViewOf, is_in_clip}
-use Rattle.sf_compose.specs.Sources.{LiesIn}
 
 -- no picture, which stands for one at a place that the contents don't have
 abbrev pub no_picture : Picture
@@ -24,7 +24,7 @@ content_at contents source = slice_index_or contents source no_picture
 -- the contents have a picture at this place, and the part of it that is shown lies in it
 pub record HasCrop (contents : List Picture) (shown : Shown) (source : ℕ) : Type 0 where
   pub within : source < length contents
-  pub crop : LiesIn (content_at contents source) shown.crop
+  pub crop : LiesWithin shown.crop (content_at contents source).width (content_at contents source).height
 
 -- what a layer shows can be read
 abbrev pub IsReadable : List Picture → Content → ℕ → Type 0

@@ -1,24 +1,17 @@
 -- Where the layers of a view find the pictures of the buffers that they show.
-use Rattle.std.specs.Prelude.{◌≡◌, ℕ, List, Some, pos, ◌≤ℤ◌, ◌+ℤ◌}
+use Rattle.std.specs.Prelude.{◌≡◌, ℕ, List, Some}
 use Rattle.std.specs.List.{AllZip, slice_get}
-use Rattle.sf_base.specs.declared.geometry.Rect.{Rect}
+use Rattle.sf_base.specs.Geometry.{LiesWithin}
 use Rattle.sf_layer.specs.declared.shown.Shown.{Shown}
 use Rattle.sf_picture.specs.declared.picture.Picture.{Picture}
 use Rattle.sf_view.specs.declared.content.Content.{Content}
 use Rattle.sf_view.specs.declared.content.Content.TheVariants as content
 use Rattle.sf_view.specs.Views.{ViewOf}
 
--- a rectangle lies in a picture
-pub record LiesIn (picture : Picture) (rect : Rect) : Type 0 where
-  pub left : pos 0 ≤ℤ rect.x
-  pub right : (rect.x +ℤ pos rect.width) ≤ℤ pos picture.width
-  pub top : pos 0 ≤ℤ rect.y
-  pub bottom : (rect.y +ℤ pos rect.height) ≤ℤ pos picture.height
-
 -- the content at this place is the picture of a shown buffer, and the part that is shown lies in it
 pub record IsSource (picture : ℕ → Picture) (contents : List Picture) (shown : Shown) (source : ℕ) : Type 0 where
   pub content : slice_get contents source ≡ Some (picture shown.picture)
-  pub crop : LiesIn (picture shown.picture) shown.crop
+  pub crop : LiesWithin shown.crop (picture shown.picture).width (picture shown.picture).height
 
 -- a buffer has a source, and a colour needs none
 abbrev pub HasSource : (ℕ → Picture) → List Picture → Content → ℕ → Type 0

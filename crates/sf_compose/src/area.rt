@@ -16,6 +16,7 @@ pub struct Area {
 
 // The points of an area that a rectangle has.
 pub fn cut(area: Area, rect: &Rect) -> Area
+    ensures top { area.top ≤ result.top }
     ensures right { result.right ≤ area.right }
     ensures bottom { result.bottom ≤ area.bottom }
     ensures points { (x y : ℕ) → is_in_area result x y

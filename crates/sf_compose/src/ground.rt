@@ -1,9 +1,11 @@
 ghost use Rattle.std.specs.Prelude.{◌≡◌, ◌*◌, ◌≤◌, length};
 ghost use Rattle.std.specs.List.{list_any};
+ghost use Rattle.sf_compose.specs.Bands.{HasRows, IsInBand};
 ghost use Rattle.sf_compose.specs.Ground.{ground_under, hides, is_solid, is_solid_colour, spans};
 ghost use Rattle.sf_compose.specs.Painting.{is_in_area, Paints};
 
 use crate::area::Area;
+use crate::band::Band;
 use crate::layer::paint_area;
 use sf_base::Rgba;
 use sf_view::{Content, Drawn};
@@ -59,13 +61,13 @@ fn is_hidden(drawn: &[Drawn], area: Area) -> bool
 }
 
 // Paints the ground of an area, unless one of the drawn layers hides it.
-pub fn paint_ground(frame: &mut [u8], width: u32, area: Area, drawn: &[Drawn])
-    requires wide { area.right ≤ width }
-    requires room { 4 * (area.bottom * width) ≤ length frame.old }
-    ensures { Paints width (is_in_area area) (λ x y under. ground_under area drawn.now under) frame.old frame.new }
+pub fn paint_ground(frame: &mut [u8], band: Band, area: Area, drawn: &[Drawn])
+    requires within { IsInBand band area }
+    requires room { HasRows band frame.old }
+    ensures { Paints band.width band.top (is_in_area area) (λ x y under. ground_under area drawn.now under) frame.old frame.new }
 {
     if is_hidden(drawn, area) {
         return;
     }
-    paint_area(frame, width, area, OPAQUE_BLACK, 255);
+    paint_area(frame, band, area, OPAQUE_BLACK, 255);
 }

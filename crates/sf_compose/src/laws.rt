@@ -2,7 +2,7 @@ ghost use Rattle.std.specs.Prelude.{◌≡◌, ℕ, List, pos};
 ghost use Rattle.sf_picture.specs.declared.picture.Picture.{Picture};
 ghost use Rattle.sf_view.specs.Stacks.{view_image};
 ghost use Rattle.sf_view.specs.Views.{ViewOf};
-ghost use Rattle.sf_compose.specs.Again.{ComposingAgainIsWhole};
+ghost use Rattle.sf_compose.specs.Again.{ComposingAgainIsWhole, ComposingHasOneFrame};
 ghost use Rattle.sf_compose.specs.Readings.{AreReadable, read_image};
 ghost use Rattle.sf_compose.specs.Sources.{HasSources};
 
@@ -20,4 +20,10 @@ pub fn what_is_read_is_the_image()
 /// no other point changed, the frame is that of the new one.
 pub fn composing_what_differs_gives_the_frame()
     ensures { ComposingAgainIsWhole }
+{}
+
+/// What a part shows and what stays are all bytes of a frame. So a part of a view is composed to the
+/// same bytes by `compose_one`, by `compose_seen`, and by any number of workers.
+pub fn composing_has_one_frame()
+    ensures { ComposingHasOneFrame }
 {}

@@ -1,14 +1,15 @@
 ghost use Rattle.std.specs.Prelude.{◌≡◌, ◌+◌, ◌-◌, ◌*◌, ◌<◌, ◌≤◌, ℕ, length, map, pos, true, ◌&&◌, ◌≤ℤ◌, ◌+ℤ◌, neg_ℤ};
 ghost use Rattle.sf_base.specs.Paint.{painted};
+ghost use Rattle.sf_compose.specs.Bands.{HasRows, IsInBand};
 ghost use Rattle.sf_compose.specs.Painting.{is_in_area, Paints, PaintsSpan};
 ghost use Rattle.sf_compose.specs.Readings.{AreReadable, IsReadable, under_drawn, under_one};
-ghost use Rattle.sf_compose.specs.Sources.{LiesIn};
 ghost use Rattle.sf_picture.specs.Pixels.{pixel_at};
-ghost use Rattle.sf_base.specs.Geometry.{is_within};
+ghost use Rattle.sf_base.specs.Geometry.{is_within, LiesWithin};
 ghost use Rattle.sf_view.specs.Contents.{is_in_content, source_of, unsigned};
 ghost use Rattle.sf_view.specs.Views.{is_in_clip};
 
 use crate::area::{Area, cut};
+use crate::band::{Band, row_start};
 use crate::contents::read;
 use crate::pixels::Pixels;
 use crate::spans::{paint_colour, paint_pixels};
@@ -17,16 +18,16 @@ use sf_picture::Painted;
 use sf_view::{Content, Drawn, View};
 
 // Paints a colour over an area.
-pub fn paint_area(frame: &mut [u8], width: u32, area: Area, colour: Rgba, alpha: u8)
-    requires wide { area.right ≤ width }
-    requires room { 4 * (area.bottom * width) ≤ length frame.old }
-    ensures { Paints width (is_in_area area) (λ x y under. painted under colour alpha) frame.old frame.new }
+pub fn paint_area(frame: &mut [u8], band: Band, area: Area, colour: Rgba, alpha: u8)
+    requires within { IsInBand band area }
+    requires room { HasRows band frame.old }
+    ensures { Paints band.width band.top (is_in_area area) (λ x y under. painted under colour alpha) frame.old frame.new }
 {
     if area.left >= area.right || area.top >= area.bottom {
         return;
     }
     for y in area.top..area.bottom {
-        let row = y as usize * width as usize;
+        let row = row_start(band, y);
         paint_colour(
             frame,
             row + area.left as usize,
@@ -55,31 +56,30 @@ fn coordinate(at: u32, place: i32, edge: i32) -> usize
     (i64::from(at) - i64::from(place) + i64::from(edge)) as usize
 }
 
-// Paints the points of a row from one on and before another.
+// Paints the points of a row from one on and before another, where the row starts at a pixel of the frame.
 fn paint_crop_row(
     picture: &Painted,
     crop: Crop,
     frame: &mut [u8],
-    width: u32,
+    start: usize,
     y: u32,
     left: u32,
     right: u32,
 )
-    requires crop { LiesIn picture.now crop.rect }
+    requires crop { LiesWithin crop.rect picture.now.width picture.now.height }
     requires ordered { left < right }
     requires first { is_within crop.place.0 crop.rect.width (pos left) ≡ true }
     requires last { is_within crop.place.0 crop.rect.width (pos (right - 1)) ≡ true }
     requires down { is_within crop.place.1 crop.rect.height (pos y) ≡ true }
-    requires room { 4 * (y * width + right) ≤ length frame.old }
-    ensures { PaintsSpan frame.old frame.new (y * width + left) (y * width + right) (λ i under.
+    requires room { 4 * (start + right) ≤ length frame.old }
+    ensures { PaintsSpan frame.old frame.new (start + left) (start + right) (λ i under.
         painted under (source_of crop.opaque (pixel_at picture.now
-        (unsigned ((pos (i - y * width) +ℤ neg_ℤ crop.place.0) +ℤ crop.rect.x))
+        (unsigned ((pos (i - start) +ℤ neg_ℤ crop.place.0) +ℤ crop.rect.x))
         (unsigned ((pos y +ℤ neg_ℤ crop.place.1) +ℤ crop.rect.y)))) crop.alpha) }
 {
     let column = coordinate(left, crop.place.0, crop.rect.x);
     let row = coordinate(y, crop.place.1, crop.rect.y);
     let from = row * picture.picture().width as usize + column;
-    let start = y as usize * width as usize;
     paint_pixels(
         frame,
         start + left as usize,
@@ -92,13 +92,13 @@ fn paint_crop_row(
 }
 
 // Paints a crop over an area that it covers.
-fn paint_crop(picture: &Painted, crop: Crop, frame: &mut [u8], width: u32, area: Area)
-    requires crop { LiesIn picture.now crop.rect }
+fn paint_crop(picture: &Painted, crop: Crop, frame: &mut [u8], band: Band, area: Area)
+    requires crop { LiesWithin crop.rect picture.now.width picture.now.height }
     requires inside { (x y : ℕ) → is_in_area area x y ≡ true
         → (is_within crop.place.0 crop.rect.width (pos x) && is_within crop.place.1 crop.rect.height (pos y)) ≡ true }
-    requires wide { area.right ≤ width }
-    requires room { 4 * (area.bottom * width) ≤ length frame.old }
-    ensures { Paints width (is_in_area area) (λ x y under.
+    requires within { IsInBand band area }
+    requires room { HasRows band frame.old }
+    ensures { Paints band.width band.top (is_in_area area) (λ x y under.
         painted under (source_of crop.opaque (pixel_at picture.now
         (unsigned ((pos x +ℤ neg_ℤ crop.place.0) +ℤ crop.rect.x))
         (unsigned ((pos y +ℤ neg_ℤ crop.place.1) +ℤ crop.rect.y)))) crop.alpha) frame.old frame.new }
@@ -107,7 +107,8 @@ fn paint_crop(picture: &Painted, crop: Crop, frame: &mut [u8], width: u32, area:
         return;
     }
     for y in area.top..area.bottom {
-        paint_crop_row(picture, crop, frame, width, y, area.left, area.right);
+        let row = row_start(band, y);
+        paint_crop_row(picture, crop, frame, row, y, area.left, area.right);
     }
 }
 
@@ -128,23 +129,23 @@ pub fn paint_layer<C: Pixels>(
     contents: &[C],
     source: u32,
     frame: &mut [u8],
-    width: u32,
+    band: Band,
     area: Area,
 )
     requires readable { IsReadable (map C.picture contents.now) drawn.now.content source }
     requires upright { drawn.now.orient ≡ 0 }
     requires inside { (x y : ℕ) → is_in_clip drawn.now (pos x) (pos y) ≡ true →
         is_in_content drawn.now.content drawn.now.orient drawn.now.place (pos x) (pos y) ≡ true }
-    requires wide { area.right ≤ width }
-    requires room { 4 * (area.bottom * width) ≤ length frame.old }
-    ensures { Paints width (is_in_area area) (λ x y under.
+    requires within { IsInBand band area }
+    requires room { HasRows band frame.old }
+    ensures { Paints band.width band.top (is_in_area area) (λ x y under.
         under_one (map C.picture contents.now) (pos x) (pos y) under drawn.now source) frame.old frame.new }
 {
     let area = cut(area, &drawn.clip);
     match drawn.content {
         Content::Colour(colour) => {
             let colour = seen_colour(colour, drawn.opaque);
-            paint_area(frame, width, area, colour, drawn.alpha);
+            paint_area(frame, band, area, colour, drawn.alpha);
         }
         Content::Buffer(shown) => {
             let crop = Crop {
@@ -153,7 +154,7 @@ pub fn paint_layer<C: Pixels>(
                 opaque: drawn.opaque,
                 alpha: drawn.alpha,
             };
-            paint_crop(read(contents, source), crop, frame, width, area);
+            paint_crop(read(contents, source), crop, frame, band, area);
         }
     }
 }
@@ -163,16 +164,17 @@ pub fn paint_layers<C: Pixels>(
     view: &View,
     contents: &[C],
     sources: &[u32],
+    band: Band,
     area: Area,
     frame: &mut [u8],
 )
     requires readable { AreReadable (map C.picture contents.now) view.now.drawn sources.now }
-    requires wide { area.right ≤ view.now.width }
-    requires room { 4 * (area.bottom * view.now.width) ≤ length frame.old }
-    ensures { Paints view.now.width (is_in_area area) (λ x y under.
+    requires within { IsInBand band area }
+    requires room { HasRows band frame.old }
+    ensures { Paints band.width band.top (is_in_area area) (λ x y under.
         under_drawn (map C.picture contents.now) (pos x) (pos y) under view.now.drawn sources.now) frame.old frame.new }
 {
     for (drawn, source) in view.drawn.as_slice().iter().zip(sources) {
-        paint_layer(drawn, contents, *source, frame, view.width, area);
+        paint_layer(drawn, contents, *source, frame, band, area);
     }
 }

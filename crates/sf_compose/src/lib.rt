@@ -4,18 +4,23 @@
 #![tactic(auto)]
 
 mod area;
-mod compose;
+mod band;
 mod contents;
+mod crew;
 mod ground;
 mod laws;
 mod layer;
+mod one;
 mod pixels;
 mod seen;
 mod spans;
 mod whole;
 
-pub use compose::compose_one;
-pub use laws::{composing_what_differs_gives_the_frame, what_is_read_is_the_image};
+pub use crew::{compose, compose_seen_by};
+pub use laws::{
+    composing_has_one_frame, composing_what_differs_gives_the_frame, what_is_read_is_the_image,
+};
+pub use one::compose_one;
 pub use pixels::Pixels;
 pub use seen::compose_seen;
 pub use whole::compose_frame;

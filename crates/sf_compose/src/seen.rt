@@ -1,5 +1,6 @@
 ghost use Rattle.std.specs.Prelude.{◌≡◌, ◌*◌, ◌≤◌, ◌&&◌, length, map, OnErr, OnOk, pos};
 ghost use Rattle.sf_base.specs.Geometry.{covers};
+ghost use Rattle.sf_compose.specs.Bands.{HasRows, IsInBand};
 ghost use Rattle.sf_compose.specs.Frames.{KeepsRest, Repaints, ShowsPart};
 ghost use Rattle.sf_compose.specs.Painting.{is_in_area, Paints};
 ghost use Rattle.sf_compose.specs.Readings.{AreReadable, IsReadable, read_image, under_drawn, under_one};
@@ -9,6 +10,7 @@ ghost use Rattle.sf_region.specs.Canonical.{IsDisjoint};
 ghost use Rattle.sf_region.specs.Points.{has};
 
 use crate::area::{Area, cut};
+use crate::band::{Band, all_rows, area_of};
 use crate::ground::paint_ground;
 use crate::layer::paint_layer;
 use crate::pixels::Pixels;
@@ -25,19 +27,19 @@ fn paint_parts<C: Pixels>(
     source: u32,
     parts: &[Rect],
     frame: &mut [u8],
-    width: u32,
+    band: Band,
     area: Area,
 )
     requires readable { IsReadable (map C.picture contents.now) drawn.now.content source }
     requires paintable { IsPaintable drawn.now }
     requires disjoint { IsDisjoint parts.now }
-    requires wide { area.right ≤ width }
-    requires room { 4 * (area.bottom * width) ≤ length frame.old }
-    ensures { Paints width (λ x y. is_in_area area x y && has parts.now (pos x) (pos y)) (λ x y under.
+    requires within { IsInBand band area }
+    requires room { HasRows band frame.old }
+    ensures { Paints band.width band.top (λ x y. is_in_area area x y && has parts.now (pos x) (pos y)) (λ x y under.
         under_one (map C.picture contents.now) (pos x) (pos y) under drawn.now source) frame.old frame.new }
 {
     for part in parts {
-        paint_layer(drawn, contents, source, frame, width, cut(area, part));
+        paint_layer(drawn, contents, source, frame, band, cut(area, part));
     }
 }
 
@@ -48,15 +50,15 @@ fn paint_seen<C: Pixels>(
     sources: &[u32],
     shows: &[Region],
     frame: &mut [u8],
-    width: u32,
+    band: Band,
     area: Area,
 )
     requires readable { AreReadable (map C.picture contents.now) layers.now sources.now }
     requires paintable { ArePaintable layers.now }
     requires visible { AreVisible layers.now shows.now }
-    requires wide { area.right ≤ width }
-    requires room { 4 * (area.bottom * width) ≤ length frame.old }
-    ensures { Paints width (is_in_area area) (λ x y under.
+    requires within { IsInBand band area }
+    requires room { HasRows band frame.old }
+    ensures { Paints band.width band.top (is_in_area area) (λ x y under.
         under_drawn (map C.picture contents.now) (pos x) (pos y) under layers.now sources.now) frame.old frame.new }
 {
     let [drawn, above @ ..] = layers else {
@@ -68,35 +70,51 @@ fn paint_seen<C: Pixels>(
     let [show, others @ ..] = shows else {
         return;
     };
-    paint_parts(drawn, contents, *source, show.rects(), frame, width, area);
-    paint_seen(above, contents, later, others, frame, width, area);
+    paint_parts(drawn, contents, *source, show.rects(), frame, band, area);
+    paint_seen(above, contents, later, others, frame, band, area);
 }
 
-// Composes the points of the display that lie in a rectangle, of each layer only what shows.
+// Composes the points of a band that lie in a rectangle, of each layer only what shows.
 fn compose_rect_seen<C: Pixels>(
     view: &View,
     contents: &[C],
     sources: &[u32],
     shows: &[Region],
     rect: &Rect,
+    band: Band,
     frame: &mut [u8],
 )
     requires readable { AreReadable (map C.picture contents.now) view.now.drawn sources.now }
     requires visible { AreVisible view.now.drawn shows.now }
-    requires room { length frame.old ≡ 4 * (view.now.width * view.now.height) }
-    ensures { Repaints view.now.width view.now.height (λ x y. covers rect.now (pos x) (pos y))
+    requires room { HasRows band frame.old }
+    ensures { Repaints band.width band.top band.bottom (λ x y. covers rect.now (pos x) (pos y))
         (read_image (map C.picture contents.now) view.now sources.now) frame.old frame.new }
 {
-    let display = Area {
-        left: 0,
-        right: view.width,
-        top: 0,
-        bottom: view.height,
-    };
-    let area = cut(display, rect);
+    let area = cut(area_of(band), rect);
     let layers = view.drawn.as_slice();
-    paint_ground(frame, view.width, area, layers);
-    paint_seen(layers, contents, sources, shows, frame, view.width, area);
+    paint_ground(frame, band, area, layers);
+    paint_seen(layers, contents, sources, shows, frame, band, area);
+}
+
+// Composes the points of a band that lie in a part, of each layer only what shows.
+pub fn compose_band_seen<C: Pixels>(
+    view: &View,
+    contents: &[C],
+    sources: &[u32],
+    shows: &[Region],
+    part: &Region,
+    band: Band,
+    frame: &mut [u8],
+)
+    requires readable { AreReadable (map C.picture contents.now) view.now.drawn sources.now }
+    requires visible { AreVisible view.now.drawn shows.now }
+    requires room { HasRows band frame.old }
+    ensures { Repaints band.width band.top band.bottom (λ x y. has part.now (pos x) (pos y))
+        (read_image (map C.picture contents.now) view.now sources.now) frame.old frame.new }
+{
+    for rect in part.rects() {
+        compose_rect_seen(view, contents, sources, shows, rect, band, frame);
+    }
 }
 
 /// Composes a view into a part of a frame as `compose_one` does, with the same bytes, and paints of
@@ -120,8 +138,6 @@ pub fn compose_seen<C: Pixels>(
     ensures err { OnErr result (frame.new ≡ frame.old) }
     ensures rest { KeepsRest view.now part.now frame.old frame.new }
 {
-    for rect in part.rects() {
-        compose_rect_seen(view, contents, sources, shows, rect, frame);
-    }
+    compose_band_seen(view, contents, sources, shows, part, all_rows(view), frame);
     Ok(())
 }

@@ -3,4 +3,4 @@ mod ListLemmas
 mod MeetingLemmas
 mod SplitLemmas
 mod StackLemmas
-mod VisibleLemmas
+pub mod VisibleLemmas

@@ -16,11 +16,11 @@ use Rattle.sf_damage.specs.Visible.{hides_all, hides_at, over_one, seen_over}
 cover-whole : (a : ℕ) → a ≡ 255 → 255 - (a * 255 + 127) / 255 ≡ 0
 cover-whole a e = rw e refl
 
-nothing-left : (x : ℕ) → (x * 0 + 127) / 255 ≡ 0
+pub nothing-left : (x : ℕ) → (x * 0 + 127) / 255 ≡ 0
 nothing-left x = let none : x * 0 ≡ 0 = omega arith in rw none refl
 
 -- a pixel of whole alpha leaves nothing of what it is painted over
-painted-solid : (under other source : Rgba) → source.a ≡ 255 → painted under source 255 ≡ painted other source 255
+pub painted-solid : (under other source : Rgba) → source.a ≡ 255 → painted under source 255 ≡ painted other source 255
 unfolding painted blended product
 painted-solid under other source solid =
     rw (cover-whole source.a solid, nothing-left under.r, nothing-left under.g, nothing-left under.b, nothing-left under.a, nothing-left other.r, nothing-left other.g, nothing-left other.b, nothing-left other.a) refl

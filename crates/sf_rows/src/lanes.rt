@@ -1,4 +1,4 @@
-ghost use Rattle.std.specs.Prelude.{◌≡◌, ℕ, ◌+◌, ◌-◌, ◌*◌, ◌/◌, ◌<◌, ◌≤◌, length, slice_index};
+ghost use Rattle.std.specs.Prelude.{◌≡◌, ℕ, ◌+◌, ◌-◌, ◌*◌, ◌/◌, ◌<◌, ◌≤◌, length, List, slice_index, IsTrue};
 ghost use Rattle.std.specs.Simd.Lanes.{zip2, Each1};
 ghost use Rattle.sf_base.specs.Blend.{product};
 ghost use Rattle.sf_rows.specs.Channels.{capped_sum, mix, row_channel, alpha_place};
@@ -76,6 +76,7 @@ fn capped_sums(a: u8x16, b: u8x16) -> u8x16
 #[inline(always)]
 fn left_by_alphas(a: u8x16) -> u16x8
     ensures each { (j : ℕ) → j < 8 → slice_index result j ≡ 255 - slice_index a (alpha_place (2 * j)) }
+    ensures len { length result ≡ 8 }
     ensures small { Each1 (λ x. x ≤ 255) result }
 {
     u16x8::splat(255) - odd_channels(a).swizzle([1, 1, 3, 3, 5, 5, 7, 7])
@@ -98,6 +99,24 @@ pub fn four_whole_pixels(dst: u8x16, src: u8x16) -> u8x16
     ensures len { length result ≡ 16 }
 {
     capped_sums(src, scaled(dst, left_by_alphas(src)))
+}
+
+/// Whether nothing is left of what four pixels cover.
+#[inline(always)]
+fn leaves_nothing(left: u16x8) -> bool
+    requires { length left ≡ 8 }
+    ensures { IsTrue result → (j : ℕ) → j < 8 → slice_index left j ≡ 0 }
+{
+    left.simd_ne(u16x8::splat(0)).to_bitmask() == 0
+}
+
+/// Whether four pixels of sources, with no alpha of a layer, are what they make of any four pixels
+/// that they cover: their own alphas are 255.
+#[inline(always)]
+pub fn are_solid(src: u8x16) -> bool
+    ensures { IsTrue result → (dst : List ℕ) (k : ℕ) → k < 16 → slice_index src k ≡ row_channel dst src 255 k }
+{
+    leaves_nothing(left_by_alphas(src))
 }
 
 /// The sources with alphas of 255.

@@ -17,11 +17,11 @@ paint_crop-requires-clause-inside g c = λ x y t.
 pub returns-in-Colour : goal.returns-in-Colour
 unfolding covers
 returns-in-Colour g c =
-    Paints-one c.args.width c.cut-area.result c.args.area (map g.C.Pixels.picture c.args.contents.now) c.args.drawn.now c.args.source _ _ _ c.paint_area.ensures c.cut-area.ensures.points
+    Paints-one c.args.band.width c.args.band.top c.cut-area.result c.args.area (map g.C.Pixels.picture c.args.contents.now) c.args.drawn.now c.args.source _ _ _ c.paint_area.ensures c.cut-area.ensures.points
     (λ x y under t. ap (λ (pixel : Rgba). painted under pixel c.args.drawn.now.alpha) (c.seen_colour-colour.ensures ∙ colour_pixel (map g.C.Pixels.picture c.args.contents.now) c.args.drawn.now c.in-Colour.colour c.args.source (pos x) (pos y) c.in-Colour.is))
 
 pub returns-in-Buffer : goal.returns-in-Buffer
 unfolding covers
 returns-in-Buffer g c =
-    Paints-one c.args.width c.cut-area.result c.args.area (map g.C.Pixels.picture c.args.contents.now) c.args.drawn.now c.args.source _ _ _ c.paint_crop.ensures c.cut-area.ensures.points
+    Paints-one c.args.band.width c.args.band.top c.cut-area.result c.args.area (map g.C.Pixels.picture c.args.contents.now) c.args.drawn.now c.args.source _ _ _ c.paint_crop.ensures c.cut-area.ensures.points
     (λ x y under t. ap (λ (pixel : Rgba). painted under pixel c.args.drawn.now.alpha) (upright_pixel (map g.C.Pixels.picture c.args.contents.now) c.args.drawn.now c.in-Buffer.shown c.args.source c.read.result.now (pos x) (pos y) c.in-Buffer.is c.requires.upright c.read.ensures))

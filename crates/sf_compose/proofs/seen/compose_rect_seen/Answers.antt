@@ -1,25 +1,22 @@
-use Rattle.std.proofs.Common.{◌≡◌, ℕ, ◌<◌, ◌∙◌, true, List, map, pos, ap, sym, subst, arith}
+use Rattle.std.proofs.Common.{◌≡◌, ◌∙◌, List, map, pos, ap, sym, subst}
 use Rattle.sf_base.specs.Geometry.{covers}
 use Rattle.sf_view.specs.Views.{ViewOf}
 use Rattle.sf_view.specs.declared.drawn.Drawn.{Drawn}
-use Rattle.sf_compose.specs.Frames.{is_in_box}
 use Rattle.sf_compose.specs.Ground.{ground_under}
 use Rattle.sf_compose.specs.Painting.{is_in_area, Paints}
 use Rattle.sf_compose.specs.Readings.{read_image, under_drawn}
 use Rattle.sf_compose.proofs.GroundLemmas.{ground_enough}
-use Rattle.sf_compose.proofs.PaintLemmas.{its_point, Repaints-paints}
+use Rattle.sf_compose.proofs.PaintLemmas.{Repaints-paints}
 use Rattle.sf_compose.proofs.seen.compose_rect_seen.Goals as goal
 
 pub returns : goal.returns
 unfolding covers read_image
 returns g c =
-    let width : c.view.inside.width ≡ c.args.view.now.width = ap (λ (v : ViewOf). v.width) c.view.view_is in
-    let height : c.view.inside.height ≡ c.args.view.now.height = ap (λ (v : ViewOf). v.height) c.view.view_is in
     let layers : c.as_slice-layers.result.now ≡ c.args.view.now.drawn = c.as_slice-layers.ensures ∙ ap (λ (v : ViewOf). v.drawn) c.view.view_is in
-    let ground : Paints c.view.inside.width (is_in_area c.cut-area.result) (λ x y under. ground_under c.cut-area.result c.args.view.now.drawn under) c.args.frame.now c.paint_ground.new.frame = subst (λ (drawn : List Drawn). Paints c.view.inside.width (is_in_area c.cut-area.result) (λ x y under. ground_under c.cut-area.result drawn under) c.args.frame.now c.paint_ground.new.frame) layers c.paint_ground.ensures in
-    let seen : Paints c.view.inside.width (is_in_area c.cut-area.result) (λ x y under. under_drawn (map g.C.Pixels.picture c.args.contents.now) (pos x) (pos y) under c.args.view.now.drawn c.args.sources.now) c.paint_ground.new.frame c.paint_seen.new.frame = subst (λ (drawn : List Drawn). Paints c.view.inside.width (is_in_area c.cut-area.result) (λ x y under. under_drawn (map g.C.Pixels.picture c.args.contents.now) (pos x) (pos y) under drawn c.args.sources.now) c.paint_ground.new.frame c.paint_seen.new.frame) layers c.paint_seen.ensures in
-    Repaints-paints _ _ (is_in_area c.cut-area.result) _ _ _ _ _ _ _ _ width ground (subst (λ (w : ℕ). Paints w (is_in_area c.cut-area.result) (λ x y under. under_drawn (map g.C.Pixels.picture c.args.contents.now) (pos x) (pos y) under c.args.view.now.drawn c.args.sources.now) c.paint_ground.new.frame c.paint_seen.new.frame) width seen)
-    (λ x y wide high.
-    let shown : is_in_box 0 c.view.inside.width 0 c.view.inside.height x y ≡ true = its_point 0 c.view.inside.width 0 c.view.inside.height x y (omega arith) (subst (λ (w : ℕ). x < w) (sym width) wide) (omega arith) (subst (λ (h : ℕ). y < h) (sym height) high) in
-    sym (rw shown at (c.cut-area.ensures.points x y)))
+    let ground : Paints c.args.band.width c.args.band.top (is_in_area c.cut-area.result) (λ x y under. ground_under c.cut-area.result c.args.view.now.drawn under) c.args.frame.now c.paint_ground.new.frame =
+    subst (λ (drawn : List Drawn). Paints c.args.band.width c.args.band.top (is_in_area c.cut-area.result) (λ x y under. ground_under c.cut-area.result drawn under) c.args.frame.now c.paint_ground.new.frame) layers c.paint_ground.ensures in
+    let seen : Paints c.args.band.width c.args.band.top (is_in_area c.cut-area.result) (λ x y under. under_drawn (map g.C.Pixels.picture c.args.contents.now) (pos x) (pos y) under c.args.view.now.drawn c.args.sources.now) c.paint_ground.new.frame c.paint_seen.new.frame =
+    subst (λ (drawn : List Drawn). Paints c.args.band.width c.args.band.top (is_in_area c.cut-area.result) (λ x y under. under_drawn (map g.C.Pixels.picture c.args.contents.now) (pos x) (pos y) under drawn c.args.sources.now) c.paint_ground.new.frame c.paint_seen.new.frame) layers c.paint_seen.ensures in
+    Repaints-paints _ _ _ (is_in_area c.cut-area.result) _ _ _ _ _ _ _ ground seen
+    (λ x y wide low high. sym (rw (c.area_of.ensures.points x y wide low high) at (c.cut-area.ensures.points x y)))
     (λ x y under t. ground_enough (map g.C.Pixels.picture c.args.contents.now) c.cut-area.result c.args.view.now.drawn c.args.sources.now x y under c.requires.readable t)

@@ -1,9 +1,9 @@
 use Rattle.std.proofs.Common.{◌+◌, ◌≤◌, length, refl, arith}
-use Rattle.sf_rows.proofs.RowLemmas.{pixels_none, pixels_more, channel_at}
+use Rattle.sf_rows.proofs.RowLemmas.{pixels_more, channel_at}
 use Rattle.sf_rows.proofs.row.row_whole_blocks.Goals as goal
 
 pub loop-dst-init : goal.loop-dst-init
-loop-dst-init c = pixels_none _ _
+loop-dst-init c = c.row_solid_blocks-at.ensures
 
 pub loop-dst-preserved : goal.loop-dst-preserved
 loop-dst-preserved c =

@@ -1,9 +1,12 @@
 ghost use Rattle.std.specs.Prelude.{◌≡◌, ◌*◌, length, map, OnErr, OnOk, pos};
 ghost use Rattle.sf_base.specs.Geometry.{covers};
+ghost use Rattle.sf_compose.specs.Bands.{HasRows};
 ghost use Rattle.sf_compose.specs.Frames.{KeepsRest, Repaints, ShowsPart};
 ghost use Rattle.sf_compose.specs.Readings.{AreReadable, read_image};
+ghost use Rattle.sf_region.specs.Points.{has};
 
-use crate::area::{Area, cut};
+use crate::area::cut;
+use crate::band::{Band, all_rows, area_of};
 use crate::ground::paint_ground;
 use crate::layer::paint_layers;
 use crate::pixels::Pixels;
@@ -40,32 +43,44 @@ pub fn compose_one<C: Pixels>(
     ensures err { OnErr result (frame.new ≡ frame.old) }
     ensures rest { KeepsRest view.now part.now frame.old frame.new }
 {
-    for rect in part.rects() {
-        compose_rect(view, contents, sources, rect, frame);
-    }
+    compose_band(view, contents, sources, part, all_rows(view), frame);
     Ok(())
 }
 
-// Composes the points of the display that lie in a rectangle.
+// Composes the points of a band that lie in a part.
+pub fn compose_band<C: Pixels>(
+    view: &View,
+    contents: &[C],
+    sources: &[u32],
+    part: &Region,
+    band: Band,
+    frame: &mut [u8],
+)
+    requires readable { AreReadable (map C.picture contents.now) view.now.drawn sources.now }
+    requires room { HasRows band frame.old }
+    ensures { Repaints band.width band.top band.bottom (λ x y. has part.now (pos x) (pos y))
+        (read_image (map C.picture contents.now) view.now sources.now) frame.old frame.new }
+{
+    for rect in part.rects() {
+        compose_rect(view, contents, sources, rect, band, frame);
+    }
+}
+
+// Composes the points of a band that lie in a rectangle.
 pub fn compose_rect<C: Pixels>(
     view: &View,
     contents: &[C],
     sources: &[u32],
     rect: &Rect,
+    band: Band,
     frame: &mut [u8],
 )
     requires readable { AreReadable (map C.picture contents.now) view.now.drawn sources.now }
-    requires room { length frame.old ≡ 4 * (view.now.width * view.now.height) }
-    ensures { Repaints view.now.width view.now.height (λ x y. covers rect.now (pos x) (pos y))
+    requires room { HasRows band frame.old }
+    ensures { Repaints band.width band.top band.bottom (λ x y. covers rect.now (pos x) (pos y))
         (read_image (map C.picture contents.now) view.now sources.now) frame.old frame.new }
 {
-    let display = Area {
-        left: 0,
-        right: view.width,
-        top: 0,
-        bottom: view.height,
-    };
-    let area = cut(display, rect);
-    paint_ground(frame, view.width, area, view.drawn.as_slice());
-    paint_layers(view, contents, sources, area, frame);
+    let area = cut(area_of(band), rect);
+    paint_ground(frame, band, area, view.drawn.as_slice());
+    paint_layers(view, contents, sources, band, area, frame);
 }

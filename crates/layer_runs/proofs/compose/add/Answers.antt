@@ -1,7 +1,7 @@
 use Rattle.std.proofs.Common.{◌∙◌, ap}
 use Rattle.sf_view.specs.Views.{ViewOf}
 use Rattle.layer_runs.proofs.Reading.{readable}
-use Rattle.layer_runs.proofs.compose.composed.Goals as goal
+use Rattle.layer_runs.proofs.compose.add.Goals as goal
 
 pub compose_one-requires-clause-readable : goal.compose_one-requires-clause-readable
 compose_one-requires-clause-readable c =

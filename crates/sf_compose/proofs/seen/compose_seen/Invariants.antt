@@ -1,8 +1,0 @@
-use Rattle.std.proofs.Common.{map, take, pos}
-use Rattle.sf_region.specs.Points.{has}
-use Rattle.sf_compose.specs.Frames.{Repaints}
-use Rattle.sf_compose.specs.Readings.{read_image}
-use Rattle.sf_compose.proofs.seen.compose_seen.Given as goal
-
-abbrev pub invariant-loop-rect : goal.invariant-loop-rect
-invariant-loop-rect g l = Repaints l.view.width l.view.height (λ x y. has (take l.rect-index l.part) (pos x) (pos y)) (read_image (map g.C.Pixels.picture l.contents) l.view l.sources) l.fn.frame l.frame
