@@ -4,7 +4,7 @@ use Rattle.std.specs.Prelude.{◌==◌, if◌then◌else◌, is_none}
 use Rattle.std.specs.List.{All, find, list_any}
 use Rattle.std.specs.Option.{IsSome, is_some, option_map, option_or, unwrap_or}
 use Rattle.std.proofs.lemmas.Bool.{eqb-true}
-use Rattle.std.proofs.lemmas.List.Elements.{All-cons, All-head, All-tail}
+use Rattle.std.proofs.lemmas.List.Elements.{All-append, All-cons, All-head, All-nil, All-tail}
 use Rattle.std.proofs.lemmas.List.Folds.{list_any-append}
 use Rattle.std.proofs.lemmas.Option.{none-some}
 use Rattle.sf_base.specs.declared.fences.Seen.{Seen}
@@ -19,7 +19,7 @@ use Rattle.sf_token.specs.declared.looks.Looks.{Looks}
 use Rattle.sf_tree.specs.Changes.{after}
 use Rattle.sf_txn.specs.Buffers.{Buffer}
 use Rattle.sf_txn.specs.Transactions.{Contents, without_first}
-use Rattle.sf_commit.specs.Deciding.{Comes, CommitsOne, DecidesSame, Goes, IsState, round_of}
+use Rattle.sf_commit.specs.Deciding.{Comes, CommitsOne, DecidesSame, Goes, IsState, ShowsIts, round_of}
 use Rattle.sf_commit.specs.Inside.{Notes}
 use Rattle.sf_commit.specs.Next.{IsLookedAt, IsNextToken}
 use Rattle.sf_commit.specs.Rounds.{Decided, IsNext, Leads, Round, StageOf, committed, facts_of, frames_in, head_hold, layers_in, pressed_in, ready_if, ready_of, shown_if, stage_after}
@@ -36,7 +36,7 @@ module _ {L : Type 0} where
       λ i. option_map (λ (buffer : Buffer L). hold.Pressure buffer.layer) (find (λ buffer. f buffer.layer i && p buffer.layer i) buffers)
 
   -- the same facts hold the same transactions
-  hold_same : (txn : Contents L) (drawn : List Bool) (f g : FactsOf) (seen : Seen) (expected : ℕ) → DecidesSame f g → hold_of txn drawn f seen expected ≡ hold_of txn drawn g seen expected
+  pub hold_same : (txn : Contents L) (drawn : List Bool) (f g : FactsOf) (seen : Seen) (expected : ℕ) → DecidesSame f g → hold_of txn drawn f seen expected ≡ hold_of txn drawn g seen expected
   unfolding hold_of
   hold_same txn drawn f g seen expected same =
       λ i. option_or (time_hold txn.desired expected)
@@ -160,6 +160,7 @@ module _ {L : Type 0} (drawn : L → Bool) (seen : Seen) (expected : ℕ) where
         reached = committed r h.first;
         taken = goes.taken ++ h.first ∷ [];
         leads = leads_on drawn seen expected begun r goes.taken h.first goes.leads is_next;
+        shows = All-append ShowsIts goes.taken (h.first ∷ []) goes.shows (All-cons ShowsIts h.first [] (commits h.first h.head).shows (All-nil ShowsIts));
         state = state_after stage later pending facts noted token r h.first goes.state h.token_is (commits h.first h.head);
         looked = all_left (IsLookedAt drawn looks) (is_of token) pending goes.looked;
       }
@@ -174,6 +175,7 @@ module _ {L : Type 0} (drawn : L → Bool) (seen : Seen) (expected : ℕ) where
     reached = round_of stage pending facts;
     taken = [];
     leads = refl;
+    shows = All-nil ShowsIts;
     state = record { made = refl; waits = refl; same = record { frames = λ _. refl; fresh = λ _. refl; pressed = pressed } };
     looked = looked;
   }
@@ -184,5 +186,6 @@ module _ {L : Type 0} (drawn : L → Bool) (seen : Seen) (expected : ℕ) where
   ends begun looks stage pending facts goes none = record {
     end = goes.reached;
     decided = record { taken = goes.taken; leads = goes.leads; rests = λ t. sym (alike stage pending facts goes.reached goes.state t) ∙ none t };
+    shows = goes.shows;
     state = goes.state;
   }

@@ -13,11 +13,11 @@ use Rattle.sf_txn.specs.declared.lease.Lease.{Ghosts}
 use Rattle.sf_base.specs.declared.ids.LayerId.{LayerId}
 use Rattle.sf_view.specs.declared.drawn.Drawn.{Drawn}
 use Rattle.sf_commit.specs.Handlers.{last_of, source_of}
-use Rattle.sf_commit.specs.Next.{IsLookedAt, drawn_for}
+use Rattle.sf_commit.specs.Next.{AreRising, IsLookedAt, drawn_for}
 use Rattle.sf_commit.specs.OnLayers.{OnLayer, is_on, shown_on}
 
 module _ {L : Type 0} where
-  lower : (less before last : ℕ) (xs : List (Arrival L)) → less ≤ before → IsRisingFrom before xs last → IsRisingFrom less xs last
+  pub lower : (less before last : ℕ) (xs : List (Arrival L)) → less ≤ before → IsRisingFrom before xs last → IsRisingFrom less xs last
   lower less before last [] l h = omega (arith, l, h)
   lower less before last (x ∷ xs) l h = (omega (arith, l, h.0), h.1)
 
@@ -48,6 +48,11 @@ module _ {L E R C : Type 0} (lease : Ghosts L E R C) where
       by_test : (b : Bool) → (x.number == a.number) ≡ b → drawn_for (looks_at lease x ∷ looks) a.number ≡ map (λ buffer. lease.shown buffer.lease) a.txn.buffers
       by_test true e = absurd (omega (arith, less, eqb-true x.number a.number e))
       by_test false e = rw e is.same
+
+  -- looks at transactions whose numbers rise have rising numbers
+  pub looks_rise : (before last : ℕ) (pending : List (Arrival L)) → IsRisingFrom before pending last → AreRising before (looks_of lease pending)
+  looks_rise before last [] h = tt
+  looks_rise before last (x ∷ xs) h = (h.0, looks_rise x.number last xs h.1)
 
   -- the looks at transactions whose numbers rise are found by their numbers
   pub looked_all : (before last : ℕ) (pending : List (Arrival L)) → IsRisingFrom before pending last → All (IsLookedAt lease.shown (looks_of lease pending)) pending

@@ -18,6 +18,7 @@ use Rattle.sf_txn.specs.declared.lease.Lease.{Ghosts}
 use Rattle.sf_token.specs.Looking.{IsLookedArrival, looks_at, looks_of}
 use Rattle.sf_token.specs.Pending.{Arrival, IsRisingFrom, has_number, is_of}
 use Rattle.sf_token.specs.declared.looks.Looks.{Looks}
+use Rattle.sf_commit.proofs.DecideLemmas.{hold_same}
 use Rattle.sf_commit.specs.Deciding.{Comes, DecidesSame, IsState}
 use Rattle.sf_commit.specs.Holding.{AreLooks, IsPart, held_of, is_first, told_in}
 use Rattle.sf_commit.specs.Next.{IsLookedAt}
@@ -230,26 +231,10 @@ module _ {L E R C : Type 0} (lease : Ghosts L E R C) where
       (looks_along lease.shown seen expected looks begun comes.end comes.decided.taken comes.decided.leads are)
 
 module _ {L : Type 0} (drawn : L → Bool) (seen : Seen) (expected : ℕ) where
-  -- the same facts hold the same, each for the same reason
-  hold_alike : (txn : Contents L) (flags : List Bool) (f g : FactsOf) → DecidesSame f g → hold_of txn flags f seen expected ≡ hold_of txn flags g seen expected
-  unfolding hold_of
-  hold_alike txn flags f g same =
-      λ i. option_or (time_hold txn.desired expected)
-      (option_or (fence_hold txn.buffers seen)
-      (option_or (undrawn_hold txn.buffers flags)
-      (option_or (option_map (λ (barrier : LayerId × ℕ). hold.Barrier barrier.0 barrier.1) (find (λ barrier. not (same.frames barrier i)) txn.barriers))
-      (pressed txn.desired i))))
-    where
-      pressed : (desired : Option ℕ) → pressure_hold desired txn.buffers f.fresh f.pressed ≡ pressure_hold desired txn.buffers g.fresh g.pressed
-      pressed (Some time) = refl
-      pressed None =
-          λ i. option_map (λ (buffer : Buffer L). hold.Pressure buffer.layer)
-          (find (λ buffer. same.fresh buffer.layer i && same.pressed buffer.layer i) txn.buffers)
-
   -- the facts in memory tell what waits at the end of the deciding
   pub held_is : (stage : StageOf L) (pending : List (Arrival L)) (facts : FactsOf) (r : Round L) → IsState stage pending facts r
       → held_of drawn seen expected facts pending ≡ held drawn seen expected r
   held_is stage pending facts r state =
-      let same = λ (a : Arrival L). hold_alike a.txn (map (λ (b : Buffer L). drawn b.lease) a.txn.buffers) facts (facts_of r) state.same in
+      let same = λ (a : Arrival L). hold_same a.txn (map (λ (b : Buffer L). drawn b.lease) a.txn.buffers) facts (facts_of r) seen expected state.same in
       (λ i. filter_map (λ (a : Arrival L). option_map (λ h. (a.number, h)) (if is_first pending a then same a i else Some hold.Behind)) pending)
       ∙ ap (held_of drawn seen expected (facts_of r)) state.waits

@@ -9,3 +9,5 @@ pub mod NextLemmas
 pub mod SettleLemmas
 pub mod StandingAlong
 pub mod StandingLemmas
+pub mod VsyncLemmas
+pub mod SearchLemmas

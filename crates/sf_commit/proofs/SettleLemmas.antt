@@ -2,11 +2,11 @@
 use Rattle.std.proofs.Common.{◌≡◌, ℕ, List, [], ◌∷◌, ◌++◌, map, refl, ap, sym, ◌∙◌, subst}
 use Rattle.std.specs.List.{All, AllZip}
 use Rattle.std.proofs.lemmas.List.{append-nil, append_assoc}
-use Rattle.std.proofs.lemmas.List.Elements.{All-tail, All-weaker}
+use Rattle.std.proofs.lemmas.List.Elements.{All-append, All-cons, All-nil, All-tail, All-weaker}
 use Rattle.sf_picture.specs.declared.picture.Picture.{Picture}
 use Rattle.sf_txn.specs.Leases.{IsEyeAfter}
 use Rattle.sf_txn.specs.declared.lease.Lease.{Ghosts}
-use Rattle.sf_commit.specs.Leases.{AllOn, IsKnownOn, IsReleaseOf, ended_by, ends_of, pictures}
+use Rattle.sf_commit.specs.Leases.{AllOn, IsKnownOn, IsReleaseOf, ShowsLease, ended_by, ends_of, pictures}
 use Rattle.sf_commit.specs.OnLayers.{OnLayer, shown_on}
 use Rattle.sf_commit.specs.Releases.{ReleaseOf}
 
@@ -66,6 +66,7 @@ module _ {L E R C : Type 0} (lease : Ghosts L E R C) where
   pub record Opened (on : List (OnLayer L)) (first made : List (OnLayer L) × List Picture) (rest : List (OnLayer L)) (old now : E) : Type 0 where
     pub reads : made.0 ++ map shown_on rest ≡ first.0 ++ map shown_on on
     pub shows : made.1 ++ pictures lease rest ≡ first.1 ++ pictures lease on
+    pub crops : All (ShowsLease lease) first.0 → All (ShowsLease lease) made.0
     pub eye : IsEyeAfter lease old now []
     pub fits : AllOn (lease.fits (lease.mark now)) rest
     pub known : All (IsKnownOn lease now) rest
@@ -75,17 +76,19 @@ module _ {L E R C : Type 0} (lease : Ghosts L E R C) where
   opened_none on first eye fits known = record {
     reads = refl;
     shows = refl;
+    crops = λ all. all;
     eye = record { mark = refl; ends = sym (append-nil (lease.ends eye)); keeps = λ l knows. knows };
     fits = fits;
     known = known;
   }
 
   pub opened_more : (on rest : List (OnLayer L)) (first : List (OnLayer L) × List Picture) (readings : List (OnLayer L)) (contents : List Picture) (one : OnLayer L) (old now next : E)
-      → Opened on first (readings, contents) (one ∷ rest) old now → IsEyeAfter lease now next []
+      → Opened on first (readings, contents) (one ∷ rest) old now → IsEyeAfter lease now next [] → ShowsLease lease (shown_on one)
       → Opened on first (readings ++ shown_on one ∷ [], contents ++ lease.picture one.lease ∷ []) rest old next
-  opened_more on rest first readings contents one old now next so e = record {
+  opened_more on rest first readings contents one old now next so e crop = record {
     reads = append_assoc readings (shown_on one ∷ []) (map shown_on rest) ∙ so.reads;
     shows = append_assoc contents (lease.picture one.lease ∷ []) (pictures lease rest) ∙ so.shows;
+    crops = λ all. All-append (ShowsLease lease) readings (shown_on one ∷ []) (so.crops all) (All-cons (ShowsLease lease) (shown_on one) [] crop (All-nil (ShowsLease lease)));
     eye = then_after old now next [] [] so.eye e;
     fits = subst (λ m. AllOn (lease.fits m) rest) (sym e.mark) (All-tail (λ (x : OnLayer L). lease.fits (lease.mark now) x.lease) one rest so.fits);
     known = All-weaker (IsKnownOn lease now) (IsKnownOn lease next) (λ x known. record { known = λ unread. e.keeps x.lease (known.known unread) }) rest (All-tail (IsKnownOn lease now) one rest so.known);

@@ -31,6 +31,7 @@ use Rattle.sf_txn.specs.declared.lease.Lease.{Ghosts}
 use Rattle.sf_commit.proofs.DecideLemmas.{all_left}
 use Rattle.sf_commit.proofs.NextLemmas.{found_holds}
 use Rattle.sf_commit.proofs.StandingLemmas.{stands_edited, stands_last, stands_read, stands_shown, stands_without}
+use Rattle.sf_commit.specs.Deciding.{ShowsIts}
 use Rattle.sf_commit.specs.Standing.{Stands, shown_at}
 use Rattle.sf_commit.specs.Handlers.{Decides, HandlerOf, IsOnLayer, begun}
 use Rattle.sf_commit.specs.OnLayers.{OnLayer, brought, on_after, shown_on, without}
@@ -205,35 +206,16 @@ module _ {L : Type 0} where
   stands_with stage a (Ok tree) h e stands = stands_after stage.tree tree a.txn.ops a.txn.buffers stage.on e h stands
   stands_with stage a (Err rejection) h e stands = stands
 
-  -- the operations that show buffers are the buffers
-  abbrev pub ShowsIts : Arrival L → Type 0
-  ShowsIts a = shows a.txn.ops ≡ map shown_by a.txn.buffers
-
-  pub shows_its : (pending : List (Arrival L)) → All (λ (a : Arrival L). IsTransaction a.txn) pending → All ShowsIts pending
-  shows_its pending all = All-weaker (λ (a : Arrival L). IsTransaction a.txn) ShowsIts (λ a is. is.shown) pending all
-
   module _ (drawn : L → Bool) (seen : Seen) (expected : ℕ) where
-    -- what holds of the first of a token holds of what is ready
-    ready_holds : (P : Arrival L → Type 0) (facts : FactsOf) (o : Option (Arrival L)) (a : Arrival L)
-        → ready_if drawn seen expected facts o ≡ Some a → IfSome o P → P a
-    ready_holds P facts None a e h = absurd (none-some a e)
-    ready_holds P facts (Some b) a e h = by_test (is_none (head_hold drawn seen expected facts b)) refl e
-      where
-        by_test : (t : Bool) → is_none (head_hold drawn seen expected facts b) ≡ t → ready_if drawn seen expected facts (Some b) ≡ Some a → P a
-        by_test true k said = subst P (ap (λ o. unwrap_or o b) (rw k at said)) h
-        by_test false k said = absurd (none-some a (rw k at said))
-
-    pub stands_along : (r end : Round L) (taken : List (Arrival L)) → Leads drawn seen expected r taken end → All ShowsIts r.pending
+    pub stands_along : (r end : Round L) (taken : List (Arrival L)) → Leads drawn seen expected r taken end → All ShowsIts taken
         → Stands r.stage.tree.layers r.stage.on → Stands end.stage.tree.layers end.stage.on
     stands_along r end [] leads all stands = subst (λ (x : Round L). Stands x.stage.tree.layers x.stage.on) (sym leads) stands
     stands_along r end (a ∷ later) leads all stands =
-        let first = found_holds ShowsIts (is_of a.txn.token) r.pending all in
-        let is = ready_holds ShowsIts (facts_of r) (head_of a.txn.token r.pending) a leads.0.0 first in
-        stands_along (committed r a) end later leads.1 (all_left ShowsIts (is_of a.txn.token) r.pending all)
-        (stands_with r.stage a (after r.stage.tree a.txn.ops) refl is stands)
+        stands_along (committed r a) end later leads.1 (All-tail ShowsIts a later all)
+        (stands_with r.stage a (after r.stage.tree a.txn.ops) refl (All-head ShowsIts a later all) stands)
 
     -- and at the end of a vsync, when the buffers on layers are read
-    pub stands_decided : (r end : Round L) → Decided drawn seen expected r end → All ShowsIts r.pending → Stands r.stage.tree.layers r.stage.on
+    pub stands_decided : (r end : Round L) → (decided : Decided drawn seen expected r end) → All ShowsIts decided.taken → Stands r.stage.tree.layers r.stage.on
         → Stands end.stage.tree.layers (map shown_on end.stage.on)
     stands_decided r end decided all stands = stands_read end.stage.tree.layers end.stage.on (stands_along r end decided.taken decided.leads all stands)
 
@@ -241,29 +223,3 @@ module _ {L : Type 0} where
   pub stands_on : (layers : List Layer) (on : List (OnLayer L)) → IsDistinct layers → Stands layers on → All (IsOnLayer on) layers
   stands_on layers on distinct stands k d h =
       record { same = ap shown_at (sym (found_itself layers distinct k d h)) ∙ stands.same (get_or layers k d).number }
-
-module _ {L E R C : Type 0} (lease : Ghosts L E R C) where
-  -- looks change nothing of what transactions show
-  looked_same : (olds news : List (Buffer L)) → AllZip (IsLookedBuffer lease) olds news → map shown_by news ≡ map shown_by olds
-  looked_same [] [] looked = refl
-  looked_same [] (new ∷ news) looked = absurd looked
-  looked_same (old ∷ olds) [] looked = absurd looked
-  looked_same (old ∷ olds) (new ∷ news) looked = λ i. (looked.0.layer i, looked.0.shown i) ∷ looked_same olds news looked.1 i
-
-  pub looked_shows : (olds news : List (Arrival L)) → AllZip (IsLookedArrival lease) olds news → All ShowsIts olds → All ShowsIts news
-  looked_shows [] [] looked all = All-nil ShowsIts
-  looked_shows [] (new ∷ news) looked all = absurd looked
-  looked_shows (old ∷ olds) [] looked all = absurd looked
-  looked_shows (old ∷ olds) (new ∷ news) looked all =
-      let ops = ap (λ (txn : Contents L). shows txn.ops) looked.0.rest in
-      All-cons ShowsIts new news (ops ∙ (All-head ShowsIts old olds all ∙ sym (looked_same old.txn.buffers new.txn.buffers looked.0.buffers)))
-      (looked_shows olds news looked.1 (All-tail ShowsIts old olds all))
-
-  -- a vsync keeps that each layer shows its buffer
-  pub stands_vsync : (old new : HandlerOf L) (eye eye' : E) (arrived : List (Arrival L)) (seen : Seen) (expected : ℕ) (told : VsyncOf L)
-      → Decides lease old eye arrived seen expected told new eye' → All ShowsIts (old.pending ++ arrived)
-      → Stands old.tree.layers old.on → Stands new.tree.layers new.on
-  stands_vsync old new eye eye' arrived seen expected told decides all stands =
-      let shows_all = looked_shows (old.pending ++ arrived) decides.looked decides.looks all in
-      subst (λ (h : HandlerOf L). Stands h.tree.layers h.on) (sym decides.settled.state)
-      (stands_decided lease.shown seen expected (begun old decides.looked) decides.end decides.decided shows_all stands)

@@ -1,6 +1,6 @@
 -- What deciding and settling make, as one vsync puts them together.
-use Rattle.std.specs.Prelude.{◌≡◌, ℕ, List, [], ◌++◌, map}
-use Rattle.std.specs.List.{AllZip}
+use Rattle.std.specs.Prelude.{◌≡◌, ℕ, ◌≤◌, List, [], ◌++◌, length, map}
+use Rattle.std.specs.List.{All, AllZip}
 use Rattle.sf_base.specs.declared.fences.Seen.{Seen}
 use Rattle.sf_ready.specs.Facts.{FactsOf, TellsSame}
 use Rattle.sf_ready.specs.declared.hold.Hold.{Hold}
@@ -11,8 +11,9 @@ use Rattle.sf_txn.specs.Leases.{IsEyeAfter, IsShownTo}
 use Rattle.sf_txn.specs.declared.lease.Lease.{Ghosts}
 use Rattle.sf_picture.specs.declared.picture.Picture.{Picture}
 use Rattle.sf_view.specs.Views.{ViewOf, Views}
+use Rattle.sf_commit.specs.Deciding.{ShowsIts}
 use Rattle.sf_commit.specs.Handlers.{last_of, source_of}
-use Rattle.sf_commit.specs.Leases.{IsReleaseOf, ends_of, pictures}
+use Rattle.sf_commit.specs.Leases.{IsReleaseOf, ShowsLease, ends_of, pictures}
 use Rattle.sf_commit.specs.OnLayers.{OnLayer, shown_on}
 use Rattle.sf_commit.specs.Releases.{ReleaseOf}
 use Rattle.sf_commit.specs.Rounds.{Decided, Round, StageOf, held}
@@ -30,6 +31,7 @@ module _ {L E R C : Type 0} (lease : Ghosts L E R C) where
     pub shown : AllLeases (IsShownTo lease eye eye') looked
     pub end : Round L
     pub decided : Decided lease.shown seen expected (begun_with tree on facts.frames looked) end
+    pub shows : All ShowsIts decided.taken
     pub stage_is : stage ≡ end.stage
     pub queues : new ≡ record { pending = end.pending; last = last_of old.last arrived }
     pub frames : TellsSame noted.frames end.frames
@@ -40,6 +42,8 @@ module _ {L E R C : Type 0} (lease : Ghosts L E R C) where
   pub record SettlesAll (stage : StageOf L) (width height : ℕ) (eye : E) (on : List (OnLayer L)) (contents : List Picture) (view : ViewOf) (sources : List ℕ) (releases : List (ReleaseOf L)) (eye' : E) : Type 0 where
     pub on_is : on ≡ map shown_on stage.on
     pub contents_are : contents ≡ pictures lease stage.on
+    pub crops : All (ShowsLease lease) on
+    pub few : length on ≤ 4294967295
     pub view_is : Views stage.tree.layers width height view
     pub sources_are : sources ≡ map (source_of stage.on) view.drawn
     pub released : AllZip (IsReleaseOf lease) stage.gone releases

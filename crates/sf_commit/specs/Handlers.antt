@@ -1,12 +1,11 @@
 -- What the compositor holds between two vsyncs, and what a vsync makes of it.
-use Rattle.std.specs.Prelude.{◌≡◌, ℕ, ◌==◌, Bool, true, false, List, [], ◌∷◌, ◌++◌, map, filter, Option, Some, None}
+use Rattle.std.specs.Prelude.{◌≡◌, ℕ, ◌≤◌, Bool, true, false, List, [], ◌∷◌, ◌++◌, length, map}
 use Rattle.std.specs.List.{All, AllZip, find, position}
 use Rattle.std.specs.Option.{option_map, unwrap_or}
 use Rattle.sf_base.specs.declared.fences.Seen.{Seen}
 use Rattle.sf_layer.specs.declared.layer.Layer.{Layer}
 use Rattle.sf_layer.specs.declared.shown.Shown.{Shown}
 use Rattle.sf_picture.specs.declared.picture.Picture.{Picture}
-use Rattle.sf_txn.specs.Buffers.{Shows}
 use Rattle.sf_txn.specs.Leases.{IsEyeAfter, IsShownTo}
 use Rattle.sf_txn.specs.declared.lease.Lease.{Ghosts}
 use Rattle.sf_tree.specs.Trees.{TreeOf}
@@ -17,7 +16,7 @@ use Rattle.sf_view.specs.Views.{IsDisplay, Views}
 use Rattle.sf_view.specs.declared.drawn.Drawn.{Drawn}
 use Rattle.sf_commit.specs.OnLayers.{OnLayer, is_on, shown_on}
 use Rattle.sf_commit.specs.Rounds.{Decided, Round, held}
-use Rattle.sf_commit.specs.Leases.{AllOn, IsReleaseOf, ends_of, pictures}
+use Rattle.sf_commit.specs.Leases.{AllOn, IsReleaseOf, ShowsLease, ends_of, pictures}
 use Rattle.sf_commit.specs.Releases.{VsyncOf}
 use Rattle.sf_commit.specs.Standing.{Stands}
 
@@ -77,13 +76,15 @@ module _ {L E R C : Type 0} (lease : Ghosts L E R C) where
     pub display : IsDisplay handler.width handler.height
     pub stands : Stands handler.tree.layers handler.on
     pub read : All (λ (one : OnLayer L). one.is_read ≡ true) handler.on
-    pub crops : All (λ (one : OnLayer L). Shows one.shown (lease.picture one.lease)) handler.on
+    pub crops : All (ShowsLease lease) handler.on
     pub rising : IsRisingFrom 0 handler.pending handler.last
 
-  -- what a handler keeps inside: its pixels are those of the buffers on layers, in order
+  -- what a handler keeps inside: its pixels are those of the buffers on layers, in order, which 32 bits can count; the
+  -- rest holds until it is spent
   pub record IsKept (handler : HandlerOf L) (contents : List Picture) : Type 0 where
     pub same : contents ≡ pictures lease handler.on
-    pub keeps : IsHandler handler
+    pub few : length handler.on ≤ 4294967295
+    pub keeps : handler.is_spent ≡ false → IsHandler handler
 
   -- how a vsync ends, once all is decided: the buffers that go are handed back, those that are newly shown are read,
   -- and the display shows the layers as they are now

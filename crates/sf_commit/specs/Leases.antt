@@ -2,6 +2,7 @@
 use Rattle.std.specs.Prelude.{◌≡◌, ℕ, Bool, true, false, if◌then◌else◌, List, [], ◌∷◌, ◌++◌, map}
 use Rattle.std.specs.List.{All}
 use Rattle.sf_picture.specs.declared.picture.Picture.{Picture}
+use Rattle.sf_txn.specs.Buffers.{Shows}
 use Rattle.sf_txn.specs.declared.lease.Lease.{Ghosts}
 use Rattle.sf_commit.specs.OnLayers.{OnLayer}
 use Rattle.sf_commit.specs.Releases.{ReleaseOf}
@@ -14,6 +15,10 @@ module _ {L E R C : Type 0} (lease : Ghosts L E R C) where
   -- the pictures of the buffers on layers, in order
   abbrev pub pictures : List (OnLayer L) → List Picture
   pictures on = map (λ one. lease.picture one.lease) on
+
+  -- what is shown of a buffer lies in the picture that its lease expects
+  abbrev pub ShowsLease : OnLayer L → Type 0
+  ShowsLease one = Shows one.shown (lease.picture one.lease)
 
   -- what was not read yet is known to be written
   pub record IsKnownOn (eye : E) (one : OnLayer L) : Type 0 where

@@ -1,5 +1,5 @@
 -- The buffers that layers show, and what a transaction's operations do to them.
-use Rattle.std.specs.Prelude.{ℕ, ◌==◌, Bool, true, false, not, List, [], ◌∷◌, ◌++◌, map, filter, Option, Some, None}
+use Rattle.std.specs.Prelude.{ℕ, ◌==◌, ◌&&◌, Bool, true, false, not, List, [], ◌∷◌, ◌++◌, map, filter, Option, Some, None}
 use Rattle.std.specs.List.{find}
 use Rattle.std.specs.Option.{option_to_list}
 use Rattle.sf_base.specs.Fences.{no_points}
@@ -31,6 +31,10 @@ module _ {L : Type 0} where
 
   abbrev pub is_on : LayerId → OnLayer L → Bool
   is_on layer on = on.layer.0 == layer.0
+
+  -- it is this frame of a queue
+  abbrev pub is_frame : Shown → OnLayer L → Bool
+  is_frame shown on = (on.shown.queue.0 == shown.queue.0) && (on.shown.frame == shown.frame)
 
   -- nothing is shown on the layer any more: at most one buffer was
   abbrev pub without : LayerId → List (OnLayer L) → List (OnLayer L)

@@ -2,6 +2,7 @@ ghost use Rattle.std.specs.Prelude.{◌≡◌, ◌++◌, ◌∷◌, [], ◌≤�
 ghost use Rattle.sf_commit.specs.OnLayers.{brought};
 ghost use Rattle.std.specs.List.{All};
 ghost use Rattle.sf_layer.specs.Ranges.{IsOperation};
+ghost use Rattle.sf_commit.specs.Deciding.{ShowsIts};
 ghost use Rattle.sf_commit.specs.Inside.{Follows, Notes};
 ghost use Rattle.sf_commit.specs.Rounds.{accepted, rejected, shown_if, stage_after, told_of};
 ghost use Rattle.sf_tree.specs.Changes.{after};
@@ -139,6 +140,7 @@ where
         ensures stage { OnOk result (self.new ≡ stage_after self.old arrived) }
         ensures facts { OnOk result (Notes facts.old facts.new
             (shown_if (after self.old.tree arrived.txn.ops) arrived.txn.buffers) self.new.tree.layers) }
+        ensures shows { OnOk result (ShowsIts arrived) }
     {
         let Arrived { number, txn, .. } = arrived;
         let buffers = shown_of(self.alloc, txn.buffers())?;

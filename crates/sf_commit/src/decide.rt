@@ -1,7 +1,7 @@
 ghost use Rattle.std.specs.List.{All};
 ghost use Rattle.std.specs.Prelude.{◌≡◌, OnOk, Some};
 ghost use Rattle.sf_commit.specs.Deciding.{Comes, CommitsOne, round_of};
-ghost use Rattle.sf_commit.specs.Next.{IsLookedAt};
+ghost use Rattle.sf_commit.specs.Next.{AreRising, IsLookedAt};
 ghost use Rattle.sf_commit.specs.Rounds.{pressed_in};
 ghost use Rattle.sf_ready.specs.Facts.{HasSame};
 ghost use Rattle.sf_token.specs.Pending.{Arrival, head_of, is_of};
@@ -46,6 +46,7 @@ pub(crate) fn decide<L: Lease + Drop>(
 where
     L::Reading: Drop,
     requires looked { All (IsLookedAt L.shown looks.now) queues.old.pending }
+    requires rising { AreRising 0 looks.now }
     requires pressed { HasSame facts.old.pressed (pressed_in stage.old.tree.layers) }
     ensures comes { OnOk result (Comes L.shown seen.now expected (round_of stage.old queues.old.pending facts.old)
         stage.new queues.new.pending facts.new) }

@@ -52,6 +52,10 @@ where
     let mut readings = Vec::new(alloc);
     let mut contents = Vec::new(alloc);
     open_all(eye, on, &mut readings, &mut contents)?;
+    // More than 32 bits can count are more than memory can have.
+    if readings.len() > u32::MAX as usize {
+        return Err(NoMemory);
+    }
     let view = view_of(alloc, tree, width, height)?;
     let sources = sources(alloc, view.drawn.as_slice(), readings.as_slice())?;
     Ok(Settled {

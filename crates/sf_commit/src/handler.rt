@@ -1,16 +1,20 @@
-ghost use Rattle.std.specs.Prelude.{◌≡◌, true, false, IfOk, IsErr, OnErr};
+ghost use Rattle.std.specs.List.{position};
+ghost use Rattle.std.specs.Prelude.{◌≡◌, ◌≤◌, true, false, IfOk, IsErr, OnErr};
 ghost use Rattle.sf_token.specs.Pending.{IsRisingFrom};
 ghost use Rattle.sf_view.specs.Views.{IsDisplay};
 ghost use Rattle.sf_commit.specs.Handlers.{Decides, FitsHandler, IsHandler, last_of, new_handler};
 ghost use Rattle.sf_commit.specs.Leases.{pictures};
+ghost use Rattle.sf_commit.specs.OnLayers.{is_frame};
 ghost use Rattle.sf_token.specs.Looking.{AllLeases};
 
 use crate::commit::Stage;
 use crate::finish::{Settled, settle_all};
 use crate::follow::decide_all;
 use crate::opening::{Reading, gather};
+use crate::sources::index_of_frame;
 use crate::vsync::Vsync;
 use sf_base::{Items, NoMemory, Seen};
+use sf_layer::Shown;
 use sf_picture::Painted;
 use sf_ready::Facts;
 use sf_token::{Arrived, TokenQueues};
@@ -19,7 +23,11 @@ use sf_txn::Lease;
 use std::alloc::Global;
 use std::marker::Model;
 
+// How many layers there are at most where no limit is given.
+const MOST_LAYERS: u32 = 256;
+
 /// The compositor's layers, the buffers that they show, and the transactions that wait.
+#[derive(Drop)]
 pub struct Handler<L: Lease> {
     alloc: Global,
     width: u32,
@@ -33,7 +41,6 @@ pub struct Handler<L: Lease> {
 }
 
 impl<L: Lease> Model for Handler<L> {
-    ghost use Rattle.std.specs.Prelude.{◌≡◌, false};
     ghost use Rattle.sf_commit.specs.Handlers.{HandlerOf, IsKept};
 
     ghost Value = { HandlerOf L };
@@ -49,7 +56,7 @@ impl<L: Lease> Model for Handler<L> {
       is_spent = h.is_spent;
     } };
 
-    ghost invariant = { λ h. (h.is_spent ≡ false) → IsKept L.Lease (record {
+    ghost invariant = { λ h. IsKept L.Lease (record {
       width = h.width;
       height = h.height;
       tree = h.tree;
@@ -66,16 +73,30 @@ where
     L::Reading: Drop,
 {
     /// A compositor for a display of this size, 1 to 1,024 pixels wide and high, to which nothing
-    /// was sent yet.
+    /// was sent yet, with at most 256 layers.
     pub fn new(alloc: Global, width: u32, height: u32) -> Result<Handler<L>, NoMemory>
         requires { IsDisplay width height }
         ensures { IfOk result (λ handler. handler ≡ new_handler width height 256) }
+    {
+        Handler::with_limit(alloc, width, height, MOST_LAYERS)
+    }
+
+    /// As `new`, with at most so many layers, which are at most 9,216.
+    pub fn with_limit(
+        alloc: Global,
+        width: u32,
+        height: u32,
+        most: u32,
+    ) -> Result<Handler<L>, NoMemory>
+        requires display { IsDisplay width height }
+        requires most { most ≤ 9216 }
+        ensures { IfOk result (λ handler. handler ≡ new_handler width height most) }
     {
         Ok(Handler {
             alloc,
             width,
             height,
-            tree: Tree::new(alloc)?,
+            tree: Tree::with_limit(alloc, most)?,
             queues: TokenQueues::new(alloc)?,
             facts: Facts::new(alloc),
             on: Vec::new(alloc),
@@ -157,7 +178,7 @@ where
     /// The pixels of the buffers on layers, as they were entered for reading.
     pub fn contents(&self) -> &[Painted]
         ensures pictures { result.now ≡ pictures L.Lease self.now.on }
-        ensures kept { IsHandler L.Lease self.now }
+        ensures kept { self.now.is_spent ≡ false → IsHandler L.Lease self.now }
     {
         &self.contents
     }
@@ -167,5 +188,13 @@ where
         ensures { result.now ≡ self.now.tree }
     {
         &self.tree
+    }
+
+    /// The place of this frame of a queue in the contents; None exactly where no layer shows it. It
+    /// takes no memory.
+    pub fn source(&self, shown: &Shown) -> Option<u32>
+        ensures { result ≡ position (is_frame shown.now) self.now.on }
+    {
+        u32::try_from(index_of_frame(&self.on, shown)?).ok()
     }
 }

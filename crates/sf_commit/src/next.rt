@@ -1,6 +1,6 @@
 ghost use Rattle.std.specs.List.{All};
 ghost use Rattle.std.specs.Prelude.{◌≡◌, IfOk, is_none, map};
-ghost use Rattle.sf_commit.specs.Next.{IsLookedAt, IsNextToken, drawn_for};
+ghost use Rattle.sf_commit.specs.Next.{AreRising, IsLookedAt, IsNextToken, drawn_for};
 ghost use Rattle.sf_commit.specs.Rounds.{head_hold, ready_of};
 
 use sf_base::{NoMemory, Seen, TokenId};
@@ -8,18 +8,15 @@ use sf_ready::{Facts, hold_of};
 use sf_token::{Arrived, Looks, TokenQueues};
 use sf_txn::Lease;
 
-/// What the looks at the transaction of a number showed.
+/// What the looks at the transaction of a number showed. The looks are in the order of the numbers.
 fn drawn_at(looks: &[Looks], number: u32) -> &[bool]
+    requires { AreRising 0 looks.now }
     ensures { result.now ≡ drawn_for looks.now number }
 {
-    let mut rest = looks;
-    while let [look, after @ ..] = rest {
-        if look.number == number {
-            return look.drawn.as_slice();
-        }
-        rest = after;
+    match looks.binary_search_by_key(&number, |look| look.number) {
+        Ok(place) => looks[place].drawn.as_slice(),
+        Err(_) => &[],
     }
-    &[]
 }
 
 /// Whether nothing holds a transaction that is first of its token.
@@ -30,7 +27,8 @@ fn is_ready<L: Lease + Drop>(
     seen: &Seen,
     expected: u64,
 ) -> bool
-    requires { IsLookedAt L.shown looks.now arrived.now }
+    requires looked { IsLookedAt L.shown looks.now arrived.now }
+    requires rising { AreRising 0 looks.now }
     ensures { result ≡ is_none (head_hold L.shown seen.now expected facts.now arrived.now) }
 {
     let drawn = drawn_at(looks, arrived.number);
@@ -45,7 +43,8 @@ pub(crate) fn next_token<L: Lease + Drop>(
     seen: &Seen,
     expected: u64,
 ) -> Result<Option<TokenId>, NoMemory>
-    requires { All (IsLookedAt L.shown looks.now) queues.now.pending }
+    requires looked { All (IsLookedAt L.shown looks.now) queues.now.pending }
+    requires rising { AreRising 0 looks.now }
     ensures { IfOk result (IsNextToken (ready_of L.shown seen.now expected facts.now queues.now.pending)) }
 {
     let tokens = queues.tokens()?;

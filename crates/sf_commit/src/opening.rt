@@ -1,6 +1,6 @@
 ghost use Rattle.std.specs.List.{All};
 ghost use Rattle.std.specs.Prelude.{◌≡◌, ◌++◌, false, [], IfOk, OnOk, map};
-ghost use Rattle.sf_commit.specs.Leases.{AllOn, IsKnownOn, pictures};
+ghost use Rattle.sf_commit.specs.Leases.{AllOn, IsKnownOn, ShowsLease, pictures};
 ghost use Rattle.sf_commit.specs.OnLayers.{shown_on};
 ghost use Rattle.sf_txn.specs.Leases.{IsEyeAfter};
 
@@ -39,6 +39,7 @@ fn open_one<L: Lease + Drop>(eye: &mut L::Eye, one: OnLayer<L>) -> (Reading<L>, 
     requires known { one.is_read ≡ false → L.knows eye.old one.lease }
     ensures reading { result.0 ≡ shown_on one }
     ensures picture { result.1 ≡ L.picture one.lease }
+    ensures crop { ShowsLease L.Lease result.0 }
     ensures eye { IsEyeAfter L.Lease eye.old eye.new [] }
 {
     let OnLayer {
@@ -71,6 +72,7 @@ where
     requires known { All (IsKnownOn L.Lease eye.old) on.items }
     ensures readings { OnOk result (readings.new.items ≡ readings.old.items ++ map shown_on on.items) }
     ensures contents { OnOk result (contents.new.items ≡ contents.old.items ++ pictures L.Lease on.items) }
+    ensures crops { OnOk result (All (ShowsLease L.Lease) readings.old.items → All (ShowsLease L.Lease) readings.new.items) }
     ensures eye { IsEyeAfter L.Lease eye.old eye.new [] }
 {
     for one in on {

@@ -3,12 +3,12 @@ use Rattle.std.specs.List.{All, AllZip}
 use Rattle.sf_ready.specs.Facts.{FactsOf, HasSame}
 use Rattle.sf_token.specs.Looking.{IsLookedArrival, looks_of}
 use Rattle.sf_token.specs.Pending.{IsRisingFrom, QueuesOf}
-use Rattle.sf_commit.proofs.FollowLemmas.{looked_all, rising_append, rising_looked}
+use Rattle.sf_commit.proofs.FollowLemmas.{looked_all, looks_rise, rising_append, rising_looked}
 use Rattle.sf_commit.proofs.HeldLemmas.{held_is, looks_begin, looks_stay}
 use Rattle.sf_commit.specs.Handlers.{last_of}
 use Rattle.sf_commit.specs.Holding.{AreLooks}
-use Rattle.sf_commit.specs.Next.{IsLookedAt}
-use Rattle.sf_commit.specs.Rounds.{Decided, pressed_in}
+use Rattle.sf_commit.specs.Next.{AreRising, IsLookedAt}
+use Rattle.sf_commit.specs.Rounds.{Leads, pressed_in}
 use Rattle.sf_commit.proofs.follow.decide_all.Goals as goal
 
 pub decide-requires-clause-pressed : goal.decide-requires-clause-pressed
@@ -22,6 +22,14 @@ decide-requires-clause-looked g c =
     let rises = rising_looked g.L.Lease 0 end c.receive.new.queues.pending c.look.new.self.pending c.in_ok-looks.ensures.looked received in
     subst (λ looks. All (IsLookedAt g.L.Lease.shown looks) c.look.new.self.pending) (sym (c.as_slice.ensures.value ∙ c.in_ok-looks.ensures.looks))
     (looked_all g.L.Lease 0 end c.look.new.self.pending rises)
+
+pub decide-requires-clause-rising : goal.decide-requires-clause-rising
+decide-requires-clause-rising g c =
+    let end = last_of c.args.queues.now.last c.args.arrived.items in
+    let all = rising_append 0 c.args.queues.now.last end c.args.queues.now.pending c.args.arrived.items c.requires.earlier c.requires.rising in
+    let received = subst (λ xs. IsRisingFrom 0 xs end) (sym (ap (λ (q : QueuesOf g.row.L.Denot). q.pending) c.in_ok-receive.ensures)) all in
+    let rises = rising_looked g.L.Lease 0 end c.receive.new.queues.pending c.look.new.self.pending c.in_ok-looks.ensures.looked received in
+    subst (AreRising 0) (sym (c.as_slice.ensures.value ∙ c.in_ok-looks.ensures.looks)) (looks_rise g.L.Lease 0 end c.look.new.self.pending rises)
 
 pub returns-in_err-waits-clause-keeps : goal.returns-in_err-waits-clause-keeps
 returns-in_err-waits-clause-keeps g c = c.look.ensures.eye.keeps
@@ -49,9 +57,14 @@ returns-clause-decides g c =
       looks = subst (λ xs. AllZip (IsLookedArrival g.L.Lease) xs c.look.new.self.pending) (ap (λ (q : QueuesOf g.row.L.Denot). q.pending) c.in_ok-receive.ensures) c.in_ok-looks.ensures.looked;
       shown = c.in_ok-looks.ensures.told;
       end = comes.end;
-      decided = subst (λ b. Decided g.L.Lease.shown c.args.seen.now c.args.expected b comes.end)
-          (λ i. record { stage = record { tree = c.args.tree; on = c.args.on.items; commits = c.new.ensures.items i; gone = c.new-2.ensures.items i }; pending = c.look.new.self.pending; frames = frames i; fresh = fresh i })
-          comes.decided;
+      decided = record {
+        taken = comes.decided.taken;
+        leads = subst (λ b. Leads g.L.Lease.shown c.args.seen.now c.args.expected b comes.decided.taken comes.end)
+            (λ i. record { stage = record { tree = c.args.tree; on = c.args.on.items; commits = c.new.ensures.items i; gone = c.new-2.ensures.items i }; pending = c.look.new.self.pending; frames = frames i; fresh = fresh i })
+            comes.decided.leads;
+        rests = comes.decided.rests;
+      };
+      shows = comes.shows;
       stage_is = comes.state.made;
       queues = λ i. record { pending = comes.state.waits i; last = lasts i };
       frames = comes.state.same.frames;

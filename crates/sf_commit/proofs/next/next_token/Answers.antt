@@ -7,11 +7,11 @@ use Rattle.sf_commit.specs.Rounds.{ready_if, ready_of}
 use Rattle.sf_commit.proofs.NextLemmas.{found_holds, lowest, not_found}
 use Rattle.sf_commit.proofs.next.next_token.Goals as goal
 
-pub is_ready-requires : goal.is_ready-requires
-is_ready-requires g c =
+pub is_ready-requires-clause-looked : goal.is_ready-requires-clause-looked
+is_ready-requires-clause-looked g c =
     let token = get_or c.as_slice-token-items.result.now c.loop-token.token-index (record { 0 = 0 }) in
     subst (λ o. IfSome o (IsLookedAt g.L.Lease.shown c.args.looks.now)) (sym c.in-Some.ensures)
-    (found_holds (IsLookedAt g.L.Lease.shown c.args.looks.now) (is_of token) c.args.queues.now.pending c.requires)
+    (found_holds (IsLookedAt g.L.Lease.shown c.args.looks.now) (is_of token) c.args.queues.now.pending c.requires.looked)
 
 pub returns-then-is_ready : goal.returns-then-is_ready
 returns-then-is_ready g c =

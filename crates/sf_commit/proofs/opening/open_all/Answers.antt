@@ -2,7 +2,7 @@ use Rattle.std.proofs.Common.{◌≡◌, [], subst, sym, ap, ◌∙◌}
 use Rattle.std.specs.List.{All}
 use Rattle.std.proofs.lemmas.List.Elements.{All-head}
 use Rattle.sf_commit.proofs.SettleLemmas.{Opened, opened_more, opened_none, then_after}
-use Rattle.sf_commit.specs.Leases.{AllOn, IsKnownOn}
+use Rattle.sf_commit.specs.Leases.{AllOn, IsKnownOn, ShowsLease}
 use Rattle.sf_commit.specs.OnLayers.{OnLayer}
 use Rattle.sf_commit.proofs.opening.open_all.Goals as goal
 
@@ -24,7 +24,8 @@ pub loop-one-preserved : goal.loop-one-preserved
 loop-one-preserved g c =
     let so = subst (λ rest. Opened g.L.Lease c.args.on.items (c.args.readings.now.items, c.args.contents.now.items) (c.loop-one.readings.items, c.loop-one.contents.items) rest c.args.eye.now c.loop-one.eye) c.in-Some.ensures.steps.0 c.loop-one.invariant in
     rw (c.in_ok-push.ensures.items, c.in_ok-push-2.ensures.items, c.open_one-reading.ensures.reading, c.open_one-reading.ensures.picture)
-    (opened_more g.L.Lease c.args.on.items c.next.new.self.rest.items (c.args.readings.now.items, c.args.contents.now.items) c.loop-one.readings.items c.loop-one.contents.items c.in-Some.one c.args.eye.now c.loop-one.eye c.open_one-reading.new.eye so c.open_one-reading.ensures.eye)
+    (opened_more g.L.Lease c.args.on.items c.next.new.self.rest.items (c.args.readings.now.items, c.args.contents.now.items) c.loop-one.readings.items c.loop-one.contents.items c.in-Some.one c.args.eye.now c.loop-one.eye c.open_one-reading.new.eye so c.open_one-reading.ensures.eye
+    (subst (ShowsLease g.L.Lease) c.open_one-reading.ensures.reading c.open_one-reading.ensures.crop))
 
 pub loop-one-init : goal.loop-one-init
 loop-one-init g c =
