@@ -311,3 +311,10 @@ module _ {L E R C : Type 0} (lease : Ghosts L E R C) where
             (subst (λ (x : QueuesOf L). IsRisingFrom x.last arrived (last_of x.last arrived)) (sym m.queues) m.rising)));
       };
     }
+
+  -- the same said of the same handler and of what is told
+  pub decides_same : (old same : HandlerOf L) (eye next : E) (arrived : List (Arrival L)) (seen : Seen) (expected : ℕ) (told known : VsyncOf L) (new : HandlerOf L)
+      → old ≡ same → told ≡ known → Decides lease old eye arrived seen expected told new next → Decides lease same eye arrived seen expected known new next
+  decides_same old same eye next arrived seen expected told known new at said decides =
+      subst (λ (h : HandlerOf L). Decides lease h eye arrived seen expected known new next) at
+      (subst (λ (t : VsyncOf L). Decides lease old eye arrived seen expected t new next) said decides)

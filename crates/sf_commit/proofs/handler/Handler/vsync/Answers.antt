@@ -3,12 +3,11 @@ use Rattle.std.specs.List.{All}
 use Rattle.sf_token.specs.Looking.{AllLeases}
 use Rattle.sf_token.specs.Pending.{IsRisingFrom}
 use Rattle.sf_tree.specs.Trees.{TreeOf}
-use Rattle.sf_commit.proofs.VsyncLemmas.{IsReadable, Makes, begins_with, decides_vsync, fits_of, kept_vsync, known_of, stage_gone, stage_on}
+use Rattle.sf_commit.proofs.VsyncLemmas.{IsReadable, Makes, begins_with, decides_same, decides_vsync, fits_of, kept_vsync, known_of, stage_gone, stage_on}
 use Rattle.sf_commit.specs.Following.{DecidesAll}
-use Rattle.sf_commit.specs.Handlers.{Decides, FitsHandler, HandlerOf, last_of}
+use Rattle.sf_commit.specs.Handlers.{FitsHandler, HandlerOf, last_of}
 use Rattle.sf_commit.specs.Leases.{pictures}
 use Rattle.sf_commit.specs.OnLayers.{OnLayer}
-use Rattle.sf_commit.specs.Releases.{VsyncOf}
 use Rattle.sf_commit.specs.Rounds.{StageOf}
 use Rattle.sf_commit.proofs.handler.Handler.vsync.Goals as goal
 
@@ -102,10 +101,9 @@ returns-clause-decides g c =
           brought = c.requires.brought;
           rising = subst (λ (h : HandlerOf g.row.L.Denot). h.is_spent ≡ false → IsRisingFrom h.last c.args.arrived.items (last_of h.last c.args.arrived.items)) (sym c.self.view_is) c.requires.rising c.if-self.false;
         }) in
-    let here = subst (λ (h : HandlerOf g.row.L.Denot). Decides g.L.Lease h c.args.eye.now c.args.arrived.items c.args.seen.now c.args.expected _ _ c.settle_all.new.eye) c.self.view_is decides in
-    subst (λ (t : VsyncOf g.row.L.Denot). Decides g.L.Lease c.args.self.now c.args.eye.now c.args.arrived.items c.args.seen.now c.args.expected t _ c.settle_all.new.eye)
+    decides_same g.L.Lease _ _ c.args.eye.now c.settle_all.new.eye c.args.arrived.items c.args.seen.now c.args.expected _ _ _ c.self.view_is
     (λ i. record { commits = sym c.new-4.ensures i; view = s.view; sources = sym c.new-5.ensures i; releases = sym c.new-6.ensures i; held = sym c.new-7.ensures i })
-    here
+    decides
 
 pub returns-clause-keeps : goal.returns-clause-keeps
 returns-clause-keeps g c = λ l knows. c.settle_all.ensures.keeps l (c.decide_all.ensures.keeps l knows)
