@@ -1,7 +1,6 @@
 -- A transaction that was followed is committed, or rejected.
-use Rattle.std.proofs.Common.{◌≡◌, ℕ, List, [], ◌∷◌, ◌++◌, map, Result, Ok, Err, ap, sym, subst, refl, ◌∙◌}
+use Rattle.std.proofs.Common.{◌≡◌, ℕ, List, [], map, Result, Ok, Err, sym, subst}
 use Rattle.sf_base.specs.declared.ids.LayerId.{LayerId}
-use Rattle.sf_layer.specs.declared.layer.Layer.{Layer}
 use Rattle.sf_layer.specs.declared.shown.Shown.{Shown}
 use Rattle.sf_ready.specs.Facts.{FactsOf}
 use Rattle.sf_token.specs.Pending.{Arrival}
@@ -9,7 +8,7 @@ use Rattle.sf_tree.specs.Changes.{Rejection}
 use Rattle.sf_tree.specs.Trees.{TreeOf}
 use Rattle.sf_txn.specs.Transactions.{shown_by}
 use Rattle.sf_commit.specs.Inside.{Follows, Notes}
-use Rattle.sf_commit.specs.Rounds.{StageOf, commit_of, shown_if, stage_with, told_of}
+use Rattle.sf_commit.specs.Rounds.{StageOf, shown_if, stage_with, told_of}
 
 module _ {L : Type 0} where
   pub tells : (old new : StageOf L) (facts later : FactsOf) (a : Arrival L) (buffers : List (LayerId × Shown)) (cause op : ℕ) (r : Result TreeOf Rejection)

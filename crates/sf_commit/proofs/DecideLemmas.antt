@@ -1,5 +1,5 @@
 -- Each commit leads on, whatever lists the facts are kept in.
-use Rattle.std.proofs.Common.{◌≡◌, ℕ, ◌<◌, ◌≤◌, Bool, true, false, not, ◌&&◌, ◌||◌, List, [], ◌∷◌, ◌++◌, length, map, Option, Some, None, refl, ap, sym, ◌∙◌, subst, true≢false, arith}
+use Rattle.std.proofs.Common.{◌≡◌, ℕ, ◌<◌, Bool, true, false, not, ◌&&◌, ◌||◌, List, [], ◌∷◌, ◌++◌, length, map, Option, Some, None, refl, ap, sym, ◌∙◌, subst, true≢false, arith}
 use Rattle.std.specs.Prelude.{◌==◌, if◌then◌else◌, is_none}
 use Rattle.std.specs.List.{All, find, list_any}
 use Rattle.std.specs.Option.{IsSome, is_some, option_map, option_or, unwrap_or}
@@ -12,7 +12,6 @@ use Rattle.sf_base.specs.declared.ids.LayerId.{LayerId}
 use Rattle.sf_base.specs.declared.ids.TokenId.{TokenId}
 use Rattle.sf_ready.specs.Facts.{FactsOf, HasSame, TellsSame, has_layer, is_met, meets}
 use Rattle.sf_ready.specs.Holds.{barrier_hold, fence_hold, hold_of, pressure_hold, time_hold, undrawn_hold}
-use Rattle.sf_ready.specs.declared.hold.Hold.{Hold}
 use Rattle.sf_ready.specs.declared.hold.Hold.TheVariants as hold
 use Rattle.sf_token.specs.Pending.{Arrival, head_of, is_of}
 use Rattle.sf_token.specs.declared.looks.Looks.{Looks}
@@ -20,9 +19,8 @@ use Rattle.sf_tree.specs.Changes.{after}
 use Rattle.sf_txn.specs.Buffers.{Buffer}
 use Rattle.sf_txn.specs.Transactions.{Contents, without_first}
 use Rattle.sf_commit.specs.Deciding.{Comes, CommitsOne, DecidesSame, Goes, IsState, ShowsIts, round_of}
-use Rattle.sf_commit.specs.Inside.{Notes}
 use Rattle.sf_commit.specs.Next.{IsLookedAt, IsNextToken}
-use Rattle.sf_commit.specs.Rounds.{Decided, IsNext, Leads, Round, StageOf, committed, facts_of, frames_in, head_hold, layers_in, pressed_in, ready_if, ready_of, shown_if, stage_after}
+use Rattle.sf_commit.specs.Rounds.{IsNext, Leads, Round, StageOf, committed, facts_of, frames_in, head_hold, layers_in, pressed_in, ready_if, ready_of, shown_if, stage_after}
 
 barriers_same : (barriers : List (LayerId × ℕ)) (fs gs : List (ℕ × ℕ)) → TellsSame fs gs → barrier_hold barriers fs ≡ barrier_hold barriers gs
 barriers_same barriers fs gs same =

@@ -1,5 +1,5 @@
 -- What arrived, was looked at and decided is one vsync.
-use Rattle.std.proofs.Common.{◌≡◌, ℕ, ◌+◌, cond, not, nat_lt, Some, None, ◌<◌, ◌≤◌, Bool, true, false, List, [], ◌∷◌, ◌++◌, length, map, get_or, refl, ap, sym, ◌∙◌, subst, arith}
+use Rattle.std.proofs.Common.{◌≡◌, ℕ, ◌+◌, cond, not, nat_lt, Some, None, ◌<◌, ◌≤◌, Bool, true, false, List, [], ◌∷◌, ◌++◌, map, get_or, refl, sym, subst, arith}
 use Rattle.std.specs.Prelude.{◌==◌}
 use Rattle.std.specs.List.{All, AllZip, position_or_len}
 use Rattle.std.specs.Option.{unwrap_or}
@@ -12,7 +12,7 @@ use Rattle.sf_token.specs.declared.looks.Looks.{Looks}
 use Rattle.sf_txn.specs.declared.lease.Lease.{Ghosts}
 use Rattle.sf_base.specs.declared.ids.LayerId.{LayerId}
 use Rattle.sf_view.specs.declared.drawn.Drawn.{Drawn}
-use Rattle.sf_commit.specs.Handlers.{last_of, source_of}
+use Rattle.sf_commit.specs.Handlers.{source_of}
 use Rattle.sf_commit.specs.Next.{AreRising, IsLookedAt, drawn_for}
 use Rattle.sf_commit.specs.OnLayers.{OnLayer, is_on, shown_on}
 

@@ -1,25 +1,23 @@
 -- All that is pending is gone over by the looks, in the order of arrival.
-use Rattle.std.proofs.Common.{◌≡◌, ℕ, ◌+◌, ◌<◌, Bool, true, false, not, ◌&&◌, List, [], ◌∷◌, ◌++◌, length, map, get_or, take, Option, Some, None, refl, ap, sym, ◌∙◌, subst, inl, inr, arith}
+use Rattle.std.proofs.Common.{◌≡◌, ℕ, ◌+◌, ◌<◌, Bool, true, false, List, [], ◌∷◌, ◌++◌, length, map, get_or, take, Option, Some, None, refl, ap, sym, ◌∙◌, subst, inl, inr, arith}
 use Rattle.std.specs.Prelude.{if◌then◌else◌}
 use Rattle.std.specs.List.{All, AllZip, cons_option, filter_map, find}
-use Rattle.std.specs.Option.{IfSome, option_and_then, option_map, option_or}
+use Rattle.std.specs.Option.{IfSome, option_and_then, option_map}
 use Rattle.std.proofs.lemmas.Bool.{eq-eqb, ne_eqb}
 use Rattle.std.proofs.lemmas.List.{append-nil, take_more}
 use Rattle.std.proofs.lemmas.List.Elements.{All-cons, All-head, All-nil, All-tail, All-weaker, filter_map-append}
 use Rattle.sf_base.specs.declared.fences.Seen.{Seen}
-use Rattle.sf_base.specs.declared.ids.LayerId.{LayerId}
 use Rattle.sf_ready.specs.Facts.{FactsOf}
-use Rattle.sf_ready.specs.Holds.{fence_hold, hold_of, pressure_hold, time_hold, undrawn_hold}
 use Rattle.sf_ready.specs.declared.hold.Hold.{Hold}
 use Rattle.sf_ready.specs.declared.hold.Hold.TheVariants as hold
 use Rattle.sf_txn.specs.Buffers.{Buffer}
-use Rattle.sf_txn.specs.Transactions.{Contents, without_first}
+use Rattle.sf_txn.specs.Transactions.{without_first}
 use Rattle.sf_txn.specs.declared.lease.Lease.{Ghosts}
 use Rattle.sf_token.specs.Looking.{IsLookedArrival, looks_at, looks_of}
 use Rattle.sf_token.specs.Pending.{Arrival, IsRisingFrom, has_number, is_of}
 use Rattle.sf_token.specs.declared.looks.Looks.{Looks}
 use Rattle.sf_commit.proofs.DecideLemmas.{hold_same}
-use Rattle.sf_commit.specs.Deciding.{Comes, DecidesSame, IsState}
+use Rattle.sf_commit.specs.Deciding.{Comes, IsState}
 use Rattle.sf_commit.specs.Holding.{AreLooks, IsPart, held_of, is_first, told_in}
 use Rattle.sf_commit.specs.Next.{IsLookedAt}
 use Rattle.sf_commit.specs.Rounds.{Leads, Round, StageOf, committed, facts_of, held}

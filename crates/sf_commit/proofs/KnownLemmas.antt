@@ -1,19 +1,18 @@
 -- What is known of leases along a vsync: what is committed was looked at and is drawn.
-use Rattle.std.proofs.Common.{◌≡◌, ℕ, Bool, true, false, List, [], ◌∷◌, ◌++◌, map, Option, Some, None, Result, Ok, Err, refl, ap, sym, ◌∙◌, subst, true≢false}
-use Rattle.std.specs.Prelude.{is_none, if◌then◌else◌}
-use Rattle.std.specs.List.{All, find}
+use Rattle.std.proofs.Common.{◌≡◌, ℕ, Bool, true, false, List, [], ◌∷◌, map, Option, Some, None, Result, Ok, Err, refl, ap, sym, ◌∙◌, subst, true≢false}
+use Rattle.std.specs.Prelude.{is_none}
+use Rattle.std.specs.List.{All}
 use Rattle.std.specs.Option.{IfSome, option_or, unwrap_or}
 use Rattle.std.proofs.lemmas.List.Elements.{All-append, All-cons, All-head, All-nil, All-tail}
 use Rattle.std.proofs.lemmas.Option.{none-some}
 use Rattle.sf_base.specs.declared.fences.Seen.{Seen}
 use Rattle.sf_ready.specs.Facts.{FactsOf}
 use Rattle.sf_ready.specs.Holds.{barrier_hold, fence_hold, hold_of, pressure_hold, time_hold, undrawn_hold}
-use Rattle.sf_ready.specs.declared.hold.Hold.{Hold}
 use Rattle.sf_token.specs.Pending.{Arrival, head_of, is_of}
 use Rattle.sf_tree.specs.Changes.{Rejection, after}
 use Rattle.sf_tree.specs.Trees.{TreeOf}
 use Rattle.sf_txn.specs.Buffers.{Buffer}
-use Rattle.sf_txn.specs.Transactions.{Contents, without_first}
+use Rattle.sf_txn.specs.Transactions.{Contents}
 use Rattle.sf_commit.proofs.DecideLemmas.{all_left}
 use Rattle.sf_commit.proofs.LeadLemmas.{after_all, gone_all}
 use Rattle.sf_commit.proofs.NextLemmas.{found_holds}

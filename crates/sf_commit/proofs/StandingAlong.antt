@@ -1,10 +1,8 @@
 -- A vsync keeps that each layer shows the buffer that stands for it.
 use Rattle.std.proofs.Common.{◌≡◌, ℕ, ◌+◌, ℤ, Bool, true, false, not, List, [], ◌∷◌, ◌++◌, length, get_or, map, Option, Some, None, Result, Ok, Err, refl, ap, ◌∙◌, sym, subst}
-use Rattle.std.specs.List.{All, AllZip, filter}
-use Rattle.std.specs.Option.{IfSome, unwrap_or}
-use Rattle.std.specs.Prelude.{if◌then◌else◌, ◌&&◌, is_none, nat_le}
-use Rattle.std.proofs.lemmas.List.Elements.{All-cons, All-head, All-nil, All-tail, All-weaker}
-use Rattle.std.proofs.lemmas.Option.{none-some}
+use Rattle.std.specs.List.{All, filter}
+use Rattle.std.specs.Prelude.{if◌then◌else◌, ◌&&◌, nat_le}
+use Rattle.std.proofs.lemmas.List.Elements.{All-head, All-tail}
 use Rattle.sf_base.specs.declared.fences.Seen.{Seen}
 use Rattle.sf_base.specs.declared.ids.LayerId.{LayerId}
 use Rattle.sf_layer.specs.declared.kind.Kind.{Kind}
@@ -13,9 +11,7 @@ use Rattle.sf_layer.specs.declared.op.Op.{Op}
 use Rattle.sf_layer.specs.declared.op.Op.TheVariants as op
 use Rattle.sf_layer.specs.declared.parent.Parent.{Parent}
 use Rattle.sf_layer.specs.declared.shown.Shown.{Shown}
-use Rattle.sf_ready.specs.Facts.{FactsOf}
-use Rattle.sf_token.specs.Looking.{IsLookedArrival}
-use Rattle.sf_token.specs.Pending.{Arrival, head_of, is_of}
+use Rattle.sf_token.specs.Pending.{Arrival}
 use Rattle.sf_tree.specs.declared.reject.Reject.{Reject}
 use Rattle.sf_tree.specs.declared.reject.Reject.TheVariants as reject
 use Rattle.sf_tree.specs.Changes.{Rejection, after, after_from, created, destroyed, edited, edited_layer, fits_kind, made_relative, new_layer, reparented, then_after, with_layer, with_layers, without_steps_to}
@@ -25,18 +21,13 @@ use Rattle.sf_tree.specs.Steps.{all_steps, parent_steps, reaches_itself}
 use Rattle.sf_tree.specs.Trees.{TreeOf}
 use Rattle.sf_tree.proofs.Keeping.{found_itself}
 use Rattle.sf_txn.specs.Buffers.{Buffer}
-use Rattle.sf_txn.specs.Leases.{IsLookedBuffer}
-use Rattle.sf_txn.specs.Transactions.{Contents, IsTransaction, shown_by, shows}
-use Rattle.sf_txn.specs.declared.lease.Lease.{Ghosts}
-use Rattle.sf_commit.proofs.DecideLemmas.{all_left}
-use Rattle.sf_commit.proofs.NextLemmas.{found_holds}
+use Rattle.sf_txn.specs.Transactions.{shown_by, shows}
 use Rattle.sf_commit.proofs.StandingLemmas.{stands_edited, stands_last, stands_read, stands_shown, stands_without}
 use Rattle.sf_commit.specs.Deciding.{ShowsIts}
 use Rattle.sf_commit.specs.Standing.{Stands, shown_at}
-use Rattle.sf_commit.specs.Handlers.{Decides, HandlerOf, IsOnLayer, begun}
+use Rattle.sf_commit.specs.Handlers.{IsOnLayer}
 use Rattle.sf_commit.specs.OnLayers.{OnLayer, brought, on_after, shown_on, without}
-use Rattle.sf_commit.specs.Releases.{VsyncOf}
-use Rattle.sf_commit.specs.Rounds.{Decided, Leads, Round, StageOf, committed, facts_of, head_hold, ready_if, stage_with}
+use Rattle.sf_commit.specs.Rounds.{Decided, Leads, Round, StageOf, committed, stage_with}
 
 -- a change that could be made has no cause
 no_cause : {A : Type 0} (b : Bool) (cause : Reject) (rest : Result A Reject) (x : A) → (if b then Err cause else rest) ≡ Ok x → rest ≡ Ok x

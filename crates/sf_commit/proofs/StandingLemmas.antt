@@ -8,7 +8,6 @@ use Rattle.std.proofs.lemmas.Bool.Decides.{nat_tests}
 use Rattle.std.proofs.lemmas.Option.{none-some}
 use Rattle.sf_base.specs.declared.ids.LayerId.{LayerId}
 use Rattle.sf_layer.specs.declared.layer.Layer.{Layer}
-use Rattle.sf_layer.specs.declared.shown.Shown.{Shown}
 use Rattle.sf_tree.specs.Changes.{with_layer, without_steps_to}
 use Rattle.sf_tree.specs.Layers.{is_numbered, layer_of}
 use Rattle.sf_commit.specs.OnLayers.{OnLayer, is_on, shown_on, without}

@@ -1,7 +1,7 @@
 -- One vsync, put together from what was decided and what was settled.
-use Rattle.std.proofs.Common.{◌≡◌, ℕ, ◌<◌, ◌≤◌, Bool, true, false, List, [], ◌∷◌, ◌++◌, map, refl, ap, sym, ◌∙◌, subst, true≢false, arith}
+use Rattle.std.proofs.Common.{◌≡◌, ℕ, Bool, true, false, List, [], ◌∷◌, ◌++◌, map, refl, ap, sym, ◌∙◌, subst, true≢false, arith}
 use Rattle.std.specs.List.{All, AllZip}
-use Rattle.std.proofs.lemmas.List.Elements.{All-append, All-cons, All-head, All-nil, All-tail, All-weaker}
+use Rattle.std.proofs.lemmas.List.Elements.{All-append, All-cons, All-head, All-nil, All-tail}
 use Rattle.sf_base.specs.declared.fences.Seen.{Seen}
 use Rattle.sf_picture.specs.declared.picture.Picture.{Picture}
 use Rattle.sf_ready.specs.Facts.{FactsOf}
@@ -20,11 +20,11 @@ use Rattle.sf_commit.proofs.KnownLemmas.{Holds, holds_along}
 use Rattle.sf_commit.proofs.SettleLemmas.{then_after}
 use Rattle.sf_commit.proofs.StandingAlong.{stands_decided}
 use Rattle.sf_commit.specs.Following.{DecidesAll, SettlesAll, begun_with}
-use Rattle.sf_commit.specs.Handlers.{Decides, FitsHandler, HandlerOf, IsHandler, IsKept, begun, last_of, source_of}
+use Rattle.sf_commit.specs.Handlers.{Decides, FitsHandler, HandlerOf, IsHandler, IsKept, last_of, source_of}
 use Rattle.sf_commit.specs.Leases.{AllOn, IsKnownOn, IsReleaseOf, ends_of, pictures}
 use Rattle.sf_commit.specs.OnLayers.{OnLayer, brought, shown_on}
 use Rattle.sf_commit.specs.Releases.{ReleaseOf, VsyncOf}
-use Rattle.sf_commit.specs.Rounds.{Decided, Leads, Round, StageOf, committed, held}
+use Rattle.sf_commit.specs.Rounds.{Leads, Round, StageOf, committed}
 use Rattle.sf_commit.specs.Standing.{Stands}
 
 module _ {L : Type 0} where

@@ -45,7 +45,8 @@ module _ {L : Type 0} where
     pub state : IsState stage pending facts end
 
   -- how far it has come: what was committed led to a round, and what waits was looked at
-  pub record Goes (drawn : L → Bool) (seen : Seen) (expected : ℕ) (begun : Round L) (looks : List Looks) (stage : StageOf L) (pending : List (Arrival L)) (facts : FactsOf) : Type 0 where
+  pub record Goes (drawn : L → Bool) (seen : Seen) (expected : ℕ) (begun : Round L) (looks : List Looks)
+      (stage : StageOf L) (pending : List (Arrival L)) (facts : FactsOf) : Type 0 where
     pub reached : Round L
     pub taken : List (Arrival L)
     pub leads : Leads drawn seen expected begun taken reached

@@ -25,7 +25,8 @@ begun_with tree on frames pending =
 
 module _ {L E R C : Type 0} (lease : Ghosts L E R C) where
   -- what arrived was taken, looked at and decided
-  pub record DecidesAll (tree : TreeOf) (on : List (OnLayer L)) (facts : FactsOf) (old : QueuesOf L) (eye : E) (arrived : List (Arrival L)) (seen : Seen) (expected : ℕ) (stage : StageOf L) (waits : List (ℕ × Hold)) (new : QueuesOf L) (noted : FactsOf) (eye' : E) : Type 0 where
+  pub record DecidesAll (tree : TreeOf) (on : List (OnLayer L)) (facts : FactsOf) (old : QueuesOf L) (eye : E) (arrived : List (Arrival L))
+      (seen : Seen) (expected : ℕ) (stage : StageOf L) (waits : List (ℕ × Hold)) (new : QueuesOf L) (noted : FactsOf) (eye' : E) : Type 0 where
     pub looked : List (Arrival L)
     pub looks : AllZip (IsLookedArrival lease) (old.pending ++ arrived) looked
     pub shown : AllLeases (IsShownTo lease eye eye') looked
@@ -39,7 +40,8 @@ module _ {L E R C : Type 0} (lease : Ghosts L E R C) where
     pub eye_is : IsEyeAfter lease eye eye' []
 
   -- what goes was handed back, what is new is read, and the display shows the layers
-  pub record SettlesAll (stage : StageOf L) (width height : ℕ) (eye : E) (on : List (OnLayer L)) (contents : List Picture) (view : ViewOf) (sources : List ℕ) (releases : List (ReleaseOf L)) (eye' : E) : Type 0 where
+  pub record SettlesAll (stage : StageOf L) (width height : ℕ) (eye : E) (on : List (OnLayer L)) (contents : List Picture)
+      (view : ViewOf) (sources : List ℕ) (releases : List (ReleaseOf L)) (eye' : E) : Type 0 where
     pub on_is : on ≡ map shown_on stage.on
     pub contents_are : contents ≡ pictures lease stage.on
     pub crops : All (ShowsLease lease) on

@@ -4,7 +4,6 @@ use Rattle.std.specs.List.{All, AllZip, find, position}
 use Rattle.std.specs.Option.{option_map, unwrap_or}
 use Rattle.sf_base.specs.declared.fences.Seen.{Seen}
 use Rattle.sf_layer.specs.declared.layer.Layer.{Layer}
-use Rattle.sf_layer.specs.declared.shown.Shown.{Shown}
 use Rattle.sf_picture.specs.declared.picture.Picture.{Picture}
 use Rattle.sf_txn.specs.Leases.{IsEyeAfter, IsShownTo}
 use Rattle.sf_txn.specs.declared.lease.Lease.{Ghosts}
@@ -88,7 +87,8 @@ module _ {L E R C : Type 0} (lease : Ghosts L E R C) where
 
   -- how a vsync ends, once all is decided: the buffers that go are handed back, those that are newly shown are read,
   -- and the display shows the layers as they are now
-  pub record Settles (old : HandlerOf L) (eye : E) (arrived : List (Arrival L)) (end : Round L) (seen : Seen) (expected : ℕ) (told : VsyncOf L) (new : HandlerOf L) (eye' : E) : Type 0 where
+  pub record Settles (old : HandlerOf L) (eye : E) (arrived : List (Arrival L)) (end : Round L) (seen : Seen) (expected : ℕ) (told : VsyncOf L)
+      (new : HandlerOf L) (eye' : E) : Type 0 where
     pub commits : told.commits ≡ end.stage.commits
     pub held : told.held ≡ held lease.shown seen expected end
     pub releases : AllZip (IsReleaseOf lease) end.stage.gone told.releases

@@ -21,8 +21,7 @@ fn index_of<L: Lease>(on: &[Reading<L>], layer: LayerId) -> Option<usize>
 pub(crate) fn index_of_frame<L: Lease>(on: &[Reading<L>], shown: &Shown) -> Option<usize>
     ensures { result ≡ position (is_frame shown.now) on.now }
 {
-    on.iter()
-        .position(|one| one.shown.queue.0 == shown.queue.0 && one.shown.frame == shown.frame)
+    on.iter().position(|one| one.shown.queue.0 == shown.queue.0 && one.shown.frame == shown.frame)
 }
 
 /// The place of a drawn layer's buffer, or 0 where it shows none. A place beyond 32 bits is more than

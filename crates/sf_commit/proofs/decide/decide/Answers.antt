@@ -1,9 +1,7 @@
-use Rattle.std.proofs.Common.{◌≡◌, ◌∙◌, ap, sym, subst, length, refl, Some, None}
-use Rattle.std.specs.Result.{OnOk}
-use Rattle.sf_token.specs.Pending.{QueuesOf, is_of}
-use Rattle.sf_txn.specs.Transactions.{without_first}
+use Rattle.std.proofs.Common.{◌∙◌, ap, subst, refl}
+use Rattle.sf_token.specs.Pending.{QueuesOf}
 use Rattle.sf_commit.proofs.DecideLemmas.{begins, ends, goes_on, shrinks}
-use Rattle.sf_commit.specs.Deciding.{Goes, round_of}
+use Rattle.sf_commit.specs.Deciding.{round_of}
 use Rattle.sf_commit.specs.Next.{IsNextToken}
 use Rattle.sf_commit.specs.Rounds.{ready_of}
 use Rattle.sf_commit.proofs.decide.decide.Goals as goal

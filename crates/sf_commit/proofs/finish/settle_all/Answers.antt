@@ -1,6 +1,5 @@
-use Rattle.std.proofs.Common.{◌≡◌, ◌∙◌, ◌++◌, [], ap, sym, subst, map, arith}
+use Rattle.std.proofs.Common.{◌∙◌, ◌++◌, [], ap, sym, subst, map, arith}
 use Rattle.sf_view.specs.Views.{ViewOf}
-use Rattle.sf_view.specs.declared.drawn.Drawn.{Drawn}
 use Rattle.std.specs.List.{All}
 use Rattle.std.proofs.lemmas.List.{append-nil}
 use Rattle.std.proofs.lemmas.List.Elements.{All-nil}

@@ -1,7 +1,7 @@
-use Rattle.std.proofs.Common.{◌≡◌, ◌∙◌, ap, subst, sym}
+use Rattle.std.proofs.Common.{◌∙◌, ap, subst, sym}
 use Rattle.std.specs.List.{All, AllZip}
 use Rattle.sf_ready.specs.Facts.{FactsOf, HasSame}
-use Rattle.sf_token.specs.Looking.{IsLookedArrival, looks_of}
+use Rattle.sf_token.specs.Looking.{IsLookedArrival}
 use Rattle.sf_token.specs.Pending.{IsRisingFrom, QueuesOf}
 use Rattle.sf_commit.proofs.FollowLemmas.{looked_all, looks_rise, rising_append, rising_looked}
 use Rattle.sf_commit.proofs.HeldLemmas.{held_is, looks_begin, looks_stay}

@@ -1,4 +1,4 @@
-use Rattle.std.proofs.Common.{◌≡◌, ◌∙◌, rules}
+use Rattle.std.proofs.Common.{◌∙◌, rules}
 use Rattle.std.proofs.lemmas.List.Sorted.{answers_always}
 use Rattle.sf_token.specs.declared.looks.Looks.{Looks}
 use Rattle.sf_commit.proofs.SearchLemmas.{halved_found, halved_none}

@@ -1,6 +1,5 @@
-use Rattle.std.proofs.Common.{◌≡◌, ap, sym, subst, arith, refl, ℕ, ◌<◌, get_or, List}
+use Rattle.std.proofs.Common.{ap, sym, subst, arith, refl, get_or}
 use Rattle.std.specs.Option.{IfSome}
-use Rattle.sf_base.specs.declared.ids.TokenId.{TokenId}
 use Rattle.sf_token.specs.Pending.{AreTokens, is_of}
 use Rattle.sf_commit.specs.Next.{IsLookedAt}
 use Rattle.sf_commit.specs.Rounds.{ready_if, ready_of}

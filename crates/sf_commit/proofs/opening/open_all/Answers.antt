@@ -1,8 +1,7 @@
-use Rattle.std.proofs.Common.{◌≡◌, [], subst, sym, ap, ◌∙◌}
-use Rattle.std.specs.List.{All}
+use Rattle.std.proofs.Common.{[], subst, sym}
 use Rattle.std.proofs.lemmas.List.Elements.{All-head}
 use Rattle.sf_commit.proofs.SettleLemmas.{Opened, opened_more, opened_none, then_after}
-use Rattle.sf_commit.specs.Leases.{AllOn, IsKnownOn, ShowsLease}
+use Rattle.sf_commit.specs.Leases.{IsKnownOn, ShowsLease}
 use Rattle.sf_commit.specs.OnLayers.{OnLayer}
 use Rattle.sf_commit.proofs.opening.open_all.Goals as goal
 

@@ -1,4 +1,4 @@
-use Rattle.std.proofs.Common.{◌≡◌, subst, sym, ap, ◌∙◌}
+use Rattle.std.proofs.Common.{subst}
 use Rattle.std.proofs.lemmas.List.Elements.{All-head}
 use Rattle.sf_commit.proofs.SettleLemmas.{Released, released_more}
 use Rattle.sf_commit.specs.Leases.{AllOn}

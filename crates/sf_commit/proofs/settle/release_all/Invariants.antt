@@ -1,4 +1,3 @@
-use Rattle.std.proofs.Common.{◌≡◌}
 use Rattle.sf_commit.proofs.SettleLemmas.{Released}
 use Rattle.sf_commit.proofs.settle.release_all.Given as goal
 

@@ -1,5 +1,4 @@
-use Rattle.std.proofs.Common.{◌≡◌, ◌∙◌}
-use Rattle.sf_commit.proofs.KnownLemmas.{IsReady}
+use Rattle.std.proofs.Common.{◌∙◌}
 use Rattle.sf_commit.proofs.ListLemmas.{map_more}
 use Rattle.sf_commit.specs.Handlers.{source_of}
 use Rattle.sf_commit.proofs.sources.sources.Goals as goal
