@@ -1,0 +1,27 @@
+-- A transaction that was followed is committed, or rejected.
+use Rattle.std.proofs.Common.{◌≡◌, ℕ, List, [], map, Result, Ok, Err, sym, subst}
+use Rattle.sf_base.specs.declared.ids.LayerId.{LayerId}
+use Rattle.sf_layer.specs.declared.shown.Shown.{Shown}
+use Rattle.sf_ready.specs.Facts.{FactsOf}
+use Rattle.sf_token.specs.Pending.{Arrival}
+use Rattle.sf_tree.specs.Changes.{Rejection}
+use Rattle.sf_tree.specs.Trees.{TreeOf}
+use Rattle.sf_txn.specs.Transactions.{shown_by}
+use Rattle.sf_commit.specs.Inside.{Follows, Notes}
+use Rattle.sf_commit.specs.Rounds.{StageOf, shown_if, stage_with, told_of}
+
+module _ {L : Type 0} where
+  pub tells : (old new : StageOf L) (facts later : FactsOf) (a : Arrival L) (buffers : List (LayerId × Shown)) (cause op : ℕ) (r : Result TreeOf Rejection)
+      → Follows old new facts later a.txn.ops a.txn.buffers (cause, op) r → buffers ≡ map shown_by a.txn.buffers
+      → told_of new (record { token = a.txn.token; number = a.number; cause = cause; op = op; buffers = buffers }) ≡ stage_with old a r
+  tells old new facts later a buffers cause op (Ok tree) (same, told, notes) e =
+      λ i. told_of (same i) (record { token = a.txn.token; number = a.number; cause = (told i).0; op = (told i).1; buffers = e i })
+  tells old new facts later a buffers cause op (Err rejection) (same, told, notes) e =
+      λ i. told_of (same i) (record { token = a.txn.token; number = a.number; cause = (told i).0; op = (told i).1; buffers = e i })
+
+  pub notes : (old new : StageOf L) (facts later : FactsOf) (a : Arrival L) (told : ℕ × ℕ) (r : Result TreeOf Rejection)
+      → Follows old new facts later a.txn.ops a.txn.buffers told r → Notes facts later (shown_if r a.txn.buffers) new.tree.layers
+  notes old new facts later a told (Ok tree) (same, _, noted) =
+      subst (λ (s : StageOf L). Notes facts later (map shown_by a.txn.buffers) s.tree.layers) (sym same) noted
+  notes old new facts later a told (Err rejection) (same, _, noted) =
+      subst (λ (s : StageOf L). Notes facts later [] s.tree.layers) (sym same) noted

@@ -1,0 +1,72 @@
+-- What arrived, was looked at and decided is one vsync.
+use Rattle.std.proofs.Common.{◌≡◌, ℕ, ◌+◌, cond, not, nat_lt, Some, None, ◌<◌, ◌≤◌, Bool, true, false, List, [], ◌∷◌, ◌++◌, map, get_or, refl, sym, subst, arith}
+use Rattle.std.specs.Prelude.{◌==◌}
+use Rattle.std.specs.List.{All, AllZip, position_or_len}
+use Rattle.std.specs.Option.{unwrap_or}
+use Rattle.std.proofs.lemmas.Bool.{eqb-true, eq-eqb}
+use Rattle.std.proofs.lemmas.List.{length-map}
+use Rattle.std.proofs.lemmas.List.Elements.{All-cons, All-nil}
+use Rattle.sf_token.specs.Looking.{IsLookedArrival, looks_at, looks_of}
+use Rattle.sf_token.specs.Pending.{Arrival, IsRisingFrom}
+use Rattle.sf_token.specs.declared.looks.Looks.{Looks}
+use Rattle.sf_txn.specs.declared.lease.Lease.{Ghosts}
+use Rattle.sf_base.specs.declared.ids.LayerId.{LayerId}
+use Rattle.sf_view.specs.declared.drawn.Drawn.{Drawn}
+use Rattle.sf_commit.specs.Handlers.{source_of}
+use Rattle.sf_commit.specs.Next.{AreRising, IsLookedAt, drawn_for}
+use Rattle.sf_commit.specs.OnLayers.{OnLayer, is_on, shown_on}
+
+module _ {L : Type 0} where
+  pub lower : (less before last : ℕ) (xs : List (Arrival L)) → less ≤ before → IsRisingFrom before xs last → IsRisingFrom less xs last
+  lower less before last [] l h = omega (arith, l, h)
+  lower less before last (x ∷ xs) l h = (omega (arith, l, h.0), h.1)
+
+  -- what arrives later rises behind what waits
+  pub rising_append : (before last end : ℕ) (xs ys : List (Arrival L)) → IsRisingFrom before xs last → IsRisingFrom last ys end → IsRisingFrom before (xs ++ ys) end
+  rising_append before last end [] ys h k = lower before last end ys h k
+  rising_append before last end (x ∷ xs) ys h k = (h.0, rising_append x.number last end xs ys h.1 k)
+
+  beyond : (before last : ℕ) (xs : List (Arrival L)) → IsRisingFrom before xs last → All (λ (a : Arrival L). before < a.number) xs
+  beyond before last [] h = All-nil (λ (a : Arrival L). before < a.number)
+  beyond before last (x ∷ xs) h =
+      All-cons (λ (a : Arrival L). before < a.number) x xs h.0 (λ k d lt. let more = beyond x.number last xs h.1 k d lt in omega (arith, h.0, more))
+
+module _ {L E R C : Type 0} (lease : Ghosts L E R C) where
+  -- looks keep the numbers
+  pub rising_looked : (before last : ℕ) (xs ys : List (Arrival L)) → AllZip (IsLookedArrival lease) xs ys → IsRisingFrom before xs last → IsRisingFrom before ys last
+  rising_looked before last [] [] zip h = h
+  rising_looked before last [] (y ∷ ys) zip h = absurd zip
+  rising_looked before last (x ∷ xs) [] zip h = absurd zip
+  rising_looked before last (x ∷ xs) (y ∷ ys) zip h = (
+    subst (λ n. before < n) (sym zip.0.number) h.0,
+    rising_looked y.number last xs ys zip.1 (subst (λ n. IsRisingFrom n xs last) (sym zip.0.number) h.1),
+  )
+
+  one_more : (x a : Arrival L) (looks : List Looks) → x.number < a.number → IsLookedAt lease.shown looks a → IsLookedAt lease.shown (looks_at lease x ∷ looks) a
+  one_more x a looks less is = record { same = by_test (x.number == a.number) refl }
+    where
+      by_test : (b : Bool) → (x.number == a.number) ≡ b → drawn_for (looks_at lease x ∷ looks) a.number ≡ map (λ buffer. lease.shown buffer.lease) a.txn.buffers
+      by_test true e = absurd (omega (arith, less, eqb-true x.number a.number e))
+      by_test false e = rw e is.same
+
+  -- looks at transactions whose numbers rise have rising numbers
+  pub looks_rise : (before last : ℕ) (pending : List (Arrival L)) → IsRisingFrom before pending last → AreRising before (looks_of lease pending)
+  looks_rise before last [] h = tt
+  looks_rise before last (x ∷ xs) h = (h.0, looks_rise x.number last xs h.1)
+
+  -- the looks at transactions whose numbers rise are found by their numbers
+  pub looked_all : (before last : ℕ) (pending : List (Arrival L)) → IsRisingFrom before pending last → All (IsLookedAt lease.shown (looks_of lease pending)) pending
+  looked_all before last [] h = All-nil (IsLookedAt lease.shown [])
+  looked_all before last (x ∷ xs) h =
+      All-cons (IsLookedAt lease.shown (looks_of lease (x ∷ xs))) x xs (record { same = rw (eq-eqb x.number x.number refl) refl })
+      (λ k d lt. one_more x (get_or xs k d) (looks_of lease xs) (beyond x.number last xs h.1 k d lt) (looked_all x.number last xs h.1 k d lt))
+
+module _ {L : Type 0} where
+  -- what was read stands where it stood
+  index_read : (layer : LayerId) (on : List (OnLayer L)) → position_or_len (is_on layer) (map shown_on on) ≡ position_or_len (is_on layer) on
+  index_read layer [] = refl
+  index_read layer (x ∷ xs) = λ j. cond (not (is_on layer x)) (1 + index_read layer xs j) 0
+
+  pub sources_read : (on : List (OnLayer L)) (drawn : List Drawn) → map (source_of (map shown_on on)) drawn ≡ map (source_of on) drawn
+  sources_read on [] = refl
+  sources_read on (d ∷ ds) = λ i. unwrap_or (cond (nat_lt (index_read d.layer on i) (length-map on shown_on i)) (Some (index_read d.layer on i)) None) 0 ∷ sources_read on ds i

@@ -1,0 +1,13 @@
+pub mod CommitLemmas
+pub mod DecideLemmas
+pub mod FollowLemmas
+pub mod HeldLemmas
+pub mod KnownLemmas
+pub mod LeadLemmas
+pub mod ListLemmas
+pub mod NextLemmas
+pub mod SettleLemmas
+pub mod StandingAlong
+pub mod StandingLemmas
+pub mod VsyncLemmas
+pub mod SearchLemmas

@@ -1,0 +1,73 @@
+use Rattle.std.proofs.Common.{◌∙◌, ap, subst, sym}
+use Rattle.std.specs.List.{All, AllZip}
+use Rattle.sf_ready.specs.Facts.{FactsOf, HasSame}
+use Rattle.sf_token.specs.Looking.{IsLookedArrival}
+use Rattle.sf_token.specs.Pending.{IsRisingFrom, QueuesOf}
+use Rattle.sf_commit.proofs.FollowLemmas.{looked_all, looks_rise, rising_append, rising_looked}
+use Rattle.sf_commit.proofs.HeldLemmas.{held_is, looks_begin, looks_stay}
+use Rattle.sf_commit.specs.Handlers.{last_of}
+use Rattle.sf_commit.specs.Holding.{AreLooks}
+use Rattle.sf_commit.specs.Next.{AreRising, IsLookedAt}
+use Rattle.sf_commit.specs.Rounds.{Leads, pressed_in}
+use Rattle.sf_commit.proofs.follow.decide_all.Goals as goal
+
+pub decide-requires-clause-pressed : goal.decide-requires-clause-pressed
+decide-requires-clause-pressed g c = subst (λ ls. HasSame c.note_pressed.new.facts.pressed (pressed_in ls)) c.layers.ensures.value c.in_ok-note_pressed.ensures.pressed
+
+pub decide-requires-clause-looked : goal.decide-requires-clause-looked
+decide-requires-clause-looked g c =
+    let end = last_of c.args.queues.now.last c.args.arrived.items in
+    let all = rising_append 0 c.args.queues.now.last end c.args.queues.now.pending c.args.arrived.items c.requires.earlier c.requires.rising in
+    let received = subst (λ xs. IsRisingFrom 0 xs end) (sym (ap (λ (q : QueuesOf g.row.L.Denot). q.pending) c.in_ok-receive.ensures)) all in
+    let rises = rising_looked g.L.Lease 0 end c.receive.new.queues.pending c.look.new.self.pending c.in_ok-looks.ensures.looked received in
+    subst (λ looks. All (IsLookedAt g.L.Lease.shown looks) c.look.new.self.pending) (sym (c.as_slice.ensures.value ∙ c.in_ok-looks.ensures.looks))
+    (looked_all g.L.Lease 0 end c.look.new.self.pending rises)
+
+pub decide-requires-clause-rising : goal.decide-requires-clause-rising
+decide-requires-clause-rising g c =
+    let end = last_of c.args.queues.now.last c.args.arrived.items in
+    let all = rising_append 0 c.args.queues.now.last end c.args.queues.now.pending c.args.arrived.items c.requires.earlier c.requires.rising in
+    let received = subst (λ xs. IsRisingFrom 0 xs end) (sym (ap (λ (q : QueuesOf g.row.L.Denot). q.pending) c.in_ok-receive.ensures)) all in
+    let rises = rising_looked g.L.Lease 0 end c.receive.new.queues.pending c.look.new.self.pending c.in_ok-looks.ensures.looked received in
+    subst (AreRising 0) (sym (c.as_slice.ensures.value ∙ c.in_ok-looks.ensures.looks)) (looks_rise g.L.Lease 0 end c.look.new.self.pending rises)
+
+pub returns-in_err-waits-clause-keeps : goal.returns-in_err-waits-clause-keeps
+returns-in_err-waits-clause-keeps g c = c.look.ensures.eye.keeps
+
+pub returns-clause-keeps : goal.returns-clause-keeps
+returns-clause-keeps g c = c.look.ensures.eye.keeps
+
+pub held-requires : goal.held-requires
+held-requires g c =
+    let end = last_of c.args.queues.now.last c.args.arrived.items in
+    let all = rising_append 0 c.args.queues.now.last end c.args.queues.now.pending c.args.arrived.items c.requires.earlier c.requires.rising in
+    let received = subst (λ xs. IsRisingFrom 0 xs end) (sym (ap (λ (q : QueuesOf g.row.L.Denot). q.pending) c.in_ok-receive.ensures)) all in
+    let rises = rising_looked g.L.Lease 0 end c.receive.new.queues.pending c.look.new.self.pending c.in_ok-looks.ensures.looked received in
+    let begins = subst (λ looks. AreLooks g.L.Lease looks c.look.new.self.pending) (sym (c.as_slice-2.ensures.value ∙ c.in_ok-looks.ensures.looks)) (looks_begin g.L.Lease c.look.new.self.pending end rises) in
+    looks_stay g.L.Lease c.args.seen.now c.args.expected c.as_slice-2.result.now _ c.decide.new.stage c.decide.new.queues.pending c.decide.new.facts c.in_ok-decide.ensures.comes begins
+
+pub returns-clause-decides : goal.returns-clause-decides
+returns-clause-decides g c =
+    let comes = c.in_ok-decide.ensures.comes in
+    let lasts = c.in_ok-decide.ensures.last ∙ (ap (λ (q : QueuesOf g.row.L.Denot). q.last) c.in_ok-looks.ensures.rest ∙ ap (λ (q : QueuesOf g.row.L.Denot). q.last) c.in_ok-receive.ensures) in
+    let frames = ap (λ (f : FactsOf). f.frames) c.in_ok-note_pressed.ensures.rest ∙ ap (λ (f : FactsOf). f.frames) c.begin_vsync.ensures in
+    let fresh = ap (λ (f : FactsOf). f.fresh) c.in_ok-note_pressed.ensures.rest ∙ ap (λ (f : FactsOf). f.fresh) c.begin_vsync.ensures in
+    record {
+      looked = c.look.new.self.pending;
+      looks = subst (λ xs. AllZip (IsLookedArrival g.L.Lease) xs c.look.new.self.pending) (ap (λ (q : QueuesOf g.row.L.Denot). q.pending) c.in_ok-receive.ensures) c.in_ok-looks.ensures.looked;
+      shown = c.in_ok-looks.ensures.told;
+      end = comes.end;
+      decided = record {
+        taken = comes.decided.taken;
+        leads = subst (λ b. Leads g.L.Lease.shown c.args.seen.now c.args.expected b comes.decided.taken comes.end)
+            (λ i. record { stage = record { tree = c.args.tree; on = c.args.on.items; commits = c.new.ensures.items i; gone = c.new-2.ensures.items i }; pending = c.look.new.self.pending; frames = frames i; fresh = fresh i })
+            comes.decided.leads;
+        rests = comes.decided.rests;
+      };
+      shows = comes.shows;
+      stage_is = comes.state.made;
+      queues = λ i. record { pending = comes.state.waits i; last = lasts i };
+      frames = comes.state.same.frames;
+      holds = c.in_ok-waits.ensures ∙ held_is g.L.Lease.shown c.args.seen.now c.args.expected c.decide.new.stage c.decide.new.queues.pending c.decide.new.facts comes.end comes.state;
+      eye_is = c.look.ensures.eye;
+    }

@@ -1,0 +1,8 @@
+use Rattle.std.proofs.Common.{◌≡◌, take}
+use Rattle.std.specs.List.{filter_map}
+use Rattle.sf_commit.proofs.HeldLemmas.{told_by}
+use Rattle.sf_commit.proofs.held.held.Given as goal
+
+abbrev pub invariant-loop-look : goal.invariant-loop-look
+invariant-loop-look g l =
+    l.held.items ≡ filter_map (told_by g.L.Lease.shown l.fn.seen l.fn.expected l.fn.facts l.fn.queues.pending) (take l.look-index l.fn.looks)

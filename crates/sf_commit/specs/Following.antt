@@ -1,0 +1,52 @@
+-- What deciding and settling make, as one vsync puts them together.
+use Rattle.std.specs.Prelude.{◌≡◌, ℕ, ◌≤◌, List, [], ◌++◌, length, map}
+use Rattle.std.specs.List.{All, AllZip}
+use Rattle.sf_base.specs.declared.fences.Seen.{Seen}
+use Rattle.sf_ready.specs.Facts.{FactsOf, TellsSame}
+use Rattle.sf_ready.specs.declared.hold.Hold.{Hold}
+use Rattle.sf_token.specs.Looking.{AllLeases, IsLookedArrival}
+use Rattle.sf_token.specs.Pending.{Arrival, QueuesOf}
+use Rattle.sf_tree.specs.Trees.{TreeOf}
+use Rattle.sf_txn.specs.Leases.{IsEyeAfter, IsShownTo}
+use Rattle.sf_txn.specs.declared.lease.Lease.{Ghosts}
+use Rattle.sf_picture.specs.declared.picture.Picture.{Picture}
+use Rattle.sf_view.specs.Views.{ViewOf, Views}
+use Rattle.sf_commit.specs.Deciding.{ShowsIts}
+use Rattle.sf_commit.specs.Handlers.{last_of, source_of}
+use Rattle.sf_commit.specs.Leases.{IsReleaseOf, ShowsLease, ends_of, pictures}
+use Rattle.sf_commit.specs.OnLayers.{OnLayer, shown_on}
+use Rattle.sf_commit.specs.Releases.{ReleaseOf}
+use Rattle.sf_commit.specs.Rounds.{Decided, Round, StageOf, held}
+
+-- a vsync begins with these layers and buffers, and with what is pending
+abbrev pub begun_with : {L : Type 0} → TreeOf → List (OnLayer L) → List (ℕ × ℕ) → List (Arrival L) → Round L
+begun_with tree on frames pending =
+    record { stage = record { tree = tree; on = on; commits = []; gone = [] }; pending = pending; frames = frames; fresh = [] }
+
+module _ {L E R C : Type 0} (lease : Ghosts L E R C) where
+  -- what arrived was taken, looked at and decided
+  pub record DecidesAll (tree : TreeOf) (on : List (OnLayer L)) (facts : FactsOf) (old : QueuesOf L) (eye : E) (arrived : List (Arrival L))
+      (seen : Seen) (expected : ℕ) (stage : StageOf L) (waits : List (ℕ × Hold)) (new : QueuesOf L) (noted : FactsOf) (eye' : E) : Type 0 where
+    pub looked : List (Arrival L)
+    pub looks : AllZip (IsLookedArrival lease) (old.pending ++ arrived) looked
+    pub shown : AllLeases (IsShownTo lease eye eye') looked
+    pub end : Round L
+    pub decided : Decided lease.shown seen expected (begun_with tree on facts.frames looked) end
+    pub shows : All ShowsIts decided.taken
+    pub stage_is : stage ≡ end.stage
+    pub queues : new ≡ record { pending = end.pending; last = last_of old.last arrived }
+    pub frames : TellsSame noted.frames end.frames
+    pub holds : waits ≡ held lease.shown seen expected end
+    pub eye_is : IsEyeAfter lease eye eye' []
+
+  -- what goes was handed back, what is new is read, and the display shows the layers
+  pub record SettlesAll (stage : StageOf L) (width height : ℕ) (eye : E) (on : List (OnLayer L)) (contents : List Picture)
+      (view : ViewOf) (sources : List ℕ) (releases : List (ReleaseOf L)) (eye' : E) : Type 0 where
+    pub on_is : on ≡ map shown_on stage.on
+    pub contents_are : contents ≡ pictures lease stage.on
+    pub crops : All (ShowsLease lease) on
+    pub few : length on ≤ 4294967295
+    pub view_is : Views stage.tree.layers width height view
+    pub sources_are : sources ≡ map (source_of stage.on) view.drawn
+    pub released : AllZip (IsReleaseOf lease) stage.gone releases
+    pub reads : IsEyeAfter lease eye eye' (ends_of lease stage.gone)

@@ -1,0 +1,11 @@
+pub mod Deciding
+pub mod Following
+pub mod Handlers
+pub mod Holding
+pub mod Inside
+pub mod Leases
+pub mod Next
+pub mod OnLayers
+pub mod Releases
+pub mod Rounds
+pub mod Standing

@@ -1,0 +1,59 @@
+-- The buffers that layers show, and what a transaction's operations do to them.
+use Rattle.std.specs.Prelude.{◌==◌, ◌&&◌, Bool, true, false, List, [], ◌∷◌, ◌++◌}
+use Rattle.std.specs.List.{find}
+use Rattle.std.specs.Option.{option_to_list}
+use Rattle.sf_base.specs.Fences.{no_points}
+use Rattle.sf_base.specs.declared.fences.Fence.{Fence}
+use Rattle.sf_base.specs.declared.ids.LayerId.{LayerId}
+use Rattle.sf_layer.specs.declared.op.Op.{Op}
+use Rattle.sf_layer.specs.declared.op.Op.TheVariants as op
+use Rattle.sf_layer.specs.declared.shown.Shown.{Shown}
+use Rattle.sf_txn.specs.Buffers.{Buffer}
+use Rattle.sf_txn.specs.Transactions.{without_first}
+
+-- a buffer that a layer shows, with the lease of its pixels and the fence with which it goes back unread. It is read
+-- where a layer showed it at the end of an earlier vsync; it has no fence then
+pub record OnLayer (L : Type 0) : Type 0 where
+  pub layer : LayerId
+  pub shown : Shown
+  pub fence : Fence
+  pub lease : L
+  pub is_read : Bool
+
+module _ {L : Type 0} where
+  -- a buffer as a transaction brings it
+  abbrev pub brought : Buffer L → OnLayer L
+  brought buffer = record { layer = buffer.layer; shown = buffer.shown; fence = buffer.fence; lease = buffer.lease; is_read = false }
+
+  -- a buffer that is shown at the end of a vsync
+  abbrev pub shown_on : OnLayer L → OnLayer L
+  shown_on on = record on { fence = no_points; is_read = true }
+
+  abbrev pub is_on : LayerId → OnLayer L → Bool
+  is_on layer on = on.layer.0 == layer.0
+
+  -- it is this frame of a queue
+  abbrev pub is_frame : Shown → OnLayer L → Bool
+  is_frame shown on = (on.shown.queue.0 == shown.queue.0) && (on.shown.frame == shown.frame)
+
+  -- nothing is shown on the layer any more: at most one buffer was
+  abbrev pub without : LayerId → List (OnLayer L) → List (OnLayer L)
+  without layer on = without_first (is_on layer) on
+
+  -- what operations make of the buffers on layers, where each that shows a buffer shows the next of these: it takes the
+  -- place of the layer's older one, and a destroyed layer shows none
+  abbrev pub on_after : List (OnLayer L) → List (LayerId × Op) → List (Buffer L) → List (OnLayer L)
+  on_after on [] buffers = on
+  on_after on ((layer, op.Show _) ∷ ops) [] = on_after on ops []
+  on_after on ((layer, op.Show _) ∷ ops) (buffer ∷ buffers) = on_after (without layer on ++ brought buffer ∷ []) ops buffers
+  on_after on ((layer, op.Destroy) ∷ ops) buffers = on_after (without layer on) ops buffers
+  on_after on ((layer, _) ∷ ops) buffers = on_after on ops buffers
+
+  -- what goes with operations, in their order: the buffer that a newer one replaces, and that of a destroyed layer
+  abbrev pub gone_with : List (OnLayer L) → List (LayerId × Op) → List (Buffer L) → List (OnLayer L)
+  gone_with on [] buffers = []
+  gone_with on ((layer, op.Show _) ∷ ops) [] = gone_with on ops []
+  gone_with on ((layer, op.Show _) ∷ ops) (buffer ∷ buffers) =
+      option_to_list (find (is_on layer) on) ++ gone_with (without layer on ++ brought buffer ∷ []) ops buffers
+  gone_with on ((layer, op.Destroy) ∷ ops) buffers = option_to_list (find (is_on layer) on) ++ gone_with (without layer on) ops buffers
+  gone_with on ((layer, _) ∷ ops) buffers = gone_with on ops buffers

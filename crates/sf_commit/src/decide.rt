@@ -1,0 +1,59 @@
+ghost use Rattle.std.specs.List.{All};
+ghost use Rattle.std.specs.Prelude.{◌≡◌, OnOk, Some};
+ghost use Rattle.sf_commit.specs.Deciding.{Comes, CommitsOne, round_of};
+ghost use Rattle.sf_commit.specs.Next.{AreRising, IsLookedAt};
+ghost use Rattle.sf_commit.specs.Rounds.{pressed_in};
+ghost use Rattle.sf_ready.specs.Facts.{HasSame};
+ghost use Rattle.sf_token.specs.Pending.{Arrival, head_of, is_of};
+ghost use Rattle.sf_txn.specs.Transactions.{without_first};
+
+use crate::commit::Stage;
+use crate::next::next_token;
+use sf_base::{NoMemory, Seen, TokenId};
+use sf_ready::Facts;
+use sf_token::{Looks, TokenQueues};
+use sf_txn::Lease;
+
+/// The first transaction of a token is committed.
+fn commit_first<L: Lease + Drop>(
+    stage: &mut Stage<L>,
+    queues: &mut TokenQueues<L>,
+    facts: &mut Facts,
+    token: TokenId,
+) -> Result<(), NoMemory>
+where
+    L::Reading: Drop,
+    ensures left { queues.new ≡ record queues.old { pending = without_first (is_of token) queues.old.pending } }
+    ensures commits { OnOk result ((a : Arrival L) → head_of token queues.old.pending ≡ Some a
+        → CommitsOne stage.old stage.new facts.old facts.new a) }
+{
+    match queues.pop(token) {
+        Some(arrived) => stage.commit(facts, arrived),
+        None => Ok(()),
+    }
+}
+
+/// Commits one transaction after another, the next of them each time, until none is left to commit.
+/// The looks are those at all that waits.
+pub(crate) fn decide<L: Lease + Drop>(
+    stage: &mut Stage<L>,
+    queues: &mut TokenQueues<L>,
+    facts: &mut Facts,
+    looks: &[Looks],
+    seen: &Seen,
+    expected: u64,
+) -> Result<(), NoMemory>
+where
+    L::Reading: Drop,
+    requires looked { All (IsLookedAt L.shown looks.now) queues.old.pending }
+    requires rising { AreRising 0 looks.now }
+    requires pressed { HasSame facts.old.pressed (pressed_in stage.old.tree.layers) }
+    ensures comes { OnOk result (Comes L.shown seen.now expected (round_of stage.old queues.old.pending facts.old)
+        stage.new queues.new.pending facts.new) }
+    ensures last { queues.new.last ≡ queues.old.last }
+{
+    while let Some(token) = next_token(queues, looks, facts, seen, expected)? {
+        commit_first(stage, queues, facts, token)?;
+    }
+    Ok(())
+}

@@ -1,0 +1,68 @@
+ghost use Rattle.std.specs.List.{All};
+ghost use Rattle.std.specs.Prelude.{◌≡◌, [], IfOk};
+ghost use Rattle.sf_commit.specs.Following.{SettlesAll};
+ghost use Rattle.sf_commit.specs.Leases.{AllOn, IsKnownOn};
+ghost use Rattle.sf_view.specs.Views.{IsDisplay};
+
+use crate::on::OnLayer;
+use crate::opening::{Reading, open_all};
+use crate::settle::release_all;
+use crate::sources::sources;
+use crate::vsync::Release;
+use sf_base::NoMemory;
+use sf_picture::Painted;
+use sf_tree::Tree;
+use sf_txn::Lease;
+use sf_view::{View, view_of};
+use std::alloc::Global;
+
+/// What a vsync leaves on layers, and what the display shows.
+#[derive(Drop)]
+pub(crate) struct Settled<L: Lease> {
+    pub on: Vec<Reading<L>>,
+    pub contents: Vec<Painted>,
+    pub view: View,
+    pub sources: Vec<u32>,
+    pub releases: Vec<Release<L>>,
+}
+
+/// Hands back the buffers that go, reads those that are newly shown, and views the layers.
+pub(crate) fn settle_all<L: Lease + Drop>(
+    alloc: Global,
+    tree: &Tree,
+    on: Vec<OnLayer<L>>,
+    gone: Vec<OnLayer<L>>,
+    width: u32,
+    height: u32,
+    eye: &mut L::Eye,
+) -> Result<Settled<L>, NoMemory>
+where
+    L::Reading: Drop,
+    requires display { IsDisplay width height }
+    requires going { AllOn (L.fits (L.mark eye.old)) gone.items }
+    requires staying { AllOn (L.fits (L.mark eye.old)) on.items }
+    requires known { All (IsKnownOn L.Lease eye.old) on.items }
+    ensures settles { IfOk result (λ s. SettlesAll L.Lease
+        (record { tree = tree.now; on = on.items; commits = []; gone = gone.items }) width height eye.old
+        s.on.items s.contents.items s.view s.sources.items s.releases.items eye.new) }
+    ensures mark { L.mark eye.new ≡ L.mark eye.old }
+    ensures keeps { (l : L) → L.knows eye.old l → L.knows eye.new l }
+{
+    let releases = release_all(alloc, eye, gone)?;
+    let mut readings = Vec::new(alloc);
+    let mut contents = Vec::new(alloc);
+    open_all(eye, on, &mut readings, &mut contents)?;
+    // More than 32 bits can count are more than memory can have.
+    if readings.len() > u32::MAX as usize {
+        return Err(NoMemory);
+    }
+    let view = view_of(alloc, tree, width, height)?;
+    let sources = sources(alloc, view.drawn.as_slice(), readings.as_slice())?;
+    Ok(Settled {
+        on: readings,
+        contents,
+        view,
+        sources,
+        releases,
+    })
+}

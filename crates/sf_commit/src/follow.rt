@@ -1,0 +1,58 @@
+ghost use Rattle.std.specs.Prelude.{◌≡◌, IfOk};
+ghost use Rattle.sf_commit.specs.Following.{DecidesAll};
+ghost use Rattle.sf_commit.specs.Handlers.{last_of};
+ghost use Rattle.sf_token.specs.Looking.{AllLeases};
+ghost use Rattle.sf_token.specs.Pending.{IsRisingFrom};
+
+use crate::commit::Stage;
+use crate::decide::decide;
+use crate::held::held;
+use crate::note::note_pressed;
+use crate::on::OnLayer;
+use crate::receive::receive;
+use sf_base::{NoMemory, Seen};
+use sf_ready::{Facts, Hold};
+use sf_token::{Arrived, TokenQueues};
+use sf_tree::Tree;
+use sf_txn::Lease;
+use std::alloc::Global;
+
+/// Takes what arrived, looks once at each pending lease, and commits until nothing is left to
+/// commit. Tells what the stage is then, and what waits.
+pub(crate) fn decide_all<L: Lease + Drop>(
+    alloc: Global,
+    tree: Tree,
+    on: Vec<OnLayer<L>>,
+    queues: &mut TokenQueues<L>,
+    facts: &mut Facts,
+    eye: &mut L::Eye,
+    arrived: Vec<Arrived<L>>,
+    seen: &Seen,
+    expected: u64,
+) -> Result<(Stage<L>, Vec<(u32, Hold)>), NoMemory>
+where
+    L::Reading: Drop,
+    requires pending { AllLeases (L.fits (L.mark eye.old)) queues.old.pending }
+    requires brought { AllLeases (L.fits (L.mark eye.old)) arrived.items }
+    requires earlier { IsRisingFrom 0 queues.old.pending queues.old.last }
+    requires rising { IsRisingFrom queues.old.last arrived.items (last_of queues.old.last arrived.items) }
+    ensures decides { IfOk result (λ d. DecidesAll L.Lease tree on.items facts.old queues.old eye.old arrived.items seen.now expected
+        d.0 d.1.items queues.new facts.new eye.new) }
+    ensures mark { L.mark eye.new ≡ L.mark eye.old }
+    ensures keeps { (l : L) → L.knows eye.old l → L.knows eye.new l }
+{
+    receive(queues, arrived)?;
+    let looks = queues.look(eye)?;
+    facts.begin_vsync();
+    note_pressed(facts, tree.layers())?;
+    let mut stage = Stage {
+        alloc,
+        tree,
+        on,
+        commits: Vec::new(alloc),
+        gone: Vec::new(alloc),
+    };
+    decide(&mut stage, queues, facts, looks.as_slice(), seen, expected)?;
+    let waits = held(alloc, queues, looks.as_slice(), facts, seen, expected)?;
+    Ok((stage, waits))
+}

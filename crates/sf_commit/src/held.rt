@@ -1,0 +1,80 @@
+ghost use Rattle.std.specs.Option.{IfSome, option_and_then};
+ghost use Rattle.std.specs.Prelude.{◌≡◌, IfOk, find, map};
+ghost use Rattle.sf_commit.specs.Holding.{AreLooks, held_of, hold_in, is_first, told_in};
+ghost use Rattle.sf_token.specs.Pending.{Arrival, has_number};
+
+use sf_base::{NoMemory, Seen};
+use sf_ready::{Facts, Hold, hold_of};
+use sf_token::{Arrived, Looks, TokenQueues};
+use sf_txn::Lease;
+use std::alloc::Global;
+
+/// Whether a pending transaction is the first of its token.
+fn is_first<L: Lease + Drop>(queues: &TokenQueues<L>, arrived: &Arrived<L>) -> bool
+    ensures { result ≡ is_first queues.now.pending arrived.now }
+{
+    match queues.head(arrived.txn.token()) {
+        Some(first) => first.number == arrived.number,
+        None => false,
+    }
+}
+
+/// Why a pending transaction waits; None where nothing holds it.
+fn hold_at<L: Lease + Drop>(
+    queues: &TokenQueues<L>,
+    arrived: &Arrived<L>,
+    drawn: &[bool],
+    facts: &Facts,
+    seen: &Seen,
+    expected: u64,
+) -> Option<Hold>
+    requires { drawn.now ≡ map (λ buffer. L.shown buffer.lease) arrived.now.txn.buffers }
+    ensures { result ≡ hold_in L.shown seen.now expected facts.now queues.now.pending arrived.now }
+{
+    if is_first(queues, arrived) {
+        hold_of(&arrived.txn, drawn, facts, seen, expected)
+    } else {
+        Some(Hold::Behind)
+    }
+}
+
+/// Why the transaction that was looked at waits, with its number; None where it waits no longer.
+fn told_at<L: Lease + Drop>(
+    queues: &TokenQueues<L>,
+    look: &Looks,
+    facts: &Facts,
+    seen: &Seen,
+    expected: u64,
+) -> Option<(u32, Hold)>
+    requires { IfSome (find (has_number look.now.number) queues.now.pending)
+        (λ (a : Arrival L). look.now.drawn ≡ map (λ buffer. L.shown buffer.lease) a.txn.buffers) }
+    ensures { result ≡ option_and_then (told_in L.shown seen.now expected facts.now queues.now.pending)
+        (find (has_number look.now.number) queues.now.pending) }
+{
+    let arrived = queues.get(look.number)?;
+    let drawn = look.drawn.as_slice();
+    let hold = hold_at(queues, arrived, drawn, facts, seen, expected)?;
+    Some((arrived.number, hold))
+}
+
+/// What is pending, by its number in the order of arrival, and why it waits. The looks are those at
+/// all that was pending before the first commit.
+pub(crate) fn held<L: Lease + Drop>(
+    alloc: Global,
+    queues: &TokenQueues<L>,
+    looks: &[Looks],
+    facts: &Facts,
+    seen: &Seen,
+    expected: u64,
+) -> Result<Vec<(u32, Hold)>, NoMemory>
+    requires { AreLooks L.Lease looks.now queues.now.pending }
+    ensures { IfOk result (λ held. held.items ≡ held_of L.shown seen.now expected facts.now queues.now.pending) }
+{
+    let mut held = Vec::new(alloc);
+    for look in looks {
+        if let Some(told) = told_at(queues, look, facts, seen, expected) {
+            held.push(told)?;
+        }
+    }
+    Ok(held)
+}

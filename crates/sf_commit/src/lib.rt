@@ -1,0 +1,23 @@
+//! The compositor between two vsyncs: it takes the transactions that arrived, and at each vsync
+//! commits those that are ready, takes their buffers, tells what the display shows, and releases
+//! the buffers that no layer shows any more. A buffer on a layer stays entered for reading.
+#![tactic(auto)]
+
+mod commit;
+mod decide;
+mod finish;
+mod follow;
+mod handler;
+mod held;
+mod next;
+mod note;
+mod on;
+mod opening;
+mod receive;
+mod settle;
+mod sources;
+mod stage;
+mod vsync;
+
+pub use handler::Handler;
+pub use vsync::{Commit, Release, Vsync};

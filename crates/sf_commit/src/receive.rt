@@ -1,0 +1,26 @@
+ghost use Rattle.std.specs.Prelude.{◌≡◌, ◌++◌, OnOk};
+ghost use Rattle.sf_commit.specs.Handlers.{last_of};
+ghost use Rattle.sf_token.specs.Pending.{IsRisingFrom};
+
+use sf_base::NoMemory;
+use sf_token::{Arrived, TokenQueues};
+use sf_txn::Lease;
+
+/// What arrived waits behind the earlier ones of its tokens.
+pub(crate) fn receive<L: Lease + Drop>(
+    queues: &mut TokenQueues<L>,
+    arrived: Vec<Arrived<L>>,
+) -> Result<(), NoMemory>
+    requires { IsRisingFrom queues.old.last arrived.items (last_of queues.old.last arrived.items) }
+    ensures { OnOk result (queues.new ≡ record {
+      pending = queues.old.pending ++ arrived.items;
+      last = last_of queues.old.last arrived.items;
+    }) }
+{
+    for one in arrived {
+        if queues.push(one).is_err() {
+            return Err(NoMemory);
+        }
+    }
+    Ok(())
+}
