@@ -1,3 +1,4 @@
+pub mod AskingLemmas
 pub mod CommitLemmas
 pub mod DecideLemmas
 pub mod FollowLemmas

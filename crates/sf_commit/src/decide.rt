@@ -1,5 +1,7 @@
 ghost use Rattle.std.specs.List.{All};
-ghost use Rattle.std.specs.Prelude.{◌≡◌, OnOk, Some};
+ghost use Rattle.std.specs.Prelude.{◌≡◌, false, IfOk, OnOk, None, Some};
+ghost use Rattle.sf_base.specs.declared.ids.TokenId.{TokenId};
+ghost use Rattle.sf_commit.specs.Asking.{has_token};
 ghost use Rattle.sf_commit.specs.Deciding.{Comes, CommitsOne, round_of};
 ghost use Rattle.sf_commit.specs.Next.{AreRising, IsLookedAt};
 ghost use Rattle.sf_commit.specs.Rounds.{pressed_in};
@@ -7,12 +9,26 @@ ghost use Rattle.sf_ready.specs.Facts.{HasSame};
 ghost use Rattle.sf_token.specs.Pending.{Arrival, head_of, is_of};
 ghost use Rattle.sf_txn.specs.Transactions.{without_first};
 
+use crate::asking::Asking;
 use crate::commit::Stage;
 use crate::next::next_token;
 use sf_base::{NoMemory, Seen, TokenId};
 use sf_ready::Facts;
 use sf_token::{Looks, TokenQueues};
 use sf_txn::Lease;
+use std::alloc::Global;
+
+/// The tokens with something pending.
+fn all_tokens<L: Lease + Drop>(alloc: Global, queues: &TokenQueues<L>) -> Result<Asking, NoMemory>
+    ensures { IfOk result (λ asking. (token : TokenId) → has_token asking token ≡ false → head_of token queues.now.pending ≡ None) }
+{
+    let tokens = queues.tokens()?;
+    let mut asking = Asking::new(alloc);
+    for token in tokens {
+        asking.add(token)?;
+    }
+    Ok(asking)
+}
 
 /// The first transaction of a token is committed.
 fn commit_first<L: Lease + Drop>(
@@ -34,7 +50,8 @@ where
 }
 
 /// Commits one transaction after another, the next of them each time, until none is left to commit.
-/// The looks are those at all that waits.
+/// The looks are those at all that waits. After a commit only those tokens are asked again of which
+/// it can change what holds the first transaction, from the lowest on.
 pub(crate) fn decide<L: Lease + Drop>(
     stage: &mut Stage<L>,
     queues: &mut TokenQueues<L>,
@@ -52,7 +69,9 @@ where
         stage.new queues.new.pending facts.new) }
     ensures last { queues.new.last ≡ queues.old.last }
 {
-    while let Some(token) = next_token(queues, looks, facts, seen, expected)? {
+    let alloc = stage.alloc;
+    let mut asking = all_tokens(alloc, queues)?;
+    while let Some(token) = next_token(alloc, &mut asking, queues, looks, facts, seen, expected)? {
         commit_first(stage, queues, facts, token)?;
     }
     Ok(())

@@ -3,6 +3,7 @@
 //! the buffers that no layer shows any more. A buffer on a layer stays entered for reading.
 #![tactic(auto)]
 
+mod asking;
 mod commit;
 mod decide;
 mod finish;
