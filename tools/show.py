@@ -6,11 +6,13 @@
 SCENE is scenes/phone.sf if it is not given, and FOLDER is out/NAME for a scene NAME.sf, beside the
 folder crates/. Beside the frames stand records.bin (the records, for tools/records.py), dump.txt (a
 sentence for each record) and trace.json (for chrome://tracing or Perfetto). What the run comes to is
-told on standard output, and the fault of a script that is no scene is shown at its place.
+told on standard output, and the fault of a script that is no scene is shown at its place. While it
+builds and plays, standard error says every five seconds how far it is.
 
 Without --proved the program is compiled and run as it stands, by `rt try`: that takes less than a
-minute, and no proof is asked for. Such a run may write at most 1 MiB of records. With --proved
-`rt run` proves the program first, the first time for long, and has no such limit.
+minute, and no proof is asked for. Such a run may write at most 1 MiB of records, which all come at its
+end. With --proved `rt run` proves and builds the program first, the first time for long, later only
+what changed; it has no such limit.
 
 status: that of the program (0 played, 2 the script is no scene), or 1 where there is no answer, or 2
 where words are wrong or a file cannot be read or written.
@@ -18,7 +20,6 @@ where words are wrong or a file cannot be read or written.
 
 import json
 import os
-import subprocess
 import sys
 
 from explaining import explained
@@ -26,6 +27,7 @@ from pictures import write_frames
 from stream import faults, read
 from summing import summed
 from timeline import trace
+from waiting import awaited
 from wording import sentence
 
 TOP = os.path.dirname(os.path.dirname(os.path.abspath(__file__)))
@@ -56,8 +58,7 @@ def arguments(words):
 def play(command, scene):
     """The status of a run of the program on a scene, and its records. What `rt` says goes on to standard error."""
     with open(scene, "rb") as script:
-        ended = subprocess.run(["rt", command], cwd=PROGRAM, stdin=script, stdout=subprocess.PIPE)
-    return ended.returncode, ended.stdout
+        return awaited(["rt", command], PROGRAM, script, lambda line: print(f"  {line}", file=sys.stderr, flush=True))
 
 
 def write_text(folder, name, text):

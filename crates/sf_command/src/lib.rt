@@ -13,15 +13,29 @@ use std::{env, io};
 mod tests;
 
 const HELP: &str = "\
-sf_main plays a script of the compositor.
+sf_main plays a script of a compositor: an actor draws buffers and sends transactions, and each
+vsync commits them, each whole or not at all, and shows a frame.
 
 usage: sf_main < SCRIPT > RECORDS
 
-The script is read from standard input, and the records of its run are written to standard
-output. The words --help and --version, each alone, write this page and the version.
+It reads the script from standard input, and writes what comes of it to standard output as binary
+records: each reply, each commit, each frame as raw RGBA, the history of each queue, what waits and
+who is stuck.
 
-status: 0 the script was played; 1 wrong words; 2 the script is no scene; 3 reading failed;
-4 writing failed; 5 out of memory";
+  --help, -h   writes this page
+  --version    writes the version
+
+Each of these stands alone. There are no other words yet.
+
+status: 0   the script was played
+        1   wrong words; nothing is read or written
+        2   the script is no scene; one record says at which line and word, and why
+        3   reading failed
+        4   writing failed
+        5   out of memory
+
+docs/SCRIPT.md says how to write a script, docs/RECORDS.md how to read the records, and
+tools/records.py shows them as text, as pictures and as a timeline.";
 
 const VERSION: &str = "sf_main 0.1.0";
 

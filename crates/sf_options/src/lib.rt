@@ -1,0 +1,9 @@
+//! The words of the program: what it is asked to do, read by `clap`.
+#![tactic(auto)]
+
+mod about;
+mod matched;
+mod options;
+
+pub use about::About;
+pub use options::{Options, OptionsFault, Run};

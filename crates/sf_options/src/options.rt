@@ -1,0 +1,135 @@
+ghost use Rattle.std.specs.Prelude.{◌≡◌, ◌≤◌, codes, map, option_map, IfSome, IfOk};
+ghost use Rattle.std.specs.String.{string_bytes};
+ghost use Rattle.clap.specs.Words.{found_of, rows_of};
+ghost use Rattle.sf_options.specs.Options.{GivesOptions, is_set, number_of, options_from, options_in, options_of, run_named, run_of};
+
+use crate::matched::{matched, text_of};
+use clap::ArgMatches;
+use sf_words::number_within;
+use std::alloc::Global;
+
+/// What the program runs.
+#[derive(Clone, Copy, Debug, PartialEq, Eq)]
+pub enum Run {
+    /// The script, one step at a time, in its order.
+    Play,
+    /// The script, each actor in a thread of its own.
+    Live,
+    /// A generated script, played.
+    Gen,
+}
+
+/// What the words ask for.
+#[derive(Clone, Copy, Debug, PartialEq, Eq)]
+pub struct Options {
+    pub run: Run,
+    /// By how many workers a frame is composed: 1 to 16.
+    pub workers: u32,
+    /// The number of the generated script.
+    pub number: u64,
+    /// Whether one record is written that sums up the others.
+    pub summary: bool,
+}
+
+/// Why there are no options.
+#[derive(Clone, Copy, Debug, PartialEq, Eq)]
+pub enum OptionsFault {
+    WrongWords,
+    NoMemory,
+}
+
+#[tactic(auto, unfolding(crate::specs::Options::run_named))]
+fn run_named(word: &str) -> Option<Run>
+    ensures { result ≡ run_named word.now }
+{
+    match word {
+        "play" => Some(Run::Play),
+        "live" => Some(Run::Live),
+        "gen" => Some(Run::Gen),
+        _ => None,
+    }
+}
+
+#[tactic(auto, unfolding(crate::specs::Options::run_of))]
+fn run_given(given: Option<&str>) -> Option<Run>
+    ensures { result ≡ run_of (option_map (λ word. word.now) given.entry) }
+{
+    match given {
+        Some(word) => run_named(word),
+        None => Some(Run::Play),
+    }
+}
+
+#[tactic(auto, unfolding(crate::specs::Options::number_of))]
+fn number_given(given: Option<&str>, low: u64, high: u64) -> Option<u64>
+    requires one { (low ≤ 1) × (1 ≤ high) }
+    ensures given { result ≡ number_of low high (option_map (λ word. word.now) given.entry) }
+    ensures range { IfSome result (λ n. (low ≤ n) × (n ≤ high)) }
+{
+    match given {
+        Some(word) => number_within(word.as_bytes(), low, high),
+        None => Some(1),
+    }
+}
+
+#[tactic(auto, unfolding(crate::specs::Options::is_set))]
+fn flag_given(given: Option<&str>) -> bool
+    ensures { result ≡ is_set (option_map (λ word. word.now) given.entry) }
+{
+    match given {
+        Some(word) => word == "true",
+        None => false,
+    }
+}
+
+// The options, where each is right and there is no summary of a live run.
+#[tactic(auto, unfolding(crate::specs::Options::options_from))]
+fn options_from(
+    run: Option<Run>,
+    workers: Option<u64>,
+    number: Option<u64>,
+    summary: bool,
+) -> Option<Options>
+    requires range { IfSome workers (λ n. (1 ≤ n) × (n ≤ 16)) }
+    ensures given { result ≡ options_from run workers number summary }
+    ensures workers { IfSome result (λ o. (1 ≤ o.workers) × (o.workers ≤ 16)) }
+{
+    let (run, workers, number) = (run?, workers?, number?);
+    if run == Run::Live && summary {
+        return None;
+    }
+    Some(Options {
+        run,
+        workers: workers as u32,
+        number,
+        summary,
+    })
+}
+
+// The options that the matches give.
+#[tactic(auto, unfolding(crate::specs::Options::options_in))]
+fn options_in(matches: &ArgMatches<'_>) -> Option<Options>
+    ensures given { result ≡ options_in (rows_of (found_of matches.now)) }
+    ensures workers { IfSome result (λ o. (1 ≤ o.workers) × (o.workers ≤ 16)) }
+{
+    let run = run_given(text_of(matches, "run"));
+    let workers = number_given(text_of(matches, "workers"), 1, 16);
+    let number = number_given(text_of(matches, "number"), 0, u64::MAX);
+    let summary = flag_given(text_of(matches, "summary"));
+    options_from(run, workers, number, summary)
+}
+
+impl Options {
+    /// What the words ask for, which come without the program's name: `--run V` with `play`, `live`
+    /// or `gen` (`play` if absent), `--workers N` from 1 to 16 and `--number N` of 64 bits (1 if
+    /// absent), and `--summary`, which no live run has. N is 1 to 20 decimal digits.
+    pub fn read(alloc: Global, words: &[String]) -> Result<Options, OptionsFault>
+        ensures given { GivesOptions result (options_of (map string_bytes words.now)) }
+        ensures workers { IfOk result (λ o. (1 ≤ o.workers) × (o.workers ≤ 16)) }
+    {
+        match matched(alloc, words) {
+            Ok(matches) => options_in(&matches).ok_or(OptionsFault::WrongWords),
+            Err(fault) => Err(fault),
+        }
+    }
+}
