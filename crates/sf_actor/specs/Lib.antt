@@ -1,0 +1,12 @@
+pub mod Asking
+pub mod Desks
+pub mod Keeping
+pub mod Known
+pub mod Names
+pub mod Plain
+pub mod Points
+pub mod Scripts
+pub mod Steps
+pub mod Tests
+pub mod Traces
+pub mod Written
