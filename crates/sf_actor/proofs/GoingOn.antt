@@ -59,13 +59,13 @@ tests_on pictures old new past s answer None rise is =
     (IsPassed (waited_fence past.holdings s) new × AnswersCall (call_of pictures past.holdings s) (sent_by past.holdings s) answer)
     rise (λ done. (passed_on (waited_fence past.holdings s) old new rise done.0, done.1)) is
 
-answered_on : (pictures : ℕ → Picture) (old new : Seen) (trace : List Done) → Rise old new → AreAnswered pictures old trace → AreAnswered pictures new trace
+pub answered_on : (pictures : ℕ → Picture) (old new : Seen) (trace : List Done) → Rise old new → AreAnswered pictures old trace → AreAnswered pictures new trace
 answered_on pictures old new trace rise is =
     All-weaker (IsAnswered pictures old) (IsAnswered pictures new)
     (λ (at : DoneAt). tests_on pictures old new at.past at.done.step at.done.answered (refusal_of pictures at.past.holdings at.done.step) rise)
     (places_of trace) is
 
-ends_there : (old new : List Turn) (ends : Option EndingOf) → AreAmong old new → EndsIn old ends → EndsIn new ends
+pub ends_there : (old new : List Turn) (ends : Option EndingOf) → AreAmong old new → EndsIn old ends → EndsIn new ends
 ends_there old new None among is = tt
 ends_there old new (Some ending) among is = among (ending.turn.buffer, ending.turn.number) is
 

@@ -36,7 +36,7 @@ module _ {B : Type 0} where
   -- of what is entered in one buffer, the earlier turn comes first
   abbrev pub IsInOrder : (ℕ → List (Call B)) → ℕ → ℕ → Type 0
   IsInOrder calls place later =
-      (turn other : Turn) → WasGivenAt calls place (Some turn) → WasGivenAt calls later (Some other) → turn.0 ≡ other.0 → turn.1 < other.1
+      (turn : Turn) × (other : Turn) × WasGivenAt calls place (Some turn) × WasGivenAt calls later (Some other) × (turn.0 ≡ other.0 → turn.1 < other.1)
 
   -- the draws of a trace that enter pixels do so in turn
   pub record DrawInTurn (share : Share B) (trace : List Done) : Type 0 where
