@@ -1,8 +1,9 @@
 -- An actor's trace keeps what it keeps where what is known grows without an entry of it.
 use Rattle.std.proofs.Common.{◌≡◌, ℕ, false, ◌==◌, List, [], ◌∷◌, ◌++◌, inl, inr, length, filter, arith, ap, ◌∙◌, sym, refl, subst, Option, Some, None}
-use Rattle.std.specs.Prelude.{Contains}
-use Rattle.std.specs.List.{AllZip, list_any}
+use Rattle.std.specs.Prelude.{map, get_or, Contains}
+use Rattle.std.specs.List.{All, AllPairs, AllZip, list_any}
 use Rattle.std.proofs.lemmas.Bool.{cases_Bool, or_parts}
+use Rattle.std.proofs.lemmas.List.Elements.{All-weaker}
 use Rattle.std.proofs.lemmas.List.{append-nil, length-append, nil_from_length}
 use Rattle.sf_base.specs.Fences.{IsSignalled}
 use Rattle.sf_base.specs.declared.fences.Fence.{Fence}
@@ -16,13 +17,20 @@ use Rattle.sf_token.specs.Pending.{Arrival}
 use Rattle.sf_actor.specs.declared.done.Answered.{Answered}
 use Rattle.sf_actor.specs.declared.done.Done.{Done}
 use Rattle.sf_scene.specs.declared.step.Step.{Step}
+use Rattle.sf_scene.specs.declared.step.ActorScript.{ActorScript}
+use Rattle.sf_actor.specs.declared.tried.Reply.{Reply}
 use Rattle.sf_actor.specs.Asking.{call_of}
-use Rattle.sf_actor.specs.Keeping.{EndsIn, IsMade, IsSent, TraceKept, Turn, WasPaid, issued_turn, made_on, no_past}
-use Rattle.sf_actor.specs.Known.{AreAmong, Call, GoesOn, Known, Rise, Share, ShareGoesOn, is_sent_by, own_calls, share_of}
+use Rattle.sf_actor.specs.Draws.{EntersCounted, IsInOrder, entered_in}
+use Rattle.sf_actor.specs.Keeping.{TraceKept}
+use Rattle.sf_actor.specs.Known.{AreAmong, Call, GoesOn, Known, Rise, Share, ShareGoesOn, is_sent_by, own_calls, plain_arrival, share_of, told_by}
 use Rattle.sf_actor.specs.Points.{detached_fence, waited_fence}
+use Rattle.sf_actor.specs.Rights.{BringsGiven, EndsIn, HoldsAcquired, SendsAcquired, Turn, WasGivenAt, WasPaid, issued_turn}
+use Rattle.sf_actor.specs.Parts.{turn_held}
 use Rattle.sf_actor.specs.Steps.{sent_by}
+use Rattle.sf_actor.specs.Tales.{IsMade, made_on, sent_as}
 use Rattle.sf_actor.specs.Tests.{refusal_of}
-use Rattle.sf_actor.specs.Traces.{AnswersCall, AnswersTests, AreAnswered, IsPassed, Past, PassesFence, made_from, next, sent_from}
+use Rattle.sf_actor.specs.Traces.{AnswersCall, AnswersTests, AreAnswered, DoneAt, IsAnswered, IsPassed, Past, PassesFence, made_by, places_of, sends_of}
+use Rattle.sf_actor.specs.Tries.{ActorKept, ActorOf, past_of}
 use Rattle.sf_actor.specs.Written.{FrameNumber}
 
 -- a fence that is signalled stays so
@@ -51,13 +59,11 @@ tests_on pictures old new past s answer None rise is =
     (IsPassed (waited_fence past.holdings s) new × AnswersCall (call_of pictures past.holdings s) (sent_by past.holdings s) answer)
     rise (λ done. (passed_on (waited_fence past.holdings s) old new rise done.0, done.1)) is
 
-pub answered_on : (pictures : ℕ → Picture) (old new : Seen) (past : Past) (trace : List Done) → Rise old new → AreAnswered pictures old past trace → AreAnswered pictures new past trace
-unfolding AreAnswered
-answered_on pictures old new past [] rise is = tt
-answered_on pictures old new past (done ∷ later) rise is = (
-  tests_on pictures old new past done.step done.answered (refusal_of pictures past.holdings done.step) rise is.0,
-  answered_on pictures old new (next past done) later rise is.1,
-)
+pub answered_on : (pictures : ℕ → Picture) (old new : Seen) (trace : List Done) → Rise old new → AreAnswered pictures old trace → AreAnswered pictures new trace
+answered_on pictures old new trace rise is =
+    All-weaker (IsAnswered pictures old) (IsAnswered pictures new)
+    (λ (at : DoneAt). tests_on pictures old new at.past at.done.step at.done.answered (refusal_of pictures at.past.holdings at.done.step) rise)
+    (places_of trace) is
 
 pub ends_there : (old new : List Turn) (ends : Option EndingOf) → AreAmong old new → EndsIn old ends → EndsIn new ends
 ends_there old new None among is = tt
@@ -83,6 +89,16 @@ module _ {B : Type 0} where
   paid_there : (old new : Share B) (frame : FrameNumber) → ShareGoesOn old new → WasPaid old.left old.calls frame → WasPaid new.left new.calls frame
   paid_there old new frame goes was =
       (was.0, was.1, was.2, subst (λ (xs : List (Call B)). Contains xs was.1) (sym (goes.calls was.0)) was.3, was.4, was.5, goes.left (issued_turn was.2.turn) was.6)
+
+  -- what was given at a place stays given there, and what was counted stays counted
+  counted_on : (old new : Share B) (place : ℕ) → ShareGoesOn old new → EntersCounted old place → EntersCounted new place
+  counted_on old new place goes counted =
+      let was = counted.1 in
+      let count = counted.2 in (
+        counted.0,
+        (was.0, was.1, subst (λ (xs : List (Call B)). Contains xs was.1) (sym (goes.calls was.0)) was.2, was.3, was.4),
+        (count.0, goes.counts (counted.0.0, count.0) count.1, count.2),
+      )
 
   -- the calls of one caller among more calls, made later
   calls_joined : (actor : ℕ) (more calls : List (Made B)) → calls_by actor (more ++ calls) ≡ calls_by actor more ++ calls_by actor calls
@@ -124,27 +140,61 @@ module _ {B : Type 0} where
     values = goes.values;
     signals = goes.signals;
     left = goes.left;
+    counts = goes.counts;
   }
 
   -- the law: what a trace keeps stays true
-  pub kept_on : (pictures : ℕ → Picture) (steps : List Step) (stock : List ℕ) (trace : List Done) (old new : Share B) → ShareGoesOn old new → TraceKept pictures steps stock trace old → TraceKept pictures steps stock trace new
-  kept_on pictures steps stock trace old new goes kept =
+  pub kept_on : (pictures : ℕ → Picture) (script : ActorScript) (stock : List ℕ) (trace : List Done) (replies : List Reply) (old new : Share B) → ShareGoesOn old new → TraceKept pictures script stock trace replies old → TraceKept pictures script stock trace replies new
+  kept_on pictures script stock trace replies old new goes kept =
+      let calls : old.calls ≡ new.calls = λ i queue. sym (goes.calls queue) i in
       let before : (queue : ℕ) (made : Call B) → Contains (new.calls queue) made → Contains (old.calls queue) made = λ queue made there. subst (λ (xs : List (Call B)). Contains xs made) (goes.calls queue) there in
       record {
-        first = kept.first;
-        answered = answered_on pictures old.values new.values no_past trace goes.values kept.answered;
-        calls = λ queue. subst (λ (xs : List (Call B)). AllZip (IsMade pictures) (made_on queue (made_from pictures 1 no_past trace)) xs) (sym (goes.calls queue)) (kept.calls queue);
-        arrivals = subst (λ (xs : List (Arrival ReadLeaseOf)). AllZip IsSent (sent_from 1 no_past trace) xs) (sym goes.arrivals) kept.arrivals;
-        tokens = λ queue made turn there brings.
-            let was = kept.tokens queue made turn (before queue made there) brings in
-            (was.0, was.1, subst (λ (xs : List (Call B)). Contains xs was.1) (sym (goes.calls was.0)) was.2, was.3);
+        is = record {
+          first = kept.is.first;
+          answered = answered_on pictures old.values new.values trace goes.values kept.is.answered;
+          replied = kept.is.replied;
+          made = λ queue. subst (λ (cs : ℕ → List (Call B)). AllZip IsMade (made_on queue (made_by pictures trace)) (map told_by (cs queue))) calls (kept.is.made queue);
+          sent = subst (λ (xs : List (Arrival ReadLeaseOf)). map sent_as (map plain_arrival xs) ≡ sends_of trace) (sym goes.arrivals) kept.is.sent;
+        };
+        shows = λ queue made there. kept.shows queue made (before queue made there);
+        tokens = λ queue. subst (λ (cs : ℕ → List (Call B)). AllZip (BringsGiven cs) (made_on queue (made_by pictures trace)) (cs queue)) calls (kept.tokens queue);
+        sends =
+            subst (λ (xs : List (Arrival ReadLeaseOf)). All (SendsAcquired new.calls) xs) (sym goes.arrivals)
+            (subst (λ (cs : ℕ → List (Call B)). All (SendsAcquired cs) old.arrivals) calls kept.sends);
         permits = λ queue made permit there brings. kept.permits queue made permit (before queue made there) brings;
         once = λ number queue other made later there too mine theirs. kept.once number queue other made later (before queue made there) (before other later too) mine theirs;
         signals = λ p there. goes.signals p (kept.signals p there);
         ends = λ queue made there. ends_there old.left new.left made.made.reply.ends goes.left (kept.ends queue made (before queue made there));
         pays = λ frame there. paid_there old new frame goes (kept.pays frame there);
+        turns = record {
+          counted = All-weaker (EntersCounted old) (EntersCounted new) (λ (place : ℕ). counted_on old new place goes) (entered_in trace) kept.turns.counted;
+          order = subst (λ (cs : ℕ → List (Call B)). AllPairs (IsInOrder cs) (entered_in trace)) calls kept.turns.order;
+        };
       }
 
   -- the law, as a desk's user has it
-  pub trace_on : (actor : ℕ) (pictures : ℕ → Picture) (steps : List Step) (stock : List ℕ) (trace : List Done) (old new : Known B) → GoesOn actor old new → TraceKept pictures steps stock trace (share_of actor old) → TraceKept pictures steps stock trace (share_of actor new)
-  trace_on actor pictures steps stock trace old new goes kept = kept_on pictures steps stock trace (share_of actor old) (share_of actor new) (share_on actor old new goes) kept
+  pub trace_on : (actor : ℕ) (pictures : ℕ → Picture) (script : ActorScript) (stock : List ℕ) (trace : List Done) (replies : List Reply) (old new : Known B) → GoesOn actor old new → TraceKept pictures script stock trace replies (share_of actor old) → TraceKept pictures script stock trace replies (share_of actor new)
+  trace_on actor pictures script stock trace replies old new goes kept = kept_on pictures script stock trace replies (share_of actor old) (share_of actor new) (share_on actor old new goes) kept
+
+  -- all that an actor keeps stays true
+  pub actor_on : (pictures : ℕ → Picture) (actor : ActorOf B) (old new : Share B) → ShareGoesOn old new → ActorKept pictures actor old → ActorKept pictures actor new
+  actor_on pictures actor old new goes is =
+      let calls : old.calls ≡ new.calls = λ i queue. sym (goes.calls queue) i in
+      record {
+        kept = kept_on pictures actor.script actor.stock actor.trace actor.replies old new goes is.kept;
+        has = is.has;
+        given = λ name held there. subst (λ (cs : ℕ → List (Call B)). WasGivenAt cs (get_or (past_of actor).since name 0) (Some (turn_held held))) calls (is.given name held there);
+        acquired = λ number txn there. subst (λ (cs : ℕ → List (Call B)). All (HoldsAcquired cs) txn.buffers) calls (is.acquired number txn there);
+        shows = is.shows;
+        reached = signalled_on (past_of actor).shown old.values new.values goes.values is.reached;
+        permits = record {
+          own = is.permits.own;
+          once = is.permits.once;
+          unused = λ number queue made there called makes. is.permits.unused number queue made there (subst (λ (xs : List (Call B)). Contains xs made) (goes.calls queue) called) makes;
+          enough = is.permits.enough;
+        };
+      }
+
+  -- the law, as a desk's user has it
+  pub keeps_on : (pictures : ℕ → Picture) (actor : ActorOf B) (old new : Known B) → GoesOn actor.script.number old new → ActorKept pictures actor (share_of actor.script.number old) → ActorKept pictures actor (share_of actor.script.number new)
+  keeps_on pictures actor old new goes is = actor_on pictures actor (share_of actor.script.number old) (share_of actor.script.number new) (share_on actor.script.number old new goes) is

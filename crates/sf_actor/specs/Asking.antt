@@ -1,6 +1,6 @@
 -- The calls that a step makes on queues.
 use Rattle.std.specs.Prelude.{ℕ, Bool, true, false, List, [], map, option_to_list, Option, Some, None, unwrap_or}
-use Rattle.sf_base.specs.Fences.{merged, no_points}
+use Rattle.sf_base.specs.Fences.{merged}
 use Rattle.sf_base.specs.declared.fences.Fence.{Fence}
 use Rattle.sf_base.specs.declared.ids.QueueId.{QueueId}
 use Rattle.sf_layer.specs.declared.shown.Shown.{Shown}
@@ -81,6 +81,11 @@ call_of pictures holdings (step.CDetach i b) = detach_read_of (name_in holdings 
 call_of pictures holdings (step.CAttach q b i) = attach_read_of q (name_in holdings b)
 call_of pictures holdings other = None
 
+-- a call that waits where the queue would refuse it for want of a free slot
+abbrev pub may_wait : PlainCall → Bool
+may_wait (call.Dequeue width height wait) = wait
+may_wait asked = false
+
 -- a frame as a buffer of a transaction, on a layer
 abbrev pub shown_of : FrameOf → Shown
 shown_of frame = record { queue = frame.0; frame = frame.1.frame; picture = frame.1.picture; crop = frame.1.crop }
@@ -105,7 +110,3 @@ abbrev pub overtaken_by : Holdings → Step → List FrameOf
 overtaken_by holdings (step.Buffer n layer i) = replaced_in (transaction_in holdings n) layer (name_in holdings i)
 overtaken_by holdings (step.Merge n m) = merged_away (transaction_in holdings n) (transaction_in holdings m)
 overtaken_by holdings other = []
-
--- a step that is done releases them, with their own fences
-abbrev pub releases_of : Holdings → Step → List Asked
-releases_of holdings s = map (release_of no_points) (overtaken_by holdings s)

@@ -65,6 +65,7 @@ module _ {B : Type 0} where
     values = values_of view.times.known;
     signals = view.times.signals;
     left = view.turns.leaves;
+    counts = view.turns.seen;
   }
 
   -- nothing was learnt; the desk may have had a turn under a lock

@@ -1,5 +1,6 @@
 -- What the names and numbers of an actor hold after a step.
-use Rattle.std.specs.Prelude.{ℕ, Bool, true, false, not, ◌==◌, if◌then◌else◌, List, [], ◌∷◌, ◌++◌, Option, Some, None, unwrap_or, pos}
+use Rattle.std.specs.Prelude.{ℕ, Bool, true, false, not, ◌==◌, if◌then◌else◌, [], ◌∷◌, ◌++◌, Option, Some, None, unwrap_or, pos}
+use Rattle.std.specs.Option.{option_map}
 use Rattle.sf_base.specs.Fences.{no_points}
 use Rattle.sf_base.specs.declared.geometry.Rect.{Rect}
 use Rattle.sf_slots.specs.declared.calls.PlainReply.{PlainReply}
@@ -11,7 +12,7 @@ use Rattle.sf_actor.specs.declared.done.Done.{Done}
 use Rattle.sf_scene.specs.declared.step.Step.{Step}
 use Rattle.sf_scene.specs.declared.step.Step.TheVariants as step
 use Rattle.sf_actor.specs.Asking.{buffer_of}
-use Rattle.sf_actor.specs.Names.{Holdings, FrameOf, Token, Lent, Owing, Frame, Apart, moved, name_in, no_holdings, transaction_in, with_name, with_transaction, without_leases}
+use Rattle.sf_actor.specs.Names.{Holdings, FrameOf, Token, Lent, Owing, Frame, Apart, moved, name_in, transaction_in, with_name, with_transaction, without_leases}
 use Rattle.sf_actor.specs.Scripts.{layer_of, op_of, queue_of}
 
 abbrev pub is_refusal : PlainReply → Bool
@@ -110,23 +111,35 @@ holdings_with holdings s a = holdings
 unfoldable pub holdings_next : Holdings → Done → Holdings
 holdings_next holdings done = if was_done done.answered then holdings_with holdings done.step done.answered else holdings
 
--- what they hold after steps, by what they held before
-unfoldable pub holdings_from : Holdings → List Done → Holdings
-holdings_from holdings [] = holdings
-holdings_from holdings (done ∷ later) = holdings_from (holdings_next holdings done) later
+-- the name whose token the call of a step brings
+abbrev pub used_by : Step → Option ℕ
+used_by (step.Request s) = Some s
+used_by (step.Queue s p time crop points) = Some s
+used_by (step.Cancel s points) = Some s
+used_by (step.PDetach s b) = Some s
+used_by (step.PAttach q b s) = Some b
+used_by (step.Release i points) = Some i
+used_by (step.CDetach i b) = Some i
+used_by (step.CAttach q b i) = Some b
+used_by s = None
 
--- what an actor's names and numbers hold after its steps so far
-abbrev pub holdings_after : List Done → Holdings
-holdings_after done = holdings_from no_holdings done
+-- the name that holds what the reply to the call of a step gives
+abbrev pub filled_by : Step → Option ℕ
+filled_by (step.Dequeue q s size) = Some s
+filled_by (step.DequeueWait q s size) = Some s
+filled_by (step.Request s) = Some s
+filled_by (step.Queue s p time crop points) = Some s
+filled_by (step.PDetach s b) = Some b
+filled_by (step.PAttach q b s) = Some s
+filled_by (step.Acquire q i at) = Some i
+filled_by (step.CDetach i b) = Some b
+filled_by (step.CAttach q b i) = Some i
+filled_by s = None
 
 -- the transaction that a step sends, if it sends one, with its token
 abbrev pub addressed : ℕ → Contents FrameOf → Contents FrameOf
 addressed token txn = record txn { token = record { 0 = token } }
 
-abbrev pub sent_with : ℕ → Option (Contents FrameOf) → Option (Contents FrameOf)
-sent_with token None = None
-sent_with token (Some txn) = Some (addressed token txn)
-
 abbrev pub sent_by : Holdings → Step → Option (Contents FrameOf)
-sent_by holdings (step.Apply n token) = sent_with token (transaction_in holdings n)
+sent_by holdings (step.Apply n token) = option_map (addressed token) (transaction_in holdings n)
 sent_by holdings s = None

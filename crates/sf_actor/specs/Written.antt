@@ -1,5 +1,6 @@
 -- Which frames were drawn, and which points were signalled, by the steps of a trace.
-use Rattle.std.specs.Prelude.{ℕ, ◌==◌, if◌then◌else◌, List, [], ◌∷◌, ◌++◌, Option, Some}
+use Rattle.std.specs.Prelude.{ℕ, ◌==◌, if◌then◌else◌, List, [], ◌∷◌, Option, Some}
+use Rattle.std.specs.List.{flat_map}
 use Rattle.sf_base.specs.declared.ids.QueueId.{QueueId}
 use Rattle.sf_slots.specs.declared.calls.PlainReply.TheVariants as reply
 use Rattle.sf_actor.specs.declared.done.Answered.{Answered}
@@ -8,7 +9,7 @@ use Rattle.sf_actor.specs.declared.done.Done.{Done}
 use Rattle.sf_scene.specs.declared.step.Step.{Step}
 use Rattle.sf_scene.specs.declared.step.Step.TheVariants as step
 use Rattle.sf_actor.specs.Names.{Holdings, Token, Lent, Owing, name_in}
-use Rattle.sf_actor.specs.Traces.{Past, next}
+use Rattle.sf_actor.specs.Traces.{DoneAt, places_of}
 
 -- a frame, by its queue and number
 abbrev pub FrameNumber : Type 0
@@ -30,24 +31,28 @@ written_by holdings (step.Queue s p time crop points) (answered.Called (reply.Qu
 written_by holdings (step.Draw s p) (answered.Own status) = if status == 0 then paid_frame (name_in holdings s) else []
 written_by holdings s answer = []
 
-unfoldable pub written_from : Past → List Done → List FrameNumber
-written_from past [] = []
-written_from past (done ∷ later) = written_by past.holdings done.step done.answered ++ written_from (next past done) later
+abbrev pub written_at : DoneAt → List FrameNumber
+written_at at = written_by at.past.holdings at.done.step at.done.answered
+
+-- the frames that the steps of a trace write
+abbrev pub written_in : List Done → List FrameNumber
+written_in trace = flat_map written_at (places_of trace)
 
 -- the frames whose owing was drawn
 abbrev pub paid_by : Holdings → Step → Answered → List FrameNumber
 paid_by holdings (step.Draw s p) (answered.Own status) = if status == 0 then paid_frame (name_in holdings s) else []
 paid_by holdings s answer = []
 
-unfoldable pub paid_from : Past → List Done → List FrameNumber
-paid_from past [] = []
-paid_from past (done ∷ later) = paid_by past.holdings done.step done.answered ++ paid_from (next past done) later
+abbrev pub paid_at : DoneAt → List FrameNumber
+paid_at at = paid_by at.past.holdings at.done.step at.done.answered
+
+abbrev pub paid_in : List Done → List FrameNumber
+paid_in trace = flat_map paid_at (places_of trace)
 
 -- the points that done steps signal
 abbrev pub signal_of : Step → List (ℕ × ℕ)
 signal_of (step.Signal t v) = (t, v) ∷ []
 signal_of s = []
 
-unfoldable pub signals_of : List Done → List (ℕ × ℕ)
-signals_of [] = []
-signals_of (done ∷ later) = signal_of done.step ++ signals_of later
+abbrev pub signals_of : List Done → List (ℕ × ℕ)
+signals_of trace = flat_map (λ (done : Done). signal_of done.step) trace
