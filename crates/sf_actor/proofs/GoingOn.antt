@@ -76,7 +76,7 @@ none_sent actor (a ∷ later) none =
     let parts = or_parts (is_sent_by actor a) (list_any (is_sent_by actor) later) none in
     rw parts.0 (none_sent actor later parts.1)
 
-own_arrivals : (actor : ℕ) (arrivals more : List (Arrival ReadLeaseOf)) → list_any (is_sent_by actor) more ≡ false → filter (is_sent_by actor) (arrivals ++ more) ≡ filter (is_sent_by actor) arrivals
+pub own_arrivals : (actor : ℕ) (arrivals more : List (Arrival ReadLeaseOf)) → list_any (is_sent_by actor) more ≡ false → filter (is_sent_by actor) (arrivals ++ more) ≡ filter (is_sent_by actor) arrivals
 own_arrivals actor [] more none = none_sent actor more none
 own_arrivals actor (a ∷ later) more none =
     let rest = own_arrivals actor later more none in
