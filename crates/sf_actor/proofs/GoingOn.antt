@@ -34,7 +34,7 @@ use Rattle.sf_actor.specs.Tries.{ActorKept, ActorOf, past_of}
 use Rattle.sf_actor.specs.Written.{FrameNumber}
 
 -- a fence that is signalled stays so
-signalled_on : (fence : Fence) (old new : Seen) → Rise old new → IsSignalled fence old → IsSignalled fence new
+pub signalled_on : (fence : Fence) (old new : Seen) → Rise old new → IsSignalled fence old → IsSignalled fence new
 signalled_on fence old new rise signalled t low high =
     let a = signalled t low high in
     let b = rise t low high in

@@ -115,10 +115,10 @@ module _ {B : Type 0} where
     pub ends : EndsIn new.left made.made.reply.ends
 
   -- the call where it was made on this queue
-  abbrev only : Asked → Call B → ℕ → List (Call B)
+  abbrev pub only : Asked → Call B → ℕ → List (Call B)
   only asked made queue = if asked.0.0 == queue then made ∷ [] else []
 
-  only_one : (asked : Asked) (made other : Call B) (queue : ℕ) → Contains (only asked made queue) other → (made ≡ other) × (asked.0.0 ≡ queue)
+  pub only_one : (asked : Asked) (made other : Call B) (queue : ℕ) → Contains (only asked made queue) other → (made ≡ other) × (asked.0.0 ≡ queue)
   only_one asked made other queue there = elim (cases_Bool (asked.0.0 == queue)) [
     | inl met ↦ (first (rw met at there), eqb-true asked.0.0 queue met)
     | inr unmet ↦ let none : Contains [] other = rw unmet at there in absurd (omega (arith, none.1))
@@ -127,6 +127,16 @@ module _ {B : Type 0} where
       first : Contains (made ∷ []) other → made ≡ other
       first (zero, low, is) = is
       first (suc n, low, is) = absurd (omega (arith, low))
+
+  -- the calls of the share with it
+  pub joined : (asked : Asked) (made : Call B) (old new : Share B) → OneMore asked.0.0 made old new → (queue : ℕ) → new.calls queue ≡ old.calls queue ++ only asked made queue
+  joined asked made old new more queue = elim (cases_Bool (asked.0.0 == queue)) [
+    | inl met ↦ rw met (subst (λ (q : ℕ). new.calls q ≡ old.calls q ++ made ∷ []) (eqb-true asked.0.0 queue met) more.here)
+    | inr unmet ↦ rw unmet (more.others queue (λ e. apart unmet e) ∙ sym (append-nil (old.calls queue)))
+  ]
+    where
+      apart : (asked.0.0 == queue) ≡ false → queue ≡ asked.0.0 → ⊥
+      apart unmet e = false≢true (sym unmet ∙ eq-eqb asked.0.0 queue (sym e))
 
   -- so the step adds this call
   pub call_adds : (pictures : ℕ → Picture) (stock : List ℕ) (trace : List Done) (at : DoneAt) (asked : Asked) (made : Call B) (old new : Share B) → CallsOnce pictures stock at asked made old new → OneMore asked.0.0 made old new → Adds pictures stock trace at old new
@@ -140,10 +150,7 @@ module _ {B : Type 0} where
       record {
         added = only asked made;
         arrived = [];
-        calls = λ queue. elim (cases_Bool (asked.0.0 == queue)) [
-          | inl met ↦ rw met (subst (λ (q : ℕ). new.calls q ≡ old.calls q ++ made ∷ []) (eqb-true asked.0.0 queue met) more.here)
-          | inr unmet ↦ rw unmet (more.others queue (λ e. apart queue unmet e) ∙ sym (append-nil (old.calls queue)))
-        ];
+        calls = joined asked made old new more;
         arrivals = more.arrivals ∙ sym (append-nil old.arrivals);
         answered = calls.answered;
         made = λ queue. subst (λ (steps : List MadeStep). AllZip IsMade (made_on queue steps) (map told_by (only asked made queue))) (sym same)
@@ -182,9 +189,6 @@ module _ {B : Type 0} where
         | inl met ↦ rw met (ap (map (release_at at.place)) none)
         | inr unmet ↦ rw unmet refl
       ]
-
-      apart : (queue : ℕ) → (asked.0.0 == queue) ≡ false → queue ≡ asked.0.0 → ⊥
-      apart queue unmet e = false≢true (sym unmet ∙ eq-eqb asked.0.0 queue (sym e))
 
       no_place : (place : ℕ) → None ≡ Some place → ⊥
       no_place place e = cc
