@@ -1,10 +1,9 @@
 -- What an actor's names hold is what its trace tells, and a call that brings a held token brings the turn that was given.
-use Rattle.std.proofs.Common.{◌≡◌, ℕ, ◌+◌, Bool, true, false, List, [], ◌∷◌, ◌++◌, length, ap, ◌∙◌, sym, refl, subst, Option, Some, None}
-use Rattle.std.specs.Prelude.{Contains, get_or, map}
+use Rattle.std.proofs.Common.{◌≡◌, ℕ, ap, ◌∙◌, sym, refl, subst, Option, Some, None}
+use Rattle.std.specs.Prelude.{get_or}
 use Rattle.std.specs.Option.{option_map}
 use Rattle.std.proofs.Math.ListN.{get_or-map}
 use Rattle.sf_base.specs.Fences.{IsSignalled}
-use Rattle.sf_base.specs.declared.ids.QueueId.{QueueId}
 use Rattle.sf_base.specs.declared.status.QStatus.{QStatus}
 use Rattle.sf_picture.specs.declared.picture.Picture.{Picture}
 use Rattle.sf_scene.specs.declared.step.Step.{Step}
@@ -16,8 +15,8 @@ use Rattle.sf_actor.specs.declared.done.Done.{Done}
 use Rattle.sf_actor.specs.declared.holding.Holding.{Holding}
 use Rattle.sf_actor.specs.Asking.{Asked}
 use Rattle.sf_actor.specs.Known.{Call, Share}
-use Rattle.sf_actor.specs.Names.{Holdings, Token, name_in}
-use Rattle.sf_actor.specs.Parts.{PartsOf, plain_of, token_of, turn_held}
+use Rattle.sf_actor.specs.Names.{Holdings, name_in}
+use Rattle.sf_actor.specs.Parts.{token_of, turn_held}
 use Rattle.sf_actor.specs.Points.{shown_next}
 use Rattle.sf_actor.specs.Rights.{IsFrom, MadeWith, WasGivenAt, brought_turn}
 use Rattle.sf_actor.specs.Steps.{holdings_next, used_by}

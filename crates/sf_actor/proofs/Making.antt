@@ -1,20 +1,17 @@
 -- What a call of a desk adds to its caller's share, and what a step adds that makes one call.
-use Rattle.std.proofs.Common.{◌≡◌, ◌≢◌, ℕ, ◌==◌, suc, zero, Bool, true, false, List, [], ◌∷◌, ◌++◌, inl, inr, filter, arith, ap, ◌∙◌, sym, refl, subst, Option, Some, None}
+use Rattle.std.proofs.Common.{◌≡◌, ◌≢◌, ℕ, ◌==◌, suc, zero, false, List, [], ◌∷◌, ◌++◌, inl, inr, filter, arith, ap, ◌∙◌, sym, refl, subst, Option, Some, None}
 use Rattle.std.specs.Prelude.{Contains, if◌then◌else◌, map}
-use Rattle.std.specs.List.{All, AllZip}
+use Rattle.std.specs.List.{AllZip}
 use Rattle.std.proofs.lemmas.Bool.{cases_Bool, eq-eqb, eqb-true, false≢true}
 use Rattle.std.proofs.lemmas.List.{append-nil}
 use Rattle.sf_base.specs.declared.fences.Seen.{Seen}
-use Rattle.sf_calls.specs.Histories.{calls_by, entry}
+use Rattle.sf_calls.specs.Histories.{IsLegal, entry}
 use Rattle.sf_picture.specs.declared.picture.Picture.{Picture}
-use Rattle.sf_slots.specs.declared.calls.PlainReply.{PlainReply}
 use Rattle.sf_surface.specs.declared.call.QCall.{QCall}
 use Rattle.sf_surface.specs.declared.call.QReply.{QReply}
 use Rattle.sf_surface.specs.declared.mark.QueueMark.{QueueMark}
-use Rattle.sf_surface.specs.Hands.{permit_of}
-use Rattle.sf_surface.specs.Histories.{Made}
-use Rattle.sf_surface.specs.Tokens.{ReadLeaseOf}
-use Rattle.sf_token.specs.Pending.{Arrival}
+use Rattle.sf_surface.specs.Hands.{IsReply, permit_of}
+use Rattle.sf_surface.specs.Histories.{Answers, Made}
 use Rattle.sf_turns.specs.Views.{PermitView}
 use Rattle.sf_actor.specs.declared.done.Answered.{Answered}
 use Rattle.sf_actor.specs.declared.done.Answered.TheVariants as answered
@@ -22,12 +19,11 @@ use Rattle.sf_actor.specs.declared.done.Done.{Done}
 use Rattle.sf_actor.specs.Asking.{Asked, call_of, overtaken_by}
 use Rattle.sf_actor.specs.Desks.{DeskHome, DeskView, MadeCall, known_of, mark_among}
 use Rattle.sf_actor.specs.Draws.{entered_at}
-use Rattle.sf_actor.specs.Known.{AreAmong, Call, GoesOn, Known, Rise, Share, ShareGoesOn, call_after, is_sent_by, own_calls, share_of, told_by}
-use Rattle.sf_actor.specs.Names.{FrameOf}
-use Rattle.sf_actor.specs.Rights.{BringsGiven, EndsIn, IsFrom, MadeWith, QueuesPicture, Turn, brought_turn}
+use Rattle.sf_actor.specs.Known.{AreAmong, Call, Rise, Share, ShareGoesOn, call_after, is_sent_by, own_calls, share_of, told_by}
+use Rattle.sf_actor.specs.Rights.{BringsGiven, EndsIn, IsFrom, MadeWith, QueuesPicture, brought_turn}
 use Rattle.sf_actor.specs.Steps.{sent_by, used_by, was_done}
 use Rattle.sf_actor.specs.Tales.{IsMade, made_on}
-use Rattle.sf_actor.specs.Traces.{DoneAt, IsAnswered, MadeStep, Source, made_at, overtaken, own_call, release_at, sent_at, sent_with, source_in}
+use Rattle.sf_actor.specs.Traces.{DoneAt, IsAnswered, MadeStep, made_at, overtaken, own_call, release_at, sent_with, source_in}
 use Rattle.sf_actor.specs.Written.{FrameNumber, paid_at, signal_of}
 use Rattle.sf_actor.proofs.Adding.{Adds}
 use Rattle.sf_actor.proofs.GoingOn.{own_same}
@@ -52,6 +48,12 @@ module _ {B : Type 0} where
   -- a call of a desk, with what it tells
   abbrev pub made_call : (home : DeskHome) (old new : DeskView B) (by queue : ℕ) (asked : ℕ × QCall B) (reply : QReply B) → MadeCall home old new by queue asked reply → Call B
   made_call home old new by queue asked reply made = call_after (mark_among home.marks queue) made.earlier (entry by asked reply)
+
+  -- its reply is the one that the queue's answer tells
+  pub answer_told : (home : DeskHome) (old new : DeskView B) (by queue : ℕ) (asked : ℕ × QCall B) (reply : QReply B) → (made : MadeCall home old new by queue asked reply) → IsReply (mark_among home.marks queue).queue asked.1 (made_call home old new by queue asked reply made).told.reply reply
+  answer_told home old new by queue asked reply made =
+      let legal : IsLegal (Answers (mark_among home.marks queue)) (entry by asked reply ∷ made.earlier) = subst (λ (xs : List (Made B)). IsLegal (Answers (mark_among home.marks queue)) xs) made.newest made.legal in
+      legal.0.answer
 
   own_newest : (by : ℕ) (mark : QueueMark) (asked : ℕ × QCall B) (reply : QReply B) (earlier : List (Made B)) → own_calls by mark (entry by asked reply ∷ earlier) ≡ own_calls by mark earlier ++ call_after mark earlier (entry by asked reply) ∷ []
   own_newest by mark asked reply earlier = rw (eq-eqb by by refl) refl

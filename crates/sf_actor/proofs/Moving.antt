@@ -1,12 +1,11 @@
 -- An actor keeps what it keeps where it does one more step: what its trace adds, and how what it has moves.
-use Rattle.std.proofs.Common.{◌≡◌, ℕ, ◌+◌, ◌≤◌, suc, zero, Bool, true, false, List, [], ◌∷◌, ◌++◌, length, inl, inr, arith, ap, ◌∙◌, sym, refl, subst, Option, Some, None}
-use Rattle.std.specs.Prelude.{Contains, drop, filter, get_or, map, slice_get}
+use Rattle.std.proofs.Common.{◌≡◌, ℕ, ◌+◌, ◌≤◌, suc, zero, List, [], ◌∷◌, ◌++◌, length, inl, inr, arith, ap, ◌∙◌, sym, refl, subst, Option, Some, None}
+use Rattle.std.specs.Prelude.{Contains, drop, get_or, map}
 use Rattle.std.specs.List.{All, AllZip}
 use Rattle.std.proofs.lemmas.Bool.{cases_Bool}
 use Rattle.std.proofs.lemmas.List.{append-nil, length-append}
 use Rattle.std.proofs.lemmas.List.Elements.{All-weaker, Contains-append_cases}
 use Rattle.sf_base.specs.Fences.{IsSignalled}
-use Rattle.sf_base.specs.declared.fences.Seen.{Seen}
 use Rattle.sf_picture.specs.declared.picture.Picture.{Picture}
 use Rattle.sf_scene.specs.declared.step.Step.{Step}
 use Rattle.sf_surface.specs.Tokens.{ReadLeaseOf}
@@ -14,19 +13,18 @@ use Rattle.sf_token.specs.Pending.{Arrival}
 use Rattle.sf_turns.specs.Counts.{stock_at}
 use Rattle.sf_txn.specs.Buffers.{Buffer}
 use Rattle.sf_txn.specs.Transactions.{Contents}
-use Rattle.sf_actor.specs.declared.done.Answered.{Answered}
 use Rattle.sf_actor.specs.declared.done.Answered.TheVariants as answered
 use Rattle.sf_actor.specs.declared.done.Done.{Done}
 use Rattle.sf_actor.specs.declared.holding.Holding.{Holding}
 use Rattle.sf_actor.specs.Asking.{Asked, call_of}
 use Rattle.sf_actor.specs.Draws.{EntersCounted, IsInOrder, entered_at, entered_in}
-use Rattle.sf_actor.specs.Known.{AreAmong, Call, Rise, Share, ShareGoesOn, frame_of, plain_arrival}
+use Rattle.sf_actor.specs.Known.{AreAmong, Call, Rise, Share, frame_of, plain_arrival}
 use Rattle.sf_actor.specs.Parts.{PartsOf, ShowsPictures, plain_of, turn_held}
 use Rattle.sf_actor.specs.Points.{shown_next}
 use Rattle.sf_actor.specs.Rights.{BringsGiven, HoldsAcquired, MadeWith, SendsAcquired, WasGivenAt, WasPaid, turn_by}
 use Rattle.sf_actor.specs.Steps.{holdings_next, used_by}
 use Rattle.sf_actor.specs.Tales.{IsMade, made_on, sent_as}
-use Rattle.sf_actor.specs.Traces.{DoneAt, IsAnswered, MadeStep, Past, Source, made_at, next, overtaken, own_call, past_after, sent_at, since_next, source_in}
+use Rattle.sf_actor.specs.Traces.{DoneAt, IsAnswered, MadeStep, Past, Source, made_at, overtaken, own_call, sent_at, since_next, source_in}
 use Rattle.sf_actor.specs.Tries.{ActorKept, ActorOf, ArePermits, contents_in, dequeues_in, held_in, is_dequeue, next_step, past_of}
 use Rattle.sf_actor.specs.Values.{reply_at}
 use Rattle.sf_actor.specs.Written.{FrameNumber, paid_at, signal_of}
@@ -141,6 +139,26 @@ module _ {B : Type 0} where
     pub reached : IsSignalled (shown_next (past_of actor).holdings (past_of actor).shown done) new.values
     pub unused : (number queue : ℕ) (made : Call B) → Contains (added queue) made → MadeWith number made → ⊥
 
+  -- the permits of a step that uses none stay
+  pub permits_stay : (pictures : ℕ → Picture) (actor : ActorOf B) (done : Done) (parts : PartsOf B) (old new : Share B) (added : ℕ → List (Call B)) → ActorKept pictures actor old → parts.stock ≡ actor.parts.stock → ((queue : ℕ) → new.calls queue ≡ old.calls queue ++ added queue) → ((number queue : ℕ) (made : Call B) → Contains (added queue) made → MadeWith number made → ⊥) → ArePermits (stepped actor done parts) new
+  permits_stay pictures actor done parts old new added is same calls unused = record {
+    own = λ number there. is.permits.own number (subst (λ (stock : List ℕ). Contains stock number) same there);
+    once = λ number. subst (λ (stock : List ℕ). stock_at number stock ≤ 1) (sym same) (is.permits.once number);
+    unused = λ number queue made there called makes.
+        elim (Contains-append_cases (old.calls queue) (added queue) made (subst (λ (xs : List (Call B)). Contains xs made) (calls queue) called)) [
+          | inl c ↦ is.permits.unused number queue made (subst (λ (stock : List ℕ). Contains stock number) same there) c makes
+          | inr c ↦ unused number queue made c makes
+        ];
+    enough =
+        let fewer = fewer_dequeues actor.script.steps (length actor.trace) in
+        let enough = is.permits.enough in
+        let lengths = ap (λ (stock : List ℕ). length stock) same in
+        subst (λ (n : ℕ). dequeues_in (drop n actor.script.steps) ≤ length parts.stock) (longer (length-append actor.trace (done ∷ []))) (omega (arith, fewer, enough, lengths));
+  }
+    where
+      longer : length (actor.trace ++ done ∷ []) ≡ length actor.trace + 1 → suc (length actor.trace) ≡ length (actor.trace ++ done ∷ [])
+      longer e = omega (arith, e)
+
   pub stays : (pictures : ℕ → Picture) (actor : ActorOf B) (done : Done) (old new : Share B) (added : ℕ → List (Call B)) → ActorKept pictures actor old → PartsStay actor done old new added → PartsMove pictures actor done actor.parts new
   stays pictures actor done old new added is stay = record {
     has = is.has ∙ sym stay.holdings;
@@ -153,20 +171,5 @@ module _ {B : Type 0} where
         txn.buffers (is.acquired number txn there);
     shows = is.shows;
     reached = stay.reached;
-    permits = record {
-      own = is.permits.own;
-      once = is.permits.once;
-      unused = λ number queue made there called makes.
-          elim (Contains-append_cases (old.calls queue) (added queue) made (subst (λ (xs : List (Call B)). Contains xs made) (stay.calls queue) called)) [
-            | inl c ↦ is.permits.unused number queue made there c makes
-            | inr c ↦ stay.unused number queue made c makes
-          ];
-      enough =
-          let fewer = fewer_dequeues actor.script.steps (length actor.trace) in
-          let enough = is.permits.enough in
-          subst (λ (n : ℕ). dequeues_in (drop n actor.script.steps) ≤ length actor.parts.stock) (longer (length-append actor.trace (done ∷ []))) (omega (arith, fewer, enough));
-    };
+    permits = permits_stay pictures actor done actor.parts old new added is refl stay.calls stay.unused;
   }
-    where
-      longer : length (actor.trace ++ done ∷ []) ≡ length actor.trace + 1 → suc (length actor.trace) ≡ length (actor.trace ++ done ∷ [])
-      longer e = omega (arith, e)

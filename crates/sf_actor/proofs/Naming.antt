@@ -1,7 +1,6 @@
 -- How what an actor has moves where a step changes what one name holds.
-use Rattle.std.proofs.Common.{◌≡◌, ◌≢◌, ℕ, ◌+◌, ◌<◌, ◌==◌, Bool, true, false, List, [], ◌∷◌, ◌++◌, length, set, inl, inr, arith, ap, ◌∙◌, sym, refl, subst, Option, Some, None}
-use Rattle.std.specs.Prelude.{get_or, map}
-use Rattle.std.specs.List.{All}
+use Rattle.std.proofs.Common.{◌≡◌, ◌≢◌, ℕ, ◌+◌, ◌<◌, ◌==◌, false, List, ◌++◌, length, set, inl, inr, ap, ◌∙◌, sym, subst, Option, Some, None}
+use Rattle.std.specs.Prelude.{get_or}
 use Rattle.std.specs.Option.{option_map}
 use Rattle.std.proofs.lemmas.Bool.{cases_Bool, eq-eqb, eqb-true, false≢true}
 use Rattle.std.proofs.lemmas.List.{get_or-set_other, get_or-set_same, map-set}
@@ -9,7 +8,6 @@ use Rattle.std.proofs.lemmas.List.Elements.{All-weaker}
 use Rattle.sf_base.specs.Fences.{IsSignalled}
 use Rattle.sf_picture.specs.declared.picture.Picture.{Picture}
 use Rattle.sf_txn.specs.Buffers.{Buffer}
-use Rattle.sf_txn.specs.Transactions.{Contents}
 use Rattle.sf_surface.specs.Tokens.{ReadLeaseOf}
 use Rattle.sf_actor.specs.declared.done.Done.{Done}
 use Rattle.sf_actor.specs.declared.holding.Holding.{Holding}

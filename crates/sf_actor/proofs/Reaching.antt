@@ -1,5 +1,5 @@
 -- Which fences are signalled under values.
-use Rattle.std.proofs.Common.{◌≡◌, ℕ, ◌-◌, ◌≤◌, suc, zero, List, [], ◌∷◌, max, replicate, arith, refl}
+use Rattle.std.proofs.Common.{◌≡◌, ℕ, ◌-◌, ◌≤◌, suc, zero, List, [], ◌∷◌, replicate, arith}
 use Rattle.std.specs.Prelude.{slice_index}
 use Rattle.std.proofs.lemmas.List.{get_or-replicate}
 use Rattle.sf_base.specs.Fences.{IsSignalled, greater_of_each, merged, no_points, value_of}
