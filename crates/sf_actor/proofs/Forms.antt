@@ -45,14 +45,14 @@ unfolding holdings_next
 refused_holds holdings s status failed = rw failed refl
 
 -- nor does one that moves nothing where it is done
-plain_holds : (holdings : Holdings) (done : Done) → holdings_with holdings done.step done.answered ≡ holdings → holdings_next holdings done ≡ holdings
+pub plain_holds : (holdings : Holdings) (done : Done) → holdings_with holdings done.step done.answered ≡ holdings → holdings_next holdings done ≡ holdings
 unfolding holdings_next
 plain_holds holdings done same = elim (cases_Bool (was_done done.answered)) [
   | inl met ↦ rw met same
   | inr unmet ↦ rw unmet refl
 ]
 
-plain_since : (since : List ℕ) (place : ℕ) (done : Done) → filled_by done.step ≡ None → since_next since place done ≡ since
+pub plain_since : (since : List ℕ) (place : ℕ) (done : Done) → filled_by done.step ≡ None → since_next since place done ≡ since
 plain_since since place done none = elim (cases_Bool (was_done done.answered)) [
   | inl met ↦ rw met (ap (λ (name : Option ℕ). since_with since name place) none)
   | inr unmet ↦ rw unmet refl
