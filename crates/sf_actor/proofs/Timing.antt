@@ -1,6 +1,6 @@
 -- What an actor keeps where it signals a timeline, and where it waited for one.
-use Rattle.std.proofs.Common.{◌≡◌, ℕ, ◌+◌, ◌-◌, ◌≤◌, ◌==◌, max, suc, zero, Bool, true, false, List, [], ◌∷◌, ◌++◌, length, set, replicate, inl, inr, arith, ap, ◌∙◌, sym, refl, subst, Option, Some, None}
-use Rattle.std.specs.Prelude.{Contains, get_or, slice_index, slice_set, if◌then◌else◌}
+use Rattle.std.proofs.Common.{◌≡◌, ℕ, ◌+◌, ◌-◌, ◌≤◌, ◌==◌, max, suc, zero, List, [], ◌∷◌, ◌++◌, length, replicate, inl, inr, arith, ap, ◌∙◌, sym, refl, subst, Option, Some, None}
+use Rattle.std.specs.Prelude.{Contains, slice_index, slice_set}
 use Rattle.std.proofs.lemmas.Bool.{cases_Bool, eq-eqb, eqb-true, false≢true}
 use Rattle.std.proofs.lemmas.List.{append-nil, get_or-replicate, get_or-set_other, get_or-set_same, length-replicate}
 use Rattle.std.proofs.lemmas.List.Elements.{Contains-append_right}
@@ -12,24 +12,22 @@ use Rattle.sf_picture.specs.declared.picture.Picture.{Picture}
 use Rattle.sf_scene.specs.declared.step.Step.{Step}
 use Rattle.sf_scene.specs.declared.step.Step.TheVariants as step
 use Rattle.sf_times.specs.declared.protocol.Knows.{Knows}
-use Rattle.sf_times.specs.Seats.{all_loaded, raised}
+use Rattle.sf_times.specs.Seats.{raised}
 use Rattle.sf_actor.specs.declared.done.Answered.TheVariants as answered
 use Rattle.sf_actor.specs.declared.done.Done.{Done}
-use Rattle.sf_actor.specs.Desks.{ChangesTimes, DeskHome, DeskView, known_of, values_of}
-use Rattle.sf_actor.specs.Known.{Call, Share, ShareGoesOn, share_of}
+use Rattle.sf_actor.specs.Desks.{ChangesTimes, DeskHome, DeskView, known_of}
+use Rattle.sf_actor.specs.Known.{Share, ShareGoesOn, share_of}
 use Rattle.sf_actor.specs.Names.{Holdings}
 use Rattle.sf_actor.specs.Points.{shown_next}
-use Rattle.sf_actor.specs.Rights.{MadeWith, WasPaid}
 use Rattle.sf_actor.specs.Steps.{filled_by, holdings_with}
 use Rattle.sf_actor.specs.Tests.{refusal_of}
-use Rattle.sf_actor.specs.Traces.{AnswersTests, DoneAt, IsAnswered, Past}
+use Rattle.sf_actor.specs.Traces.{AnswersTests}
 use Rattle.sf_actor.specs.Tries.{ActorKept, ActorOf, Sees, next_step, past_of}
-use Rattle.sf_actor.specs.Written.{FrameNumber, paid_at, signal_of}
 use Rattle.sf_actor.proofs.Adding.{at_end}
 use Rattle.sf_actor.proofs.Forms.{plain_holds, plain_since}
 use Rattle.sf_actor.proofs.GoingOn.{share_on, signalled_on}
 use Rattle.sf_actor.proofs.Growing.{see_goes, signal_goes, value-values}
-use Rattle.sf_actor.proofs.Moving.{CallsNone, actor_with, none_adds, own_unmade, stays, stepped}
+use Rattle.sf_actor.proofs.Moving.{CallsNone, actor_with, none_adds, stays, stepped}
 use Rattle.sf_actor.proofs.Reaching.{merged_reached}
 
 -- a fence of one point is signalled where the timeline has reached its value
