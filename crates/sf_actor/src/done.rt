@@ -1,0 +1,20 @@
+use sf_scene::Step;
+use sf_slots::PlainReply;
+
+/// What a step answered.
+#[derive(Clone, Copy, Debug, PartialEq, Eq)]
+pub enum Answered {
+    /// A status of the actor's own: 0, or the number of the test that refused the step.
+    Own(u32),
+    /// The reply to the call that the step made on a queue.
+    Called(PlainReply),
+    /// The arrival number of the transaction that it sent.
+    Sent(u32),
+}
+
+/// A step that is done.
+#[derive(Drop)]
+pub struct Done {
+    pub step: Step,
+    pub answered: Answered,
+}

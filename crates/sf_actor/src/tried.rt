@@ -1,0 +1,25 @@
+use sf_base::Items;
+
+/// The reply of a step, as records show it.
+#[derive(Drop)]
+pub struct Reply {
+    /// The actor's number.
+    pub actor: u32,
+    /// The step's place in the script, from 1.
+    pub step: u32,
+    /// 0 where the step was done.
+    pub status: u32,
+    /// The values that the step gave, none where it was refused.
+    pub values: Items<u64>,
+}
+
+/// What a try of the next step did.
+#[derive(Drop)]
+pub enum Stepped {
+    /// The step is done.
+    Done(Reply),
+    /// It is not time for the step yet.
+    NotYet,
+    /// All steps are done.
+    Ended,
+}
