@@ -119,10 +119,10 @@ module _ {B : Type 0} where
   still old new added made joined there = subst (λ (xs : List (Call B)). Contains xs made) (sym joined) (Contains-append_left old added made there)
 
   module _ (old new added : ℕ → List (Call B)) (joined : (queue : ℕ) → new queue ≡ old queue ++ added queue) where
-    given_still : (place : ℕ) (turn : Option Turn) → WasGivenAt old place turn → WasGivenAt new place turn
+    pub given_still : (place : ℕ) (turn : Option Turn) → WasGivenAt old place turn → WasGivenAt new place turn
     given_still place turn was = (was.0, was.1, still (old was.0) (new was.0) (added was.0) was.1 (joined was.0) was.2, was.3, was.4)
 
-    acquired_still : (frame : FrameOf) (turn : Option Turn) → WasAcquired old frame turn → WasAcquired new frame turn
+    pub acquired_still : (frame : FrameOf) (turn : Option Turn) → WasAcquired old frame turn → WasAcquired new frame turn
     acquired_still frame turn was = (was.0, still (old frame.0.0) (new frame.0.0) (added frame.0.0) was.0 (joined frame.0.0) was.1, was.2)
 
     from_still : (source : Source) (turn : Option Turn) → IsFrom old source turn → IsFrom new source turn

@@ -9,7 +9,7 @@ use Rattle.sf_base.specs.Fences.{IsSignalled}
 use Rattle.sf_base.specs.declared.fences.Fence.{Fence}
 use Rattle.sf_base.specs.declared.fences.Seen.{Seen}
 use Rattle.sf_picture.specs.declared.picture.Picture.{Picture}
-use Rattle.sf_calls.specs.Histories.{calls_by}
+use Rattle.sf_calls.specs.Histories.{GoesOnWithout, calls_by}
 use Rattle.sf_surface.specs.declared.mark.QueueMark.{QueueMark}
 use Rattle.sf_surface.specs.Histories.{Made}
 use Rattle.sf_surface.specs.Tokens.{EndingOf, ReadLeaseOf}
@@ -34,7 +34,7 @@ use Rattle.sf_actor.specs.Tries.{ActorKept, ActorOf, past_of}
 use Rattle.sf_actor.specs.Written.{FrameNumber}
 
 -- a fence that is signalled stays so
-signalled_on : (fence : Fence) (old new : Seen) → Rise old new → IsSignalled fence old → IsSignalled fence new
+pub signalled_on : (fence : Fence) (old new : Seen) → Rise old new → IsSignalled fence old → IsSignalled fence new
 signalled_on fence old new rise signalled t low high =
     let a = signalled t low high in
     let b = rise t low high in
@@ -76,7 +76,7 @@ none_sent actor (a ∷ later) none =
     let parts = or_parts (is_sent_by actor a) (list_any (is_sent_by actor) later) none in
     rw parts.0 (none_sent actor later parts.1)
 
-own_arrivals : (actor : ℕ) (arrivals more : List (Arrival ReadLeaseOf)) → list_any (is_sent_by actor) more ≡ false → filter (is_sent_by actor) (arrivals ++ more) ≡ filter (is_sent_by actor) arrivals
+pub own_arrivals : (actor : ℕ) (arrivals more : List (Arrival ReadLeaseOf)) → list_any (is_sent_by actor) more ≡ false → filter (is_sent_by actor) (arrivals ++ more) ≡ filter (is_sent_by actor) arrivals
 own_arrivals actor [] more none = none_sent actor more none
 own_arrivals actor (a ∷ later) more none =
     let rest = own_arrivals actor later more none in
@@ -126,14 +126,18 @@ module _ {B : Type 0} where
         | inr unmet ↦ rw unmet (append-nil (own_calls actor mark (more ++ calls)) ∙ own_on actor mark more calls (rw unmet at none))
       ]
 
+  -- where a history goes on without a caller, the caller's calls in it stay
+  pub own_same : (actor : ℕ) (mark : QueueMark) (old new : List (Made B)) → GoesOnWithout actor old new → own_calls actor mark new ≡ own_calls actor mark old
+  own_same actor mark old new goes =
+      ap (own_calls actor mark) goes.begins.1
+      ∙ own_on actor mark goes.begins.0 old (none_later actor goes.begins.0 old (subst (λ (xs : List (Made B)). calls_by actor xs ≡ calls_by actor old) goes.begins.1 goes.calls))
+
   -- a share of which the calls and arrivals stay, and the rest grows
   pub share_on : (actor : ℕ) (old new : Known B) → GoesOn actor old new → ShareGoesOn (share_of actor old) (share_of actor new)
   share_on actor old new goes = record {
     calls = λ queue.
-        let g = goes.calls queue in
         ap (λ (m : QueueMark). own_calls actor m (new.calls queue)) (goes.marks queue)
-        ∙ ap (λ (xs : List (Made B)). own_calls actor (old.marks queue) xs) g.begins.1
-        ∙ own_on actor (old.marks queue) g.begins.0 (old.calls queue) (none_later actor g.begins.0 (old.calls queue) (subst (λ (xs : List (Made B)). calls_by actor xs ≡ calls_by actor (old.calls queue)) g.begins.1 g.calls));
+        ∙ own_same actor (old.marks queue) (old.calls queue) (new.calls queue) (goes.calls queue);
     arrivals =
         ap (λ (xs : List (Arrival ReadLeaseOf)). filter (is_sent_by actor) xs) goes.arrivals.joined
         ∙ own_arrivals actor old.arrivals goes.arrivals.later goes.arrivals.none;

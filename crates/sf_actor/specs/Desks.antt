@@ -11,7 +11,9 @@ use Rattle.sf_surface.specs.declared.mark.QueueMark.{QueueMark}
 use Rattle.sf_surface.specs.Histories.{Answers, Made}
 use Rattle.sf_surface.specs.Tokens.{ReadLeaseOf}
 use Rattle.sf_times.specs.declared.protocol.Knows.{Knows}
+use Rattle.sf_times.specs.Seats.{IsAlone, OnlyOwnSignals}
 use Rattle.sf_token.specs.Pending.{Arrival}
+use Rattle.sf_turns.specs.Counts.{IsExact}
 use Rattle.sf_turns.specs.Views.{SeatView}
 use Rattle.sf_txn.specs.Transactions.{Contents}
 use Rattle.sf_actor.specs.Known.{ArriveWithout, Known}
@@ -115,3 +117,12 @@ module _ {B : Type 0} where
   -- the seat at the turns alone changed
   abbrev pub ChangesTurns : DeskView B → DeskView B → Type 0
   ChangesTurns old new = new ≡ record old { turns = new.turns }
+
+-- All that happened is known: the seats are first ones with no other out, so each signal was made and each turn was left
+-- through them, and nothing else was seen.
+pub record KnowsAll {B : Type 0} (view : DeskView B) : Type 0 where
+  pub alone : IsAlone view.times
+  pub signals : OnlyOwnSignals view.times
+  pub first : view.turns.is_first ≡ true
+  pub none_out : view.turns.out ≡ 0
+  pub leaves : IsExact view.turns.table.slots view.turns.leaves view.turns.seen

@@ -6,6 +6,7 @@ pub mod Known
 pub mod Makers
 pub mod Names
 pub mod Parts
+pub mod Plain
 pub mod Points
 pub mod Rights
 pub mod Scripts

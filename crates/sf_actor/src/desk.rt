@@ -1,27 +1,30 @@
 ghost use Rattle.std.specs.Prelude.{◌≡◌, ℕ, ◌-◌, ◌≤◌, true, IfOk, IfErr, slice_index};
 ghost use Rattle.sf_base.specs.Points.{greatest, points_from};
 ghost use Rattle.sf_calls.specs.Calling.{IfFaultNoMemory, IfFaultNotYet};
-ghost use Rattle.sf_surface.specs.Drawing.{DrawsLease, PaysOwing};
 ghost use Rattle.sf_surface.specs.Marks.{PermitFits, SpareFits};
 ghost use Rattle.sf_times.specs.Seats.{all_loaded, raised};
 ghost use Rattle.sf_turns.specs.Views.{Leaves};
-ghost use Rattle.sf_actor.specs.Desks.{ChangesTimes, ChangesTurns, DeskHome, DeskView, IsAsBefore, MadeCall, MadeSend, WaitsForCall, has_queue};
+ghost use Rattle.sf_actor.specs.Desks.{ChangesTimes, ChangesTurns, DeskHome, DeskView, IsAsBefore, KnowsAll, MadeCall, MadeSend, WaitsForCall, has_queue};
 
+use crate::tokens::Tokens;
 use sf_base::{ActorId, NoMemory, QueueId, Seen, TimelineId};
 use sf_calls::CallFault;
 use sf_picture::Picture;
-use sf_surface::{DrawFault, Ending, Owing, QCall, QReply, ReadLease, WriteLease};
-use sf_turns::TableName;
-use sf_txn::Transaction;
+use sf_surface::DrawFault;
 use std::alloc::Global;
 
 /// What an actor steps over: queues to call, arrivals to send transactions to, timelines, and turns
-/// at the buffers of the table `B`. Contracts see what a desk has, which no call changes, and what it
-/// knows.
-pub trait Desk<B: TableName> {
+/// at buffers. `K` has the types of the tokens. Contracts see what a desk has, which no call changes,
+/// and what it knows.
+pub trait Desk<K: Tokens> {
     ghost home: { Self → DeskHome };
 
-    ghost view: { Self → DeskView B };
+    ghost view: { Self → DeskView K.Table };
+
+    /// Tells that an exact desk knows all that happened. It does nothing: an exact desk keeps this of
+    /// itself.
+    fn exact(&self)
+        ensures { (home self.now).is_exact ≡ true → KnowsAll (view self.now) };
 
     /// Makes a call on a queue, for a step of an actor, from 1.
     ///
@@ -32,27 +35,22 @@ pub trait Desk<B: TableName> {
         by: ActorId,
         queue: QueueId,
         step: u32,
-        call: QCall<B>,
-    ) -> Result<QReply<B>, CallFault<QCall<B>>>
+        call: K::Call,
+    ) -> Result<K::Reply, CallFault<K::Call>>
         requires served { (home self.old).serves by.0 ≡ true }
         requires there { has_queue (home self.old) queue.0 ≡ true }
-        requires permit { PermitFits B.table call }
-        ensures made { IfOk result (MadeCall (home self.old) (view self.old) (view self.new) by.0 queue.0 (step, call)) }
-        ensures spare { IfOk result (SpareFits B.table) }
-        ensures not_yet { IfFaultNotYet result (λ back. (back ≡ call) × WaitsForCall (home self.old) (view self.old) (view self.new) by.0 queue.0 (step, call)) }
+        requires permit { PermitFits K.table (K.call call) }
+        ensures made { IfOk result (λ reply. MadeCall (home self.old) (view self.old) (view self.new) by.0 queue.0 (step, K.call call) (K.reply reply)) }
+        ensures spare { IfOk result (λ reply. SpareFits K.table (K.reply reply)) }
+        ensures not_yet { IfFaultNotYet result (λ back. (back ≡ call) × WaitsForCall (home self.old) (view self.old) (view self.new) by.0 queue.0 (step, K.call call)) }
         ensures no_memory { IfFaultNoMemory result (λ back. (back ≡ call) × IsAsBefore (view self.old) (view self.new)) }
         ensures home { home self.new ≡ home self.old };
 
     /// Sends a transaction, for a step of an actor, from 1. The number of the arrival, from 1. For
     /// want of memory the transaction comes back, and nothing was done.
-    fn send(
-        &mut self,
-        by: ActorId,
-        step: u32,
-        txn: Transaction<ReadLease<B>>,
-    ) -> Result<u32, (NoMemory, Transaction<ReadLease<B>>)>
+    fn send(&mut self, by: ActorId, step: u32, txn: K::Sent) -> Result<u32, (NoMemory, K::Sent)>
         requires served { (home self.old).serves by.0 ≡ true }
-        ensures sent { IfOk result (MadeSend (home self.old) (view self.old) (view self.new) by.0 step txn) }
+        ensures sent { IfOk result (MadeSend (home self.old) (view self.old) (view self.new) by.0 step (K.sent txn)) }
         ensures back { IfErr result (λ back. (back.1 ≡ txn) × IsAsBefore (view self.old) (view self.new)) }
         ensures home { home self.new ≡ home self.old };
 
@@ -74,33 +72,33 @@ pub trait Desk<B: TableName> {
         ensures times { ChangesTimes (view self.old) (view self.new) }
         ensures home { home self.new ≡ home self.old };
 
-    /// Draws a picture in a lease, as [`WriteLease::draw`] does, through the desk's seat at the turns.
+    /// Draws a picture in a lease, as `WriteLease::draw` does, through the desk's seat at the turns.
     fn paint(
         &mut self,
         alloc: Global,
-        lease: WriteLease<B>,
+        lease: K::Write,
         picture: &Picture,
         seen: &Seen,
-    ) -> Result<WriteLease<B>, DrawFault<WriteLease<B>>>
-        ensures draws { DrawsLease lease picture.now seen.now (view self.old).turns (view self.new).turns result }
+    ) -> Result<K::Write, DrawFault<K::Write>>
+        ensures draws { K.draws lease picture.now seen.now (view self.old).turns (view self.new).turns result }
         ensures turns { ChangesTurns (view self.old) (view self.new) }
         ensures home { home self.new ≡ home self.old };
 
-    /// Draws what is owed, as [`Owing::draw`] does, through the desk's seat at the turns.
+    /// Draws what is owed, as `Owing::draw` does, through the desk's seat at the turns.
     fn pay(
         &mut self,
         alloc: Global,
-        owing: Owing<B>,
+        owing: K::Owed,
         picture: &Picture,
         seen: &Seen,
-    ) -> Result<(), DrawFault<Owing<B>>>
-        ensures pays { PaysOwing owing picture.now seen.now (view self.old).turns (view self.new).turns result }
+    ) -> Result<(), DrawFault<K::Owed>>
+        ensures pays { K.pays owing picture.now seen.now (view self.old).turns (view self.new).turns result }
         ensures turns { ChangesTurns (view self.old) (view self.new) }
         ensures home { home self.new ≡ home self.old };
 
-    /// Ends a drawing, as [`Ending::end`] does, through the desk's seat at the turns.
-    fn end(&mut self, ending: Ending<B>)
-        ensures leaves { Leaves (view self.old).turns ending.turn.buffer ending.turn.number (view self.new).turns }
+    /// Ends a drawing, as `Ending::end` does, through the desk's seat at the turns.
+    fn end(&mut self, ending: K::Ends)
+        ensures leaves { Leaves (view self.old).turns (K.ends ending).turn.buffer (K.ends ending).turn.number (view self.new).turns }
         ensures turns { ChangesTurns (view self.old) (view self.new) }
         ensures home { home self.new ≡ home self.old };
 }
