@@ -21,7 +21,7 @@ use Rattle.sf_surface.specs.declared.entry.HistEntry.{HistEntry}
 use Rattle.sf_surface.specs.declared.mark.QueueMark.{QueueMark}
 use Rattle.sf_surface.specs.Calls.{may_wait, told_call}
 use Rattle.sf_surface.specs.Hands.{IsReply}
-use Rattle.sf_surface.specs.Histories.{Answers, Made, Replied, Stored, caller, told, told_entry, told_reply}
+use Rattle.sf_surface.specs.Histories.{Answers, HasNotWaited, Made, Replied, Stored, caller, told, told_entry, told_reply}
 use Rattle.sf_surface.specs.Inside.{HasDefaultSize}
 use Rattle.sf_surface.specs.Marks.{PermitFits, SpareFits}
 use Rattle.sf_surface.specs.Named.{named_of, shown_with}
@@ -93,15 +93,16 @@ module _ {B : Type 0} (table : TableId) where
     goes_on : (does : Does table old.queue after (caller by) asked reply) → IsObject table old → IsNext after old.queue.settings.width old.queue.settings.height (told (mark_of old) old.calls) (record { caller = caller by; step = step; call = told_call old.queue.number asked; reply = does.answered })
     goes_on does kept = does.continues old.queue.settings.width old.queue.settings.height step (told (mark_of old) old.calls) kept.told
 
-    replied : Does table old.queue after (caller by) asked reply → IsObject table old → Replied (mark_of old) old.calls by asked reply
-    replied does kept = record {
+    replied : Does table old.queue after (caller by) asked reply → HasNotWaited asked reply → IsObject table old → Replied (mark_of old) old.calls by asked reply
+    replied does waited kept = record {
       answer = subst (λ (r : PlainReply). IsReply old.queue.number asked r reply) (goes_on does kept).reply does.hands;
       from = does.from old.calls kept.stored;
+      waited = waited;
     }
 
     -- the call's reply, and its permit
-    pub answers_call : Does table old.queue after (caller by) asked reply → IsObject table old → PermitFits table asked → Replied (mark_of old) old.calls by asked reply × SpareFits table reply
-    answers_call does kept fits = (replied does kept, (tells table old.queue.number by step asked does.answered reply does.hands).spare fits)
+    pub answers_call : Does table old.queue after (caller by) asked reply → HasNotWaited asked reply → IsObject table old → PermitFits table asked → Replied (mark_of old) old.calls by asked reply × SpareFits table reply
+    answers_call does waited kept fits = (replied does waited kept, (tells table old.queue.number by step asked does.answered reply does.hands).spare fits)
 
     told_after : Does table old.queue after (caller by) asked reply → IsObject table old → IsToldBy after old.queue.settings.width old.queue.settings.height (told_here ∷ told (mark_of old) old.calls)
     unfolding told_here
@@ -110,9 +111,9 @@ module _ {B : Type 0} (table : TableId) where
         subst (λ (r : PlainReply). IsToldBy after old.queue.settings.width old.queue.settings.height ((let call : Told = record { caller = caller by; step = step; call = told_call old.queue.number asked; reply = r } in call) ∷ told (mark_of old) old.calls)) next.reply next.told
 
     -- a call keeps what the queue with its history keeps
-    keeps_call : Does table old.queue after (caller by) asked reply → IsObject table old → IsObject table new_object
+    keeps_call : Does table old.queue after (caller by) asked reply → HasNotWaited asked reply → IsObject table old → IsObject table new_object
     unfolding new_object told told_here
-    keeps_call does kept =
+    keeps_call does waited kept =
         let log : List (Made B) = entry by (step, asked) reply ∷ old.calls in
         let tells_wide = subst (λ (m : QueueMark). IsToldBy after m.width m.height (told m log)) (mark_kept does) (told_after does kept) in
         record {
@@ -123,15 +124,15 @@ module _ {B : Type 0} (table : TableId) where
             low = omega (arith, kept.sized.low, does.height);
           };
           told = tells_wide;
-          legal = subst (λ (m : QueueMark). IsLegal (Answers m) log) (mark_kept does) (replied does kept, kept.legal);
+          legal = subst (λ (m : QueueMark). IsLegal (Answers m) log) (mark_kept does) (replied does waited kept, kept.legal);
           rights = does.rights kept.rights;
           stored = does.stored old.calls step kept.stored;
         }
 
     -- and what its parts say of each other
-    pub kept_call : (number : QueueId) (shown : List HistEntry) → Does table old.queue after (caller by) asked reply → IsKept table number shown old → IsKept table number (shown ++ shown_with by step (named_of number asked) reply ∷ []) (record { queue = after; calls = entry by (step, asked) reply ∷ old.calls })
+    pub kept_call : (number : QueueId) (shown : List HistEntry) → Does table old.queue after (caller by) asked reply → HasNotWaited asked reply → IsKept table number shown old → IsKept table number (shown ++ shown_with by step (named_of number asked) reply ∷ []) (record { queue = after; calls = entry by (step, asked) reply ∷ old.calls })
     unfolding new_object told told_here
-    kept_call number shown does kept =
+    kept_call number shown does waited kept =
         let calls : List Told = told (mark_of old) old.calls in
         let log : List (Made B) = entry by (step, asked) reply ∷ old.calls in
         let next = goes_on does kept.keeps in
@@ -141,7 +142,7 @@ module _ {B : Type 0} (table : TableId) where
         record {
           numbered = kept.numbered ∙ sym does.number;
           shows = last ∙ ap (λ (m : QueueMark). entries_of (told m log)) (mark_kept does);
-          keeps = keeps_call does kept.keeps;
+          keeps = keeps_call does waited kept.keeps;
         }
 
   -- a call that waits

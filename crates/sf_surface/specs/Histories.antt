@@ -1,5 +1,5 @@
 -- The calls that were made on a queue, the newest first, with the tokens that they brought and gave, and what they tell.
-use Rattle.std.specs.Prelude.{◌≡◌, ℕ, ◌==◌, true, if◌then◌else◌, List, [], ◌∷◌, Option, Some, None, Contains}
+use Rattle.std.specs.Prelude.{◌≡◌, ◌≢◌, ℕ, ◌==◌, true, if◌then◌else◌, List, [], ◌∷◌, Option, Some, None, Contains}
 use Rattle.sf_base.specs.declared.ids.ActorId.{ActorId}
 use Rattle.sf_base.specs.declared.ids.QueueId.{QueueId}
 use Rattle.sf_base.specs.declared.fences.Fence.{Fence}
@@ -110,10 +110,15 @@ module _ {B : Type 0} where
   abbrev pub FromLog : List (Made B) → QCall B → QReply B → Type 0
   FromLog log asked reply = ComesFrom log asked reply.gives reply.spare
 
+  -- a dequeue that may wait is not refused for want of a free slot
+  abbrev pub HasNotWaited : QCall B → QReply B → Type 0
+  HasNotWaited asked reply = may_wait asked ≡ true → reply.status ≢ status.WouldBlock
+
   -- what the object of one thread replies
   pub record Replied (mark : QueueMark) (log : List (Made B)) (by : ℕ) (asked : QCall B) (reply : QReply B) : Type 0 where
     pub answer : IsReply mark.queue asked (told_reply mark log by asked) reply
     pub from : FromLog log asked reply
+    pub waited : HasNotWaited asked reply
 
   -- what the object of one thread answers: a dequeue that may wait waits where no slot is free
   abbrev pub Answers : QueueMark → List (Made B) → ℕ → ℕ × QCall B → Answer (QReply B) → Type 0

@@ -4,6 +4,7 @@ ghost use Rattle.sf_calls.specs.Outcomes.{IfDone, IfNotYet, IfNoMemory};
 ghost use Rattle.sf_slots.specs.Queue.{told_of, IsSound};
 ghost use Rattle.sf_slots.specs.Replies.{refusal_of};
 ghost use Rattle.sf_surface.specs.Calls.{may_wait, told_call};
+ghost use Rattle.sf_surface.specs.Histories.{HasNotWaited};
 ghost use Rattle.sf_surface.specs.Inside.{HasDefaultSize};
 ghost use Rattle.sf_surface.specs.Marks.{PermitFits, outcome_of};
 ghost use Rattle.sf_surface.specs.Objects.{AreRights, Does};
@@ -55,6 +56,7 @@ pub(crate) fn dispatch<B: TableName>(
     requires rights { AreRights B.table slots.old }
     requires permit { PermitFits B.table call }
     ensures done { IfDone result (Does B.table slots.old slots.new by call) }
+    ensures waited { IfDone result (HasNotWaited call) }
     ensures not_yet { IfNotYet result (λ back. (back ≡ call) × (slots.new ≡ slots.old) × (may_wait call ≡ true)
         × (refusal_of (told_of slots.old) by (told_call slots.old.number call) ≡ Some WouldBlock)) }
     ensures no_memory { IfNoMemory result (λ back. (back ≡ call) × (slots.new ≡ slots.old)) }

@@ -1,4 +1,4 @@
-ghost use Rattle.std.specs.Prelude.{◌≡◌, ℕ, ◌<◌, ◌≤◌, ◌-◌, ◌^◌, IfOk, IfErr, Some, None, true, false, if◌then◌else◌};
+ghost use Rattle.std.specs.Prelude.{◌≡◌, ◌≢◌, ℕ, ◌<◌, ◌≤◌, ◌-◌, ◌^◌, IfOk, IfErr, Some, None, true, false, if◌then◌else◌};
 ghost use Rattle.sf_base.specs.declared.status.QStatus.TheVariants.{WouldBlock};
 ghost use Rattle.sf_calls.specs.Outcomes.{IfDone, IfNotYet, IfNoMemory};
 ghost use Rattle.sf_slots.specs.declared.calls.PlainCall.TheVariants as plain;
@@ -127,6 +127,7 @@ pub(crate) fn dequeue<B: TableName>(
     requires table { permit.table ≡ B.table }
     requires sound { IsSound slots.old }
     ensures done { IfDone result (Does B.table slots.old slots.new by (call.Dequeue width height wait permit)) }
+    ensures waited { IfDone result (λ reply. wait ≡ true → reply.status ≢ WouldBlock) }
     ensures not_yet { IfNotYet result (λ back. (back ≡ call.Dequeue width height wait permit) × (slots.new ≡ slots.old) × (wait ≡ true)
         × (refusal_of (told_of slots.old) by (plain.Dequeue width height wait) ≡ Some WouldBlock)) }
     ensures no_memory { IfNoMemory result (λ back. (back ≡ call.Dequeue width height wait permit) × (slots.new ≡ slots.old)) }

@@ -35,7 +35,7 @@ invariant_of-self-in-Done g c =
     let after = c.dispatch.new.slots in
     let before : List HistEntry = inside.history.shown.items in
     let old : ObjectOf g.row.B.Denot = record { queue = inside.slots; calls = calls_in inside.history } in
-    let kept = kept_call table old after by step asked reply inside.number before c.in-Done.ensures.done c.self.invariant in
+    let kept = kept_call table old after by step asked reply inside.number before c.in-Done.ensures.done c.in-Done.ensures.waited c.self.invariant in
     let named = ap (λ (n : Named). before ++ shown_with by step n reply ∷ []) c.named_of-named.ensures in
     let shown = c.put.ensures.shown ∙ ap (λ (es : List HistEntry). es ++ shown_with by step c.named_of-named.result reply ∷ []) c.in-Ok.ensures.shown ∙ named in
     let told = c.put.ensures.calls ∙ ap (λ (q : QCall g.row.B.Denot). entry by (step, q) reply ∷ calls_in c.ready.new.history) c.of-kept.ensures ∙ ap (λ (calls : List (Made g.row.B.Denot)). entry by (step, asked) reply ∷ calls) c.in-Ok.ensures.calls in
@@ -52,7 +52,7 @@ returns-in-Done-clause-done g c =
     let reply = c.in-Done.reply in
     let old : ObjectOf g.row.B.Denot = record { queue = inside.slots; calls = calls_in inside.history } in
     let told = c.put.ensures.calls ∙ ap (λ (q : QCall g.row.B.Denot). entry by (step, q) reply ∷ calls_in c.ready.new.history) c.of-kept.ensures ∙ ap (λ (calls : List (Made g.row.B.Denot)). entry by (step, asked) reply ∷ calls) c.in-Ok.ensures.calls in
-    let answers = answers_call table old c.dispatch.new.slots by step asked reply c.in-Done.ensures.done c.self.invariant.keeps c.requires in
+    let answers = answers_call table old c.dispatch.new.slots by step asked reply c.in-Done.ensures.done c.in-Done.ensures.waited c.self.invariant.keeps c.requires in
     let seen = subst (λ (o : ObjectOf g.row.B.Denot). Replied (mark_of o) o.calls by asked reply × SpareFits table reply) c.self.view_is answers in
     (told ∙ ap (λ (o : ObjectOf g.row.B.Denot). entry by (step, asked) reply ∷ o.calls) c.self.view_is, seen.0, seen.1)
 
