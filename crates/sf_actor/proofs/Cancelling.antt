@@ -1,5 +1,5 @@
 -- What an actor keeps where it cancels a lease that a name holds: the drawing of a drawn one ends after the call.
-use Rattle.std.proofs.Common.{◌≡◌, ℕ, ◌+◌, ◌<◌, ◌⊎◌, inl, inr, true, false, List, [], length, ap, ◌∙◌, sym, refl, subst, Option, Some, None}
+use Rattle.std.proofs.Common.{◌≡◌, ℕ, ◌+◌, ◌<◌, ◌⊎◌, inl, inr, List, [], length, ap, ◌∙◌, sym, refl, subst, Option, Some, None}
 use Rattle.std.specs.Option.{option_map}
 use Rattle.std.proofs.lemmas.Bool.{false≢true}
 use Rattle.sf_base.specs.Fences.{IsSignalled, merged, no_points}
@@ -29,7 +29,7 @@ use Rattle.sf_actor.specs.declared.holding.Holding.{Holding}
 use Rattle.sf_actor.specs.declared.holding.Holding.TheVariants as holding
 use Rattle.sf_actor.specs.Asking.{Asked, call_of, cancel_of}
 use Rattle.sf_actor.specs.Desks.{DeskHome, DeskView, MadeCall, known_of, mark_among}
-use Rattle.sf_actor.specs.Known.{Call, Share, ShareGoesOn, share_of}
+use Rattle.sf_actor.specs.Known.{Share, ShareGoesOn, share_of}
 use Rattle.sf_actor.specs.Names.{Holdings, Lent, name_in, with_name}
 use Rattle.sf_actor.specs.Parts.{drawn_picture, token_of}
 use Rattle.sf_actor.specs.Points.{shown_next}
