@@ -1,0 +1,14 @@
+pub mod DecimalLemmas
+pub mod FrameLemmas
+pub mod HexLemmas
+pub mod KeywordLemmas
+pub mod PassLemmas
+pub mod PictureLemmas
+pub mod ProducerLemmas
+pub mod ReadLemmas
+pub mod ReadyLemmas
+pub mod SceneLemmas
+pub mod SizeLemmas
+pub mod StepLemmas
+pub mod TextLemmas
+pub mod WordLemmas

@@ -1,0 +1,6 @@
+pub mod Painting
+pub mod Passes
+pub mod Plain
+pub mod Ready
+pub mod Scenes
+pub mod Sizes

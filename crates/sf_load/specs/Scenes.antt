@@ -1,0 +1,10 @@
+-- Scripts that are scenes.
+use Rattle.std.specs.Prelude.{◌≡◌, Ok}
+use Rattle.sf_words.specs.Text.{Text}
+use Rattle.sf_scene.specs.Scene.{SceneValue}
+use Rattle.sf_script.specs.Parse.{parsed_of}
+
+-- a script is a scene
+pub record IsScene (text : Text) : Type 0 where
+  pub scene : SceneValue
+  pub parsed : parsed_of text ≡ Ok scene
