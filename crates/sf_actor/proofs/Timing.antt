@@ -58,7 +58,7 @@ unfolding refusal_of
 no_wait_test pictures holdings t v = refl
 
 -- values that were seen are reached
-seen_within : (values : List ℕ) (first k : ℕ) → slice_index values k ≤ greatest (first + k) (points_from first values)
+pub seen_within : (values : List ℕ) (first k : ℕ) → slice_index values k ≤ greatest (first + k) (points_from first values)
 seen_within [] first k = omega arith
 seen_within (v ∷ vs) first zero =
     let here = value_here first v in
