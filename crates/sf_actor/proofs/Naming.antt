@@ -39,7 +39,7 @@ module _ {B : Type 0} where
     pub permits : ArePermits (stepped actor done (with_held actor.parts name held stock)) new
 
   -- what a name holds then
-  held_case : {P : Type 0} (parts : PartsOf B) (name : ℕ) (held : Option (Holding B)) (stock : List ℕ) (other : ℕ) (now : Holding B) → name < length parts.names → held_in (with_held parts name held stock) other ≡ Some now → (other ≡ name → held ≡ Some now → P) → (other ≢ name → held_in parts other ≡ Some now → P) → P
+  pub held_case : {P : Type 0} (parts : PartsOf B) (name : ℕ) (held : Option (Holding B)) (stock : List ℕ) (other : ℕ) (now : Holding B) → name < length parts.names → held_in (with_held parts name held stock) other ≡ Some now → (other ≡ name → held ≡ Some now → P) → (other ≢ name → held_in parts other ≡ Some now → P) → P
   held_case parts name held stock other now low there here elsewhere = elim (cases_Bool (other == name)) [
     | inl met ↦
         let same = eqb-true other name met in
