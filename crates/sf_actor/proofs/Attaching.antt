@@ -126,33 +126,42 @@ module _ {B : Type 0} where
             let calls = attach_calls pictures actor q from to last loose home old new reply is unrefused holds made (ap (λ (r : QReply B). r.ends) told.3) in
             let now : Holding B = holding.Lends (attached_lease queue told.0 told.1 loose) in
             let parts = moved_held actor.parts from to now in
-            inl (told.0, told.1, told.3, record {
-              told = c.told.reply;
-              replies = replies;
-              keeps = actor_with pictures actor done parts before after is_next is
-                  (call_adds pictures actor.stock actor.trace (at_end actor.trace done) asked c before after calls more)
-                  (token_moves pictures actor s c.told.reply from to now before after (only asked c) is (record {
-                    calls = joined asked c before after more;
-                    low_from = low_from;
-                    low_to = low_to;
-                    there = there;
-                    done = ap is_refusal told.2;
-                    fills = refl;
-                    holdings = joined_queue (past_of actor).holdings q from to queue told.0 told.1 loose c.told.reply told.2 marked;
-                    given = given_now q (length actor.trace + 1) (Some (turn_by loose.turn)) c before after more refl (ap (λ (r : QReply B). given_turn r.gives) told.3);
-                    shows = tt;
-                    reached = reached;
-                    permits = permits_stay pictures actor done parts before after (only asked c) is refl (joined asked c before after more)
-                        (λ number queue other there makes. false≢true (subst (MadeWith number) (sym (only_one asked c other queue there).0) makes));
-                  }));
-            })
+            inl (
+              told.0,
+              told.1,
+              told.3,
+              record {
+                told = c.told.reply;
+                replies = replies;
+                keeps = actor_with pictures actor done parts before after is_next is
+                    (call_adds pictures actor.stock actor.trace (at_end actor.trace done) asked c before after calls more)
+                    (token_moves pictures actor s c.told.reply from to now before after (only asked c) is (record {
+                      calls = joined asked c before after more;
+                      low_from = low_from;
+                      low_to = low_to;
+                      there = there;
+                      done = ap is_refusal told.2;
+                      fills = refl;
+                      holdings = joined_queue (past_of actor).holdings q from to queue told.0 told.1 loose c.told.reply told.2 marked;
+                      given = given_now q (length actor.trace + 1) (Some (turn_by loose.turn)) c before after more refl (ap (λ (r : QReply B). given_turn r.gives) told.3);
+                      shows = tt;
+                      reached = reached;
+                      permits = permits_stay pictures actor done parts before after (only asked c) is refl (joined asked c before after more)
+                          (λ number queue other there makes. false≢true (subst (MadeWith number) (sym (only_one asked c other queue there).0) makes));
+                    }));
+              },
+            )
         | inr refused ↦
             let calls = attach_calls pictures actor q from to last loose home old new reply is unrefused holds made (ap (λ (r : QReply B). r.ends) refused.2) in
-            inr (refused.0, refused.2, record {
-              told = c.told.reply;
-              replies = replies;
-              keeps = refused_call_keeps pictures actor s asked c refused.0 before after is_next is calls more refused.1 (λ number makes. false≢true makes) reached;
-            })
+            inr (
+              refused.0,
+              refused.2,
+              record {
+                told = c.told.reply;
+                replies = replies;
+                keeps = refused_call_keeps pictures actor s asked c refused.0 before after is_next is calls more refused.1 (λ number makes. false≢true makes) reached;
+              },
+            )
       ]
 
   attach_read_calls : (pictures : ℕ → Picture) (actor : ActorOf B) (q from to : ℕ) (last : QueueId) (loose : LooseOf) (home : DeskHome) (old new : DeskView B) (reply : QReply B) → ActorKept pictures actor (share_of actor.script.number (known_of home old)) → refusal_of pictures (past_of actor).holdings (step.CAttach q from to) ≡ None → held_in actor.parts from ≡ Some (holding.Frees last loose) → (made : MadeCall home old new actor.script.number q (length actor.trace + 1, call.AttachRead loose) reply) → reply.ends ≡ None →
@@ -211,31 +220,40 @@ module _ {B : Type 0} where
             let calls = attach_read_calls pictures actor q from to last loose home old new reply is unrefused holds made (ap (λ (r : QReply B). r.ends) told.3) in
             let now : Holding B = holding.Reads (own_lease queue told.0 told.1 loose) in
             let parts = moved_held actor.parts from to now in
-            inl (told.0, told.1, told.3, record {
-              told = c.told.reply;
-              replies = replies;
-              keeps = actor_with pictures actor done parts before after is_next is
-                  (call_adds pictures actor.stock actor.trace (at_end actor.trace done) asked c before after calls more)
-                  (token_moves pictures actor s c.told.reply from to now before after (only asked c) is (record {
-                    calls = joined asked c before after more;
-                    low_from = low_from;
-                    low_to = low_to;
-                    there = there;
-                    done = ap is_refusal told.2;
-                    fills = refl;
-                    holdings = joined_read (past_of actor).holdings q from to queue told.0 told.1 loose c.told.reply told.2 marked;
-                    given = given_now q (length actor.trace + 1) (Some (turn_by loose.turn)) c before after more refl (ap (λ (r : QReply B). given_turn r.gives) told.3);
-                    shows = tt;
-                    reached = reached;
-                    permits = permits_stay pictures actor done parts before after (only asked c) is refl (joined asked c before after more)
-                        (λ number queue other there makes. false≢true (subst (MadeWith number) (sym (only_one asked c other queue there).0) makes));
-                  }));
-            })
+            inl (
+              told.0,
+              told.1,
+              told.3,
+              record {
+                told = c.told.reply;
+                replies = replies;
+                keeps = actor_with pictures actor done parts before after is_next is
+                    (call_adds pictures actor.stock actor.trace (at_end actor.trace done) asked c before after calls more)
+                    (token_moves pictures actor s c.told.reply from to now before after (only asked c) is (record {
+                      calls = joined asked c before after more;
+                      low_from = low_from;
+                      low_to = low_to;
+                      there = there;
+                      done = ap is_refusal told.2;
+                      fills = refl;
+                      holdings = joined_read (past_of actor).holdings q from to queue told.0 told.1 loose c.told.reply told.2 marked;
+                      given = given_now q (length actor.trace + 1) (Some (turn_by loose.turn)) c before after more refl (ap (λ (r : QReply B). given_turn r.gives) told.3);
+                      shows = tt;
+                      reached = reached;
+                      permits = permits_stay pictures actor done parts before after (only asked c) is refl (joined asked c before after more)
+                          (λ number queue other there makes. false≢true (subst (MadeWith number) (sym (only_one asked c other queue there).0) makes));
+                    }));
+              },
+            )
         | inr refused ↦
             let calls = attach_read_calls pictures actor q from to last loose home old new reply is unrefused holds made (ap (λ (r : QReply B). r.ends) refused.2) in
-            inr (refused.0, refused.2, record {
-              told = c.told.reply;
-              replies = replies;
-              keeps = refused_call_keeps pictures actor s asked c refused.0 before after is_next is calls more refused.1 (λ number makes. false≢true makes) reached;
-            })
+            inr (
+              refused.0,
+              refused.2,
+              record {
+                told = c.told.reply;
+                replies = replies;
+                keeps = refused_call_keeps pictures actor s asked c refused.0 before after is_next is calls more refused.1 (λ number makes. false≢true makes) reached;
+              },
+            )
       ]

@@ -161,32 +161,39 @@ module _ {B : Type 0} where
       elim (told_cases (mark_among home.marks lease.queue.0).queue lease c.told.reply reply replies) [
         | inl told ↦
             let parts = moved_held actor.parts from to now in
-            inl (told.1, record {
-              told = c.told.reply;
-              replies = replies;
-              keeps = actor_with pictures actor done parts before after is_next is
-                  (call_adds pictures actor.stock actor.trace (at_end actor.trace done) asked c before after calls more)
-                  (token_moves pictures actor s c.told.reply from to now before after (only asked c) is (record {
-                    calls = joined asked c before after more;
-                    low_from = low_from;
-                    low_to = low_to;
-                    there = there;
-                    done = ap is_refusal told.0;
-                    fills = refl;
-                    holdings = loosened (past_of actor).holdings from to lease.queue (write_token lease.queue lease) (drawn_picture lease.work) c.told.reply told.0 named;
-                    given = given_now lease.queue.0 (length actor.trace + 1) (Some (turn_by (turn_after lease.work))) c before after more refl (ap (λ (r : QReply B). given_turn r.gives) told.1);
-                    shows = tt;
-                    reached = reached;
-                    permits = permits_stay pictures actor done parts before after (only asked c) is refl (joined asked c before after more)
-                        (λ number queue other there makes. false≢true (subst (MadeWith number) (sym (only_one asked c other queue there).0) makes));
-                  }));
-            })
+            inl (
+              told.1,
+              record {
+                told = c.told.reply;
+                replies = replies;
+                keeps = actor_with pictures actor done parts before after is_next is
+                    (call_adds pictures actor.stock actor.trace (at_end actor.trace done) asked c before after calls more)
+                    (token_moves pictures actor s c.told.reply from to now before after (only asked c) is (record {
+                      calls = joined asked c before after more;
+                      low_from = low_from;
+                      low_to = low_to;
+                      there = there;
+                      done = ap is_refusal told.0;
+                      fills = refl;
+                      holdings = loosened (past_of actor).holdings from to lease.queue (write_token lease.queue lease) (drawn_picture lease.work) c.told.reply told.0 named;
+                      given = given_now lease.queue.0 (length actor.trace + 1) (Some (turn_by (turn_after lease.work))) c before after more refl (ap (λ (r : QReply B). given_turn r.gives) told.1);
+                      shows = tt;
+                      reached = reached;
+                      permits = permits_stay pictures actor done parts before after (only asked c) is refl (joined asked c before after more)
+                          (λ number queue other there makes. false≢true (subst (MadeWith number) (sym (only_one asked c other queue there).0) makes));
+                    }));
+              },
+            )
         | inr refused ↦
-            inr (refused.0, refused.2, record {
-              told = c.told.reply;
-              replies = replies;
-              keeps = refused_call_keeps pictures actor s asked c refused.0 before after is_next is calls more refused.1 (λ number makes. false≢true makes) reached;
-            })
+            inr (
+              refused.0,
+              refused.2,
+              record {
+                told = c.told.reply;
+                replies = replies;
+                keeps = refused_call_keeps pictures actor s asked c refused.0 before after is_next is calls more refused.1 (λ number makes. false≢true makes) reached;
+              },
+            )
       ]
 
   detach_read_calls : (pictures : ℕ → Picture) (actor : ActorOf B) (from to : ℕ) (lease : ReadLeaseOf) (home : DeskHome) (old new : DeskView B) (reply : QReply B) (after : Share B) → ActorKept pictures actor (share_of actor.script.number (known_of home old)) → refusal_of pictures (past_of actor).holdings (step.CDetach from to) ≡ None → IsSignalled (or_none (frame_fence (name_in (past_of actor).holdings from))) after.values → held_in actor.parts from ≡ Some (holding.Reads lease) → (mark_among home.marks lease.queue.0).queue ≡ lease.queue → (made : MadeCall home old new actor.script.number lease.queue.0 (length actor.trace + 1, call.DetachRead lease) reply) → reply.ends ≡ None →
@@ -247,31 +254,38 @@ module _ {B : Type 0} where
         | inl told ↦
             let calls = detach_read_calls pictures actor from to lease home old new reply after is unrefused signalled holds marked made (ap (λ (r : QReply B). r.ends) told.1) in
             let parts = moved_held actor.parts from to now in
-            inl (told.1, record {
-              told = c.told.reply;
-              replies = replies;
-              keeps = actor_with pictures actor done parts before after is_next is
-                  (call_adds pictures actor.stock actor.trace (at_end actor.trace done) asked c before after calls more)
-                  (token_moves pictures actor s c.told.reply from to now before after (only asked c) is (record {
-                    calls = joined asked c before after more;
-                    low_from = low_from;
-                    low_to = low_to;
-                    there = there;
-                    done = ap is_refusal told.0;
-                    fills = refl;
-                    holdings = read_loosened (past_of actor).holdings from to lease.queue (frame_of lease).1 c.told.reply told.0 named;
-                    given = given_now lease.queue.0 (length actor.trace + 1) (Some (turn_by lease.turn)) c before after more refl (ap (λ (r : QReply B). given_turn r.gives) told.1);
-                    shows = tt;
-                    reached = reached;
-                    permits = permits_stay pictures actor done parts before after (only asked c) is refl (joined asked c before after more)
-                        (λ number queue other there makes. false≢true (subst (MadeWith number) (sym (only_one asked c other queue there).0) makes));
-                  }));
-            })
+            inl (
+              told.1,
+              record {
+                told = c.told.reply;
+                replies = replies;
+                keeps = actor_with pictures actor done parts before after is_next is
+                    (call_adds pictures actor.stock actor.trace (at_end actor.trace done) asked c before after calls more)
+                    (token_moves pictures actor s c.told.reply from to now before after (only asked c) is (record {
+                      calls = joined asked c before after more;
+                      low_from = low_from;
+                      low_to = low_to;
+                      there = there;
+                      done = ap is_refusal told.0;
+                      fills = refl;
+                      holdings = read_loosened (past_of actor).holdings from to lease.queue (frame_of lease).1 c.told.reply told.0 named;
+                      given = given_now lease.queue.0 (length actor.trace + 1) (Some (turn_by lease.turn)) c before after more refl (ap (λ (r : QReply B). given_turn r.gives) told.1);
+                      shows = tt;
+                      reached = reached;
+                      permits = permits_stay pictures actor done parts before after (only asked c) is refl (joined asked c before after more)
+                          (λ number queue other there makes. false≢true (subst (MadeWith number) (sym (only_one asked c other queue there).0) makes));
+                    }));
+              },
+            )
         | inr refused ↦
             let calls = detach_read_calls pictures actor from to lease home old new reply after is unrefused signalled holds marked made (ap (λ (r : QReply B). r.ends) refused.2) in
-            inr (refused.0, refused.2, record {
-              told = c.told.reply;
-              replies = replies;
-              keeps = refused_call_keeps pictures actor s asked c refused.0 before after is_next is calls more refused.1 (λ number makes. false≢true makes) reached;
-            })
+            inr (
+              refused.0,
+              refused.2,
+              record {
+                told = c.told.reply;
+                replies = replies;
+                keeps = refused_call_keeps pictures actor s asked c refused.0 before after is_next is calls more refused.1 (λ number makes. false≢true makes) reached;
+              },
+            )
       ]

@@ -73,10 +73,11 @@ module _ {B : Type 0} where
         overtakes = ap (map (release_at at.place)) edit.overtakes;
         answered =
             subst (λ (test : Option ℕ). AnswersTests pictures share.values past s (answered.Own 0) test) (sym edit.test)
-            (subst (λ (f : Option Fence). PassesFence f share.values past.shown (answered.Own 0) (IsPassed (waited_fence past.holdings s) share.values × AnswersCall (call_of pictures past.holdings s) (sent_by past.holdings s) (answered.Own 0))) (sym edit.fence)
-            (subst (λ (f : Option Fence). IsPassed f share.values) (sym edit.waits) tt,
-            subst (λ (asking : Option Asked). AnswersCall asking (sent_by past.holdings s) (answered.Own 0)) (sym edit.asks)
-            (subst (λ (sent : Option (Contents FrameOf)). AnswersCall None sent (answered.Own 0)) (sym edit.sends) refl)));
+            (subst (λ (f : Option Fence). PassesFence f share.values past.shown (answered.Own 0) (IsPassed (waited_fence past.holdings s) share.values × AnswersCall (call_of pictures past.holdings s) (sent_by past.holdings s) (answered.Own 0))) (sym edit.fence) (
+              subst (λ (f : Option Fence). IsPassed f share.values) (sym edit.waits) tt,
+              subst (λ (asking : Option Asked). AnswersCall asking (sent_by past.holdings s) (answered.Own 0)) (sym edit.asks)
+                  (subst (λ (sent : Option (Contents FrameOf)). AnswersCall None sent (answered.Own 0)) (sym edit.sends) refl),
+            ));
         calls = λ queue. refl;
         arrivals = sym (append-nil share.arrivals);
         sent = refl;

@@ -134,7 +134,7 @@ module _ {B : Type 0} where
       let named : name_in (past_of actor).holdings name ≡ Some (Lent lease.queue (write_token lease.queue lease) (drawn_picture lease.work)) = names_told pictures actor before name is ∙ ap (option_map token_of) holds in
       let asks : call_of pictures (past_of actor).holdings s ≡ Some asked = ap (queueing_of (pictures p) time crop (fence_of points)) named in
       let none : shows_other lease.work (pictures p) ≡ false = shows_none B pictures lease lease.work p (is.shows name (holding.Lends lease) holds)
-          (λ drawn e. drawn_same pictures (past_of actor).holdings name p time crop points lease.queue (write_token lease.queue lease) drawn (named ∙ ap (λ (d : Option ℕ). Some (Lent lease.queue (write_token lease.queue lease) d)) e) unrefused) in
+      (λ drawn e. drawn_same pictures (past_of actor).holdings name p time crop points lease.queue (write_token lease.queue lease) drawn (named ∙ ap (λ (d : Option ℕ). Some (Lent lease.queue (write_token lease.queue lease) d)) e) unrefused) in
       record {
         asks = asks;
         replied = refl;
@@ -208,9 +208,13 @@ module _ {B : Type 0} where
               },
             )
         | inr refused ↦
-            inr (refused.0, refused.2, record {
-              told = c.told.reply;
-              replies = replies;
-              keeps = refused_call_keeps pictures actor s asked c refused.0 before after is_next is calls more refused.1 (λ number makes. false≢true makes) reached;
-            })
+            inr (
+              refused.0,
+              refused.2,
+              record {
+                told = c.told.reply;
+                replies = replies;
+                keeps = refused_call_keeps pictures actor s asked c refused.0 before after is_next is calls more refused.1 (λ number makes. false≢true makes) reached;
+              },
+            )
       ]
