@@ -35,7 +35,7 @@ use Rattle.sf_actor.proofs.Bringing.{refused_call_keeps}
 use Rattle.sf_actor.proofs.Filling.{KeepsWith, given_now, still_reached, token_fills}
 use Rattle.sf_actor.proofs.Forms.{answered_by_call}
 use Rattle.sf_actor.proofs.Making.{CallsOnce, OneMore, answer_told, call_adds, joined, made_call, one_more, only, only_one}
-use Rattle.sf_actor.proofs.Moving.{actor_with, permits_stay, stepped}
+use Rattle.sf_actor.proofs.Moving.{actor_with, permits_stay}
 use Rattle.sf_actor.proofs.Naming.{with_held}
 
 -- the name holds the frame once the acquire is done
@@ -134,9 +134,13 @@ module _ {B : Type 0} where
             )
         | inr refused ↦
             let calls = acquire_calls pictures actor q i expected home old new reply is unrefused made (ap (λ (r : QReply B). r.ends) refused.2) in
-            inr (refused.0, refused.2, record {
-              told = c.told.reply;
-              replies = replies;
-              keeps = refused_call_keeps pictures actor s asked c refused.0 before after is_next is calls more refused.1 (λ number makes. false≢true makes) reached;
-            })
+            inr (
+              refused.0,
+              refused.2,
+              record {
+                told = c.told.reply;
+                replies = replies;
+                keeps = refused_call_keeps pictures actor s asked c refused.0 before after is_next is calls more refused.1 (λ number makes. false≢true makes) reached;
+              },
+            )
       ]

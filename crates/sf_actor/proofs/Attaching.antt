@@ -1,5 +1,5 @@
 -- What an actor keeps where it puts a loose buffer into a queue: a lease or a frame of it stands under another name.
-use Rattle.std.proofs.Common.{◌≡◌, ℕ, ◌+◌, ◌<◌, ◌==◌, ◌⊎◌, inl, inr, true, List, [], ◌∷◌, length, ap, ◌∙◌, sym, refl, subst, Option, Some, None}
+use Rattle.std.proofs.Common.{◌≡◌, ℕ, ◌+◌, ◌<◌, ◌==◌, ◌⊎◌, inl, inr, true, [], ◌∷◌, length, ap, ◌∙◌, sym, refl, subst, Option, Some, None}
 use Rattle.std.specs.Option.{option_map}
 use Rattle.std.proofs.lemmas.Bool.{eq-eqb, false≢true}
 use Rattle.sf_base.specs.declared.ids.QueueId.{QueueId}
@@ -27,7 +27,7 @@ use Rattle.sf_actor.specs.declared.holding.Holding.TheVariants as holding
 use Rattle.sf_actor.specs.Asking.{Asked, attach_of, attach_read_of, call_of}
 use Rattle.sf_actor.specs.Desks.{DeskHome, DeskView, MadeCall, known_of, mark_among}
 use Rattle.sf_actor.specs.Known.{frame_of, share_of}
-use Rattle.sf_actor.specs.Names.{Apart, Frame, Holdings, Lent, moved, name_in}
+use Rattle.sf_actor.specs.Names.{Frame, Holdings, Lent, moved}
 use Rattle.sf_actor.specs.Parts.{token_of}
 use Rattle.sf_actor.specs.Rights.{EndsIn, MadeWith, given_turn, turn_by}
 use Rattle.sf_actor.specs.Scripts.{queue_of}
@@ -39,7 +39,7 @@ use Rattle.sf_actor.proofs.Bringing.{brings_held, names_told, refused_call_keeps
 use Rattle.sf_actor.proofs.Filling.{KeepsWith, given_now, moved_held, still_reached, token_moves}
 use Rattle.sf_actor.proofs.Forms.{answered_by_call}
 use Rattle.sf_actor.proofs.Making.{CallsOnce, OneMore, answer_told, call_adds, joined, made_call, one_more, only, only_one}
-use Rattle.sf_actor.proofs.Moving.{actor_with, permits_stay, stepped}
+use Rattle.sf_actor.proofs.Moving.{actor_with, permits_stay}
 
 -- a lease, or a frame, of the buffer stands under the other name once the call is done
 joined_queue : (holdings : Holdings) (q from to : ℕ) (queue : QueueId) (slot : SlotId) (held : Held) (loose : LooseOf) (told : PlainReply) → told ≡ plain.Attached slot held → queue ≡ queue_of q → holdings_next holdings (record { step = step.PAttach q from to; answered = answered.Called told }) ≡ moved holdings from to (Lent queue (write_token queue (attached_lease queue slot held loose)) None)
@@ -126,33 +126,42 @@ module _ {B : Type 0} where
             let calls = attach_calls pictures actor q from to last loose home old new reply is unrefused holds made (ap (λ (r : QReply B). r.ends) told.3) in
             let now : Holding B = holding.Lends (attached_lease queue told.0 told.1 loose) in
             let parts = moved_held actor.parts from to now in
-            inl (told.0, told.1, told.3, record {
-              told = c.told.reply;
-              replies = replies;
-              keeps = actor_with pictures actor done parts before after is_next is
-                  (call_adds pictures actor.stock actor.trace (at_end actor.trace done) asked c before after calls more)
-                  (token_moves pictures actor s c.told.reply from to now before after (only asked c) is (record {
-                    calls = joined asked c before after more;
-                    low_from = low_from;
-                    low_to = low_to;
-                    there = there;
-                    done = ap is_refusal told.2;
-                    fills = refl;
-                    holdings = joined_queue (past_of actor).holdings q from to queue told.0 told.1 loose c.told.reply told.2 marked;
-                    given = given_now q (length actor.trace + 1) (Some (turn_by loose.turn)) c before after more refl (ap (λ (r : QReply B). given_turn r.gives) told.3);
-                    shows = tt;
-                    reached = reached;
-                    permits = permits_stay pictures actor done parts before after (only asked c) is refl (joined asked c before after more)
-                        (λ number queue other there makes. false≢true (subst (MadeWith number) (sym (only_one asked c other queue there).0) makes));
-                  }));
-            })
+            inl (
+              told.0,
+              told.1,
+              told.3,
+              record {
+                told = c.told.reply;
+                replies = replies;
+                keeps = actor_with pictures actor done parts before after is_next is
+                    (call_adds pictures actor.stock actor.trace (at_end actor.trace done) asked c before after calls more)
+                    (token_moves pictures actor s c.told.reply from to now before after (only asked c) is (record {
+                      calls = joined asked c before after more;
+                      low_from = low_from;
+                      low_to = low_to;
+                      there = there;
+                      done = ap is_refusal told.2;
+                      fills = refl;
+                      holdings = joined_queue (past_of actor).holdings q from to queue told.0 told.1 loose c.told.reply told.2 marked;
+                      given = given_now q (length actor.trace + 1) (Some (turn_by loose.turn)) c before after more refl (ap (λ (r : QReply B). given_turn r.gives) told.3);
+                      shows = tt;
+                      reached = reached;
+                      permits = permits_stay pictures actor done parts before after (only asked c) is refl (joined asked c before after more)
+                          (λ number queue other there makes. false≢true (subst (MadeWith number) (sym (only_one asked c other queue there).0) makes));
+                    }));
+              },
+            )
         | inr refused ↦
             let calls = attach_calls pictures actor q from to last loose home old new reply is unrefused holds made (ap (λ (r : QReply B). r.ends) refused.2) in
-            inr (refused.0, refused.2, record {
-              told = c.told.reply;
-              replies = replies;
-              keeps = refused_call_keeps pictures actor s asked c refused.0 before after is_next is calls more refused.1 (λ number makes. false≢true makes) reached;
-            })
+            inr (
+              refused.0,
+              refused.2,
+              record {
+                told = c.told.reply;
+                replies = replies;
+                keeps = refused_call_keeps pictures actor s asked c refused.0 before after is_next is calls more refused.1 (λ number makes. false≢true makes) reached;
+              },
+            )
       ]
 
   attach_read_calls : (pictures : ℕ → Picture) (actor : ActorOf B) (q from to : ℕ) (last : QueueId) (loose : LooseOf) (home : DeskHome) (old new : DeskView B) (reply : QReply B) → ActorKept pictures actor (share_of actor.script.number (known_of home old)) → refusal_of pictures (past_of actor).holdings (step.CAttach q from to) ≡ None → held_in actor.parts from ≡ Some (holding.Frees last loose) → (made : MadeCall home old new actor.script.number q (length actor.trace + 1, call.AttachRead loose) reply) → reply.ends ≡ None →
@@ -211,31 +220,40 @@ module _ {B : Type 0} where
             let calls = attach_read_calls pictures actor q from to last loose home old new reply is unrefused holds made (ap (λ (r : QReply B). r.ends) told.3) in
             let now : Holding B = holding.Reads (own_lease queue told.0 told.1 loose) in
             let parts = moved_held actor.parts from to now in
-            inl (told.0, told.1, told.3, record {
-              told = c.told.reply;
-              replies = replies;
-              keeps = actor_with pictures actor done parts before after is_next is
-                  (call_adds pictures actor.stock actor.trace (at_end actor.trace done) asked c before after calls more)
-                  (token_moves pictures actor s c.told.reply from to now before after (only asked c) is (record {
-                    calls = joined asked c before after more;
-                    low_from = low_from;
-                    low_to = low_to;
-                    there = there;
-                    done = ap is_refusal told.2;
-                    fills = refl;
-                    holdings = joined_read (past_of actor).holdings q from to queue told.0 told.1 loose c.told.reply told.2 marked;
-                    given = given_now q (length actor.trace + 1) (Some (turn_by loose.turn)) c before after more refl (ap (λ (r : QReply B). given_turn r.gives) told.3);
-                    shows = tt;
-                    reached = reached;
-                    permits = permits_stay pictures actor done parts before after (only asked c) is refl (joined asked c before after more)
-                        (λ number queue other there makes. false≢true (subst (MadeWith number) (sym (only_one asked c other queue there).0) makes));
-                  }));
-            })
+            inl (
+              told.0,
+              told.1,
+              told.3,
+              record {
+                told = c.told.reply;
+                replies = replies;
+                keeps = actor_with pictures actor done parts before after is_next is
+                    (call_adds pictures actor.stock actor.trace (at_end actor.trace done) asked c before after calls more)
+                    (token_moves pictures actor s c.told.reply from to now before after (only asked c) is (record {
+                      calls = joined asked c before after more;
+                      low_from = low_from;
+                      low_to = low_to;
+                      there = there;
+                      done = ap is_refusal told.2;
+                      fills = refl;
+                      holdings = joined_read (past_of actor).holdings q from to queue told.0 told.1 loose c.told.reply told.2 marked;
+                      given = given_now q (length actor.trace + 1) (Some (turn_by loose.turn)) c before after more refl (ap (λ (r : QReply B). given_turn r.gives) told.3);
+                      shows = tt;
+                      reached = reached;
+                      permits = permits_stay pictures actor done parts before after (only asked c) is refl (joined asked c before after more)
+                          (λ number queue other there makes. false≢true (subst (MadeWith number) (sym (only_one asked c other queue there).0) makes));
+                    }));
+              },
+            )
         | inr refused ↦
             let calls = attach_read_calls pictures actor q from to last loose home old new reply is unrefused holds made (ap (λ (r : QReply B). r.ends) refused.2) in
-            inr (refused.0, refused.2, record {
-              told = c.told.reply;
-              replies = replies;
-              keeps = refused_call_keeps pictures actor s asked c refused.0 before after is_next is calls more refused.1 (λ number makes. false≢true makes) reached;
-            })
+            inr (
+              refused.0,
+              refused.2,
+              record {
+                told = c.told.reply;
+                replies = replies;
+                keeps = refused_call_keeps pictures actor s asked c refused.0 before after is_next is calls more refused.1 (λ number makes. false≢true makes) reached;
+              },
+            )
       ]

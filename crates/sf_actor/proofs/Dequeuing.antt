@@ -1,7 +1,7 @@
 -- What an actor keeps where it dequeues a buffer, which its name holds then: where the queue made a new one, the permit is gone.
 use Rattle.std.proofs.Common.{◌≡◌, ℕ, ◌+◌, ◌<◌, ◌≤◌, ◌==◌, ◌⊎◌, inl, inr, Bool, true, false, suc, zero, List, [], ◌∷◌, ◌++◌, length, arith, ap, ◌∙◌, refl, sym, subst, Option, Some, None}
 use Rattle.std.specs.Prelude.{Contains, drop, slice_get, unwrap_or}
-use Rattle.std.proofs.lemmas.Bool.{cases_Bool, eq-eqb, eqb-true, false≢true}
+use Rattle.std.proofs.lemmas.Bool.{eq-eqb, eqb-true, false≢true}
 use Rattle.std.proofs.lemmas.List.{length-append}
 use Rattle.std.proofs.lemmas.List.Elements.{Contains-append_cases}
 use Rattle.sf_base.specs.Fences.{IsSignalled, merged}
@@ -241,31 +241,39 @@ module _ {B : Type 0} where
             let calls = dequeue_calls pictures actor wait q name size permit rest home old new reply is unrefused stock made (ap (λ (r : QReply B). r.ends) lends.replied) in
             let now = holding.Lends (lent_lease queue lends.slot lends.held lends.requested lends.fence lends.turn) in
             let parts = with_held actor.parts name (Some now) (stock_after rest permit lends.spare) in
-            inl (c.told.reply, lends, record {
-              told = c.told.reply;
-              replies = replies;
-              keeps = actor_with pictures actor done parts before after is_next is
-                  (call_adds pictures actor.stock actor.trace (at_end actor.trace done) asked c before after calls more)
-                  (token_fills pictures actor s c.told.reply name now (stock_after rest permit lends.spare) before after (only asked c) is (record {
-                    calls = joined asked c before after more;
-                    low = low;
-                    there = there;
-                    done = ap is_refusal lends.told_so;
-                    fills = form.fills;
-                    holdings = lent (past_of actor).holdings wait q name size queue lends.slot lends.held lends.requested lends.reallocated lends.fence lends.turn c.told.reply lends.told_so marked;
-                    given = given_now q (length actor.trace + 1) (Some (turn_by lends.turn)) c before after more refl (ap (λ (r : QReply B). given_turn r.gives) lends.replied);
-                    shows = tt;
-                    reached = reached;
-                    permits = permits_left pictures actor done parts rest permit lends.spare asked c before after is_next form.dequeues is stock refl (joined asked c before after more)
-                        (λ number it. subst (λ (spare : Option PermitView). made_with (Some permit) spare number ≡ true) (ap (λ (r : QReply B). r.spare) lends.replied) it);
-                  }));
-            })
+            inl (
+              c.told.reply,
+              lends,
+              record {
+                told = c.told.reply;
+                replies = replies;
+                keeps = actor_with pictures actor done parts before after is_next is
+                    (call_adds pictures actor.stock actor.trace (at_end actor.trace done) asked c before after calls more)
+                    (token_fills pictures actor s c.told.reply name now (stock_after rest permit lends.spare) before after (only asked c) is (record {
+                      calls = joined asked c before after more;
+                      low = low;
+                      there = there;
+                      done = ap is_refusal lends.told_so;
+                      fills = form.fills;
+                      holdings = lent (past_of actor).holdings wait q name size queue lends.slot lends.held lends.requested lends.reallocated lends.fence lends.turn c.told.reply lends.told_so marked;
+                      given = given_now q (length actor.trace + 1) (Some (turn_by lends.turn)) c before after more refl (ap (λ (r : QReply B). given_turn r.gives) lends.replied);
+                      shows = tt;
+                      reached = reached;
+                      permits = permits_left pictures actor done parts rest permit lends.spare asked c before after is_next form.dequeues is stock refl (joined asked c before after more)
+                          (λ number it. subst (λ (spare : Option PermitView). made_with (Some permit) spare number ≡ true) (ap (λ (r : QReply B). r.spare) lends.replied) it);
+                    }));
+              },
+            )
         | inr refused ↦
             let calls = dequeue_calls pictures actor wait q name size permit rest home old new reply is unrefused stock made (ap (λ (r : QReply B). r.ends) refused.2) in
-            inr (refused.0, refused.2, record {
-              told = c.told.reply;
-              replies = replies;
-              keeps = refused_call_keeps pictures actor s asked c refused.0 before after is_next is calls more refused.1
-                  (λ number it. false≢true (subst (λ (spare : Option PermitView). made_with (Some permit) spare number ≡ true) (ap (λ (r : QReply B). r.spare) refused.2) it)) reached;
-            })
+            inr (
+              refused.0,
+              refused.2,
+              record {
+                told = c.told.reply;
+                replies = replies;
+                keeps = refused_call_keeps pictures actor s asked c refused.0 before after is_next is calls more refused.1
+                    (λ number it. false≢true (subst (λ (spare : Option PermitView). made_with (Some permit) spare number ≡ true) (ap (λ (r : QReply B). r.spare) refused.2) it)) reached;
+              },
+            )
       ]

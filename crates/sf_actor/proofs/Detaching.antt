@@ -1,5 +1,5 @@
 -- What an actor keeps where it takes a lent buffer or a frame out of its queue: the buffer is loose then, under another name.
-use Rattle.std.proofs.Common.{◌≡◌, ℕ, ◌+◌, ◌<◌, ◌⊎◌, inl, inr, List, [], length, ap, ◌∙◌, sym, refl, subst, Option, Some, None}
+use Rattle.std.proofs.Common.{◌≡◌, ℕ, ◌+◌, ◌<◌, ◌⊎◌, inl, inr, [], length, ap, ◌∙◌, sym, refl, subst, Option, Some, None}
 use Rattle.std.specs.Option.{option_map}
 use Rattle.std.proofs.lemmas.Bool.{eq-eqb, false≢true}
 use Rattle.sf_base.specs.Fences.{IsSignalled}
@@ -23,7 +23,6 @@ use Rattle.sf_surface.specs.Calls.{read_token, write_token}
 use Rattle.sf_surface.specs.Hands.{IsReply, done_reply, refused_reply}
 use Rattle.sf_surface.specs.Tokens.{EndingOf, LooseOf, ReadLeaseOf, WriteLeaseOf, ending_drawn, turn_after}
 use Rattle.sf_turns.specs.Views.{PermitView}
-use Rattle.sf_actor.specs.declared.done.Answered.{Answered}
 use Rattle.sf_actor.specs.declared.done.Answered.TheVariants as answered
 use Rattle.sf_actor.specs.declared.done.Done.{Done}
 use Rattle.sf_actor.specs.declared.holding.Holding.TheVariants as holding
@@ -44,7 +43,7 @@ use Rattle.sf_actor.proofs.Filling.{KeepsWith, given_now, moved_held, token_move
 use Rattle.sf_actor.proofs.GoingOn.{signalled_on}
 use Rattle.sf_actor.proofs.Looking.{passes}
 use Rattle.sf_actor.proofs.Making.{CallsOnce, OneMore, answer_told, call_adds, joined, made_call, one_more, only, only_one, then_goes}
-use Rattle.sf_actor.proofs.Moving.{actor_with, permits_stay, stepped}
+use Rattle.sf_actor.proofs.Moving.{actor_with, permits_stay}
 use Rattle.sf_actor.proofs.Reaching.{merged_reached}
 
 -- a step behind a fence that is signalled is answered by its call
@@ -161,32 +160,39 @@ module _ {B : Type 0} where
       elim (told_cases (mark_among home.marks lease.queue.0).queue lease c.told.reply reply replies) [
         | inl told ↦
             let parts = moved_held actor.parts from to now in
-            inl (told.1, record {
-              told = c.told.reply;
-              replies = replies;
-              keeps = actor_with pictures actor done parts before after is_next is
-                  (call_adds pictures actor.stock actor.trace (at_end actor.trace done) asked c before after calls more)
-                  (token_moves pictures actor s c.told.reply from to now before after (only asked c) is (record {
-                    calls = joined asked c before after more;
-                    low_from = low_from;
-                    low_to = low_to;
-                    there = there;
-                    done = ap is_refusal told.0;
-                    fills = refl;
-                    holdings = loosened (past_of actor).holdings from to lease.queue (write_token lease.queue lease) (drawn_picture lease.work) c.told.reply told.0 named;
-                    given = given_now lease.queue.0 (length actor.trace + 1) (Some (turn_by (turn_after lease.work))) c before after more refl (ap (λ (r : QReply B). given_turn r.gives) told.1);
-                    shows = tt;
-                    reached = reached;
-                    permits = permits_stay pictures actor done parts before after (only asked c) is refl (joined asked c before after more)
-                        (λ number queue other there makes. false≢true (subst (MadeWith number) (sym (only_one asked c other queue there).0) makes));
-                  }));
-            })
+            inl (
+              told.1,
+              record {
+                told = c.told.reply;
+                replies = replies;
+                keeps = actor_with pictures actor done parts before after is_next is
+                    (call_adds pictures actor.stock actor.trace (at_end actor.trace done) asked c before after calls more)
+                    (token_moves pictures actor s c.told.reply from to now before after (only asked c) is (record {
+                      calls = joined asked c before after more;
+                      low_from = low_from;
+                      low_to = low_to;
+                      there = there;
+                      done = ap is_refusal told.0;
+                      fills = refl;
+                      holdings = loosened (past_of actor).holdings from to lease.queue (write_token lease.queue lease) (drawn_picture lease.work) c.told.reply told.0 named;
+                      given = given_now lease.queue.0 (length actor.trace + 1) (Some (turn_by (turn_after lease.work))) c before after more refl (ap (λ (r : QReply B). given_turn r.gives) told.1);
+                      shows = tt;
+                      reached = reached;
+                      permits = permits_stay pictures actor done parts before after (only asked c) is refl (joined asked c before after more)
+                          (λ number queue other there makes. false≢true (subst (MadeWith number) (sym (only_one asked c other queue there).0) makes));
+                    }));
+              },
+            )
         | inr refused ↦
-            inr (refused.0, refused.2, record {
-              told = c.told.reply;
-              replies = replies;
-              keeps = refused_call_keeps pictures actor s asked c refused.0 before after is_next is calls more refused.1 (λ number makes. false≢true makes) reached;
-            })
+            inr (
+              refused.0,
+              refused.2,
+              record {
+                told = c.told.reply;
+                replies = replies;
+                keeps = refused_call_keeps pictures actor s asked c refused.0 before after is_next is calls more refused.1 (λ number makes. false≢true makes) reached;
+              },
+            )
       ]
 
   detach_read_calls : (pictures : ℕ → Picture) (actor : ActorOf B) (from to : ℕ) (lease : ReadLeaseOf) (home : DeskHome) (old new : DeskView B) (reply : QReply B) (after : Share B) → ActorKept pictures actor (share_of actor.script.number (known_of home old)) → refusal_of pictures (past_of actor).holdings (step.CDetach from to) ≡ None → IsSignalled (or_none (frame_fence (name_in (past_of actor).holdings from))) after.values → held_in actor.parts from ≡ Some (holding.Reads lease) → (mark_among home.marks lease.queue.0).queue ≡ lease.queue → (made : MadeCall home old new actor.script.number lease.queue.0 (length actor.trace + 1, call.DetachRead lease) reply) → reply.ends ≡ None →
@@ -247,31 +253,38 @@ module _ {B : Type 0} where
         | inl told ↦
             let calls = detach_read_calls pictures actor from to lease home old new reply after is unrefused signalled holds marked made (ap (λ (r : QReply B). r.ends) told.1) in
             let parts = moved_held actor.parts from to now in
-            inl (told.1, record {
-              told = c.told.reply;
-              replies = replies;
-              keeps = actor_with pictures actor done parts before after is_next is
-                  (call_adds pictures actor.stock actor.trace (at_end actor.trace done) asked c before after calls more)
-                  (token_moves pictures actor s c.told.reply from to now before after (only asked c) is (record {
-                    calls = joined asked c before after more;
-                    low_from = low_from;
-                    low_to = low_to;
-                    there = there;
-                    done = ap is_refusal told.0;
-                    fills = refl;
-                    holdings = read_loosened (past_of actor).holdings from to lease.queue (frame_of lease).1 c.told.reply told.0 named;
-                    given = given_now lease.queue.0 (length actor.trace + 1) (Some (turn_by lease.turn)) c before after more refl (ap (λ (r : QReply B). given_turn r.gives) told.1);
-                    shows = tt;
-                    reached = reached;
-                    permits = permits_stay pictures actor done parts before after (only asked c) is refl (joined asked c before after more)
-                        (λ number queue other there makes. false≢true (subst (MadeWith number) (sym (only_one asked c other queue there).0) makes));
-                  }));
-            })
+            inl (
+              told.1,
+              record {
+                told = c.told.reply;
+                replies = replies;
+                keeps = actor_with pictures actor done parts before after is_next is
+                    (call_adds pictures actor.stock actor.trace (at_end actor.trace done) asked c before after calls more)
+                    (token_moves pictures actor s c.told.reply from to now before after (only asked c) is (record {
+                      calls = joined asked c before after more;
+                      low_from = low_from;
+                      low_to = low_to;
+                      there = there;
+                      done = ap is_refusal told.0;
+                      fills = refl;
+                      holdings = read_loosened (past_of actor).holdings from to lease.queue (frame_of lease).1 c.told.reply told.0 named;
+                      given = given_now lease.queue.0 (length actor.trace + 1) (Some (turn_by lease.turn)) c before after more refl (ap (λ (r : QReply B). given_turn r.gives) told.1);
+                      shows = tt;
+                      reached = reached;
+                      permits = permits_stay pictures actor done parts before after (only asked c) is refl (joined asked c before after more)
+                          (λ number queue other there makes. false≢true (subst (MadeWith number) (sym (only_one asked c other queue there).0) makes));
+                    }));
+              },
+            )
         | inr refused ↦
             let calls = detach_read_calls pictures actor from to lease home old new reply after is unrefused signalled holds marked made (ap (λ (r : QReply B). r.ends) refused.2) in
-            inr (refused.0, refused.2, record {
-              told = c.told.reply;
-              replies = replies;
-              keeps = refused_call_keeps pictures actor s asked c refused.0 before after is_next is calls more refused.1 (λ number makes. false≢true makes) reached;
-            })
+            inr (
+              refused.0,
+              refused.2,
+              record {
+                told = c.told.reply;
+                replies = replies;
+                keeps = refused_call_keeps pictures actor s asked c refused.0 before after is_next is calls more refused.1 (λ number makes. false≢true makes) reached;
+              },
+            )
       ]

@@ -1,6 +1,6 @@
 -- What an actor keeps where it disconnects from a queue: the leases that the queue lent are gone.
-use Rattle.std.proofs.Common.{◌≡◌, ℕ, ◌+◌, ◌==◌, ◌&&◌, ◌⊎◌, inl, inr, List, [], ◌∷◌, length, ap, ◌∙◌, refl, sym, subst, Option, Some, None}
-use Rattle.std.specs.Prelude.{get_or, if◌then◌else◌, map, not}
+use Rattle.std.proofs.Common.{◌≡◌, ℕ, ◌+◌, ◌==◌, ◌⊎◌, inl, inr, List, [], ◌∷◌, length, ap, ◌∙◌, refl, sym, subst, Option, Some, None}
+use Rattle.std.specs.Prelude.{get_or, if◌then◌else◌, map}
 use Rattle.std.specs.Option.{option_map}
 use Rattle.std.proofs.lemmas.Bool.{cases_Bool, false≢true}
 use Rattle.std.proofs.Math.ListN.{get_or-map}
@@ -44,7 +44,7 @@ use Rattle.sf_actor.proofs.Bringing.{refused_call_keeps}
 use Rattle.sf_actor.proofs.Filling.{KeepsWith, changes_move, still_reached}
 use Rattle.sf_actor.proofs.Forms.{answered_by_call, plain_since}
 use Rattle.sf_actor.proofs.Making.{CallsOnce, OneMore, answer_told, call_adds, joined, made_call, one_more, only, only_one}
-use Rattle.sf_actor.proofs.Moving.{actor_with, permits_stay, stepped}
+use Rattle.sf_actor.proofs.Moving.{actor_with, permits_stay}
 
 -- it has no test of its own
 no_test : (pictures : ℕ → Picture) (holdings : Holdings) (q : ℕ) → refusal_of pictures holdings (step.Disconnect q) ≡ None
@@ -167,33 +167,39 @@ module _ {B : Type 0} where
         | inl told ↦
             let calls = disconnect_calls pictures actor q home old new reply made (ap (λ (r : QReply B). r.ends) told.1) in
             let parts = without_lent actor.parts q in
-            inl (told.1, record {
-              told = c.told.reply;
-              replies = replies;
-              keeps = actor_with pictures actor done parts before after is_next is
-                  (call_adds pictures actor.stock actor.trace (at_end actor.trace done) asked c before after calls more)
-                  (changes_move pictures actor done parts before after (only asked c) is (record {
-                    calls = joined asked c before after more;
-                    has =
-                        ap (λ (names : List (Option Token)). record { names = names; transactions = (plain_of actor.parts).transactions }) (all_without q actor.parts.names)
-                        ∙ ap (λ (holdings : Holdings). without_leases holdings q) is.has
-                        ∙ sym (let_go (past_of actor).holdings q c.told.reply told.0);
-                    held = λ name now there. inl (
-                      was_there q (held_in actor.parts name) now (sym (get_or-map (let_go_of q) actor.parts.names name None) ∙ there),
-                      ap (λ (since : List ℕ). get_or since name 0) (plain_since (past_of actor).since (length actor.trace + 1) done refl),
-                    );
-                    contents = λ number txn there. inl there;
-                    reached = reached;
-                    permits = permits_stay pictures actor done parts before after (only asked c) is refl (joined asked c before after more)
-                        (λ number queue other there makes. false≢true (subst (MadeWith number) (sym (only_one asked c other queue there).0) makes));
-                  }));
-            })
+            inl (
+              told.1,
+              record {
+                told = c.told.reply;
+                replies = replies;
+                keeps = actor_with pictures actor done parts before after is_next is
+                    (call_adds pictures actor.stock actor.trace (at_end actor.trace done) asked c before after calls more)
+                    (changes_move pictures actor done parts before after (only asked c) is (record {
+                      calls = joined asked c before after more;
+                      has =
+                          ap (λ (names : List (Option Token)). record { names = names; transactions = (plain_of actor.parts).transactions }) (all_without q actor.parts.names)
+                          ∙ ap (λ (holdings : Holdings). without_leases holdings q) is.has
+                          ∙ sym (let_go (past_of actor).holdings q c.told.reply told.0);
+                      held = λ name now there. inl (
+                        was_there q (held_in actor.parts name) now (sym (get_or-map (let_go_of q) actor.parts.names name None) ∙ there),
+                        ap (λ (since : List ℕ). get_or since name 0) (plain_since (past_of actor).since (length actor.trace + 1) done refl),
+                      );
+                      contents = λ number txn there. inl there;
+                      reached = reached;
+                      permits = permits_stay pictures actor done parts before after (only asked c) is refl (joined asked c before after more)
+                          (λ number queue other there makes. false≢true (subst (MadeWith number) (sym (only_one asked c other queue there).0) makes));
+                    }));
+              },
+            )
         | inr refused ↦
             let calls = disconnect_calls pictures actor q home old new reply made (ap (λ (r : QReply B). r.ends) refused.2) in
             let cause = refused_for (told_by mark.width mark.height (told mark made.earlier)) (record { 0 = by }) refused.0 refused.1 in
-            inr (refused.2 ∙ ap (λ (status : QStatus). refused_reply status call.Disconnect) cause, record {
-              told = c.told.reply;
-              replies = replies;
-              keeps = refused_call_keeps pictures actor s asked c refused.0 before after is_next is calls more refused.1 (λ number makes. false≢true makes) reached;
-            })
+            inr (
+              refused.2 ∙ ap (λ (status : QStatus). refused_reply status call.Disconnect) cause,
+              record {
+                told = c.told.reply;
+                replies = replies;
+                keeps = refused_call_keeps pictures actor s asked c refused.0 before after is_next is calls more refused.1 (λ number makes. false≢true makes) reached;
+              },
+            )
       ]

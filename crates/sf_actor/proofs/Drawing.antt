@@ -31,7 +31,7 @@ use Rattle.sf_actor.specs.Known.{Call, GoesOn, Share, ShareGoesOn, share_of}
 use Rattle.sf_actor.specs.Names.{Holdings, Lent, Owing, OwedFrame, Token, name_in, with_name}
 use Rattle.sf_actor.specs.Parts.{ShowsPictures, drawn_picture, token_of, turn_held}
 use Rattle.sf_actor.specs.Points.{dequeue_fence, undrawn_fence, waited_fence}
-use Rattle.sf_actor.specs.Rights.{Turn, WasGivenAt, WasPaid, issued_turn, turn_by}
+use Rattle.sf_actor.specs.Rights.{Turn, WasGivenAt, WasPaid, turn_by}
 use Rattle.sf_actor.specs.Steps.{holdings_next}
 use Rattle.sf_actor.specs.Tests.{refusal_of}
 use Rattle.sf_actor.specs.Traces.{AnswersTests, IsPassed}
@@ -196,19 +196,19 @@ module _ {B : Type 0} where
       let after = share_of by (known_of home new) in
       let leaves : Leaves passes.0 owing.turn.buffer owing.turn.number new.turns = passes.2 in
       let goes = share_on by (known_of home old) (known_of home new)
-          (goes_twice by (known_of home old) (known_of home inside) (known_of home new)
-          (look_goes by home old inside owing.turn.buffer passes.1.0 refl passes.1.1)
-          (end_goes by home inside new owing.turn.buffer owing.turn.number changes leaves)) in
+      (goes_twice by (known_of home old) (known_of home inside) (known_of home new)
+      (look_goes by home old inside owing.turn.buffer passes.1.0 refl passes.1.1)
+      (end_goes by home inside new owing.turn.buffer owing.turn.number changes leaves)) in
       let owed : OwedFrame = record { slot = owing.slot; frame = owing.frame; fence = owing.fence; held = held; picture = owing.turn.promises.number } in
       let named : name_in (past_of actor).holdings name ≡ Some (Owing owing.queue owed) = names_told pictures actor before name is ∙ ap (option_map token_of) there in
       let reached : IsSignalled owing.fence after.values = signalled_on owing.fence before.values after.values goes.values signalled in
       let count : Contains new.turns.seen (owing.turn.buffer, passes.1.0) =
       subst (λ (xs : List (ℕ × ℕ)). Contains xs (owing.turn.buffer, passes.1.0)) (sym (ap (λ (turns : SeatView). turns.seen) leaves.1))
-          (Contains-append_left (passes.0.seen ++ leaves.0) ((owing.turn.buffer, owing.turn.number + 1) ∷ []) (owing.turn.buffer, passes.1.0)
-          (Contains-append_left passes.0.seen leaves.0 (owing.turn.buffer, passes.1.0) (seen_count old.turns passes.0 owing.turn.buffer owing.turn.number passes.1))) in
+      (Contains-append_left (passes.0.seen ++ leaves.0) ((owing.turn.buffer, owing.turn.number + 1) ∷ []) (owing.turn.buffer, passes.1.0)
+      (Contains-append_left passes.0.seen leaves.0 (owing.turn.buffer, passes.1.0) (seen_count old.turns passes.0 owing.turn.buffer owing.turn.number passes.1))) in
       let left : Contains new.turns.leaves (owing.turn.buffer, owing.turn.number) =
       subst (λ (xs : List (ℕ × ℕ)). Contains xs (owing.turn.buffer, owing.turn.number)) (sym (ap (λ (turns : SeatView). turns.leaves) leaves.1))
-          (Contains-append_right passes.0.leaves ((owing.turn.buffer, owing.turn.number) ∷ []) (owing.turn.buffer, owing.turn.number) (zero, omega arith, refl)) in
+      (Contains-append_right passes.0.leaves ((owing.turn.buffer, owing.turn.number) ∷ []) (owing.turn.buffer, owing.turn.number) (zero, omega arith, refl)) in
       draw_keeps pictures actor name p (holding.Owes owing held) None before after is_next is
       (record {
         test = unrefused;
