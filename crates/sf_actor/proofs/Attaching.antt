@@ -1,5 +1,5 @@
 -- What an actor keeps where it puts a loose buffer into a queue: a lease or a frame of it stands under another name.
-use Rattle.std.proofs.Common.{◌≡◌, ℕ, ◌+◌, ◌<◌, ◌==◌, ◌⊎◌, inl, inr, true, List, [], ◌∷◌, length, ap, ◌∙◌, sym, refl, subst, Option, Some, None}
+use Rattle.std.proofs.Common.{◌≡◌, ℕ, ◌+◌, ◌<◌, ◌==◌, ◌⊎◌, inl, inr, true, [], ◌∷◌, length, ap, ◌∙◌, sym, refl, subst, Option, Some, None}
 use Rattle.std.specs.Option.{option_map}
 use Rattle.std.proofs.lemmas.Bool.{eq-eqb, false≢true}
 use Rattle.sf_base.specs.declared.ids.QueueId.{QueueId}
@@ -27,7 +27,7 @@ use Rattle.sf_actor.specs.declared.holding.Holding.TheVariants as holding
 use Rattle.sf_actor.specs.Asking.{Asked, attach_of, attach_read_of, call_of}
 use Rattle.sf_actor.specs.Desks.{DeskHome, DeskView, MadeCall, known_of, mark_among}
 use Rattle.sf_actor.specs.Known.{frame_of, share_of}
-use Rattle.sf_actor.specs.Names.{Apart, Frame, Holdings, Lent, moved, name_in}
+use Rattle.sf_actor.specs.Names.{Frame, Holdings, Lent, moved}
 use Rattle.sf_actor.specs.Parts.{token_of}
 use Rattle.sf_actor.specs.Rights.{EndsIn, MadeWith, given_turn, turn_by}
 use Rattle.sf_actor.specs.Scripts.{queue_of}
@@ -39,7 +39,7 @@ use Rattle.sf_actor.proofs.Bringing.{brings_held, names_told, refused_call_keeps
 use Rattle.sf_actor.proofs.Filling.{KeepsWith, given_now, moved_held, still_reached, token_moves}
 use Rattle.sf_actor.proofs.Forms.{answered_by_call}
 use Rattle.sf_actor.proofs.Making.{CallsOnce, OneMore, answer_told, call_adds, joined, made_call, one_more, only, only_one}
-use Rattle.sf_actor.proofs.Moving.{actor_with, permits_stay, stepped}
+use Rattle.sf_actor.proofs.Moving.{actor_with, permits_stay}
 
 -- a lease, or a frame, of the buffer stands under the other name once the call is done
 joined_queue : (holdings : Holdings) (q from to : ℕ) (queue : QueueId) (slot : SlotId) (held : Held) (loose : LooseOf) (told : PlainReply) → told ≡ plain.Attached slot held → queue ≡ queue_of q → holdings_next holdings (record { step = step.PAttach q from to; answered = answered.Called told }) ≡ moved holdings from to (Lent queue (write_token queue (attached_lease queue slot held loose)) None)

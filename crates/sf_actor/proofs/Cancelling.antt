@@ -40,10 +40,11 @@ use Rattle.sf_actor.specs.Tests.{refusal_of}
 use Rattle.sf_actor.specs.Tries.{ActorKept, ActorOf, held_in, next_step, past_of}
 use Rattle.sf_actor.proofs.Adding.{at_end}
 use Rattle.sf_actor.proofs.Bringing.{brings_held, names_told, refused_call_keeps}
+use Rattle.sf_actor.proofs.Filling.{KeepsWith}
 use Rattle.sf_actor.proofs.Forms.{answered_by_call}
 use Rattle.sf_actor.proofs.GoingOn.{signalled_on}
 use Rattle.sf_actor.proofs.Making.{CallsOnce, OneMore, answer_told, call_adds, joined, made_call, one_more, only, only_one, then_goes}
-use Rattle.sf_actor.proofs.Moving.{actor_with, permits_stay, stepped}
+use Rattle.sf_actor.proofs.Moving.{actor_with, permits_stay}
 use Rattle.sf_actor.proofs.Naming.{name_moves, with_held}
 use Rattle.sf_actor.proofs.Reaching.{merged_reached, none_reached}
 
@@ -120,8 +121,8 @@ module _ {B : Type 0} where
 
   -- A cancel that is done leaves the name empty; one that the queue refuses hands the lease back, and moves nothing.
   pub cancel_keeps : (pictures : ℕ → Picture) (actor : ActorOf B) (name : ℕ) (points : List (ℕ × ℕ)) (lease : WriteLeaseOf) (home : DeskHome) (old new : DeskView B) (reply : QReply B) (after : Share B) → next_step actor ≡ Some (step.Cancel name points) → ActorKept pictures actor (share_of actor.script.number (known_of home old)) → held_in actor.parts name ≡ Some (holding.Lends lease) → name < length actor.parts.names → (mark_among home.marks lease.queue.0).queue ≡ lease.queue → MadeCall home old new actor.script.number lease.queue.0 (length actor.trace + 1, cancel_call points lease) reply → ShareGoesOn (share_of actor.script.number (known_of home new)) after → EndsIn after.left reply.ends →
-      ((reply ≡ done_reply [] gives.Nothing (ending_drawn lease.work) None) × ((told : PlainReply) × ActorKept pictures (stepped actor (cancelling name points told) (with_held actor.parts name None actor.parts.stock)) after))
-      ⊎ ((cause : QStatus) × (reply ≡ refused_reply cause (cancel_call points lease)) × ((told : PlainReply) × ActorKept pictures (stepped actor (cancelling name points told) actor.parts) after))
+      ((reply ≡ done_reply [] gives.Nothing (ending_drawn lease.work) None) × KeepsWith pictures actor (step.Cancel name points) (mark_among home.marks lease.queue.0).queue (cancel_call points lease) reply (with_held actor.parts name None actor.parts.stock) after)
+      ⊎ ((cause : QStatus) × (reply ≡ refused_reply cause (cancel_call points lease)) × KeepsWith pictures actor (step.Cancel name points) (mark_among home.marks lease.queue.0).queue (cancel_call points lease) reply actor.parts after)
   cancel_keeps pictures actor name points lease home old new reply after is_next is holds low marked made goes ends =
       let by = actor.script.number in
       let fence = cancel_fence (fence_of points) lease.fence lease.work in
@@ -134,13 +135,15 @@ module _ {B : Type 0} where
       let calls = cancel_calls pictures actor name points lease home old new reply after is holds marked made ends in
       let reached : IsSignalled (shown_next (past_of actor).holdings (past_of actor).shown done) after.values =
       merged_reached (past_of actor).shown no_points after.values (signalled_on (past_of actor).shown before.values after.values more.values is.reached) (none_reached after.values) in
-      elim (told_cases (mark_among home.marks lease.queue.0).queue lease fence c.told.reply reply (answer_told home old new by lease.queue.0 asking reply made)) [
+      let replies = answer_told home old new by lease.queue.0 asking reply made in
+      elim (told_cases (mark_among home.marks lease.queue.0).queue lease fence c.told.reply reply replies) [
         | inl told ↦
             inl (
               told.1,
-              (
-                c.told.reply,
-                actor_with pictures actor done (with_held actor.parts name None actor.parts.stock) before after is_next is
+              record {
+                told = c.told.reply;
+                replies = replies;
+                keeps = actor_with pictures actor done (with_held actor.parts name None actor.parts.stock) before after is_next is
                     (call_adds pictures actor.stock actor.trace (at_end actor.trace done) asked c before after calls more)
                     (name_moves pictures actor done name None actor.parts.stock before after (only asked c) is (record {
                       calls = joined asked c before after more;
@@ -152,10 +155,10 @@ module _ {B : Type 0} where
                       reached = reached;
                       permits = permits_stay pictures actor done (with_held actor.parts name None actor.parts.stock) before after (only asked c) is refl (joined asked c before after more)
                           (λ number queue other there makes. false≢true (subst (MadeWith number) (sym (only_one asked c other queue there).0) makes));
-                    })),
-              ),
+                    }));
+              },
             )
-        | inr refused ↦ inr (refused.0, refused.2, (c.told.reply, refused_call_keeps pictures actor (step.Cancel name points) asked c refused.0 before after is_next is calls more refused.1 (λ number makes. false≢true makes) reached))
+        | inr refused ↦ inr (refused.0, refused.2, record { told = c.told.reply; replies = replies; keeps = refused_call_keeps pictures actor (step.Cancel name points) asked c refused.0 before after is_next is calls more refused.1 (λ number makes. false≢true makes) reached })
       ]
     where
       none_some : (now : Holding B) → None ≡ Some now → ⊥

@@ -1,7 +1,7 @@
 -- What an actor keeps where it dequeues a buffer, which its name holds then: where the queue made a new one, the permit is gone.
 use Rattle.std.proofs.Common.{◌≡◌, ℕ, ◌+◌, ◌<◌, ◌≤◌, ◌==◌, ◌⊎◌, inl, inr, Bool, true, false, suc, zero, List, [], ◌∷◌, ◌++◌, length, arith, ap, ◌∙◌, refl, sym, subst, Option, Some, None}
 use Rattle.std.specs.Prelude.{Contains, drop, slice_get, unwrap_or}
-use Rattle.std.proofs.lemmas.Bool.{cases_Bool, eq-eqb, eqb-true, false≢true}
+use Rattle.std.proofs.lemmas.Bool.{eq-eqb, eqb-true, false≢true}
 use Rattle.std.proofs.lemmas.List.{length-append}
 use Rattle.std.proofs.lemmas.List.Elements.{Contains-append_cases}
 use Rattle.sf_base.specs.Fences.{IsSignalled, merged}

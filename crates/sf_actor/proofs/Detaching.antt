@@ -1,5 +1,5 @@
 -- What an actor keeps where it takes a lent buffer or a frame out of its queue: the buffer is loose then, under another name.
-use Rattle.std.proofs.Common.{◌≡◌, ℕ, ◌+◌, ◌<◌, ◌⊎◌, inl, inr, List, [], length, ap, ◌∙◌, sym, refl, subst, Option, Some, None}
+use Rattle.std.proofs.Common.{◌≡◌, ℕ, ◌+◌, ◌<◌, ◌⊎◌, inl, inr, [], length, ap, ◌∙◌, sym, refl, subst, Option, Some, None}
 use Rattle.std.specs.Option.{option_map}
 use Rattle.std.proofs.lemmas.Bool.{eq-eqb, false≢true}
 use Rattle.sf_base.specs.Fences.{IsSignalled}
@@ -23,7 +23,6 @@ use Rattle.sf_surface.specs.Calls.{read_token, write_token}
 use Rattle.sf_surface.specs.Hands.{IsReply, done_reply, refused_reply}
 use Rattle.sf_surface.specs.Tokens.{EndingOf, LooseOf, ReadLeaseOf, WriteLeaseOf, ending_drawn, turn_after}
 use Rattle.sf_turns.specs.Views.{PermitView}
-use Rattle.sf_actor.specs.declared.done.Answered.{Answered}
 use Rattle.sf_actor.specs.declared.done.Answered.TheVariants as answered
 use Rattle.sf_actor.specs.declared.done.Done.{Done}
 use Rattle.sf_actor.specs.declared.holding.Holding.TheVariants as holding
@@ -44,7 +43,7 @@ use Rattle.sf_actor.proofs.Filling.{KeepsWith, given_now, moved_held, token_move
 use Rattle.sf_actor.proofs.GoingOn.{signalled_on}
 use Rattle.sf_actor.proofs.Looking.{passes}
 use Rattle.sf_actor.proofs.Making.{CallsOnce, OneMore, answer_told, call_adds, joined, made_call, one_more, only, only_one, then_goes}
-use Rattle.sf_actor.proofs.Moving.{actor_with, permits_stay, stepped}
+use Rattle.sf_actor.proofs.Moving.{actor_with, permits_stay}
 use Rattle.sf_actor.proofs.Reaching.{merged_reached}
 
 -- a step behind a fence that is signalled is answered by its call

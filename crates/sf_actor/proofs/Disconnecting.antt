@@ -1,6 +1,6 @@
 -- What an actor keeps where it disconnects from a queue: the leases that the queue lent are gone.
-use Rattle.std.proofs.Common.{◌≡◌, ℕ, ◌+◌, ◌==◌, ◌&&◌, ◌⊎◌, inl, inr, List, [], ◌∷◌, length, ap, ◌∙◌, refl, sym, subst, Option, Some, None}
-use Rattle.std.specs.Prelude.{get_or, if◌then◌else◌, map, not}
+use Rattle.std.proofs.Common.{◌≡◌, ℕ, ◌+◌, ◌==◌, ◌⊎◌, inl, inr, List, [], ◌∷◌, length, ap, ◌∙◌, refl, sym, subst, Option, Some, None}
+use Rattle.std.specs.Prelude.{get_or, if◌then◌else◌, map}
 use Rattle.std.specs.Option.{option_map}
 use Rattle.std.proofs.lemmas.Bool.{cases_Bool, false≢true}
 use Rattle.std.proofs.Math.ListN.{get_or-map}
@@ -44,7 +44,7 @@ use Rattle.sf_actor.proofs.Bringing.{refused_call_keeps}
 use Rattle.sf_actor.proofs.Filling.{KeepsWith, changes_move, still_reached}
 use Rattle.sf_actor.proofs.Forms.{answered_by_call, plain_since}
 use Rattle.sf_actor.proofs.Making.{CallsOnce, OneMore, answer_told, call_adds, joined, made_call, one_more, only, only_one}
-use Rattle.sf_actor.proofs.Moving.{actor_with, permits_stay, stepped}
+use Rattle.sf_actor.proofs.Moving.{actor_with, permits_stay}
 
 -- it has no test of its own
 no_test : (pictures : ℕ → Picture) (holdings : Holdings) (q : ℕ) → refusal_of pictures holdings (step.Disconnect q) ≡ None

@@ -31,7 +31,7 @@ use Rattle.sf_actor.specs.Known.{Call, GoesOn, Share, ShareGoesOn, share_of}
 use Rattle.sf_actor.specs.Names.{Holdings, Lent, Owing, OwedFrame, Token, name_in, with_name}
 use Rattle.sf_actor.specs.Parts.{ShowsPictures, drawn_picture, token_of, turn_held}
 use Rattle.sf_actor.specs.Points.{dequeue_fence, undrawn_fence, waited_fence}
-use Rattle.sf_actor.specs.Rights.{Turn, WasGivenAt, WasPaid, issued_turn, turn_by}
+use Rattle.sf_actor.specs.Rights.{Turn, WasGivenAt, WasPaid, turn_by}
 use Rattle.sf_actor.specs.Steps.{holdings_next}
 use Rattle.sf_actor.specs.Tests.{refusal_of}
 use Rattle.sf_actor.specs.Traces.{AnswersTests, IsPassed}

@@ -12,18 +12,17 @@ use Rattle.sf_scene.specs.declared.step.Step.{Step}
 use Rattle.sf_scene.specs.declared.step.Step.TheVariants as step
 use Rattle.sf_surface.specs.Tokens.{ReadLeaseOf}
 use Rattle.sf_txn.specs.Transactions.{Contents, empty, set}
-use Rattle.sf_actor.specs.declared.done.Answered.{Answered}
 use Rattle.sf_actor.specs.declared.done.Answered.TheVariants as answered
 use Rattle.sf_actor.specs.declared.done.Done.{Done}
 use Rattle.sf_actor.specs.Asking.{Asked, call_of, overtaken_by}
-use Rattle.sf_actor.specs.Known.{Call, Share, plain_txn}
+use Rattle.sf_actor.specs.Known.{Share, plain_txn}
 use Rattle.sf_actor.specs.Names.{FrameOf, Holdings, transaction_in, with_transaction}
 use Rattle.sf_actor.specs.Points.{detached_fence, waited_fence}
 use Rattle.sf_actor.specs.Rights.{HoldsAcquired}
 use Rattle.sf_actor.specs.Scripts.{layer_of, op_of}
 use Rattle.sf_actor.specs.Steps.{filled_by, holdings_next, sent_by, used_by}
 use Rattle.sf_actor.specs.Tests.{refusal_of}
-use Rattle.sf_actor.specs.Traces.{AnswersCall, AnswersTests, IsPassed, PassesFence, release_at, sent_with, source_in}
+use Rattle.sf_actor.specs.Traces.{AnswersCall, AnswersTests, IsPassed, PassesFence, release_at, source_in}
 use Rattle.sf_actor.specs.Tries.{ActorKept, ActorOf, contents_in, next_step, past_of}
 use Rattle.sf_actor.specs.Written.{FrameNumber}
 use Rattle.sf_actor.proofs.Adding.{at_end}

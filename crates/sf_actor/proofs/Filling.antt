@@ -1,6 +1,6 @@
 -- How what an actor has moves where its step fills a name with what its call gave, or changes several places.
-use Rattle.std.proofs.Common.{◌≡◌, ◌≢◌, ℕ, ◌+◌, ◌<◌, ◌==◌, ◌⊎◌, inl, inr, false, zero, List, [], ◌∷◌, ◌++◌, length, replicate, set, arith, ap, ◌∙◌, sym, refl, subst, Option, Some, None}
-use Rattle.std.specs.Prelude.{Contains, get_or, map}
+use Rattle.std.proofs.Common.{◌≡◌, ◌≢◌, ℕ, ◌+◌, ◌<◌, ◌==◌, ◌⊎◌, inl, inr, false, zero, List, [], ◌∷◌, ◌++◌, length, set, arith, ap, ◌∙◌, sym, refl, subst, Option, Some, None}
+use Rattle.std.specs.Prelude.{Contains, get_or}
 use Rattle.std.specs.List.{All}
 use Rattle.std.specs.Option.{option_map}
 use Rattle.std.proofs.lemmas.Bool.{cases_Bool, eq-eqb, eqb-true, false≢true}

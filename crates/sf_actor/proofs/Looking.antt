@@ -1,5 +1,5 @@
 -- What an actor keeps where it looks at the timelines, and where the look shows that a buffer can't leave its queue yet.
-use Rattle.std.proofs.Common.{◌≡◌, ℕ, ◌+◌, ◌-◌, List, [], ◌++◌, inl, inr, length, arith, ap, ◌∙◌, sym, refl, subst, Option, Some, None}
+use Rattle.std.proofs.Common.{◌≡◌, ℕ, ◌+◌, ◌-◌, List, [], ◌++◌, inl, inr, arith, ap, ◌∙◌, sym, refl, subst, Option, Some, None}
 use Rattle.std.specs.Prelude.{Contains}
 use Rattle.std.proofs.lemmas.List.{append-nil}
 use Rattle.sf_base.specs.Fences.{IsSignalled, merged, value_of}
@@ -15,7 +15,7 @@ use Rattle.sf_actor.specs.declared.done.Answered.TheVariants as answered
 use Rattle.sf_actor.specs.declared.done.Done.{Done}
 use Rattle.sf_actor.specs.Asking.{call_of}
 use Rattle.sf_actor.specs.Desks.{ChangesTimes, DeskHome, DeskView, known_of}
-use Rattle.sf_actor.specs.Known.{Share, share_of}
+use Rattle.sf_actor.specs.Known.{share_of}
 use Rattle.sf_actor.specs.Names.{Holdings}
 use Rattle.sf_actor.specs.Points.{detached_fence, or_none, reached_by, waited_fence}
 use Rattle.sf_actor.specs.Steps.{holdings_next, sent_by}

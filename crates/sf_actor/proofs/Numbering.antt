@@ -1,5 +1,5 @@
 -- How what an actor has moves where a step changes what one transaction number holds.
-use Rattle.std.proofs.Common.{◌≡◌, ◌≢◌, ℕ, ◌+◌, ◌<◌, ◌==◌, ◌⊎◌, inl, inr, false, List, ◌++◌, length, set, ap, ◌∙◌, sym, refl, Option, Some, None}
+use Rattle.std.proofs.Common.{◌≡◌, ◌≢◌, ℕ, ◌+◌, ◌<◌, ◌==◌, inl, inr, false, List, ◌++◌, length, set, ap, ◌∙◌, sym, Option, Some, None}
 use Rattle.std.specs.Prelude.{get_or}
 use Rattle.std.specs.List.{All}
 use Rattle.std.specs.Option.{option_map}

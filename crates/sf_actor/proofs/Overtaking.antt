@@ -1,5 +1,5 @@
 -- Transactions without rights: what takes a place in one takes it in the other.
-use Rattle.std.proofs.Common.{◌≡◌, ℕ, ◌==◌, suc, zero, List, [], ◌∷◌, ◌++◌, inl, inr, arith, ap, ◌∙◌, sym, refl, Option, Some, None}
+use Rattle.std.proofs.Common.{◌≡◌, ◌==◌, suc, zero, List, [], ◌∷◌, ◌++◌, inl, inr, arith, ap, ◌∙◌, sym, refl, Option, Some, None}
 use Rattle.std.specs.Prelude.{find, map, option_to_list}
 use Rattle.std.specs.List.{All}
 use Rattle.std.specs.Option.{option_map}

@@ -3,7 +3,6 @@
 use Rattle.std.proofs.Common.{◌≡◌, ℕ, ◌+◌, ◌<◌, ◌==◌, ◌⊎◌, inl, inr, true, false, List, [], ◌∷◌, length, arith, ap, ◌∙◌, refl, sym, subst, Option, Some, None}
 use Rattle.std.specs.Option.{option_map}
 use Rattle.std.proofs.lemmas.Bool.{cases_Bool, eq-eqb, eqb-true, false≢true}
-use Rattle.sf_base.specs.declared.fences.Fence.{Fence}
 use Rattle.sf_base.specs.declared.ids.QueueId.{QueueId}
 use Rattle.sf_base.specs.declared.status.QStatus.{QStatus}
 use Rattle.sf_picture.specs.declared.picture.Picture.{Picture}
@@ -37,14 +36,13 @@ use Rattle.sf_actor.specs.Rights.{EndsIn, MadeWith, WasGivenAt, given_turn}
 use Rattle.sf_actor.specs.Scripts.{crop_of, fence_of}
 use Rattle.sf_actor.specs.Steps.{holdings_next, is_refusal}
 use Rattle.sf_actor.specs.Tests.{bad_value, refusal_of}
-use Rattle.sf_actor.specs.Traces.{since_next}
 use Rattle.sf_actor.specs.Tries.{ActorKept, ActorOf, held_in, next_step, past_of}
 use Rattle.sf_actor.proofs.Adding.{at_end}
 use Rattle.sf_actor.proofs.Bringing.{brings_held, names_told, refused_call_keeps}
 use Rattle.sf_actor.proofs.Filling.{KeepsWith, filled_here, filled_other, given_now, since_length, still_reached}
 use Rattle.sf_actor.proofs.Forms.{answered_by_call}
 use Rattle.sf_actor.proofs.Making.{CallsOnce, OneMore, answer_told, call_adds, joined, made_call, one_more, only, only_one, then_goes}
-use Rattle.sf_actor.proofs.Moving.{actor_with, permits_stay, stepped}
+use Rattle.sf_actor.proofs.Moving.{actor_with, permits_stay}
 use Rattle.sf_actor.proofs.Naming.{name_moves, with_held}
 
 -- no other picture was drawn in a lease that the step's test lets pass

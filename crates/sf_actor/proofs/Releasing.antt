@@ -38,10 +38,11 @@ use Rattle.sf_actor.specs.Tests.{refusal_of}
 use Rattle.sf_actor.specs.Tries.{ActorKept, ActorOf, held_in, next_step, past_of}
 use Rattle.sf_actor.proofs.Adding.{at_end}
 use Rattle.sf_actor.proofs.Bringing.{brings_held, names_told, refused_call_keeps}
+use Rattle.sf_actor.proofs.Filling.{KeepsWith}
 use Rattle.sf_actor.proofs.Forms.{answered_by_call}
 use Rattle.sf_actor.proofs.GoingOn.{signalled_on}
 use Rattle.sf_actor.proofs.Making.{CallsOnce, OneMore, answer_told, call_adds, joined, made_call, one_more, only, only_one}
-use Rattle.sf_actor.proofs.Moving.{actor_with, permits_stay, stepped}
+use Rattle.sf_actor.proofs.Moving.{actor_with, permits_stay}
 use Rattle.sf_actor.proofs.Naming.{name_moves, with_held}
 use Rattle.sf_actor.proofs.Reaching.{merged_reached, none_reached}
 
@@ -111,8 +112,8 @@ module _ {B : Type 0} where
 
   -- A release that is done leaves the name empty; one that the queue refuses hands the lease back, and moves nothing.
   pub release_keeps : (pictures : ℕ → Picture) (actor : ActorOf B) (name : ℕ) (points : List (ℕ × ℕ)) (lease : ReadLeaseOf) (home : DeskHome) (old new : DeskView B) (reply : QReply B) → next_step actor ≡ Some (step.Release name points) → ActorKept pictures actor (share_of actor.script.number (known_of home old)) → held_in actor.parts name ≡ Some (holding.Reads lease) → name < length actor.parts.names → (mark_among home.marks lease.queue.0).queue ≡ lease.queue → (made : MadeCall home old new actor.script.number lease.queue.0 (length actor.trace + 1, call.Release lease (merged (fence_of points) lease.fence)) reply) →
-      ((reply ≡ done_reply [] gives.Nothing None None) × ((told : PlainReply) × ActorKept pictures (stepped actor (releasing name points told) (with_held actor.parts name None actor.parts.stock)) (share_of actor.script.number (known_of home new))))
-      ⊎ ((cause : QStatus) × (reply ≡ refused_reply cause (call.Release lease (merged (fence_of points) lease.fence))) × ((told : PlainReply) × ActorKept pictures (stepped actor (releasing name points told) actor.parts) (share_of actor.script.number (known_of home new))))
+      ((reply ≡ done_reply [] gives.Nothing None None) × KeepsWith pictures actor (step.Release name points) (mark_among home.marks lease.queue.0).queue (call.Release lease (merged (fence_of points) lease.fence)) reply (with_held actor.parts name None actor.parts.stock) (share_of actor.script.number (known_of home new)))
+      ⊎ ((cause : QStatus) × (reply ≡ refused_reply cause (call.Release lease (merged (fence_of points) lease.fence))) × KeepsWith pictures actor (step.Release name points) (mark_among home.marks lease.queue.0).queue (call.Release lease (merged (fence_of points) lease.fence)) reply actor.parts (share_of actor.script.number (known_of home new)))
   release_keeps pictures actor name points lease home old new reply is_next is holds low marked made =
       let by = actor.script.number in
       let fence = merged (fence_of points) lease.fence in
@@ -125,14 +126,16 @@ module _ {B : Type 0} where
       let more : OneMore lease.queue.0 c before after = one_more home old new by lease.queue.0 asking reply made in
       let reached : IsSignalled (shown_next (past_of actor).holdings (past_of actor).shown done) after.values =
       merged_reached (past_of actor).shown no_points after.values (signalled_on (past_of actor).shown before.values after.values more.values is.reached) (none_reached after.values) in
-      elim (told_cases (mark_among home.marks lease.queue.0).queue lease fence c.told.reply reply (answer_told home old new by lease.queue.0 asking reply made)) [
+      let replies = answer_told home old new by lease.queue.0 asking reply made in
+      elim (told_cases (mark_among home.marks lease.queue.0).queue lease fence c.told.reply reply replies) [
         | inl told ↦
             let calls = release_calls pictures actor name points lease home old new reply is holds marked made (ap (λ (r : QReply B). r.ends) told.1) in
             inl (
               told.1,
-              (
-                c.told.reply,
-                actor_with pictures actor done (with_held actor.parts name None actor.parts.stock) before after is_next is
+              record {
+                told = c.told.reply;
+                replies = replies;
+                keeps = actor_with pictures actor done (with_held actor.parts name None actor.parts.stock) before after is_next is
                     (call_adds pictures actor.stock actor.trace (at_end actor.trace done) asked c before after calls more)
                     (name_moves pictures actor done name None actor.parts.stock before after (only asked c) is (record {
                       calls = joined asked c before after more;
@@ -144,12 +147,12 @@ module _ {B : Type 0} where
                       reached = reached;
                       permits = permits_stay pictures actor done (with_held actor.parts name None actor.parts.stock) before after (only asked c) is refl (joined asked c before after more)
                           (λ number queue other there makes. false≢true (subst (MadeWith number) (sym (only_one asked c other queue there).0) makes));
-                    })),
-              ),
+                    }));
+              },
             )
         | inr refused ↦
             let calls = release_calls pictures actor name points lease home old new reply is holds marked made (ap (λ (r : QReply B). r.ends) refused.2) in
-            inr (refused.0, refused.2, (c.told.reply, refused_call_keeps pictures actor (step.Release name points) asked c refused.0 before after is_next is calls more refused.1 (λ number makes. false≢true makes) reached))
+            inr (refused.0, refused.2, record { told = c.told.reply; replies = replies; keeps = refused_call_keeps pictures actor (step.Release name points) asked c refused.0 before after is_next is calls more refused.1 (λ number makes. false≢true makes) reached })
       ]
     where
       none_some : (now : Holding B) → None ≡ Some now → ⊥

@@ -36,7 +36,7 @@ use Rattle.sf_actor.proofs.Bringing.{brings_held, names_told, refused_call_keeps
 use Rattle.sf_actor.proofs.Filling.{KeepsWith, given_now, still_reached, token_fills}
 use Rattle.sf_actor.proofs.Forms.{answered_by_call}
 use Rattle.sf_actor.proofs.Making.{CallsOnce, OneMore, answer_told, call_adds, joined, made_call, one_more, only, only_one}
-use Rattle.sf_actor.proofs.Moving.{actor_with, permits_stay, stepped}
+use Rattle.sf_actor.proofs.Moving.{actor_with, permits_stay}
 use Rattle.sf_actor.proofs.Naming.{with_held}
 
 -- the name holds the requested lease once the request is done

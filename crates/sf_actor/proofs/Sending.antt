@@ -1,7 +1,6 @@
 -- What an actor keeps where it sends a transaction: its number is empty then, and the transaction has arrived.
 use Rattle.std.proofs.Common.{◌≡◌, ℕ, ◌+◌, ◌<◌, ◌==◌, true, List, [], ◌∷◌, ◌++◌, length, filter, arith, ap, ◌∙◌, sym, refl, subst, Option, Some, None}
-use Rattle.std.specs.Prelude.{Contains, map}
-use Rattle.std.specs.List.{All}
+use Rattle.std.specs.Prelude.{Contains}
 use Rattle.std.specs.Option.{option_map}
 use Rattle.std.proofs.lemmas.Bool.{eq-eqb}
 use Rattle.std.proofs.lemmas.List.{append-nil}
@@ -10,19 +9,18 @@ use Rattle.sf_base.specs.declared.fences.Seen.{Seen}
 use Rattle.sf_picture.specs.declared.picture.Picture.{Picture}
 use Rattle.sf_scene.specs.declared.step.Step.{Step}
 use Rattle.sf_scene.specs.declared.step.Step.TheVariants as step
-use Rattle.sf_surface.specs.declared.mark.QueueMark.{QueueMark}
 use Rattle.sf_surface.specs.Tokens.{ReadLeaseOf}
 use Rattle.sf_token.specs.Pending.{Arrival}
 use Rattle.sf_txn.specs.Transactions.{Contents}
 use Rattle.sf_actor.specs.declared.done.Answered.TheVariants as answered
 use Rattle.sf_actor.specs.declared.done.Done.{Done}
 use Rattle.sf_actor.specs.Desks.{DeskHome, DeskView, MadeSend, known_of, mark_among}
-use Rattle.sf_actor.specs.Known.{AreAmong, Call, Rise, is_sent_by, own_calls, plain_txn, share_of}
-use Rattle.sf_actor.specs.Names.{FrameOf, Holdings, transaction_in, with_transaction}
+use Rattle.sf_actor.specs.Known.{AreAmong, Rise, is_sent_by, own_calls, plain_txn, share_of}
+use Rattle.sf_actor.specs.Names.{FrameOf, Holdings, with_transaction}
 use Rattle.sf_actor.specs.Rights.{SendsAcquired}
 use Rattle.sf_actor.specs.Steps.{addressed, holdings_next, sent_by, used_by}
 use Rattle.sf_actor.specs.Tests.{refusal_of}
-use Rattle.sf_actor.specs.Traces.{AnswersCall, AnswersTests, SentStep, sent_with, source_in}
+use Rattle.sf_actor.specs.Traces.{AnswersCall, AnswersTests, sent_with, source_in}
 use Rattle.sf_actor.specs.Tries.{ActorKept, ActorOf, contents_in, next_step, past_of}
 use Rattle.sf_actor.proofs.Adding.{at_end}
 use Rattle.sf_actor.proofs.Filling.{still_reached}

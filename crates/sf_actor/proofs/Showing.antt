@@ -1,6 +1,6 @@
 -- What an actor keeps where a frame goes from its name into a transaction, and where it merges two transactions: the frames whose
 -- places others take are given back.
-use Rattle.std.proofs.Common.{◌≡◌, ◌≢◌, ℕ, ◌+◌, ◌<◌, List, [], ◌∷◌, ◌++◌, length, set, inl, inr, arith, ap, ◌∙◌, sym, refl, subst, Option, Some, None}
+use Rattle.std.proofs.Common.{◌≡◌, ◌≢◌, ℕ, ◌+◌, ◌<◌, List, [], length, set, inl, inr, arith, ap, ◌∙◌, sym, refl, subst, Option, Some, None}
 use Rattle.std.specs.Prelude.{Contains, get_or, map, option_to_list}
 use Rattle.std.specs.List.{All, AllZip}
 use Rattle.std.specs.Option.{option_map}
@@ -31,7 +31,6 @@ use Rattle.sf_actor.specs.Tales.{IsMade, made_on}
 use Rattle.sf_actor.specs.Tests.{refusal_of}
 use Rattle.sf_actor.specs.Traces.{AnswersTests, MadeStep, made_at, release_at}
 use Rattle.sf_actor.specs.Tries.{ActorKept, ActorOf, contents_in, held_in, next_step, past_of}
-use Rattle.sf_actor.specs.Written.{FrameNumber}
 use Rattle.sf_actor.proofs.Adding.{Adds, at_end}
 use Rattle.sf_actor.proofs.Bringing.{names_told}
 use Rattle.sf_actor.proofs.Filling.{all_still, changes_move, still_reached}

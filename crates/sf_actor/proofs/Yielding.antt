@@ -1,14 +1,13 @@
 -- What an actor's releases of frames add, whose places in a transaction others took.
-use Rattle.std.proofs.Common.{◌≡◌, ℕ, ◌+◌, ◌==◌, ◌⊎◌, inl, inr, true, suc, zero, List, [], ◌∷◌, ◌++◌, arith, ap, ◌∙◌, sym, refl, subst, Option, Some, None}
+use Rattle.std.proofs.Common.{◌≡◌, ℕ, ◌+◌, ◌==◌, inl, inr, true, suc, List, [], ◌∷◌, ◌++◌, arith, ap, ◌∙◌, sym, refl, subst, Some, None}
 use Rattle.std.specs.Prelude.{Contains, map}
 use Rattle.std.specs.List.{All, AllZip}
-use Rattle.std.proofs.lemmas.Bool.{cases_Bool, eq-eqb, false≢true}
-use Rattle.std.proofs.lemmas.List.{append-nil, map-append}
+use Rattle.std.proofs.lemmas.Bool.{cases_Bool, eq-eqb}
+use Rattle.std.proofs.lemmas.List.{append-nil}
 use Rattle.std.proofs.lemmas.List.Elements.{Contains-append_cases}
 use Rattle.sf_base.specs.Fences.{merged, no_points}
 use Rattle.sf_base.specs.declared.fences.Fence.{Fence}
 use Rattle.sf_base.specs.declared.ids.QueueId.{QueueId}
-use Rattle.sf_slots.specs.declared.calls.Entry.{Entry}
 use Rattle.sf_slots.specs.declared.calls.PlainCall.TheVariants as plain_call
 use Rattle.sf_slots.specs.declared.calls.PlainReply.{PlainReply}
 use Rattle.sf_slots.specs.declared.calls.PlainReply.TheVariants as plain
@@ -24,7 +23,7 @@ use Rattle.sf_actor.specs.Desks.{DeskHome, DeskView, MadeCall, known_of, mark_am
 use Rattle.sf_actor.specs.Known.{AreAmong, Call, Rise, Share, frame_of, share_of, told_by}
 use Rattle.sf_actor.specs.Rights.{BringsGiven, WasAcquired, turn_by}
 use Rattle.sf_actor.specs.Tales.{IsMade, made_on}
-use Rattle.sf_actor.specs.Traces.{MadeStep, release_at}
+use Rattle.sf_actor.specs.Traces.{release_at}
 use Rattle.sf_actor.proofs.Making.{OneMore, answer_told, joined, made_call, one_more, only, only_one}
 
 -- the frame's token, as the queue is told of it
