@@ -24,7 +24,8 @@ request_of other = None
 
 -- a frame of this picture
 abbrev pub queueing_of : Picture → Option ℕ → Option (ℕ × ℕ × ℕ × ℕ) → Fence → Option Token → Option Asked
-queueing_of picture time crop fence (Some (Lent queue token drawn)) = Some (queue, call.Queue token picture.number picture.width picture.height time (crop_of token.held crop) fence)
+queueing_of picture time crop fence (Some (Lent queue token drawn)) =
+    Some (queue, call.Queue token picture.number picture.width picture.height time (crop_of token.held crop) fence)
 queueing_of picture time crop fence other = None
 
 -- an unused right goes back with what it had to wait for

@@ -25,8 +25,10 @@ pub record TraceKept {B : Type 0} (pictures : ℕ → Picture) (script : ActorSc
   pub tokens : (queue : ℕ) → AllZip (BringsGiven share.calls) (made_on queue (made_by pictures trace)) (share.calls queue)
   pub sends : All (SendsAcquired share.calls) share.arrivals
   -- the permits that it brings are of its stock, and each makes at most one buffer
-  pub permits : (queue : ℕ) (made : Call B) (permit : PermitView) → Contains (share.calls queue) made → permit_of made.made.call.1 ≡ Some permit → Contains stock permit.buffer
-  pub once : (number queue other : ℕ) (made later : Call B) → Contains (share.calls queue) made → Contains (share.calls other) later → MadeWith number made → MadeWith number later → (queue ≡ other) × (made.made.call.0 ≡ later.made.call.0)
+  pub permits : (queue : ℕ) (made : Call B) (permit : PermitView) → Contains (share.calls queue) made
+      → permit_of made.made.call.1 ≡ Some permit → Contains stock permit.buffer
+  pub once : (number queue other : ℕ) (made later : Call B) → Contains (share.calls queue) made → Contains (share.calls other) later
+      → MadeWith number made → MadeWith number later → (queue ≡ other) × (made.made.call.0 ≡ later.made.call.0)
   -- its signals were made, and the turns of what it drew were left
   pub signals : AreAmong (signals_of trace) share.signals
   pub ends : (queue : ℕ) (made : Call B) → Contains (share.calls queue) made → EndsIn share.left made.made.reply.ends

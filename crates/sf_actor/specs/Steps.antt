@@ -42,7 +42,8 @@ drawn_with picture other = None
 
 -- a frame that was queued undrawn leaves its drawing owed
 abbrev pub owed_by : ℕ → Answered → Option Token → Option Token
-owed_by picture (answered.Called (reply.Queued frame)) (Some (Lent queue token None)) = Some (Owing queue (record { slot = token.slot; frame = frame; fence = token.fence; held = token.held; picture = picture }))
+owed_by picture (answered.Called (reply.Queued frame)) (Some (Lent queue token None)) =
+    Some (Owing queue (record { slot = token.slot; frame = frame; fence = token.fence; held = token.held; picture = picture }))
 owed_by picture other token = None
 
 -- a lent or acquired buffer out of its queue
@@ -59,7 +60,8 @@ attached holdings q from to other = holdings
 -- a frame that an acquire gave
 abbrev pub taken_by : Holdings → ℕ → ℕ → Answered → Holdings
 taken_by holdings q i (answered.Called (reply.Acquired item dropped)) =
-    with_name holdings i (Some (Frame (queue_of q) (record { slot = item.slot; frame = item.frame; held = item.held; picture = item.picture; crop = item.crop; fence = item.fence })))
+    with_name holdings i
+    (Some (Frame (queue_of q) (record { slot = item.slot; frame = item.frame; held = item.held; picture = item.picture; crop = item.crop; fence = item.fence })))
 taken_by holdings q i other = holdings
 
 abbrev pub no_crop : Rect

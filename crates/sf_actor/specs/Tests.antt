@@ -48,7 +48,8 @@ abbrev pub tests_of : (ℕ → Picture) → Holdings → Step → List (Bool × 
 tests_of pictures holdings (step.Dequeue q s size) = (is_some (name_in holdings s), occupied) ∷ []
 tests_of pictures holdings (step.DequeueWait q s size) = (is_some (name_in holdings s), occupied) ∷ []
 tests_of pictures holdings (step.Request s) = (not (is_lent (name_in holdings s)), empty) ∷ []
-tests_of pictures holdings (step.Draw s p) = (not (is_lent (name_in holdings s) || is_owing (name_in holdings s)), empty) ∷ (can_not_show pictures p (name_in holdings s), bad_value) ∷ []
+tests_of pictures holdings (step.Draw s p) =
+    (not (is_lent (name_in holdings s) || is_owing (name_in holdings s)), empty) ∷ (can_not_show pictures p (name_in holdings s), bad_value) ∷ []
 tests_of pictures holdings (step.Queue s p time crop points) = (not (is_lent (name_in holdings s)), empty) ∷ (shows_other p (name_in holdings s), bad_value) ∷ []
 tests_of pictures holdings (step.Cancel s points) = (not (is_lent (name_in holdings s)), empty) ∷ []
 tests_of pictures holdings (step.PDetach s b) = (not (is_lent (name_in holdings s)), empty) ∷ (is_taken holdings s b, occupied) ∷ []
@@ -59,7 +60,8 @@ tests_of pictures holdings (step.CDetach i b) = (not (is_frame (name_in holdings
 tests_of pictures holdings (step.CAttach q b i) = (not (is_apart (name_in holdings b)), empty) ∷ (is_taken holdings b i, occupied) ∷ []
 tests_of pictures holdings (step.Tx n) = (is_some (transaction_in holdings n), occupied) ∷ []
 tests_of pictures holdings (step.Desire n time) = (is_none (transaction_in holdings n), empty) ∷ []
-tests_of pictures holdings (step.Buffer n layer i) = (is_none (transaction_in holdings n) || not (is_frame (name_in holdings i)), empty) ∷ (is_frameless (name_in holdings i), bad_value) ∷ []
+tests_of pictures holdings (step.Buffer n layer i) =
+    (is_none (transaction_in holdings n) || not (is_frame (name_in holdings i)), empty) ∷ (is_frameless (name_in holdings i), bad_value) ∷ []
 tests_of pictures holdings (step.Barrier n layer frame) = (is_none (transaction_in holdings n), empty) ∷ []
 tests_of pictures holdings (step.Merge n m) = (is_none (transaction_in holdings n) || is_none (transaction_in holdings m), empty) ∷ (n == m, bad_value) ∷ []
 tests_of pictures holdings (step.Apply n token) = (is_none (transaction_in holdings n), empty) ∷ []

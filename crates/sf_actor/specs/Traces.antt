@@ -1,5 +1,6 @@
 -- The trace of an actor: the steps that it has done with their whole answers, and what they tell.
-use Rattle.std.specs.Prelude.{◌≡◌, ℕ, ◌+◌, ◌⊎◌, Bool, true, false, ◌&&◌, if◌then◌else◌, List, [], ◌∷◌, ◌++◌, map, replicate, get_or, slice_set, Option, Some, None}
+use Rattle.std.specs.Prelude.{◌≡◌, ℕ, ◌+◌, ◌⊎◌, Bool, true, false, ◌&&◌, if◌then◌else◌}
+use Rattle.std.specs.Prelude.{List, [], ◌∷◌, ◌++◌, map, replicate, get_or, slice_set, Option, Some, None}
 use Rattle.std.specs.List.{All, flat_map}
 use Rattle.sf_base.specs.Fences.{IsSignalled, no_points}
 use Rattle.sf_base.specs.declared.fences.Fence.{Fence}

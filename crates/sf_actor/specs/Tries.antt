@@ -1,5 +1,6 @@
 -- A try of an actor's next step: what it keeps, and what it tells.
-use Rattle.std.specs.Prelude.{◌≡◌, ◌≢◌, ℕ, ◌+◌, ◌<◌, ◌≤◌, Bool, true, false, if◌then◌else◌, List, [], ◌∷◌, ◌++◌, drop, filter, length, get_or, Contains, Option, Some, None, slice_get}
+use Rattle.std.specs.Prelude.{◌≡◌, ◌≢◌, ℕ, ◌+◌, ◌<◌, ◌≤◌, Bool, true, false, if◌then◌else◌}
+use Rattle.std.specs.Prelude.{List, [], ◌∷◌, ◌++◌, drop, filter, length, get_or, Contains, Option, Some, None, slice_get}
 use Rattle.std.specs.List.{All}
 use Rattle.sf_base.specs.Fences.{IsSignalled, value_of}
 use Rattle.sf_base.specs.Points.{greatest, points_from}
@@ -120,7 +121,8 @@ module _ {B : Type 0} where
 
   -- a draw that is done entered the pixels in its turn
   abbrev pub EntersInTurn : DeskHome → ActorOf B → DeskView B → DeskView B → Done → Type 0
-  EntersInTurn home actor old new done = (name picture : ℕ) → done.step ≡ step.Draw name picture → done.answered ≡ answered.Own 0 → DrawsHeld home old new (held_in actor.parts name)
+  EntersInTurn home actor old new done =
+      (name picture : ℕ) → done.step ≡ step.Draw name picture → done.answered ≡ answered.Own 0 → DrawsHeld home old new (held_in actor.parts name)
 
   -- a step that is refused by its fence was refused for what a look of this try showed
   abbrev pub IsRefusedByFence : (ℕ → Picture) → DeskHome → ActorOf B → DeskView B → DeskView B → Done → Type 0
@@ -169,9 +171,13 @@ module _ {B : Type 0} where
   -- Why a step that no own test refuses is not done: a look showed that what it waits for is open; or no slot is free, as the
   -- queue answers; or a load showed that an earlier turn at the pixels has not left.
   pub data WhyNotYet (pictures : ℕ → Picture) (home : DeskHome) (actor : ActorOf B) (old new : DeskView B) : Step → Type 0 where
-    Open : {s : Step} (fence : Fence) → waited_fence (past_of actor).holdings s ≡ Some fence → SeesOpen home old new fence → new.turns ≡ old.turns → WhyNotYet pictures home actor old new s
-    NoSlot : {s : Step} (asked : Asked) (call : QCall B) → call_of pictures (past_of actor).holdings s ≡ Some asked → told_call asked.0 call ≡ asked.1 → WaitsForCall home old new actor.script.number asked.0.0 (length actor.trace + 1, call) → WhyNotYet pictures home actor old new s
-    EarlierTurn : {s : Step} (name picture : ℕ) (held : Holding B) (fence : Fence) → s ≡ step.Draw name picture → held_in actor.parts name ≡ Some held → waited_fence (past_of actor).holdings s ≡ Some fence → SeesSignalled home old new fence → IsShort (turn_held held).0 (turn_held held).1 old.turns new.turns → WhyNotYet pictures home actor old new s
+    Open : {s : Step} (fence : Fence) → waited_fence (past_of actor).holdings s ≡ Some fence → SeesOpen home old new fence
+        → new.turns ≡ old.turns → WhyNotYet pictures home actor old new s
+    NoSlot : {s : Step} (asked : Asked) (call : QCall B) → call_of pictures (past_of actor).holdings s ≡ Some asked → told_call asked.0 call ≡ asked.1
+        → WaitsForCall home old new actor.script.number asked.0.0 (length actor.trace + 1, call) → WhyNotYet pictures home actor old new s
+    EarlierTurn : {s : Step} (name picture : ℕ) (held : Holding B) (fence : Fence) → s ≡ step.Draw name picture → held_in actor.parts name ≡ Some held
+        → waited_fence (past_of actor).holdings s ≡ Some fence → SeesSignalled home old new fence
+        → IsShort (turn_held held).0 (turn_held held).1 old.turns new.turns → WhyNotYet pictures home actor old new s
 
   -- a step that is not done leaves the actor, and no signal, turn, call or arrival; where what is known is not exact, the
   -- desk looked

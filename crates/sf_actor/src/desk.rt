@@ -68,7 +68,8 @@ pub trait Desk<K: Tokens> {
         ensures shown { (view self.new).times ≡ all_loaded (view self.old).times (points_from 1 result.values) }
         ensures known { (t : ℕ) → 1 ≤ t → t ≤ 64 → greatest t (view self.old).times.known ≤ slice_index result.values (t - 1) }
         ensures signalled { (t : ℕ) → 1 ≤ t → t ≤ 64 → greatest t (view self.old).times.signals ≤ slice_index result.values (t - 1) }
-        ensures exact { (home self.old).is_exact ≡ true → (t : ℕ) → 1 ≤ t → t ≤ 64 → slice_index result.values (t - 1) ≡ greatest t (view self.old).times.signals }
+        ensures exact { (home self.old).is_exact ≡ true → (t : ℕ) → 1 ≤ t → t ≤ 64
+            → slice_index result.values (t - 1) ≡ greatest t (view self.old).times.signals }
         ensures times { ChangesTimes (view self.old) (view self.new) }
         ensures home { home self.new ≡ home self.old };
 

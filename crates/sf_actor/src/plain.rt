@@ -197,7 +197,8 @@ impl<B: TableName> Desk<TokensOf<B>> for PlainDesk<B> {
         ensures shown { (view_of self.new).times ≡ all_loaded (view_of self.old).times (points_from 1 result.values) }
         ensures known { (t : ℕ) → 1 ≤ t → t ≤ 64 → greatest t (view_of self.old).times.known ≤ slice_index result.values (t - 1) }
         ensures signalled { (t : ℕ) → 1 ≤ t → t ≤ 64 → greatest t (view_of self.old).times.signals ≤ slice_index result.values (t - 1) }
-        ensures exact { (home_of self.old).is_exact ≡ true → (t : ℕ) → 1 ≤ t → t ≤ 64 → slice_index result.values (t - 1) ≡ greatest t (view_of self.old).times.signals }
+        ensures exact { (home_of self.old).is_exact ≡ true → (t : ℕ) → 1 ≤ t → t ≤ 64
+            → slice_index result.values (t - 1) ≡ greatest t (view_of self.old).times.signals }
         ensures times { ChangesTimes (view_of self.old) (view_of self.new) }
         ensures home { home_of self.new ≡ home_of self.old }
     {
