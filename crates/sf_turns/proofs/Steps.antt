@@ -156,7 +156,15 @@ module _ {P T : Type 0} (stamp_of : P → T) (buffers : ℕ) where
           homed stamp_of buffers s r id v at t has w (set s.words b n) none t' (length-set s.words b n ∙ r.wide) (same_word s.words b) refl refl refl refl refl refl refl
               (ap (at_stage Inside) has) refl refl turn
               record { from = fit.from; expects = fit.expects; promises = fit.promises; lies = (turn, refl) },
-          (home.0, refl, λ t2 e. home.2 ∙ (let q : t ≡ t2 = (let z : Some t ≡ Some t2 = sym has ∙ e in cc) in ap (λ (y : Token T). y.expects) q)),
+          (
+            home.0,
+            refl,
+            λ t2 e.
+                let q : t ≡ t2 = (let z : Some t ≡ Some t2 = sym has ∙ e in cc) in
+                let few = mine.seen b k.0 in
+                let same = ap (λ (y : Token T). y.number) q in
+                (home.2 ∙ ap (λ (y : Token T). y.expects) q, omega (arith, few, turn, same)),
+          ),
         )
 
     pub returns_unused : (p : P) → me.1 ≡ (t.buffer, Full p) ∷ [] → t.stage ≡ Inside → stamp_of p ≡ t.expects → Allows Rule slots id me t.buffer (λ n. n) (Returns Away (step slots t.buffer 0 0 none) me)

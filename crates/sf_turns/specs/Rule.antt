@@ -221,10 +221,10 @@ module _ {T : Type 0} where
     abbrev pub Asks : Step (Home P T) → Me (Home P T) (Knows T) → ℕ → Me (Home P T) (Knows T) → Type 0
     Asks st m n m' = m' ≡ (record m.0 { asked = st.first }, m.1)
 
-    -- the turn enters, and finds what it expects
+    -- the turn enters, and finds what it expects; nobody saw more turns leave than those before it
     abbrev pub Takes : (P → T) → Step (Home P T) → Me (Home P T) (Knows T) → ℕ → Me (Home P T) (Knows T) → Type 0
     Takes stamp_of st m n m' = (p : P) × (m' ≡ (record m.0 { token = at_stage Inside m.0.token }, (st.word, Full p) ∷ m.1))
-        × ((t : Token T) → m.0.token ≡ Some t → stamp_of p ≡ t.expects)
+        × ((t : Token T) → m.0.token ≡ Some t → (stamp_of p ≡ t.expects) × (greatest st.word m.0.seen ≤ t.number))
 
     -- where it is the token's turn, the pixels are taken
     abbrev pub Reaches : Step (Home P T) → Me (Home P T) (Knows T) → ℕ → Me (Home P T) (Knows T) → Type 0

@@ -69,7 +69,7 @@ impl<P: Stamped> Owed<P> {
     /// exactly where the load of this call showed that fewer turns have left than its number.
     pub fn enter(self, seat: &mut TurnSeat<P>) -> Result<(Busy<P>, P), Owed<P>>
         requires { self.table ≡ seat.old.table }
-        ensures observed { (n : ℕ) × Observes seat.old self.buffer n seat.new × MatchResult result (λ _. self.number ≤ n) (λ _. n < self.number) }
+        ensures observed { (n : ℕ) × Observes seat.old self.buffer n seat.new × MatchResult result (λ _. n ≡ self.number) (λ _. n < self.number) }
         ensures entered { IfOk result (λ r. (r.0 ≡ self) × (P.stamp_of r.1 ≡ self.expects)) }
         ensures back { IfErr result (λ t. t ≡ self) }
         ensures exact { IsExactAlone seat.new }

@@ -88,10 +88,11 @@ impl<P: Stamped> Turn<P> {
     }
 
     /// Enters, and takes the pixels, which have the stamp that was expected. The turn comes back
-    /// exactly where the load of this call showed that fewer turns have left than its number.
+    /// exactly where the load of this call showed that fewer turns have left than its number; else it
+    /// showed just as many.
     pub fn enter(self, seat: &mut TurnSeat<P>) -> Result<(Inside<P>, P), Turn<P>>
         requires { self.table ≡ seat.old.table }
-        ensures observed { (n : ℕ) × Observes seat.old self.buffer n seat.new × MatchResult result (λ _. self.number ≤ n) (λ _. n < self.number) }
+        ensures observed { (n : ℕ) × Observes seat.old self.buffer n seat.new × MatchResult result (λ _. n ≡ self.number) (λ _. n < self.number) }
         ensures entered { IfOk result (λ r. (r.0 ≡ self) × (P.stamp_of r.1 ≡ self.expects)) }
         ensures back { IfErr result (λ t. t ≡ self) }
         ensures exact { IsExactAlone seat.new }

@@ -122,6 +122,7 @@ impl<P: Stamped> TurnTable<P> {
           (buffer, Vacant) ∷ [],
         ) }
         ensures found { (t : Token P.Stamp) → seat.old.me.0.token ≡ Some t → P.stamp_of result ≡ t.expects }
+        ensures counted { (t : Token P.Stamp) → seat.old.me.0.token ≡ Some t → greatest buffer told.me.0.seen ≤ t.number }
     {
         self.table.shared.join_seat::<Tell>(seat, told);
         self.table.shared.load::<Enter>(seat, buffer as usize);

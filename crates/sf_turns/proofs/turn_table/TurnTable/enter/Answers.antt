@@ -34,3 +34,11 @@ exchange-requires g c = let j = c.join_seat.ensures in let l = c.load.ensures in
       l.0 ∙ (j.0 ∙ (c.requires.own.0 ∙ sym c.self.view_is)),
       (Full l.2.0, e ∙ ap (λ (z : List (ℕ × Home g.row.P.Denot g.row.P-Stamp.Denot)). (c.args.buffer, Full l.2.0) ∷ rest z) (sym e)),
     )
+
+pub returns-clause-counted : goal.returns-clause-counted
+returns-clause-counted g c = λ t has.
+    let j = c.join_seat.ensures in let l = c.load.ensures in
+    let M : Type 0 = Me (Home g.row.P.Denot g.row.P-Stamp.Denot) (Knows g.row.P-Stamp.Denot) in
+    let few = (l.2.2 t (ap (λ (m : M). m.0.token) j.2 ∙ has)).1 in
+    let s = ap (λ (m : M). greatest c.args.buffer m.0.seen) j.2 in
+    omega (arith, few, s, greatest-append c.args.buffer c.args.seat.now.me.0.seen c.args.told.me.0.seen)
