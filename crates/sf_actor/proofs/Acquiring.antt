@@ -1,6 +1,6 @@
 -- What an actor keeps where it acquires a frame, which its name holds then.
 use Rattle.std.proofs.Common.{◌≡◌, ℕ, ◌+◌, ◌<◌, ◌⊎◌, inl, inr, List, ◌∷◌, length, ap, refl, sym, subst, Option, Some, None}
-use Rattle.std.specs.Prelude.{unwrap_or}
+use Rattle.std.specs.Prelude.{Contains, unwrap_or}
 use Rattle.std.proofs.lemmas.Bool.{false≢true}
 use Rattle.sf_base.specs.declared.ids.QueueId.{QueueId}
 use Rattle.sf_base.specs.declared.status.QStatus.{QStatus}
@@ -11,6 +11,7 @@ use Rattle.sf_slots.specs.declared.calls.PlainCall.TheVariants as plain_call
 use Rattle.sf_slots.specs.declared.calls.PlainReply.{PlainReply}
 use Rattle.sf_slots.specs.declared.calls.PlainReply.TheVariants as plain
 use Rattle.sf_slots.specs.declared.item.PlainItem.{PlainItem}
+use Rattle.sf_surface.specs.declared.call.Gives.{Gives}
 use Rattle.sf_surface.specs.declared.call.Gives.TheVariants as gives
 use Rattle.sf_surface.specs.declared.call.QCall.{QCall}
 use Rattle.sf_surface.specs.declared.call.QCall.TheVariants as call
@@ -23,16 +24,16 @@ use Rattle.sf_actor.specs.declared.done.Done.{Done}
 use Rattle.sf_actor.specs.declared.holding.Holding.TheVariants as holding
 use Rattle.sf_actor.specs.Asking.{Asked}
 use Rattle.sf_actor.specs.Desks.{DeskHome, DeskView, MadeCall, known_of, mark_among}
-use Rattle.sf_actor.specs.Known.{frame_of, share_of}
+use Rattle.sf_actor.specs.Known.{Call, Share, frame_of, share_of}
 use Rattle.sf_actor.specs.Names.{Frame, Holdings, with_name}
-use Rattle.sf_actor.specs.Rights.{EndsIn, MadeWith, given_turn, turn_by}
+use Rattle.sf_actor.specs.Rights.{Acquires, EndsIn, MadeWith, WasAcquired, given_turn, turn_by}
 use Rattle.sf_actor.specs.Scripts.{queue_of}
 use Rattle.sf_actor.specs.Steps.{holdings_next, is_refusal}
 use Rattle.sf_actor.specs.Tests.{refusal_of}
 use Rattle.sf_actor.specs.Tries.{ActorKept, ActorOf, next_step, past_of}
 use Rattle.sf_actor.proofs.Adding.{at_end}
 use Rattle.sf_actor.proofs.Bringing.{refused_call_keeps}
-use Rattle.sf_actor.proofs.Filling.{KeepsWith, given_now, still_reached, token_fills}
+use Rattle.sf_actor.proofs.Filling.{KeepsWith, given_now, is_made, still_reached, token_fills}
 use Rattle.sf_actor.proofs.Forms.{answered_by_call}
 use Rattle.sf_actor.proofs.Making.{CallsOnce, OneMore, answer_told, call_adds, joined, made_call, one_more, only, only_one}
 use Rattle.sf_actor.proofs.Moving.{actor_with, permits_stay}
@@ -84,6 +85,15 @@ module _ {B : Type 0} where
       some_none : (permit : PermitView) → None ≡ Some permit → ⊥
       some_none permit e = cc
 
+  -- the newest call acquired the frame
+  acquired_now : (q expected : ℕ) (lease : ReadLeaseOf) (made : Call B) (old new : Share B) → OneMore q made old new → lease.queue.0 ≡ q → made.made.call.1 ≡ call.Acquire expected → made.made.reply.gives ≡ gives.Read lease → WasAcquired new.calls (frame_of lease) (Some (turn_by lease.turn))
+  acquired_now q expected lease made old new more at called gave = (
+    made,
+    subst (λ (queue : ℕ). Contains (new.calls queue) made) (sym at) (is_made q made old new more),
+    subst (λ (asked : QCall B). Acquires (frame_of lease) (Some (turn_by lease.turn)) asked made.made.reply.gives) (sym called)
+        (subst (λ (given : Gives B). Acquires (frame_of lease) (Some (turn_by lease.turn)) (call.Acquire expected) given) (sym gave) (refl, refl)),
+  )
+
   -- An acquire that is done gives the frame; one that the queue refuses moves nothing.
   pub acquire_keeps : (pictures : ℕ → Picture) (actor : ActorOf B) (q i : ℕ) (expected : Option ℕ) (home : DeskHome) (old new : DeskView B) (reply : QReply B) → next_step actor ≡ Some (step.Acquire q i expected) → ActorKept pictures actor (share_of actor.script.number (known_of home old)) → refusal_of pictures (past_of actor).holdings (step.Acquire q i expected) ≡ None → i < length actor.parts.names → i < 32 → (mark_among home.marks q).queue ≡ queue_of q → (made : MadeCall home old new actor.script.number q (length actor.trace + 1, call.Acquire (unwrap_or expected 0)) reply) →
       (let after = share_of actor.script.number (known_of home new) in
@@ -125,6 +135,7 @@ module _ {B : Type 0} where
                       fills = refl;
                       holdings = taken (past_of actor).holdings q i expected (mark_among home.marks q).queue told.0 told.1 told.2 c.told.reply told.3 marked;
                       given = given_now q (length actor.trace + 1) (Some (turn_by told.2)) c before after more refl (ap (λ (r : QReply B). given_turn r.gives) told.4);
+                      of_call = λ numbered. acquired_now q (unwrap_or expected 0) lease c before after more (ap (λ (of : QueueId). of.0) marked) refl (ap (λ (r : QReply B). r.gives) told.4);
                       shows = tt;
                       reached = reached;
                       permits = permits_stay pictures actor done parts before after (only asked c) is refl (joined asked c before after more)

@@ -16,12 +16,14 @@ use Rattle.sf_token.specs.Pending.{Arrival}
 use Rattle.sf_turns.specs.Views.{PermitView}
 use Rattle.sf_txn.specs.Buffers.{Buffer}
 use Rattle.sf_actor.specs.declared.done.Done.{Done}
+use Rattle.sf_actor.specs.declared.holding.Holding.{Holding}
+use Rattle.sf_actor.specs.declared.holding.Holding.TheVariants as holding
 use Rattle.sf_actor.specs.declared.tried.Reply.{Reply}
 use Rattle.sf_actor.specs.Draws.{EntersCounted, IsInOrder, entered_at, entered_in}
 use Rattle.sf_actor.specs.Keeping.{TraceKept}
-use Rattle.sf_actor.specs.Known.{AreAmong, Call, Rise, Share, frame_of, plain_arrival, told_by}
+use Rattle.sf_actor.specs.Known.{AreAmong, Call, CountsRise, Rise, Share, frame_of, plain_arrival, told_by}
 use Rattle.sf_actor.specs.Names.{FrameOf}
-use Rattle.sf_actor.specs.Rights.{BringsGiven, EndsIn, HoldsAcquired, IsFrom, MadeWith, QueuesPicture, SendsAcquired, Turn, WasAcquired, WasGivenAt, WasPaid, brought_turn, turn_by}
+use Rattle.sf_actor.specs.Rights.{BringsGiven, EndsIn, HoldsAcquired, IsFrom, IsOfCall, MadeWith, QueuesPicture, SendsAcquired, Turn, WasAcquired, WasGivenAt, WasPaid, brought_turn, turn_by}
 use Rattle.sf_actor.specs.Tales.{IsMade, made_on, sent_as, step_done}
 use Rattle.sf_actor.specs.Traces.{DoneAt, GivenAt, IsAnswered, MadeStep, NoToken, Past, Source, TakenFrame, made_at, made_by, next, no_past, past_after, past_from, places_from, places_of, sent_at}
 use Rattle.sf_actor.specs.Values.{reply_at}
@@ -95,7 +97,7 @@ module _ {B : Type 0} where
     pub signals : AreAmong old.signals new.signals
     pub signalled : AreAmong (signal_of at.done.step) new.signals
     pub left : AreAmong old.left new.left
-    pub counts : AreAmong old.counts new.counts
+    pub counts : CountsRise old.counts new.counts
     pub shows : (queue : ℕ) (made : Call B) → Contains (added queue) made → QueuesPicture pictures made.made.call.1
     pub tokens : (queue : ℕ) → AllZip (BringsGiven old.calls) (made_on queue (made_at pictures at)) (added queue)
     pub sends : All (SendsAcquired old.calls) arrived
@@ -125,6 +127,12 @@ module _ {B : Type 0} where
     pub acquired_still : (frame : FrameOf) (turn : Option Turn) → WasAcquired old frame turn → WasAcquired new frame turn
     acquired_still frame turn was = (was.0, still (old frame.0.0) (new frame.0.0) (added frame.0.0) was.0 (joined frame.0.0) was.1, was.2)
 
+    pub of_call_still : (held : Holding B) → IsOfCall old held → IsOfCall new held
+    of_call_still (holding.Lends lease) is = tt
+    of_call_still (holding.Owes owing held) is = (is.0, is.1, still (old is.0) (new is.0) (added is.0) is.1 (joined is.0) is.2, is.3)
+    of_call_still (holding.Reads lease) is = λ numbered. acquired_still (frame_of lease) (Some (turn_by lease.turn)) (is numbered)
+    of_call_still (holding.Frees queue loose) is = tt
+
     from_still : (source : Source) (turn : Option Turn) → IsFrom old source turn → IsFrom new source turn
     from_still NoToken turn is = is
     from_still (GivenAt place) turn is = given_still place turn is
@@ -146,9 +154,9 @@ module _ {B : Type 0} where
   paid_still old new added frame joined left was =
       (was.0, was.1, was.2, still (old.calls was.0) (new.calls was.0) (added was.0) was.1 (joined was.0) was.3, was.4, was.5, left (was.2.turn.buffer, was.2.turn.number) was.6)
 
-  counted_still : (old new : Share B) (added : ℕ → List (Call B)) (place : ℕ) → ((queue : ℕ) → new.calls queue ≡ old.calls queue ++ added queue) → AreAmong old.counts new.counts → EntersCounted old place → EntersCounted new place
+  counted_still : (old new : Share B) (added : ℕ → List (Call B)) (place : ℕ) → ((queue : ℕ) → new.calls queue ≡ old.calls queue ++ added queue) → CountsRise old.counts new.counts → EntersCounted old place → EntersCounted new place
   counted_still old new added place joined counts is =
-      (is.0, given_still old.calls new.calls added joined place (Some is.0) is.1, (is.2.0, counts (is.0.0, is.2.0) is.2.1, is.2.2))
+      (is.0, given_still old.calls new.calls added joined place (Some is.0) is.1, (let rise = counts is.0.0 in let was = is.2 in omega (arith, rise, was)))
 
   counted_with : (old new : Share B) (entered : Option ℕ) (xs : List ℕ) → All (EntersCounted new) xs → ((place : ℕ) → entered ≡ Some place → EntersCounted new place) → All (EntersCounted new) (xs ++ option_to_list entered)
   counted_with old new None xs all adds = subst (All (EntersCounted new)) (sym (append-nil xs)) all

@@ -144,6 +144,7 @@ module _ {B : Type 0} where
                       fills = refl;
                       holdings = joined_queue (past_of actor).holdings q from to queue told.0 told.1 loose c.told.reply told.2 marked;
                       given = given_now q (length actor.trace + 1) (Some (turn_by loose.turn)) c before after more refl (ap (λ (r : QReply B). given_turn r.gives) told.3);
+                      of_call = tt;
                       shows = tt;
                       reached = reached;
                       permits = permits_stay pictures actor done parts before after (only asked c) is refl (joined asked c before after more)
@@ -238,6 +239,7 @@ module _ {B : Type 0} where
                       fills = refl;
                       holdings = joined_read (past_of actor).holdings q from to queue told.0 told.1 loose c.told.reply told.2 marked;
                       given = given_now q (length actor.trace + 1) (Some (turn_by loose.turn)) c before after more refl (ap (λ (r : QReply B). given_turn r.gives) told.3);
+                      of_call = λ numbered. absurd (numbered refl);
                       shows = tt;
                       reached = reached;
                       permits = permits_stay pictures actor done parts before after (only asked c) is refl (joined asked c before after more)

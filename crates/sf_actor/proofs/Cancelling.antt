@@ -151,6 +151,7 @@ module _ {B : Type 0} where
                       holdings = emptied (past_of actor).holdings name points c.told.reply told.0;
                       since = λ other apart. rw told.0 refl;
                       given = λ now e. absurd (none_some now e);
+                      of_call = λ now e. absurd (none_some now e);
                       shows = λ now e. absurd (none_some now e);
                       reached = reached;
                       permits = permits_stay pictures actor done (with_held actor.parts name None actor.parts.stock) before after (only asked c) is refl (joined asked c before after more)

@@ -257,6 +257,7 @@ module _ {B : Type 0} where
                       fills = form.fills;
                       holdings = lent (past_of actor).holdings wait q name size queue lends.slot lends.held lends.requested lends.reallocated lends.fence lends.turn c.told.reply lends.told_so marked;
                       given = given_now q (length actor.trace + 1) (Some (turn_by lends.turn)) c before after more refl (ap (λ (r : QReply B). given_turn r.gives) lends.replied);
+                      of_call = tt;
                       shows = tt;
                       reached = reached;
                       permits = permits_left pictures actor done parts rest permit lends.spare asked c before after is_next form.dequeues is stock refl (joined asked c before after more)

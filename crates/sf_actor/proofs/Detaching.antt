@@ -176,6 +176,7 @@ module _ {B : Type 0} where
                       fills = refl;
                       holdings = loosened (past_of actor).holdings from to lease.queue (write_token lease.queue lease) (drawn_picture lease.work) c.told.reply told.0 named;
                       given = given_now lease.queue.0 (length actor.trace + 1) (Some (turn_by (turn_after lease.work))) c before after more refl (ap (λ (r : QReply B). given_turn r.gives) told.1);
+                      of_call = tt;
                       shows = tt;
                       reached = reached;
                       permits = permits_stay pictures actor done parts before after (only asked c) is refl (joined asked c before after more)
@@ -269,6 +270,7 @@ module _ {B : Type 0} where
                       fills = refl;
                       holdings = read_loosened (past_of actor).holdings from to lease.queue (frame_of lease).1 c.told.reply told.0 named;
                       given = given_now lease.queue.0 (length actor.trace + 1) (Some (turn_by lease.turn)) c before after more refl (ap (λ (r : QReply B). given_turn r.gives) told.1);
+                      of_call = tt;
                       shows = tt;
                       reached = reached;
                       permits = permits_stay pictures actor done parts before after (only asked c) is refl (joined asked c before after more)

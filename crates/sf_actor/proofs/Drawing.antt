@@ -4,8 +4,10 @@ use Rattle.std.specs.Prelude.{Contains, get_or}
 use Rattle.std.specs.List.{All}
 use Rattle.std.specs.Option.{option_map}
 use Rattle.std.proofs.lemmas.List.{append-nil}
-use Rattle.std.proofs.lemmas.List.Elements.{Contains-append_left, Contains-append_right}
+use Rattle.std.proofs.lemmas.List.Elements.{All-weaker, Contains-append_left, Contains-append_right}
 use Rattle.sf_base.specs.Fences.{IsSignalled}
+use Rattle.sf_base.specs.Points.{greatest}
+use Rattle.sf_base.proofs.PointLemmas.{greatest-append, has_le}
 use Rattle.sf_base.specs.declared.fences.Fence.{Fence}
 use Rattle.sf_base.specs.declared.fences.Seen.{Seen}
 use Rattle.sf_base.specs.declared.ids.QueueId.{QueueId}
@@ -30,8 +32,8 @@ use Rattle.sf_actor.specs.Draws.{EntersCounted, IsInOrder, entered_at, entered_i
 use Rattle.sf_actor.specs.Known.{Call, GoesOn, Share, ShareGoesOn, share_of}
 use Rattle.sf_actor.specs.Names.{Holdings, Lent, Owing, OwedFrame, Token, name_in, with_name}
 use Rattle.sf_actor.specs.Parts.{ShowsPictures, drawn_picture, token_of, turn_held}
-use Rattle.sf_actor.specs.Points.{dequeue_fence, undrawn_fence, waited_fence}
-use Rattle.sf_actor.specs.Rights.{Turn, WasGivenAt, WasPaid, turn_by}
+use Rattle.sf_actor.specs.Points.{or_none, undrawn_fence, waited_fence}
+use Rattle.sf_actor.specs.Rights.{IsOfCall, Turn, WasGivenAt, WasPaid, turn_by}
 use Rattle.sf_actor.specs.Steps.{holdings_next}
 use Rattle.sf_actor.specs.Tests.{refusal_of}
 use Rattle.sf_actor.specs.Traces.{AnswersTests, IsPassed}
@@ -44,7 +46,7 @@ use Rattle.sf_actor.proofs.GoingOn.{share_on, signalled_on}
 use Rattle.sf_actor.proofs.Growing.{end_goes, goes_same, goes_twice, look_goes}
 use Rattle.sf_actor.proofs.Moving.{CallsNone, actor_with, none_adds, permits_stay, stepped}
 use Rattle.sf_actor.proofs.Naming.{name_moves, with_held}
-use Rattle.sf_actor.proofs.Reaching.{merged_reached}
+use Rattle.sf_actor.proofs.Reaching.{merged_reached, none_reached}
 
 -- what the name holds once the draw is done
 drawn_then : (holdings : Holdings) (name p : ℕ) (lease : WriteLeaseOf) (picture : Picture) → name_in holdings name ≡ Some (Lent lease.queue (write_token lease.queue lease) (drawn_picture lease.work)) → picture.number ≡ p → holdings_next holdings (record { step = step.Draw name p; answered = answered.Own 0 }) ≡ with_name holdings name (Some (Lent lease.queue (write_token lease.queue (drawn_with lease picture)) (Some picture.number)))
@@ -55,16 +57,24 @@ paid_then : (holdings : Holdings) (name p : ℕ) (queue : QueueId) (owed : OwedF
 unfolding holdings_next
 paid_then holdings name p queue owed named = rw named refl
 
--- only an undrawn lease has a fence to wait for
-lent_passed : (queue : QueueId) (token : WriteToken) (w : Work) (values : Seen) (holdings : Holdings) (name p : ℕ) → name_in holdings name ≡ Some (Lent queue token (drawn_picture w)) → IsSignalled token.fence values → IsPassed (waited_fence holdings (step.Draw name p)) values
-lent_passed queue token (work.Fresh turn) values holdings name p named signalled = rw named signalled
-lent_passed queue token (work.Drawn inside pixels) values holdings name p named signalled = rw named tt
+-- only an undrawn lease has a fence to wait for, which a look showed signalled
+lent_passed : (queue : QueueId) (token : WriteToken) (w : Work) (seen values : Seen) (seats later : SeatView) (holdings : Holdings) (name p : ℕ) → name_in holdings name ≡ Some (Lent queue token (drawn_picture w)) → Enters w token.fence seen seats later → (IsSignalled token.fence seen → IsSignalled token.fence values) → IsPassed (waited_fence holdings (step.Draw name p)) values
+lent_passed queue token (work.Fresh turn) seen values seats later holdings name p named enters reached = rw named (reached enters.0)
+lent_passed queue token (work.Drawn inside pixels) seen values seats later holdings name p named enters reached = rw named tt
 
--- the count that let a turn enter was seen
-seen_count : (old new : SeatView) (buffer number : ℕ) → (enters : MayEnter buffer number old new) → Contains new.seen (buffer, enters.0)
+lent_shown : (queue : QueueId) (token : WriteToken) (w : Work) (seen values : Seen) (seats later : SeatView) (holdings : Holdings) (name : ℕ) → name_in holdings name ≡ Some (Lent queue token (drawn_picture w)) → Enters w token.fence seen seats later → (IsSignalled token.fence seen → IsSignalled token.fence values) → IsSignalled (or_none (undrawn_fence (name_in holdings name))) values
+lent_shown queue token (work.Fresh turn) seen values seats later holdings name named enters reached = rw named (reached enters.0)
+lent_shown queue token (work.Drawn inside pixels) seen values seats later holdings name named enters reached = rw named (none_reached values)
+
+-- so many turns were seen to have left as let a turn enter
+seen_count : (old new : SeatView) (buffer number : ℕ) → MayEnter buffer number old new → number ≤ greatest buffer new.seen
 seen_count old new buffer number enters =
+    let there : Contains new.seen (buffer, enters.0) =
     subst (λ (xs : List (ℕ × ℕ)). Contains xs (buffer, enters.0)) (sym (ap (λ (turns : SeatView). turns.seen) enters.1.0))
-    (Contains-append_right old.seen ((buffer, enters.0) ∷ []) (buffer, enters.0) (zero, omega arith, refl))
+    (Contains-append_right old.seen ((buffer, enters.0) ∷ []) (buffer, enters.0) (zero, omega arith, refl)) in
+    let least = has_le buffer enters.0 new.seen there in
+    let just = enters.2 in
+    omega (arith, least, just)
 
 module _ {B : Type 0} where
   -- a draw that is done, of what a name holds: what it leaves there, and what it shows
@@ -74,8 +84,9 @@ module _ {B : Type 0} where
     pub low : name < length actor.parts.names
     pub goes : ShareGoesOn old new
     pub waits : IsPassed (waited_fence (past_of actor).holdings (step.Draw name p)) new.values
-    pub shown : IsSignalled (dequeue_fence (name_in (past_of actor).holdings name)) new.values
+    pub shown : IsSignalled (or_none (undrawn_fence (name_in (past_of actor).holdings name))) new.values
     pub holdings : holdings_next (past_of actor).holdings (record { step = step.Draw name p; answered = answered.Own 0 }) ≡ with_name (past_of actor).holdings name (option_map token_of left)
+    pub of_call : (now : Holding B) → left ≡ Some now → IsOfCall new.calls now
     pub same_turn : (now : Holding B) → left ≡ Some now → turn_held held ≡ turn_held now
     pub shows : (now : Holding B) → left ≡ Some now → ShowsPictures pictures now
     pub pays : (frame : FrameNumber) → Contains (paid_at (at_end actor.trace (record { step = step.Draw name p; answered = answered.Own 0 }))) frame → WasPaid new.left new.calls frame
@@ -119,19 +130,40 @@ module _ {B : Type 0} where
             subst (λ (places : List ℕ). WasGivenAt new.calls (get_or places name 0) (Some (turn_held now))) (sym since)
             (subst (λ (turn : Turn). WasGivenAt new.calls (get_or past.since name 0) (Some turn)) (draw.same_turn now e)
             (given_still old.calls new.calls (λ queue. []) calls (get_or past.since name 0) (Some (turn_held held)) (is.given name held draw.there)));
+        of_call = draw.of_call;
         shows = draw.shows;
-        reached = merged_reached past.shown (dequeue_fence (name_in past.holdings name)) new.values (signalled_on past.shown old.values new.values goes.values is.reached) draw.shown;
+        reached = merged_reached past.shown (or_none (undrawn_fence (name_in past.holdings name))) new.values (signalled_on past.shown old.values new.values goes.values is.reached) draw.shown;
         permits = permits_stay pictures actor done parts old new (λ queue. []) is refl calls (λ number queue made below makes. omega (arith, below.1));
       }))
 
   -- what a name holds was given with its turn, which a load let enter
-  enters_counted : (pictures : ℕ → Picture) (actor : ActorOf B) (name : ℕ) (held : Holding B) (old new : Share B) (count : ℕ) → ActorKept pictures actor old → held_in actor.parts name ≡ Some held → ShareGoesOn old new → Contains new.counts ((turn_held held).0, count) → (turn_held held).1 ≤ count → EntersCounted new (get_or (past_of actor).since name 0)
-  enters_counted pictures actor name held old new count is there goes counts enough =
+  enters_counted : (pictures : ℕ → Picture) (actor : ActorOf B) (name : ℕ) (held : Holding B) (old new : Share B) → ActorKept pictures actor old → held_in actor.parts name ≡ Some held → ShareGoesOn old new → (turn_held held).1 ≤ greatest (turn_held held).0 new.counts → EntersCounted new (get_or (past_of actor).since name 0)
+  enters_counted pictures actor name held old new is there goes enough =
       let calls : (queue : ℕ) → new.calls queue ≡ old.calls queue ++ [] = λ queue. goes.calls queue ∙ sym (append-nil (old.calls queue)) in
-      (turn_held held, given_still old.calls new.calls (λ queue. []) calls (get_or (past_of actor).since name 0) (Some (turn_held held)) (is.given name held there), (count, counts, enough))
+      (turn_held held, given_still old.calls new.calls (λ queue. []) calls (get_or (past_of actor).since name 0) (Some (turn_held held)) (is.given name held there), enough)
+
+  -- What entered before had no later turn: as many turns at the buffer as its number were seen to have left then, and now just
+  -- as many as this turn's number.
+  in_turn : (old new : Share B) (place n : ℕ) (turn : Turn) → ShareGoesOn old new → WasGivenAt new.calls place (Some turn) → greatest turn.0 old.counts ≤ n → n ≡ turn.1 → (earlier : ℕ) → EntersCounted old earlier → IsInOrder new.calls earlier place
+  in_turn old new place n turn goes given above just earlier was =
+      let calls : (queue : ℕ) → new.calls queue ≡ old.calls queue ++ [] = λ queue. goes.calls queue ∙ sym (append-nil (old.calls queue)) in
+      let before = was.2 in (
+        was.0,
+        turn,
+        given_still old.calls new.calls (λ queue. []) calls earlier (Some was.0) was.1,
+        given,
+        λ same. let at = ap (λ (b : ℕ). greatest b old.counts) same in omega (arith, before, at, above, just),
+      )
+
+  enters_in_turn : (pictures : ℕ → Picture) (actor : ActorOf B) (name : ℕ) (held : Holding B) (old new : Share B) (count : ℕ) → ActorKept pictures actor old → held_in actor.parts name ≡ Some held → ShareGoesOn old new → greatest (turn_held held).0 old.counts ≤ count → count ≡ (turn_held held).1 → All (λ earlier. IsInOrder new.calls earlier (get_or (past_of actor).since name 0)) (entered_in actor.trace)
+  enters_in_turn pictures actor name held old new count is there goes above just =
+      let calls : (queue : ℕ) → new.calls queue ≡ old.calls queue ++ [] = λ queue. goes.calls queue ∙ sym (append-nil (old.calls queue)) in
+      let place = get_or (past_of actor).since name 0 in
+      let given = given_still old.calls new.calls (λ queue. []) calls place (Some (turn_held held)) (is.given name held there) in
+      All-weaker (EntersCounted old) (λ earlier. IsInOrder new.calls earlier place) (λ earlier. in_turn old new place count (turn_held held) goes given above just earlier) (entered_in actor.trace) is.kept.turns.counted
 
   -- a seat that entered has seen the count
-  enters_goes : (actor : ℕ) (home : DeskHome) (old new : DeskView B) (w : Work) (fence : Fence) (seen : Seen) → ChangesTurns old new → Enters w fence seen old.turns new.turns → GoesOn actor (known_of home old) (known_of home new)
+  pub enters_goes : (actor : ℕ) (home : DeskHome) (old new : DeskView B) (w : Work) (fence : Fence) (seen : Seen) → ChangesTurns old new → Enters w fence seen old.turns new.turns → GoesOn actor (known_of home old) (known_of home new)
   enters_goes actor home old new (work.Fresh turn) fence seen changes enters = look_goes actor home old new turn.buffer enters.1.0 changes enters.1.1
   enters_goes actor home old new (work.Drawn inside pixels) fence seen changes enters =
       subst (λ (view : DeskView B). GoesOn actor (known_of home old) (known_of home view)) (sym (changes ∙ ap (λ (turns : SeatView). record old { turns = turns }) enters)) (goes_same actor (known_of home old))
@@ -141,9 +173,8 @@ module _ {B : Type 0} where
   lease_counted pictures actor name p queue token (work.Fresh turn) old new seats later fence seen held is there same named goes counts enters place entered =
       let here : Some (get_or (past_of actor).since name 0) ≡ Some place = rw named at entered in
       subst (EntersCounted new) (one (get_or (past_of actor).since name 0) place here)
-      (enters_counted pictures actor name held old new enters.1.0 is there goes
-      (subst (λ (t : Turn). Contains new.counts (t.0, enters.1.0)) (sym same) (subst (λ (xs : List (ℕ × ℕ)). Contains xs (turn.buffer, enters.1.0)) (sym counts) (seen_count seats later turn.buffer turn.number enters.1)))
-      (subst (λ (t : Turn). t.1 ≤ enters.1.0) (sym same) enters.1.2))
+      (enters_counted pictures actor name held old new is there goes
+      (subst (λ (t : Turn). t.1 ≤ greatest t.0 new.counts) (sym same) (subst (λ (xs : List (ℕ × ℕ)). turn.number ≤ greatest turn.buffer xs) (sym counts) (seen_count seats later turn.buffer turn.number enters.1))))
     where
       one : (a b : ℕ) → Some a ≡ Some b → a ≡ b
       one a b e = cc
@@ -153,17 +184,33 @@ module _ {B : Type 0} where
       none_some : None ≡ Some place → ⊥
       none_some e = cc
 
-  -- A draw in a lease, after the look that showed its fence signalled. Where it enters the pixels, what was entered before
-  -- comes first.
-  pub draw_lease_keeps : (pictures : ℕ → Picture) (actor : ActorOf B) (name p : ℕ) (lease : WriteLeaseOf) (home : DeskHome) (old new : DeskView B) (seen : Seen) → next_step actor ≡ Some (step.Draw name p) → ActorKept pictures actor (share_of actor.script.number (known_of home old)) → refusal_of pictures (past_of actor).holdings (step.Draw name p) ≡ None → (pictures p).number ≡ p → held_in actor.parts name ≡ Some (holding.Lends lease) → name < length actor.parts.names → IsSignalled lease.fence (known_of home old).values → ChangesTurns old new → Enters lease.work lease.fence seen old.turns new.turns → ((place : ℕ) → entered_at (at_end actor.trace (record { step = step.Draw name p; answered = answered.Own 0 })) ≡ Some place → All (λ earlier. IsInOrder (share_of actor.script.number (known_of home new)).calls earlier place) (entered_in actor.trace)) → ActorKept pictures (stepped actor (record { step = step.Draw name p; answered = answered.Own 0 }) (with_held actor.parts name (Some (holding.Lends (drawn_with lease (pictures p)))) actor.parts.stock)) (share_of actor.script.number (known_of home new))
-  draw_lease_keeps pictures actor name p lease home old new seen is_next is unrefused number there low signalled changes enters order =
+  -- what was entered before had no later turn
+  lease_in_turn : (pictures : ℕ → Picture) (actor : ActorOf B) (name p : ℕ) (queue : QueueId) (token : WriteToken) (w : Work) (old new : Share B) (seats later : SeatView) (fence : Fence) (seen : Seen) (held : Holding B) → ActorKept pictures actor old → held_in actor.parts name ≡ Some held → turn_held held ≡ turn_by (turn_of w) → name_in (past_of actor).holdings name ≡ Some (Lent queue token (drawn_picture w)) → ShareGoesOn old new → old.counts ≡ seats.seen → Enters w fence seen seats later → (place : ℕ) → entered_at (at_end actor.trace (record { step = step.Draw name p; answered = answered.Own 0 })) ≡ Some place → All (λ earlier. IsInOrder new.calls earlier place) (entered_in actor.trace)
+  lease_in_turn pictures actor name p queue token (work.Fresh turn) old new seats later fence seen held is there same named goes counts enters place entered =
+      let here : Some (get_or (past_of actor).since name 0) ≡ Some place = rw named at entered in
+      subst (λ (to : ℕ). All (λ earlier. IsInOrder new.calls earlier to) (entered_in actor.trace)) (one (get_or (past_of actor).since name 0) place here)
+      (enters_in_turn pictures actor name held old new enters.1.0 is there goes
+      (subst (λ (t : Turn). greatest t.0 old.counts ≤ enters.1.0) (sym same) (subst (λ (xs : List (ℕ × ℕ)). greatest turn.buffer xs ≤ enters.1.0) (sym counts) enters.1.1.1))
+      (subst (λ (t : Turn). enters.1.0 ≡ t.1) (sym same) enters.1.2))
+    where
+      one : (a b : ℕ) → Some a ≡ Some b → a ≡ b
+      one a b e = cc
+  lease_in_turn pictures actor name p queue token (work.Drawn inside pixels) old new seats later fence seen held is there same named goes counts enters place entered =
+      let none : None ≡ Some place = rw named at entered in absurd (none_some none)
+    where
+      none_some : None ≡ Some place → ⊥
+      none_some e = cc
+
+  -- A draw in a lease, after a look.
+  pub draw_lease_keeps : (pictures : ℕ → Picture) (actor : ActorOf B) (name p : ℕ) (lease : WriteLeaseOf) (home : DeskHome) (old new : DeskView B) (seen : Seen) → next_step actor ≡ Some (step.Draw name p) → ActorKept pictures actor (share_of actor.script.number (known_of home old)) → refusal_of pictures (past_of actor).holdings (step.Draw name p) ≡ None → (pictures p).number ≡ p → held_in actor.parts name ≡ Some (holding.Lends lease) → name < length actor.parts.names → (IsSignalled lease.fence seen → IsSignalled lease.fence (known_of home old).values) → ChangesTurns old new → Enters lease.work lease.fence seen old.turns new.turns → ActorKept pictures (stepped actor (record { step = step.Draw name p; answered = answered.Own 0 }) (with_held actor.parts name (Some (holding.Lends (drawn_with lease (pictures p)))) actor.parts.stock)) (share_of actor.script.number (known_of home new))
+  draw_lease_keeps pictures actor name p lease home old new seen is_next is unrefused number there low signalled changes enters =
       let by = actor.script.number in
       let before = share_of by (known_of home old) in
       let after = share_of by (known_of home new) in
       let goes = share_on by (known_of home old) (known_of home new) (enters_goes by home old new lease.work lease.fence seen changes enters) in
       let token = write_token lease.queue lease in
       let named : name_in (past_of actor).holdings name ≡ Some (Lent lease.queue token (drawn_picture lease.work)) = names_told pictures actor before name is ∙ ap (option_map token_of) there in
-      let reached : IsSignalled lease.fence after.values = signalled_on lease.fence before.values after.values goes.values signalled in
+      let reached : IsSignalled lease.fence seen → IsSignalled lease.fence after.values = λ shown. signalled_on lease.fence before.values after.values goes.values (signalled shown) in
       let now : Holding B = holding.Lends (drawn_with lease (pictures p)) in
       draw_keeps pictures actor name p (holding.Lends lease) (Some now) before after is_next is
       (record {
@@ -171,14 +218,15 @@ module _ {B : Type 0} where
         there = there;
         low = low;
         goes = goes;
-        waits = lent_passed lease.queue token lease.work after.values (past_of actor).holdings name p named reached;
-        shown = subst (λ (t : Option Token). IsSignalled (dequeue_fence t) after.values) (sym named) reached;
+        waits = lent_passed lease.queue token lease.work seen after.values old.turns new.turns (past_of actor).holdings name p named enters reached;
+        shown = lent_shown lease.queue token lease.work seen after.values old.turns new.turns (past_of actor).holdings name named enters reached;
         holdings = drawn_then (past_of actor).holdings name p lease (pictures p) named number;
+        of_call = λ other e. subst (λ (h : Holding B). IsOfCall after.calls h) (one other e) tt;
         same_turn = λ other e. ap turn_held (one other e);
         shows = λ other e. subst (λ (h : Holding B). ShowsPictures pictures h) (one other e) (ap pictures (sym number));
         pays = λ frame paid. absurd (unpaid frame named paid);
         counted = lease_counted pictures actor name p lease.queue token lease.work before after old.turns new.turns lease.fence seen (holding.Lends lease) is there refl named goes refl enters;
-        order = order;
+        order = lease_in_turn pictures actor name p lease.queue token lease.work before after old.turns new.turns lease.fence seen (holding.Lends lease) is there refl named goes refl enters;
       })
     where
       one : (other : Holding B) → Some (holding.Lends (drawn_with lease (pictures p))) ≡ Some other → holding.Lends (drawn_with lease (pictures p)) ≡ other
@@ -187,10 +235,11 @@ module _ {B : Type 0} where
       unpaid : (frame : FrameNumber) → name_in (past_of actor).holdings name ≡ Some (Lent lease.queue (write_token lease.queue lease) (drawn_picture lease.work)) → Contains (paid_at (at_end actor.trace (record { step = step.Draw name p; answered = answered.Own 0 }))) frame → ⊥
       unpaid frame named paid = let none : Contains [] frame = rw named at paid in omega (arith, none.1)
 
-  -- A draw of what is owed: it enters and leaves. The call that gave the owing is known.
-  pub draw_owing_keeps : (pictures : ℕ → Picture) (actor : ActorOf B) (name p : ℕ) (owing : OwingOf) (held : Held) (home : DeskHome) (old new : DeskView B) (queue : ℕ) (made : Call B) → next_step actor ≡ Some (step.Draw name p) → ActorKept pictures actor (share_of actor.script.number (known_of home old)) → refusal_of pictures (past_of actor).holdings (step.Draw name p) ≡ None → held_in actor.parts name ≡ Some (holding.Owes owing held) → name < length actor.parts.names → IsSignalled owing.fence (known_of home old).values → ChangesTurns old new → Passes owing.turn.buffer owing.turn.number old.turns new.turns → Contains ((share_of actor.script.number (known_of home old)).calls queue) made → made.made.reply.gives ≡ gives.Owes owing → ((place : ℕ) → entered_at (at_end actor.trace (record { step = step.Draw name p; answered = answered.Own 0 })) ≡ Some place → All (λ earlier. IsInOrder (share_of actor.script.number (known_of home new)).calls earlier place) (entered_in actor.trace)) → ActorKept pictures (stepped actor (record { step = step.Draw name p; answered = answered.Own 0 }) (with_held actor.parts name None actor.parts.stock)) (share_of actor.script.number (known_of home new))
-  draw_owing_keeps pictures actor name p owing held home old new queue made is_next is unrefused there low signalled changes passes called gave order =
+  -- A draw of what is owed: it enters and leaves.
+  pub draw_owing_keeps : (pictures : ℕ → Picture) (actor : ActorOf B) (name p : ℕ) (owing : OwingOf) (held : Held) (home : DeskHome) (old new : DeskView B) → next_step actor ≡ Some (step.Draw name p) → ActorKept pictures actor (share_of actor.script.number (known_of home old)) → refusal_of pictures (past_of actor).holdings (step.Draw name p) ≡ None → held_in actor.parts name ≡ Some (holding.Owes owing held) → name < length actor.parts.names → IsSignalled owing.fence (known_of home old).values → ChangesTurns old new → Passes owing.turn.buffer owing.turn.number old.turns new.turns → ActorKept pictures (stepped actor (record { step = step.Draw name p; answered = answered.Own 0 }) (with_held actor.parts name None actor.parts.stock)) (share_of actor.script.number (known_of home new))
+  draw_owing_keeps pictures actor name p owing held home old new is_next is unrefused there low signalled changes passes =
       let by = actor.script.number in
+      let gave = is.of_call name (holding.Owes owing held) there in
       let inside : DeskView B = record old { turns = passes.0 } in
       let before = share_of by (known_of home old) in
       let after = share_of by (known_of home new) in
@@ -202,10 +251,10 @@ module _ {B : Type 0} where
       let owed : OwedFrame = record { slot = owing.slot; frame = owing.frame; fence = owing.fence; held = held; picture = owing.turn.promises.number } in
       let named : name_in (past_of actor).holdings name ≡ Some (Owing owing.queue owed) = names_told pictures actor before name is ∙ ap (option_map token_of) there in
       let reached : IsSignalled owing.fence after.values = signalled_on owing.fence before.values after.values goes.values signalled in
-      let count : Contains new.turns.seen (owing.turn.buffer, passes.1.0) =
-      subst (λ (xs : List (ℕ × ℕ)). Contains xs (owing.turn.buffer, passes.1.0)) (sym (ap (λ (turns : SeatView). turns.seen) leaves.1))
-      (Contains-append_left (passes.0.seen ++ leaves.0) ((owing.turn.buffer, owing.turn.number + 1) ∷ []) (owing.turn.buffer, passes.1.0)
-      (Contains-append_left passes.0.seen leaves.0 (owing.turn.buffer, passes.1.0) (seen_count old.turns passes.0 owing.turn.buffer owing.turn.number passes.1))) in
+      let inner = seen_count old.turns passes.0 owing.turn.buffer owing.turn.number passes.1 in
+      let longer = ap (λ (turns : SeatView). greatest owing.turn.buffer turns.seen) leaves.1 in
+      let told = greatest-append owing.turn.buffer passes.0.seen leaves.0 in
+      let last = greatest-append owing.turn.buffer (passes.0.seen ++ leaves.0) ((owing.turn.buffer, owing.turn.number + 1) ∷ []) in
       let left : Contains new.turns.leaves (owing.turn.buffer, owing.turn.number) =
       subst (λ (xs : List (ℕ × ℕ)). Contains xs (owing.turn.buffer, owing.turn.number)) (sym (ap (λ (turns : SeatView). turns.leaves) leaves.1))
       (Contains-append_right passes.0.leaves ((owing.turn.buffer, owing.turn.number) ∷ []) (owing.turn.buffer, owing.turn.number) (zero, omega arith, refl)) in
@@ -216,16 +265,20 @@ module _ {B : Type 0} where
         low = low;
         goes = goes;
         waits = subst (λ (t : Option Token). IsPassed (undrawn_fence t) after.values) (sym named) reached;
-        shown = subst (λ (t : Option Token). IsSignalled (dequeue_fence t) after.values) (sym named) reached;
+        shown = subst (λ (t : Option Token). IsSignalled (or_none (undrawn_fence t)) after.values) (sym named) reached;
+        of_call = λ other e. absurd (none_some other e);
         holdings = paid_then (past_of actor).holdings name p owing.queue owed named;
         same_turn = λ other e. absurd (none_some other e);
         shows = λ other e. absurd (none_some other e);
-        pays = λ frame paid. (queue, made, owing, subst (λ (xs : List (Call B)). Contains xs made) (sym (goes.calls queue)) called, gave, only_frame frame (rw named at paid), left);
+        pays = λ frame paid. (gave.0, gave.1, owing, subst (λ (xs : List (Call B)). Contains xs gave.1) (sym (goes.calls gave.0)) gave.2, gave.3, only_frame frame (rw named at paid), left);
         counted = λ place entered.
             let here : Some (get_or (past_of actor).since name 0) ≡ Some place = rw named at entered in
             subst (EntersCounted after) (same_place (get_or (past_of actor).since name 0) place here)
-            (enters_counted pictures actor name (holding.Owes owing held) before after passes.1.0 is there goes count passes.1.2);
-        order = order;
+            (enters_counted pictures actor name (holding.Owes owing held) before after is there goes (omega (arith, inner, longer, told, last)));
+        order = λ place entered.
+            let here : Some (get_or (past_of actor).since name 0) ≡ Some place = rw named at entered in
+            subst (λ (to : ℕ). All (λ earlier. IsInOrder after.calls earlier to) (entered_in actor.trace)) (same_place (get_or (past_of actor).since name 0) place here)
+            (enters_in_turn pictures actor name (holding.Owes owing held) before after passes.1.0 is there goes passes.1.1.1 passes.1.2);
       })
     where
       none_some : (other : Holding B) → None ≡ Some other → ⊥

@@ -85,7 +85,7 @@ module _ {B : Type 0} where
         signals = λ p there. there;
         signalled = λ p there. absurd (nil (subst (λ (xs : List (ℕ × ℕ)). Contains xs p) edit.quiet.signals there));
         left = λ p there. there;
-        counts = λ p there. there;
+        counts = λ b. omega arith;
         pays = λ frame there. absurd (nil (subst (λ (xs : List FrameNumber). Contains xs frame) edit.quiet.pays there));
         counted = λ place entered. absurd (no_place place (sym edit.quiet.enters ∙ entered));
         order = λ place entered. absurd (no_place place (sym edit.quiet.enters ∙ entered));

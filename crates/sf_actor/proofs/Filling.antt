@@ -24,11 +24,11 @@ use Rattle.sf_actor.specs.Known.{Call, Rise, Share, frame_of}
 use Rattle.sf_actor.specs.Names.{Holdings, Token, moved, with_name}
 use Rattle.sf_actor.specs.Parts.{PartsOf, ShowsPictures, plain_of, token_of, turn_held}
 use Rattle.sf_actor.specs.Points.{shown_next}
-use Rattle.sf_actor.specs.Rights.{HoldsAcquired, Turn, WasGivenAt, given_turn, turn_by}
+use Rattle.sf_actor.specs.Rights.{HoldsAcquired, IsOfCall, Turn, WasGivenAt, given_turn, turn_by}
 use Rattle.sf_actor.specs.Steps.{filled_by, holdings_next, is_refusal, was_done}
 use Rattle.sf_actor.specs.Traces.{Past, next, no_past, past_after, past_from, since_next, since_with}
 use Rattle.sf_actor.specs.Tries.{ActorKept, ActorOf, ArePermits, contents_in, held_in, past_of}
-use Rattle.sf_actor.proofs.Adding.{acquired_still, given_still}
+use Rattle.sf_actor.proofs.Adding.{acquired_still, given_still, of_call_still}
 use Rattle.sf_actor.proofs.GoingOn.{signalled_on}
 use Rattle.sf_actor.proofs.Making.{OneMore}
 use Rattle.sf_actor.proofs.Moving.{PartsMove, stepped}
@@ -68,10 +68,14 @@ module _ {B : Type 0} where
     pub replies : IsReply queue asked told reply
     pub keeps : ActorKept pictures (stepped actor (record { step = s; answered = answered.Called told }) parts) share
 
+  -- the newest call is one of the actor's calls
+  pub is_made : (queue : ℕ) (made : Call B) (old new : Share B) → OneMore queue made old new → Contains (new.calls queue) made
+  is_made queue made old new more = subst (λ (xs : List (Call B)). Contains xs made) (sym more.here) (Contains-append_right (old.calls queue) (made ∷ []) made (zero, omega arith, refl))
+
   -- the newest call gave what its reply gives
   pub given_now : (queue place : ℕ) (turn : Option Turn) (made : Call B) (old new : Share B) → OneMore queue made old new → made.made.call.0 ≡ place → given_turn made.made.reply.gives ≡ turn → WasGivenAt new.calls place turn
   given_now queue place turn made old new more at gives =
-      (queue, made, subst (λ (xs : List (Call B)). Contains xs made) (sym more.here) (Contains-append_right (old.calls queue) (made ∷ []) made (zero, omega arith, refl)), at, gives)
+      (queue, made, is_made queue made old new more, at, gives)
 
   -- a name holds what it held, with the place that it had
   abbrev pub IsStill : ActorOf B → Done → ℕ → Holding B → Type 0
@@ -79,7 +83,7 @@ module _ {B : Type 0} where
 
   -- or what the step gave
   abbrev pub IsNew : (ℕ → Picture) → ActorOf B → Done → Share B → ℕ → Holding B → Type 0
-  IsNew pictures actor done new name now = WasGivenAt new.calls (get_or (since_next (past_of actor).since (length actor.trace + 1) done) name 0) (Some (turn_held now)) × ShowsPictures pictures now
+  IsNew pictures actor done new name now = WasGivenAt new.calls (get_or (since_next (past_of actor).since (length actor.trace + 1) done) name 0) (Some (turn_held now)) × ShowsPictures pictures now × IsOfCall new.calls now
 
   -- a step after which each place holds what it held, or what the step gave
   pub record PartsChange (pictures : ℕ → Picture) (actor : ActorOf B) (done : Done) (parts : PartsOf B) (old new : Share B) (added : ℕ → List (Call B)) : Type 0 where
@@ -107,6 +111,10 @@ module _ {B : Type 0} where
               subst (λ (place : ℕ). WasGivenAt new.calls place (Some (turn_held now))) (sym still.1)
               (given_still old.calls new.calls added change.calls (get_or (past_of actor).since name 0) (Some (turn_held now)) (is.given name now still.0))
           | inr given ↦ given.0
+        ];
+        of_call = λ name now there. elim (change.held name now there) [
+          | inl still ↦ of_call_still old.calls new.calls added change.calls now (is.of_call name now still.0)
+          | inr given ↦ given.2
         ];
         acquired = λ number txn there. elim (change.contents number txn there) [
           | inl still ↦ all_still old new added txn.buffers change.calls (is.acquired number txn still)
@@ -160,6 +168,7 @@ module _ {B : Type 0} where
     pub fills : filled_by s ≡ Some to
     pub holdings : holdings_next (past_of actor).holdings (record { step = s; answered = answered.Called told }) ≡ moved (past_of actor).holdings from to (token_of now)
     pub given : WasGivenAt new.calls (length actor.trace + 1) (Some (turn_held now))
+    pub of_call : IsOfCall new.calls now
     pub shows : ShowsPictures pictures now
     pub reached : IsSignalled (shown_next (past_of actor).holdings (past_of actor).shown (record { step = s; answered = answered.Called told })) new.values
     pub permits : ArePermits (stepped actor (record { step = s; answered = answered.Called told }) (moved_held actor.parts from to now)) new
@@ -193,6 +202,7 @@ module _ {B : Type 0} where
                 (subst (λ (n : ℕ). WasGivenAt new.calls (get_or (since_next (past_of actor).since (length actor.trace + 1) (record { step = s; answered = answered.Called told })) n 0) (Some (turn_held now))) (sym same)
                 (subst (λ (place : ℕ). WasGivenAt new.calls place (Some (turn_held now))) (sym place) move.given)),
             subst (λ (h : Holding B). ShowsPictures pictures h) is_held move.shows,
+            subst (λ (h : Holding B). IsOfCall new.calls h) is_held move.of_call,
           )
 
   -- a step that fills a name with what its call gave
@@ -204,6 +214,7 @@ module _ {B : Type 0} where
     pub fills : filled_by s ≡ Some name
     pub holdings : holdings_next (past_of actor).holdings (record { step = s; answered = answered.Called told }) ≡ with_name (past_of actor).holdings name (Some (token_of now))
     pub given : WasGivenAt new.calls (length actor.trace + 1) (Some (turn_held now))
+    pub of_call : IsOfCall new.calls now
     pub shows : ShowsPictures pictures now
     pub reached : IsSignalled (shown_next (past_of actor).holdings (past_of actor).shown (record { step = s; answered = answered.Called told })) new.values
     pub permits : ArePermits (stepped actor (record { step = s; answered = answered.Called told }) (with_held actor.parts name (Some now) stock)) new
@@ -223,6 +234,7 @@ module _ {B : Type 0} where
         given = λ held e.
             subst (λ (h : Holding B). WasGivenAt new.calls (get_or (since_next since (length actor.trace + 1) done) name 0) (Some (turn_held h))) (one held e)
             (subst (λ (n : ℕ). WasGivenAt new.calls n (Some (turn_held now))) (sym place) move.given);
+        of_call = λ held e. subst (λ (h : Holding B). IsOfCall new.calls h) (one held e) move.of_call;
         shows = λ held e. subst (λ (h : Holding B). ShowsPictures pictures h) (one held e) move.shows;
         reached = move.reached;
         permits = move.permits;

@@ -24,7 +24,7 @@ use Rattle.sf_actor.specs.Draws.{EntersCounted, IsInOrder, entered_in}
 use Rattle.sf_actor.specs.Keeping.{TraceKept}
 use Rattle.sf_actor.specs.Known.{AreAmong, Call, GoesOn, Known, Rise, Share, ShareGoesOn, is_sent_by, own_calls, plain_arrival, share_of, told_by}
 use Rattle.sf_actor.specs.Points.{detached_fence, waited_fence}
-use Rattle.sf_actor.specs.Rights.{BringsGiven, EndsIn, HoldsAcquired, SendsAcquired, Turn, WasGivenAt, WasPaid, issued_turn}
+use Rattle.sf_actor.specs.Rights.{BringsGiven, EndsIn, HoldsAcquired, IsOfCall, SendsAcquired, Turn, WasGivenAt, WasPaid, issued_turn}
 use Rattle.sf_actor.specs.Parts.{turn_held}
 use Rattle.sf_actor.specs.Steps.{sent_by}
 use Rattle.sf_actor.specs.Tales.{IsMade, made_on, sent_as}
@@ -97,7 +97,7 @@ module _ {B : Type 0} where
       let count = counted.2 in (
         counted.0,
         (was.0, was.1, subst (λ (xs : List (Call B)). Contains xs was.1) (sym (goes.calls was.0)) was.2, was.3, was.4),
-        (count.0, goes.counts (counted.0.0, count.0) count.1, count.2),
+        (let rise = goes.counts counted.0.0 in omega (arith, rise, count)),
       )
 
   -- the calls of one caller among more calls, made later
@@ -188,6 +188,7 @@ module _ {B : Type 0} where
         kept = kept_on pictures actor.script actor.stock actor.trace actor.replies old new goes is.kept;
         has = is.has;
         given = λ name held there. subst (λ (cs : ℕ → List (Call B)). WasGivenAt cs (get_or (past_of actor).since name 0) (Some (turn_held held))) calls (is.given name held there);
+        of_call = λ name held there. subst (λ (cs : ℕ → List (Call B)). IsOfCall cs held) calls (is.of_call name held there);
         acquired = λ number txn there. subst (λ (cs : ℕ → List (Call B)). All (HoldsAcquired cs) txn.buffers) calls (is.acquired number txn there);
         shows = is.shows;
         reached = signalled_on (past_of actor).shown old.values new.values goes.values is.reached;

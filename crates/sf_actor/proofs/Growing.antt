@@ -19,7 +19,7 @@ use Rattle.sf_token.specs.Pending.{Arrival}
 use Rattle.sf_turns.specs.Views.{Leaves, Observes, SeatView}
 use Rattle.sf_txn.specs.Transactions.{Contents}
 use Rattle.sf_actor.specs.Desks.{ChangesTimes, ChangesTurns, DeskHome, DeskView, IsAsBefore, MadeCall, MadeSend, WaitsForCall, known_of, values_of}
-use Rattle.sf_actor.specs.Known.{AreAmong, ArriveWithout, GoesOn, Known, Rise, is_sent_by}
+use Rattle.sf_actor.specs.Known.{AreAmong, ArriveWithout, CountsRise, GoesOn, Known, Rise, is_sent_by}
 
 -- the value of a timeline among points is the greatest of it
 pub value-values : (points : List (ℕ × ℕ)) (t : ℕ) → 1 ≤ t → t ≤ 64 → value_of (values_of points).values t ≡ greatest t points
@@ -56,6 +56,9 @@ arrives_twice actor old mid new first second = record {
     assoc [] ys zs = refl
     assoc (x ∷ xs) ys zs = ap (λ (rest : List (Arrival ReadLeaseOf)). x ∷ rest) (assoc xs ys zs)
 
+counts-more : (seen more : List (ℕ × ℕ)) → CountsRise seen (seen ++ more)
+counts-more seen more = λ b. let join = greatest-append b seen more in omega (arith, join)
+
 module _ {B : Type 0} where
   calls_same : (actor : ℕ) (old new : List (Made B)) → new ≡ old → GoesOnWithout actor old new
   calls_same actor old new same = record { begins = ([], same); calls = ap (λ (xs : List (Made B)). calls_by actor xs) same }
@@ -69,7 +72,7 @@ module _ {B : Type 0} where
     values = λ t low high. omega arith;
     signals = still-among known.signals;
     left = still-among known.left;
-    counts = still-among known.counts;
+    counts = λ b. omega arith;
   }
 
   calls_twice : (actor : ℕ) (old mid new : List (Made B)) → GoesOnWithout actor old mid → GoesOnWithout actor mid new → GoesOnWithout actor old new
@@ -90,7 +93,7 @@ module _ {B : Type 0} where
     values = λ t low high. let a = first.values t low high in let b = second.values t low high in omega (arith, a, b);
     signals = λ p there. second.signals p (first.signals p there);
     left = λ p there. second.left p (first.left p there);
-    counts = λ p there. second.counts p (first.counts p there);
+    counts = λ b. let one = first.counts b in let two = second.counts b in omega (arith, one, two);
   }
 
   -- where only a seat at the timelines changed, and knows more
@@ -102,11 +105,11 @@ module _ {B : Type 0} where
     values = values;
     signals = signals;
     left = still-among view.turns.leaves;
-    counts = still-among view.turns.seen;
+    counts = λ b. omega arith;
   }
 
   -- where only a seat at the turns changed, and knows more
-  turns_go : (actor : ℕ) (home : DeskHome) (view : DeskView B) (turns : SeatView) → AreAmong view.turns.leaves turns.leaves → AreAmong view.turns.seen turns.seen → GoesOn actor (known_of home view) (known_of home (record view { turns = turns }))
+  turns_go : (actor : ℕ) (home : DeskHome) (view : DeskView B) (turns : SeatView) → AreAmong view.turns.leaves turns.leaves → CountsRise view.turns.seen turns.seen → GoesOn actor (known_of home view) (known_of home (record view { turns = turns }))
   turns_go actor home view turns leaves seen = record {
     marks = λ queue. refl;
     calls = λ queue. calls_same actor (view.calls queue) (view.calls queue) refl;
@@ -130,14 +133,14 @@ module _ {B : Type 0} where
   pub look_goes : (actor : ℕ) (home : DeskHome) (old new : DeskView B) (buffer count : ℕ) → ChangesTurns old new → Observes old.turns buffer count new.turns → GoesOn actor (known_of home old) (known_of home new)
   look_goes actor home old new buffer count changes looked =
       subst (λ (view : DeskView B). GoesOn actor (known_of home old) (known_of home view)) (sym (changes ∙ ap (λ (turns : SeatView). record old { turns = turns }) looked.0))
-      (turns_go actor home old (record old.turns { seen = old.turns.seen ++ (buffer, count) ∷ [] }) (still-among old.turns.leaves) (more-among old.turns.seen ((buffer, count) ∷ [])))
+      (turns_go actor home old (record old.turns { seen = old.turns.seen ++ (buffer, count) ∷ [] }) (still-among old.turns.leaves) (counts-more old.turns.seen ((buffer, count) ∷ [])))
 
   pub end_goes : (actor : ℕ) (home : DeskHome) (old new : DeskView B) (buffer number : ℕ) → ChangesTurns old new → Leaves old.turns buffer number new.turns → GoesOn actor (known_of home old) (known_of home new)
   end_goes actor home old new buffer number changes left =
       subst (λ (view : DeskView B). GoesOn actor (known_of home old) (known_of home view)) (sym (changes ∙ ap (λ (turns : SeatView). record old { turns = turns }) left.1))
       (turns_go actor home old (record old.turns { leaves = old.turns.leaves ++ (buffer, number) ∷ []; seen = (old.turns.seen ++ left.0) ++ (buffer, number + 1) ∷ [] })
       (more-among old.turns.leaves ((buffer, number) ∷ []))
-      (λ p there. more-among (old.turns.seen ++ left.0) ((buffer, number + 1) ∷ []) p (more-among old.turns.seen left.0 p there)))
+      (λ b. let one = counts-more old.turns.seen left.0 b in let two = counts-more (old.turns.seen ++ left.0) ((buffer, number + 1) ∷ []) b in omega (arith, one, two)))
 
   -- where the calls on one queue alone changed, and go on without the actor
   queue_goes : (actor : ℕ) (home : DeskHome) (old new : DeskView B) (queue : ℕ) → new ≡ record old { calls = new.calls; locked = new.locked } → ((other : ℕ) → other ≢ queue → new.calls other ≡ old.calls other) → GoesOnWithout actor (old.calls queue) (new.calls queue) → GoesOn actor (known_of home old) (known_of home new)
@@ -154,7 +157,7 @@ module _ {B : Type 0} where
         values = rise-same old.times.known;
         signals = still-among old.times.signals;
         left = still-among old.turns.leaves;
-        counts = still-among old.turns.seen;
+        counts = λ b. omega arith;
       })
     where
       apart : (q : ℕ) → (q == queue) ≡ false → q ≡ queue → ⊥
@@ -196,5 +199,5 @@ module _ {B : Type 0} where
         values = rise-same old.times.known;
         signals = still-among old.times.signals;
         left = still-among old.turns.leaves;
-        counts = still-among old.turns.seen;
+        counts = λ b. omega arith;
       })

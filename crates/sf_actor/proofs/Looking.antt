@@ -94,7 +94,7 @@ module _ {B : Type 0} where
         signals = λ p there. there;
         signalled = λ p there. absurd (empty (subst (λ (xs : List (ℕ × ℕ)). Contains xs p) quiet.signals there));
         left = λ p there. there;
-        counts = λ p there. there;
+        counts = λ b. omega arith;
         pays = λ frame there. absurd (empty (subst (λ (xs : List FrameNumber). Contains xs frame) quiet.pays there));
         counted = λ place entered. absurd (no_place place (sym quiet.enters ∙ entered));
         order = λ place entered. absurd (no_place place (sym quiet.enters ∙ entered));

@@ -19,7 +19,7 @@ use Rattle.sf_actor.specs.declared.done.Done.{Done}
 use Rattle.sf_actor.specs.Asking.{Asked, call_of, overtaken_by}
 use Rattle.sf_actor.specs.Desks.{DeskHome, DeskView, MadeCall, known_of, mark_among}
 use Rattle.sf_actor.specs.Draws.{entered_at}
-use Rattle.sf_actor.specs.Known.{AreAmong, Call, Rise, Share, ShareGoesOn, call_after, is_sent_by, own_calls, share_of, told_by}
+use Rattle.sf_actor.specs.Known.{AreAmong, Call, CountsRise, Rise, Share, ShareGoesOn, call_after, is_sent_by, own_calls, share_of, told_by}
 use Rattle.sf_actor.specs.Rights.{BringsGiven, EndsIn, IsFrom, MadeWith, QueuesPicture, brought_turn}
 use Rattle.sf_actor.specs.Steps.{sent_by, used_by, was_done}
 use Rattle.sf_actor.specs.Tales.{IsMade, made_on}
@@ -34,6 +34,9 @@ rise_same old new same = subst (λ (seen : Seen). Rise old seen) (sym same) (λ 
 among_same : (old new : List (ℕ × ℕ)) → new ≡ old → AreAmong old new
 among_same old new same = λ p there. subst (λ (xs : List (ℕ × ℕ)). Contains xs p) (sym same) there
 
+pub counts_same : (old new : List (ℕ × ℕ)) → new ≡ old → CountsRise old new
+counts_same old new same = subst (λ (counts : List (ℕ × ℕ)). CountsRise old counts) (sym same) (λ b. omega arith)
+
 module _ {B : Type 0} where
   -- a share with one more call of the actor, on this queue
   pub record OneMore (queue : ℕ) (made : Call B) (old new : Share B) : Type 0 where
@@ -43,7 +46,7 @@ module _ {B : Type 0} where
     pub values : Rise old.values new.values
     pub signals : AreAmong old.signals new.signals
     pub left : AreAmong old.left new.left
-    pub counts : AreAmong old.counts new.counts
+    pub counts : CountsRise old.counts new.counts
 
   -- a call of a desk, with what it tells
   abbrev pub made_call : (home : DeskHome) (old new : DeskView B) (by queue : ℕ) (asked : ℕ × QCall B) (reply : QReply B) → MadeCall home old new by queue asked reply → Call B
@@ -73,7 +76,7 @@ module _ {B : Type 0} where
         values = rise_same (known_of home old).values (known_of home new).values (ap (λ (view : DeskView B). (known_of home view).values) same);
         signals = among_same old.times.signals new.times.signals (ap (λ (view : DeskView B). view.times.signals) same);
         left = among_same old.turns.leaves new.turns.leaves (ap (λ (view : DeskView B). view.turns.leaves) same);
-        counts = among_same old.turns.seen new.turns.seen (ap (λ (view : DeskView B). view.turns.seen) same);
+        counts = counts_same old.turns.seen new.turns.seen (ap (λ (view : DeskView B). view.turns.seen) same);
       }
 
   -- what grows before and after the call
@@ -85,7 +88,7 @@ module _ {B : Type 0} where
     values = λ t low high. let a = goes.values t low high in let b = more.values t low high in omega (arith, a, b);
     signals = λ p there. more.signals p (goes.signals p there);
     left = λ p there. more.left p (goes.left p there);
-    counts = λ p there. more.counts p (goes.counts p there);
+    counts = λ b. let one = goes.counts b in let two = more.counts b in omega (arith, one, two);
   }
 
   pub then_goes : (queue : ℕ) (made : Call B) (old mid new : Share B) → OneMore queue made old mid → ShareGoesOn mid new → OneMore queue made old new
@@ -96,7 +99,7 @@ module _ {B : Type 0} where
     values = λ t low high. let a = more.values t low high in let b = goes.values t low high in omega (arith, a, b);
     signals = λ p there. goes.signals p (more.signals p there);
     left = λ p there. goes.left p (more.left p there);
-    counts = λ p there. goes.counts p (more.counts p there);
+    counts = λ b. let one = more.counts b in let two = goes.counts b in omega (arith, one, two);
   }
 
   -- a step that makes this one call, and is answered by the reply

@@ -18,17 +18,17 @@ use Rattle.sf_actor.specs.declared.done.Done.{Done}
 use Rattle.sf_actor.specs.declared.holding.Holding.{Holding}
 use Rattle.sf_actor.specs.Asking.{Asked, call_of}
 use Rattle.sf_actor.specs.Draws.{EntersCounted, IsInOrder, entered_at, entered_in}
-use Rattle.sf_actor.specs.Known.{AreAmong, Call, Rise, Share, frame_of, plain_arrival}
+use Rattle.sf_actor.specs.Known.{AreAmong, Call, CountsRise, Rise, Share, frame_of, plain_arrival}
 use Rattle.sf_actor.specs.Parts.{PartsOf, ShowsPictures, plain_of, turn_held}
 use Rattle.sf_actor.specs.Points.{shown_next}
-use Rattle.sf_actor.specs.Rights.{BringsGiven, HoldsAcquired, MadeWith, SendsAcquired, WasGivenAt, WasPaid, turn_by}
+use Rattle.sf_actor.specs.Rights.{BringsGiven, HoldsAcquired, IsOfCall, MadeWith, SendsAcquired, WasGivenAt, WasPaid, turn_by}
 use Rattle.sf_actor.specs.Steps.{holdings_next, used_by}
 use Rattle.sf_actor.specs.Tales.{IsMade, made_on, sent_as}
 use Rattle.sf_actor.specs.Traces.{DoneAt, IsAnswered, MadeStep, Past, Source, made_at, overtaken, own_call, sent_at, since_next, source_in}
 use Rattle.sf_actor.specs.Tries.{ActorKept, ActorOf, ArePermits, contents_in, dequeues_in, held_in, is_dequeue, next_step, past_of}
 use Rattle.sf_actor.specs.Values.{reply_at}
 use Rattle.sf_actor.specs.Written.{FrameNumber, paid_at, signal_of}
-use Rattle.sf_actor.proofs.Adding.{Adds, acquired_still, at_end, given_still, kept_with, past_with}
+use Rattle.sf_actor.proofs.Adding.{Adds, acquired_still, at_end, given_still, kept_with, of_call_still, past_with}
 
 -- an own answer is no call's, and so is an arrival
 pub own_unmade : (place status : ℕ) (asking : Option Asked) (source : Source) → own_call place asking (answered.Own status) source ≡ []
@@ -63,7 +63,7 @@ module _ {B : Type 0} where
     pub signals : AreAmong old.signals new.signals
     pub signalled : AreAmong (signal_of at.done.step) new.signals
     pub left : AreAmong old.left new.left
-    pub counts : AreAmong old.counts new.counts
+    pub counts : CountsRise old.counts new.counts
     pub pays : (frame : FrameNumber) → Contains (paid_at at) frame → WasPaid new.left new.calls frame
     pub counted : (place : ℕ) → entered_at at ≡ Some place → EntersCounted new place
     pub order : (place : ℕ) → entered_at at ≡ Some place → All (λ earlier. IsInOrder new.calls earlier place) (entered_in trace)
@@ -112,6 +112,7 @@ module _ {B : Type 0} where
   pub record PartsMove (pictures : ℕ → Picture) (actor : ActorOf B) (done : Done) (parts : PartsOf B) (share : Share B) : Type 0 where
     pub has : plain_of parts ≡ holdings_next (past_of actor).holdings done
     pub given : (name : ℕ) (held : Holding B) → held_in parts name ≡ Some held → WasGivenAt share.calls (get_or (since_next (past_of actor).since (length actor.trace + 1) done) name 0) (Some (turn_held held))
+    pub of_call : (name : ℕ) (held : Holding B) → held_in parts name ≡ Some held → IsOfCall share.calls held
     pub acquired : (number : ℕ) (txn : Contents ReadLeaseOf) → contents_in parts number ≡ Some txn → All (HoldsAcquired share.calls) txn.buffers
     pub shows : (name : ℕ) (held : Holding B) → held_in parts name ≡ Some held → ShowsPictures pictures held
     pub reached : IsSignalled (shown_next (past_of actor).holdings (past_of actor).shown done) share.values
@@ -125,6 +126,7 @@ module _ {B : Type 0} where
         kept = kept_with pictures actor.script actor.stock actor.trace actor.replies done old new is_next is.kept adds;
         has = move.has ∙ ap (λ (p : Past). p.holdings) (sym past);
         given = λ name held there. subst (λ (p : Past). WasGivenAt new.calls (get_or p.since name 0) (Some (turn_held held))) (sym past) (move.given name held there);
+        of_call = move.of_call;
         acquired = move.acquired;
         shows = move.shows;
         reached = subst (λ (p : Past). IsSignalled p.shown new.values) (sym past) move.reached;
@@ -165,6 +167,7 @@ module _ {B : Type 0} where
     given = λ name held there.
         subst (λ (since : List ℕ). WasGivenAt new.calls (get_or since name 0) (Some (turn_held held))) (sym stay.since)
         (given_still old.calls new.calls added stay.calls (get_or (past_of actor).since name 0) (Some (turn_held held)) (is.given name held there));
+    of_call = λ name held there. of_call_still old.calls new.calls added stay.calls held (is.of_call name held there);
     acquired = λ number txn there.
         All-weaker (HoldsAcquired old.calls) (HoldsAcquired new.calls)
         (λ (buffer : Buffer ReadLeaseOf). acquired_still old.calls new.calls added stay.calls (frame_of buffer.lease) (Some (turn_by buffer.lease.turn)))

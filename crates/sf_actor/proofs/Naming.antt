@@ -15,11 +15,11 @@ use Rattle.sf_actor.specs.Known.{Call, Share, frame_of}
 use Rattle.sf_actor.specs.Names.{Holdings, Token, with_name}
 use Rattle.sf_actor.specs.Parts.{PartsOf, ShowsPictures, plain_of, token_of, turn_held}
 use Rattle.sf_actor.specs.Points.{shown_next}
-use Rattle.sf_actor.specs.Rights.{HoldsAcquired, WasGivenAt, turn_by}
+use Rattle.sf_actor.specs.Rights.{HoldsAcquired, IsOfCall, WasGivenAt, turn_by}
 use Rattle.sf_actor.specs.Steps.{holdings_next}
 use Rattle.sf_actor.specs.Traces.{since_next}
 use Rattle.sf_actor.specs.Tries.{ActorKept, ActorOf, ArePermits, held_in, past_of}
-use Rattle.sf_actor.proofs.Adding.{acquired_still, given_still}
+use Rattle.sf_actor.proofs.Adding.{acquired_still, given_still, of_call_still}
 use Rattle.sf_actor.proofs.Moving.{PartsMove, stepped}
 
 module _ {B : Type 0} where
@@ -34,6 +34,7 @@ module _ {B : Type 0} where
     pub holdings : holdings_next (past_of actor).holdings done ≡ with_name (past_of actor).holdings name (option_map token_of held)
     pub since : (other : ℕ) → other ≢ name → get_or (since_next (past_of actor).since (length actor.trace + 1) done) other 0 ≡ get_or (past_of actor).since other 0
     pub given : (now : Holding B) → held ≡ Some now → WasGivenAt new.calls (get_or (since_next (past_of actor).since (length actor.trace + 1) done) name 0) (Some (turn_held now))
+    pub of_call : (now : Holding B) → held ≡ Some now → IsOfCall new.calls now
     pub shows : (now : Holding B) → held ≡ Some now → ShowsPictures pictures now
     pub reached : IsSignalled (shown_next (past_of actor).holdings (past_of actor).shown done) new.values
     pub permits : ArePermits (stepped actor done (with_held actor.parts name held stock)) new
@@ -62,6 +63,9 @@ module _ {B : Type 0} where
             (λ same is_held. subst (λ (n : ℕ). WasGivenAt new.calls (get_or since n 0) (Some (turn_held now))) (sym same) (move.given now is_held))
             (λ apart was. subst (λ (place : ℕ). WasGivenAt new.calls place (Some (turn_held now))) (sym (move.since other apart))
             (given_still old.calls new.calls added move.calls (get_or (past_of actor).since other 0) (Some (turn_held now)) (is.given other now was)));
+        of_call = λ other now there. held_case actor.parts name held stock other now move.low there
+            (λ same is_held. move.of_call now is_held)
+            (λ apart was. of_call_still old.calls new.calls added move.calls now (is.of_call other now was));
         acquired = λ number txn there.
             All-weaker (HoldsAcquired old.calls) (HoldsAcquired new.calls)
             (λ (buffer : Buffer ReadLeaseOf). acquired_still old.calls new.calls added move.calls (frame_of buffer.lease) (Some (turn_by buffer.lease.turn)))

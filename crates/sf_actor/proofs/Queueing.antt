@@ -1,6 +1,7 @@
 -- What an actor keeps where it queues the buffer that a name holds: a drawn one leaves its name, and an undrawn one leaves its
 -- drawing owed there.
 use Rattle.std.proofs.Common.{◌≡◌, ℕ, ◌+◌, ◌<◌, ◌==◌, ◌⊎◌, inl, inr, true, false, List, [], ◌∷◌, length, arith, ap, ◌∙◌, refl, sym, subst, Option, Some, None}
+use Rattle.std.specs.Prelude.{Contains}
 use Rattle.std.specs.Option.{option_map}
 use Rattle.std.proofs.lemmas.Bool.{cases_Bool, eq-eqb, eqb-true, false≢true}
 use Rattle.sf_base.specs.declared.ids.QueueId.{QueueId}
@@ -29,17 +30,17 @@ use Rattle.sf_actor.specs.declared.holding.Holding.{Holding}
 use Rattle.sf_actor.specs.declared.holding.Holding.TheVariants as holding
 use Rattle.sf_actor.specs.Asking.{Asked, call_of, queueing_of}
 use Rattle.sf_actor.specs.Desks.{DeskHome, DeskView, MadeCall, known_of, mark_among}
-use Rattle.sf_actor.specs.Known.{Share, ShareGoesOn, share_of}
+use Rattle.sf_actor.specs.Known.{Call, Share, ShareGoesOn, share_of}
 use Rattle.sf_actor.specs.Names.{Holdings, Lent, name_in, with_name}
 use Rattle.sf_actor.specs.Parts.{ShowsPictures, drawn_picture, token_of, turn_held}
-use Rattle.sf_actor.specs.Rights.{EndsIn, MadeWith, WasGivenAt, given_turn}
+use Rattle.sf_actor.specs.Rights.{EndsIn, IsOfCall, MadeWith, WasGivenAt, given_turn}
 use Rattle.sf_actor.specs.Scripts.{crop_of, fence_of}
 use Rattle.sf_actor.specs.Steps.{holdings_next, is_refusal}
 use Rattle.sf_actor.specs.Tests.{bad_value, refusal_of}
 use Rattle.sf_actor.specs.Tries.{ActorKept, ActorOf, held_in, next_step, past_of}
 use Rattle.sf_actor.proofs.Adding.{at_end}
 use Rattle.sf_actor.proofs.Bringing.{brings_held, names_told, refused_call_keeps}
-use Rattle.sf_actor.proofs.Filling.{KeepsWith, filled_here, filled_other, given_now, since_length, still_reached}
+use Rattle.sf_actor.proofs.Filling.{KeepsWith, filled_here, filled_other, given_now, is_made, since_length, still_reached}
 use Rattle.sf_actor.proofs.Forms.{answered_by_call}
 use Rattle.sf_actor.proofs.Making.{CallsOnce, OneMore, answer_told, call_adds, joined, made_call, one_more, only, only_one, then_goes}
 use Rattle.sf_actor.proofs.Moving.{actor_with, permits_stay}
@@ -116,6 +117,18 @@ module _ {B : Type 0} where
       one : (h : Holding B) → Some h ≡ Some now → h ≡ now
       one h same = cc
   owed_shows pictures queue lease frame picture (work.Drawn inside pixels) now known e = absurd (none_some e)
+    where
+      none_some : None ≡ Some now → ⊥
+      none_some same = cc
+
+  -- it is just what the call gave
+  owed_of_call : (calls : ℕ → List (Call B)) (q : ℕ) (made : Call B) (queue : QueueId) (lease : WriteLeaseOf) (frame : ℕ) (picture : Picture) (w : Work) (now : Holding B) → Contains (calls q) made → made.made.reply.gives ≡ owes queue lease frame picture w → left_owed queue lease frame picture w ≡ Some now → IsOfCall calls now
+  owed_of_call calls q made queue lease frame picture (work.Fresh turn) now there gave e =
+      subst (λ (h : Holding B). IsOfCall calls h) (one (holding.Owes (owing_of queue lease frame turn picture) lease.held) e) (q, made, there, gave)
+    where
+      one : (h : Holding B) → Some h ≡ Some now → h ≡ now
+      one h same = cc
+  owed_of_call calls q made queue lease frame picture (work.Drawn inside pixels) now there gave e = absurd (none_some e)
     where
       none_some : None ≡ Some now → ⊥
       none_some same = cc
@@ -198,6 +211,7 @@ module _ {B : Type 0} where
                           subst (λ (place : ℕ). WasGivenAt after.calls place (Some (turn_held now))) (sym (filled_here since (length actor.trace + 1) s c.told.reply name (ap is_refusal told.1) refl low_since))
                           (given_now lease.queue.0 (length actor.trace + 1) (Some (turn_held now)) c before after more refl
                           (ap (λ (r : QReply B). given_turn r.gives) told.2 ∙ owed_turn queue lease told.0 (pictures p) lease.work now e));
+                      of_call = λ now e. owed_of_call after.calls lease.queue.0 c queue lease told.0 (pictures p) lease.work now (is_made lease.queue.0 c before after more) (ap (λ (r : QReply B). r.gives) told.2) e;
                       shows = λ now e. owed_shows pictures queue lease told.0 (pictures p) lease.work now (ap pictures (sym number)) e;
                       reached = reached;
                       permits = permits_stay pictures actor done parts before after (only asked c) is refl (joined asked c before after more)

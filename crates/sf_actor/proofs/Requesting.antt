@@ -130,6 +130,7 @@ module _ {B : Type 0} where
                       fills = refl;
                       holdings = known (past_of actor).holdings name lease told.0 c.told.reply told.1 named;
                       given = given_now lease.queue.0 (length actor.trace + 1) (Some (turn_by (turn_of lease.work))) c before after more refl (ap (λ (r : QReply B). given_turn r.gives) told.2);
+                      of_call = tt;
                       shows = is.shows name (holding.Lends lease) holds;
                       reached = reached;
                       permits = permits_stay pictures actor done parts before after (only asked c) is refl (joined asked c before after more)

@@ -25,6 +25,7 @@ use Rattle.sf_actor.specs.Tries.{ActorKept, ActorOf, contents_in, next_step, pas
 use Rattle.sf_actor.proofs.Adding.{at_end}
 use Rattle.sf_actor.proofs.Filling.{still_reached}
 use Rattle.sf_actor.proofs.GoingOn.{own_arrivals}
+use Rattle.sf_actor.proofs.Making.{counts_same}
 use Rattle.sf_actor.proofs.Moving.{CallsNone, actor_with, none_adds, permits_stay, sent_unmade, stepped}
 use Rattle.sf_actor.proofs.Numbering.{number_moves, transactions_told, with_contents}
 
@@ -82,7 +83,7 @@ module _ {B : Type 0} where
         signals = among_same old.times.signals new.times.signals (ap (λ (view : DeskView B). view.times.signals) same);
         signalled = λ p below. absurd (omega (arith, below.1));
         left = among_same old.turns.leaves new.turns.leaves (ap (λ (view : DeskView B). view.turns.leaves) same);
-        counts = among_same old.turns.seen new.turns.seen (ap (λ (view : DeskView B). view.turns.seen) same);
+        counts = counts_same old.turns.seen new.turns.seen (ap (λ (view : DeskView B). view.turns.seen) same);
         pays = λ frame below. absurd (omega (arith, below.1));
         counted = λ place entered. absurd (no_place place entered);
         order = λ place entered. absurd (no_place place entered);

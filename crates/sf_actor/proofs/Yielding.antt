@@ -20,7 +20,7 @@ use Rattle.sf_surface.specs.Hands.{IsReply}
 use Rattle.sf_surface.specs.Tokens.{ReadLeaseOf}
 use Rattle.sf_actor.specs.Asking.{Asked, release_of}
 use Rattle.sf_actor.specs.Desks.{DeskHome, DeskView, MadeCall, known_of, mark_among}
-use Rattle.sf_actor.specs.Known.{AreAmong, Call, Rise, Share, frame_of, share_of, told_by}
+use Rattle.sf_actor.specs.Known.{AreAmong, Call, CountsRise, Rise, Share, frame_of, share_of, told_by}
 use Rattle.sf_actor.specs.Rights.{BringsGiven, WasAcquired, turn_by}
 use Rattle.sf_actor.specs.Tales.{IsMade, made_on}
 use Rattle.sf_actor.specs.Traces.{release_at}
@@ -57,12 +57,12 @@ module _ {B : Type 0} where
     pub values : Rise old.values new.values
     pub signals : AreAmong old.signals new.signals
     pub left : AreAmong old.left new.left
-    pub counts : AreAmong old.counts new.counts
+    pub counts : CountsRise old.counts new.counts
     pub made : (queue : ℕ) → AllZip IsMade (made_on queue (map (release_at place) (map frame_of leases))) (map told_by (added queue))
     pub tokens : (known : ℕ → List (Call B)) → All (IsAcquired known) leases → (queue : ℕ) → AllZip (BringsGiven known) (made_on queue (map (release_at place) (map frame_of leases))) (added queue)
     pub releases : (queue : ℕ) (made : Call B) → Contains (added queue) made → IsRelease made
 
-  no_end : (queue : QueueId) (lease : ReadLeaseOf) (fence : Fence) (told : PlainReply) (reply : QReply B) → IsReply queue (call.Release lease fence) told reply → reply.ends ≡ None
+  pub no_end : (queue : QueueId) (lease : ReadLeaseOf) (fence : Fence) (told : PlainReply) (reply : QReply B) → IsReply queue (call.Release lease fence) told reply → reply.ends ≡ None
   no_end queue lease fence (plain.Refused cause) reply is = ap (λ (r : QReply B). r.ends) is
   no_end queue lease fence plain.Done reply is = ap (λ (r : QReply B). r.ends) is
   no_end queue lease fence (plain.Dequeued slot held requested reallocated points) reply is = absurd is
@@ -83,7 +83,7 @@ module _ {B : Type 0} where
     values = λ t low high. omega arith;
     signals = λ p there. there;
     left = λ p there. there;
-    counts = λ p there. there;
+    counts = λ b. omega arith;
     made = λ queue. tt;
     tokens = λ known all queue. tt;
     releases = λ queue made there. absurd (omega (arith, there.1));
@@ -103,7 +103,7 @@ module _ {B : Type 0} where
         values = λ t low high. let a = more.values t low high in let b = rest.values t low high in omega (arith, a, b);
         signals = λ p there. rest.signals p (more.signals p there);
         left = λ p there. rest.left p (more.left p there);
-        counts = λ p there. rest.counts p (more.counts p there);
+        counts = λ b. let one = more.counts b in let two = rest.counts b in omega (arith, one, two);
         made = λ queue. elim (cases_Bool (lease.queue.0 == queue)) [
           | inl met ↦ rw (queue_is, met) (record { step = at; call = told ∙ ap (λ (a : Asked). a.1) is; reply = tt }, rest.made queue)
           | inr unmet ↦ rw (queue_is, unmet) (rest.made queue)

@@ -1,7 +1,8 @@
 -- Draws come in turn: one that enters pixels found that all earlier turns at them had left.
-use Rattle.std.specs.Prelude.{◌≡◌, ℕ, ◌<◌, ◌≤◌, ◌==◌, ◌&&◌, if◌then◌else◌, List, get_or, Contains, Option, Some, None, is_some, option_to_list}
+use Rattle.std.specs.Prelude.{◌≡◌, ℕ, ◌≤◌, ◌==◌, ◌&&◌, if◌then◌else◌, List, get_or, Option, Some, None, is_some, option_to_list}
 use Rattle.std.specs.List.{All, AllPairs, flat_map}
 use Rattle.std.specs.Option.{option_map}
+use Rattle.sf_base.specs.Points.{greatest}
 use Rattle.sf_actor.specs.declared.done.Answered.{Answered}
 use Rattle.sf_actor.specs.declared.done.Answered.TheVariants as answered
 use Rattle.sf_actor.specs.declared.done.Done.{Done}
@@ -25,18 +26,18 @@ entered_at at = option_map (λ name. get_or at.past.since name 0) (entered_name 
 abbrev pub entered_in : List Done → List ℕ
 entered_in trace = flat_map (λ (at : DoneAt). option_to_list (entered_at at)) (places_of trace)
 
--- a load showed that all turns before this one have left
+-- all turns before this one were seen to have left
 abbrev pub WasCounted : List (ℕ × ℕ) → Turn → Type 0
-WasCounted counts turn = (n : ℕ) × Contains counts (turn.0, n) × (turn.1 ≤ n)
+WasCounted counts turn = turn.1 ≤ greatest turn.0 counts
 
 module _ {B : Type 0} where
   abbrev pub EntersCounted : Share B → ℕ → Type 0
   EntersCounted share place = (turn : Turn) × WasGivenAt share.calls place (Some turn) × WasCounted share.counts turn
 
-  -- of what is entered in one buffer, the earlier turn comes first
+  -- of what is entered in one buffer, no turn comes before an earlier one
   abbrev pub IsInOrder : (ℕ → List (Call B)) → ℕ → ℕ → Type 0
   IsInOrder calls place later =
-      (turn : Turn) × (other : Turn) × WasGivenAt calls place (Some turn) × WasGivenAt calls later (Some other) × (turn.0 ≡ other.0 → turn.1 < other.1)
+      (turn : Turn) × (other : Turn) × WasGivenAt calls place (Some turn) × WasGivenAt calls later (Some other) × (turn.0 ≡ other.0 → turn.1 ≤ other.1)
 
   -- the draws of a trace that enter pixels do so in turn
   pub record DrawInTurn (share : Share B) (trace : List Done) : Type 0 where

@@ -3,6 +3,7 @@
 use Rattle.std.specs.Prelude.{◌≡◌, ℕ, ◌≤◌, ◌==◌, Bool, false, if◌then◌else◌, List, [], ◌∷◌, ◌++◌, filter, map, Contains}
 use Rattle.std.specs.List.{list_any}
 use Rattle.sf_base.specs.Fences.{value_of}
+use Rattle.sf_base.specs.Points.{greatest}
 use Rattle.sf_base.specs.declared.fences.Seen.{Seen}
 use Rattle.sf_calls.specs.Histories.{GoesOnWithout}
 use Rattle.sf_slots.specs.declared.calls.Entry.{Entry}
@@ -88,6 +89,10 @@ module _ {B : Type 0} where
 abbrev pub AreAmong : List (ℕ × ℕ) → List (ℕ × ℕ) → Type 0
 AreAmong these those = (p : ℕ × ℕ) → Contains these p → Contains those p
 
+-- of no buffer were fewer turns seen to have left
+abbrev pub CountsRise : List (ℕ × ℕ) → List (ℕ × ℕ) → Type 0
+CountsRise old new = (buffer : ℕ) → greatest buffer old ≤ greatest buffer new
+
 -- no value of a timeline fell
 abbrev pub Rise : Seen → Seen → Type 0
 Rise old new = (t : ℕ) → 1 ≤ t → t ≤ 64 → value_of old.values t ≤ value_of new.values t
@@ -106,13 +111,13 @@ pub record GoesOn {B : Type 0} (actor : ℕ) (old new : Known B) : Type 0 where
   pub values : Rise old.values new.values
   pub signals : AreAmong old.signals new.signals
   pub left : AreAmong old.left new.left
-  pub counts : AreAmong old.counts new.counts
+  pub counts : CountsRise old.counts new.counts
 
--- a share grows: the actor's own calls and arrivals stay, the values rise, and signals and turns are added
+-- a share grows: the actor's own calls and arrivals stay, the values and the counts rise, and signals and turns are added
 pub record ShareGoesOn {B : Type 0} (old new : Share B) : Type 0 where
   pub calls : (queue : ℕ) → new.calls queue ≡ old.calls queue
   pub arrivals : new.arrivals ≡ old.arrivals
   pub values : Rise old.values new.values
   pub signals : AreAmong old.signals new.signals
   pub left : AreAmong old.left new.left
-  pub counts : AreAmong old.counts new.counts
+  pub counts : CountsRise old.counts new.counts

@@ -1,6 +1,7 @@
 -- What an actor has: what its names and transaction numbers hold, with the rights, and the buffers that it may still open.
 use Rattle.std.specs.Prelude.{◌≡◌, ℕ, List, map, Option, Some, None}
 use Rattle.std.specs.Option.{option_map}
+use Rattle.sf_base.specs.declared.ids.QueueId.{QueueId}
 use Rattle.sf_picture.specs.declared.picture.Picture.{Picture}
 use Rattle.sf_surface.specs.declared.work.Work.{Work}
 use Rattle.sf_surface.specs.declared.work.Work.TheVariants as work
@@ -42,6 +43,13 @@ module _ {B : Type 0} where
   turn_held (holding.Owes owing held) = issued_turn owing.turn
   turn_held (holding.Reads lease) = turn_by lease.turn
   turn_held (holding.Frees queue loose) = turn_by loose.turn
+
+  -- the queue of what a name holds: for a buffer in no queue, the one in which it was last
+  abbrev pub queue_held : Holding B → QueueId
+  queue_held (holding.Lends lease) = lease.queue
+  queue_held (holding.Owes owing held) = owing.queue
+  queue_held (holding.Reads lease) = lease.queue
+  queue_held (holding.Frees queue loose) = queue
 
   -- what was drawn or promised is the scene's picture of its number
   abbrev pub ShowsPictures : (ℕ → Picture) → Holding B → Type 0

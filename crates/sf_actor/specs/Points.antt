@@ -17,12 +17,6 @@ undrawn_fence (Some (Lent queue token None)) = Some token.fence
 undrawn_fence (Some (Owing queue owed)) = Some owed.fence
 undrawn_fence other = None
 
--- the fence of the dequeue, whatever was drawn
-abbrev pub dequeue_fence : Option Token → Fence
-dequeue_fence (Some (Lent queue token drawn)) = token.fence
-dequeue_fence (Some (Owing queue owed)) = owed.fence
-dequeue_fence other = no_points
-
 -- what a step waits for
 abbrev pub waited_fence : Holdings → Step → Option Fence
 waited_fence holdings (step.Wait t v) = Some (with_point no_points t v)
@@ -52,11 +46,11 @@ abbrev pub or_none : Option Fence → Fence
 or_none None = no_points
 or_none (Some fence) = fence
 
--- the points that a step shows to be signalled
+-- the points that a step shows to be signalled; where a picture is drawn over another, the first draw showed them
 abbrev pub shown_by : Holdings → Step → Answered → Fence
 shown_by holdings (step.Signal t v) _ = with_point no_points t v
 shown_by holdings (step.Wait t v) _ = with_point no_points t v
-shown_by holdings (step.Draw s p) (answered.Own status) = if status == 0 then dequeue_fence (name_in holdings s) else no_points
+shown_by holdings (step.Draw s p) (answered.Own status) = if status == 0 then or_none (undrawn_fence (name_in holdings s)) else no_points
 shown_by holdings (step.PDetach s b) (answered.Called reply) = or_none (requested_fence (name_in holdings s))
 shown_by holdings (step.CDetach i b) (answered.Called reply) = or_none (frame_fence (name_in holdings i))
 shown_by holdings s a = no_points

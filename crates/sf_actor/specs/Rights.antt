@@ -1,5 +1,5 @@
 -- The turns of tokens: which turn a call brings, and which turn its reply gives.
-use Rattle.std.specs.Prelude.{◌≡◌, ℕ, ◌==◌, Bool, true, false, List, Option, Some, None, Contains}
+use Rattle.std.specs.Prelude.{◌≡◌, ◌≢◌, ℕ, ◌==◌, Bool, true, false, List, Option, Some, None, Contains}
 use Rattle.sf_picture.specs.declared.picture.Picture.{Picture}
 use Rattle.sf_surface.specs.declared.call.Gives.{Gives}
 use Rattle.sf_surface.specs.declared.call.Gives.TheVariants as gives
@@ -11,6 +11,8 @@ use Rattle.sf_token.specs.Pending.{Arrival}
 use Rattle.sf_turns.specs.Views.{PermitView}
 use Rattle.sf_txn.specs.Buffers.{Buffer}
 use Rattle.std.specs.List.{All}
+use Rattle.sf_actor.specs.declared.holding.Holding.{Holding}
+use Rattle.sf_actor.specs.declared.holding.Holding.TheVariants as holding
 use Rattle.sf_actor.specs.Known.{Call, frame_of}
 use Rattle.sf_actor.specs.Names.{FrameOf}
 use Rattle.sf_actor.specs.Traces.{GivenAt, MadeStep, NoToken, Source, TakenFrame}
@@ -74,6 +76,13 @@ module _ {B : Type 0} where
   abbrev pub WasAcquired : (ℕ → List (Call B)) → FrameOf → Option Turn → Type 0
   WasAcquired calls frame turn =
       (made : Call B) × Contains (calls frame.0.0) made × Acquires frame turn made.made.call.1 made.made.reply.gives
+
+  -- A call gave the drawing that a name owes, just as it is owed; and a call acquired a frame that has a number.
+  abbrev pub IsOfCall : (ℕ → List (Call B)) → Holding B → Type 0
+  IsOfCall calls (holding.Lends lease) = Unit {0}
+  IsOfCall calls (holding.Owes owing held) = (queue : ℕ) × (made : Call B) × Contains (calls queue) made × (made.made.reply.gives ≡ gives.Owes owing)
+  IsOfCall calls (holding.Reads lease) = lease.frame ≢ 0 → WasAcquired calls (frame_of lease) (Some (turn_by lease.turn))
+  IsOfCall calls (holding.Frees queue loose) = Unit {0}
 
   -- the token that a call brings has the turn with which it was given
   abbrev pub IsFrom : (ℕ → List (Call B)) → Source → Option Turn → Type 0

@@ -18,6 +18,7 @@ use Rattle.sf_surface.specs.Drawing.{IsShort, MayEnter, Passes}
 use Rattle.sf_surface.specs.Tokens.{ReadLeaseOf}
 use Rattle.sf_times.specs.Seats.{all_loaded}
 use Rattle.sf_turns.specs.Counts.{stock_at}
+use Rattle.sf_txn.specs.Buffers.{Buffer}
 use Rattle.sf_txn.specs.Transactions.{Contents}
 use Rattle.sf_actor.specs.declared.done.Answered.TheVariants as answered
 use Rattle.sf_actor.specs.declared.done.Done.{Done}
@@ -27,12 +28,12 @@ use Rattle.sf_actor.specs.declared.tried.Reply.{Reply}
 use Rattle.sf_actor.specs.declared.tried.Stepped.{Stepped}
 use Rattle.sf_actor.specs.declared.tried.Stepped.TheVariants as stepped
 use Rattle.sf_actor.specs.Asking.{Asked, call_of}
-use Rattle.sf_actor.specs.Desks.{DeskHome, DeskView, WaitsForCall, known_of, looks}
+use Rattle.sf_actor.specs.Desks.{DeskHome, DeskView, WaitsForCall, has_queue, known_of, looks}
 use Rattle.sf_actor.specs.Keeping.{TraceKept}
 use Rattle.sf_actor.specs.Known.{Call, GoesOn, Share, share_of}
-use Rattle.sf_actor.specs.Parts.{PartsOf, ShowsPictures, plain_of, turn_held}
+use Rattle.sf_actor.specs.Parts.{PartsOf, ShowsPictures, plain_of, queue_held, turn_held}
 use Rattle.sf_actor.specs.Points.{detached_fence, waited_fence}
-use Rattle.sf_actor.specs.Rights.{HoldsAcquired, MadeWith, Turn, WasGivenAt}
+use Rattle.sf_actor.specs.Rights.{HoldsAcquired, IsOfCall, MadeWith, Turn, WasGivenAt}
 use Rattle.sf_actor.specs.Steps.{was_done}
 use Rattle.sf_actor.specs.Tests.{bad_value, refusal_of}
 use Rattle.sf_actor.specs.Traces.{Past, past_after}
@@ -81,23 +82,32 @@ module _ {B : Type 0} where
     pub enough : dequeues_in (drop (length actor.trace) actor.script.steps) ≤ length actor.parts.stock
 
   -- What an actor keeps: what its trace keeps; what it has is what the trace tells, each right being the one that was given
-  -- with the token; and the points that its steps showed are reached.
+  -- with the token, and each owed drawing and acquired frame that of a call; and the points that its steps showed are reached.
   pub record ActorKept (pictures : ℕ → Picture) (actor : ActorOf B) (share : Share B) : Type 0 where
     pub kept : TraceKept pictures actor.script actor.stock actor.trace actor.replies share
     pub has : plain_of actor.parts ≡ (past_of actor).holdings
     pub given : (name : ℕ) (held : Holding B) → held_in actor.parts name ≡ Some held → WasGivenAt share.calls (get_or (past_of actor).since name 0) (Some (turn_held held))
+    pub of_call : (name : ℕ) (held : Holding B) → held_in actor.parts name ≡ Some held → IsOfCall share.calls held
     pub acquired : (number : ℕ) (txn : Contents ReadLeaseOf) → contents_in actor.parts number ≡ Some txn → All (HoldsAcquired share.calls) txn.buffers
     pub shows : (name : ℕ) (held : Holding B) → held_in actor.parts name ≡ Some held → ShowsPictures pictures held
     pub reached : IsSignalled (past_of actor).shown share.values
     pub permits : ArePermits actor share
 
-  -- all that an actor keeps, of what a desk knows
-  abbrev pub Keeps : (ℕ → Picture) → DeskHome → ActorOf B → DeskView B → Type 0
-  Keeps pictures home actor view = ActorKept pictures actor (share_of actor.script.number (known_of home view))
+  -- the desk has the queue of each token and of each frame of a transaction
+  pub record AreThere (home : DeskHome) (parts : PartsOf B) : Type 0 where
+    pub names : (name : ℕ) (held : Holding B) → held_in parts name ≡ Some held → has_queue home (queue_held held).0 ≡ true
+    pub frames : (number : ℕ) (txn : Contents ReadLeaseOf) → contents_in parts number ≡ Some txn
+        → All (λ (buffer : Buffer ReadLeaseOf). has_queue home buffer.lease.queue.0 ≡ true) txn.buffers
+
+  -- all that an actor keeps, of what a desk has and knows
+  pub record Keeps (pictures : ℕ → Picture) (home : DeskHome) (actor : ActorOf B) (view : DeskView B) : Type 0 where
+    pub kept : ActorKept pictures actor (share_of actor.script.number (known_of home view))
+    pub there : AreThere home actor.parts
 
   -- a look at the timelines showed these values: at least all that was known, and where what is known is exact the greatest
   -- that were signalled
   pub record Sees (home : DeskHome) (old new : DeskView B) (seen : Seen) : Type 0 where
+    pub all : length seen.values ≡ 64
     pub shown : new.times ≡ all_loaded old.times (points_from 1 seen.values)
     pub known : (t : ℕ) → 1 ≤ t → t ≤ 64 → greatest t old.times.known ≤ value_of seen.values t
     pub exact : home.is_exact ≡ true → (t : ℕ) → 1 ≤ t → t ≤ 64 → value_of seen.values t ≡ greatest t old.times.signals
@@ -179,8 +189,8 @@ module _ {B : Type 0} where
         → waited_fence (past_of actor).holdings s ≡ Some fence → SeesSignalled home old new fence
         → IsShort (turn_held held).0 (turn_held held).1 old.turns new.turns → WhyNotYet pictures home actor old new s
 
-  -- a step that is not done leaves the actor, and no signal, turn, call or arrival; where what is known is not exact, the
-  -- desk looked
+  -- A step that is not done leaves the actor, and no signal, turn, call or arrival; where what is known is not exact, the
+  -- desk looked, and where it is exact, nobody called or sent.
   pub record LeavesStep (pictures : ℕ → Picture) (home : DeskHome) (old : ActorOf B) (before : DeskView B) (new : ActorOf B) (after : DeskView B) : Type 0 where
     pub next : Step
     pub step : next_step old ≡ Some next
@@ -192,9 +202,10 @@ module _ {B : Type 0} where
     pub looked : home.is_exact ≡ false → looks before < looks after
     pub calls : home.is_exact ≡ true → (queue : ℕ) → after.calls queue ≡ before.calls queue
     pub arrivals : after.arrivals ≡ before.arrivals
+    pub alone : home.is_exact ≡ true → (other : ℕ) → GoesOn other (known_of home before) (known_of home after)
 
   -- what a try tells; an actor that has done all its steps is left
   abbrev pub Tries : (ℕ → Picture) → DeskHome → ActorOf B → DeskView B → ActorOf B → DeskView B → Stepped → Type 0
-  Tries pictures home old before new after (stepped.Done reply) = DoesStep pictures home old before new after reply
+  Tries pictures home old before new after stepped.Done = (reply : Reply) × DoesStep pictures home old before new after reply
   Tries pictures home old before new after stepped.NotYet = LeavesStep pictures home old before new after
   Tries pictures home old before new after stepped.Ended = (new ≡ old) × (after ≡ before) × (next_step old ≡ None)

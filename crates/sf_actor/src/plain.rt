@@ -21,14 +21,21 @@ use std::alloc::Global;
 use std::marker::{Brand, Model};
 
 /// The desk of one thread. It has the queues, the arrivals and the timelines themselves, and the only
-/// seats, so that what it knows is exact; and it serves every caller.
+/// seats, so that what it knows is exact; and it serves every caller. A compositor of the same thread
+/// takes what arrived, looks through the seat at the turns, and calls the queues; it leaves both
+/// seats first ones with no other out.
 #[derive(Drop)]
 pub struct PlainDesk<B: TableName> {
-    queues: Vec<QueueObject<B>>,
-    arrivals: Arrivals<ReadLease<B>, Brand>,
-    table: Timelines,
-    times: TimeSeat,
-    turns: TurnSeat<Painted>,
+    /// The queues, with their histories.
+    pub queues: Vec<QueueObject<B>>,
+    /// The transactions that were sent.
+    pub arrivals: Arrivals<ReadLease<B>, Brand>,
+    /// The timelines.
+    pub table: Timelines,
+    /// The only seat at the timelines.
+    pub times: TimeSeat,
+    /// The only seat at the turns.
+    pub turns: TurnSeat<Painted>,
 }
 
 impl<B: TableName> Model for PlainDesk<B> {
@@ -115,13 +122,6 @@ impl<B: TableName> PlainDesk<B> {
             times,
             turns,
         }
-    }
-
-    /// The queues, with their histories.
-    pub fn queues(&self) -> &[QueueObject<B>]
-        ensures { result.now ≡ self.now.queues }
-    {
-        &self.queues
     }
 }
 

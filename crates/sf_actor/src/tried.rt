@@ -16,8 +16,8 @@ pub struct Reply {
 /// What a try of the next step did.
 #[derive(Drop)]
 pub enum Stepped {
-    /// The step is done.
-    Done(Reply),
+    /// The step is done. Its reply is the newest one.
+    Done,
     /// It is not time for the step yet.
     NotYet,
     /// All steps are done.
