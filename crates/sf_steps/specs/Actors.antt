@@ -1,0 +1,72 @@
+-- What contracts see of an actor. Its trace is not in its memory: contracts speak of each trace that fits what it has.
+use Rattle.std.specs.Prelude.{◌≡◌, ℕ, ◌≤◌, false, List, [], length, replicate, Option, None}
+use Rattle.atomic_table.specs.Seated.{TableId}
+use Rattle.sf_base.specs.declared.ids.ActorId.{ActorId}
+use Rattle.sf_picture.specs.declared.picture.Picture.{Picture}
+use Rattle.sf_scene.specs.declared.step.ActorScript.{ActorScript}
+use Rattle.sf_turns.specs.Counts.{stock_at}
+use Rattle.sf_turns.specs.Views.{StockView}
+use Rattle.sf_actor.specs.declared.tried.Stepped.{Stepped}
+use Rattle.sf_actor.specs.Desks.{DeskHome, DeskView, known_of}
+use Rattle.sf_actor.specs.Known.{share_of}
+use Rattle.sf_actor.specs.Parts.{PartsOf}
+use Rattle.sf_actor.specs.Tries.{ActorOf, Keeps, Tries, dequeues_in}
+use Rattle.sf_steps.specs.Forming.{AreOfTable, permits_of}
+use Rattle.sf_steps.specs.declared.actor.Actor.{Actor}
+use Rattle.sf_steps.specs.declared.hands.Hands.{Hands}
+
+module _ {B : Type 0} where
+  -- what an actor has in its hands, with the numbers of the buffers that it may still open
+  abbrev pub parts_of : Hands B → PartsOf B
+  parts_of hands = record { names = hands.names; transactions = hands.transactions; stock = permits_of hands }
+
+  -- hands that hold nothing but a stock
+  pub record HoldNothing (hands : Hands B) (by : ActorId) (stock : StockView) : Type 0 where
+    pub by_it : hands.by ≡ by
+    pub names : hands.names ≡ replicate 32 None
+    pub transactions : hands.transactions ≡ replicate 65 None
+    pub stock_whole : hands.stock ≡ stock
+    pub none_spare : hands.spare ≡ None
+
+  -- an actor that has done nothing
+  abbrev pub new_actor : ActorScript → List ℕ → ActorOf B
+  new_actor script stock = record {
+    script = script;
+    stock = stock;
+    parts = record { names = replicate 32 None; transactions = replicate 65 None; stock = stock };
+    trace = [];
+    replies = [];
+    spent = false;
+  }
+
+  -- a desk knows no call and no arrival of an actor, and a stock has enough permits for its dequeues, each once
+  pub record IsNew (home : DeskHome) (view : DeskView B) (script : ActorScript) (stock : List ℕ) : Type 0 where
+    pub no_calls : (queue : ℕ) → (share_of script.number (known_of home view)).calls queue ≡ []
+    pub no_arrivals : (share_of script.number (known_of home view)).arrivals ≡ []
+    pub once : (number : ℕ) → stock_at number stock ≤ 1
+    pub enough : dequeues_in script.steps ≤ length stock
+
+  -- an actor is what contracts see of it, with some trace of as many steps as it has replied to
+  pub record IsActor (table : TableId) (actor : Actor B) (of : ActorOf B) : Type 0 where
+    pub script : of.script ≡ actor.script
+    pub by_it : actor.hands.by.0 ≡ actor.script.number
+    pub parts : of.parts ≡ parts_of actor.hands
+    pub names : length actor.hands.names ≡ 32
+    pub numbers : length actor.hands.transactions ≡ 65
+    pub replies : of.replies ≡ actor.replies.items
+    pub trace : length of.trace ≡ length actor.replies.items
+    pub spent : of.spent ≡ actor.is_spent
+    pub of_table : AreOfTable table actor.hands
+
+  -- it keeps what it keeps, over what a desk has and knows
+  pub record IsKept (table : TableId) (pictures : ℕ → Picture) (home : DeskHome) (actor : Actor B) (view : DeskView B) : Type 0 where
+    pub of : ActorOf B
+    pub is : IsActor table actor of
+    pub keeps : Keeps pictures home of view
+
+  -- what a try of its next step comes to: it keeps what it keeps, and tells what it did
+  pub record Steps (table : TableId) (pictures : ℕ → Picture) (home : DeskHome) (old : ActorOf B) (before : DeskView B) (actor : Actor B) (after : DeskView B) (stepped : Stepped) : Type 0 where
+    pub new : ActorOf B
+    pub is : IsActor table actor new
+    pub keeps : Keeps pictures home new after
+    pub tries : Tries pictures home old before new after stepped

@@ -1,0 +1,11 @@
+pub mod Hands
+pub mod Calling
+pub mod Forming
+pub mod Doing
+pub mod Drawing
+pub mod Leaving
+pub mod Editing
+pub mod Actors
+pub mod Acting
+pub mod Playable
+pub mod Coming
