@@ -62,11 +62,11 @@ row_small row column w h low few narrow inside =
     omega (arith, above, next)
 
 -- a pixel of a row of a crop
-pub crop_pixel : (picture : Picture) (bytes : List ℕ) (rect : Rect) (across down : ℤ) (y left right column row base i : ℕ) → ShowsPicture picture bytes → LiesWithin rect picture.width picture.height → left < right → is_within across rect.width (pos left) ≡ true → is_within across rect.width (pos (right - 1)) ≡ true → is_within down rect.height (pos y) ≡ true → column ≡ unsigned ((pos left +ℤ neg_ℤ across) +ℤ rect.x) → row ≡ unsigned ((pos y +ℤ neg_ℤ down) +ℤ rect.y) → base + left ≤ i → i < base + right → pixel_in bytes ((row * picture.width + column) + (i - (base + left))) ≡ pixel_at picture (unsigned ((pos (i - base) +ℤ neg_ℤ across) +ℤ rect.x)) (unsigned ((pos y +ℤ neg_ℤ down) +ℤ rect.y))
-crop_pixel picture bytes rect across down y left right column row base i shows lies ordered first last within is_column is_row from to =
+pub crop_pixel : (picture : Picture) (bytes : List ℕ) (rect : Rect) (across down : ℤ) (y left right column row k : ℕ) → ShowsPicture picture bytes → LiesWithin rect picture.width picture.height → left < right → is_within across rect.width (pos left) ≡ true → is_within across rect.width (pos (right - 1)) ≡ true → is_within down rect.height (pos y) ≡ true → column ≡ unsigned ((pos left +ℤ neg_ℤ across) +ℤ rect.x) → row ≡ unsigned ((pos y +ℤ neg_ℤ down) +ℤ rect.y) → k < right - left → pixel_in bytes ((row * picture.width + column) + k) ≡ pixel_at picture (unsigned ((pos (left + k) +ℤ neg_ℤ across) +ℤ rect.x)) (unsigned ((pos y +ℤ neg_ℤ down) +ℤ rect.y))
+crop_pixel picture bytes rect across down y left right column row k shows lies ordered first last within is_column is_row low_k =
     let narrow = columns_below left right rect.width picture.width column across rect.x ordered first last lies.across.low lies.across.high is_column in
     let low : row < picture.height = rw is_row (place_below y rect.height picture.height down rect.y within lies.down.low lies.down.high) in
-    let moved = place_moved left (i - base) rect.width across rect.x (omega arith) first lies.across.low in
-    let there : unsigned ((pos (i - base) +ℤ neg_ℤ across) +ℤ rect.x) ≡ column + (i - (base + left)) = omega (arith, moved, is_column, from) in
-    let at : (row * picture.width + column) + (i - (base + left)) ≡ row * picture.width + (column + (i - (base + left))) = omega arith in
-    rw (at, there, sym is_row) (shows.pixels (column + (i - (base + left))) row (omega (arith, narrow, from, to)) low)
+    let moved = place_moved left (left + k) rect.width across rect.x (omega arith) first lies.across.low in
+    let there : unsigned ((pos (left + k) +ℤ neg_ℤ across) +ℤ rect.x) ≡ column + k = omega (arith, moved, is_column) in
+    let at : (row * picture.width + column) + k ≡ row * picture.width + (column + k) = omega arith in
+    rw (at, there, sym is_row) (shows.pixels (column + k) row (omega (arith, narrow, low_k)) low)

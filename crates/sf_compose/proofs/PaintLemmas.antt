@@ -10,7 +10,7 @@ use Rattle.sf_base.specs.Paint.{painted}
 use Rattle.sf_base.specs.Bytes.{pixel_in}
 use Rattle.sf_damage.proofs.VisibleLemmas.{nothing-left}
 use Rattle.sf_view.specs.Image.{opaque_black}
-use Rattle.sf_compose.specs.Frames.{is_in_box, Repaints}
+use Rattle.sf_compose.specs.Frames.{is_in_box}
 use Rattle.sf_compose.specs.Painting.{Paints, PaintsSpan}
 
 -- no point
@@ -120,17 +120,6 @@ Paints-row w base left right y start f g old new is first ordered narrow span sa
 pub painted-black : (under : Rgba) → painted under opaque_black 255 ≡ opaque_black
 unfolding painted blended product
 painted-black under = rw (nothing-left under.r, nothing-left under.g, nothing-left under.b, nothing-left under.a) refl
-
--- layers over a ground are an image
-pub Repaints-paints : (w base bottom : ℕ) (p q : ℕ → ℕ → Bool) (f g : ℕ → ℕ → Rgba → Rgba) (image : ℕ → ℕ → Rgba) (old mid new : List ℕ) → Paints w base p f old mid → Paints w base p g mid new → ((x y : ℕ) → x < w → base ≤ y → y < bottom → q x y ≡ p x y) → ((x y : ℕ) (under : Rgba) → p x y ≡ true → g x y (f x y under) ≡ image x y) → Repaints w base bottom q image old new
-Repaints-paints w base bottom p q f g image old mid new a b tests paints = record {
-  size = b.size ∙ a.size;
-  pixels = λ x y wide low high. by_test x y wide low high (p x y) refl;
-}
-  where
-    by_test : (x y : ℕ) → x < w → base ≤ y → y < bottom → (s : Bool) → p x y ≡ s → pixel_in new ((y - base) * w + x) ≡ (if q x y then image x y else pixel_in old ((y - base) * w + x))
-    by_test x y wide low high true s = rw (tests x y wide low high, s) ((rw s at (b.pixels x y wide low)) ∙ (ap (g x y) (rw s at (a.pixels x y wide low)) ∙ paints x y (pixel_in old ((y - base) * w + x)) s))
-    by_test x y wide low high false s = rw (tests x y wide low high, s) ((rw s at (b.pixels x y wide low)) ∙ (rw s at (a.pixels x y wide low)))
 
 pub rows_apart : (left right top y a b : ℕ) → is_in_box left right top y a b ≡ true → is_in_box left right y (y + 1) a b ≡ false
 rows_apart left right top y a b t = grind (arith, nat_tests)

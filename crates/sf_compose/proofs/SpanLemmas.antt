@@ -59,3 +59,12 @@ PaintsSpan-same old new start end f g a same = record {
 
 pub moved_back : (start k : ℕ) → (start + k) - start ≡ k
 moved_back start k = omega arith
+
+-- what is painted on a span changes nothing beside it
+pub PaintsSpan-touched : (old new : List ℕ) (start end : ℕ) (f : ℕ → Rgba → Rgba) → PaintsSpan old new start end f → PaintsSpan old new start end (λ i under. pixel_in new i)
+PaintsSpan-touched old new start end f a = record {
+  size = a.size;
+  inside = λ i from to. refl;
+  below = a.below;
+  above = a.above;
+}

@@ -1,9 +1,7 @@
 -- What hides the ground of an area: a drawn layer that leaves nothing of what lies below.
-use Rattle.std.specs.Prelude.{ℕ, ℤ, pos, ◌+ℤ◌, int_le, nat_eq, Bool, false, ◌&&◌, ◌||◌, if◌then◌else◌, List}
-use Rattle.std.specs.List.{list_any}
-use Rattle.sf_base.specs.declared.pixel.Rgba.{Rgba}
+use Rattle.std.specs.Prelude.{ℕ, ℤ, pos, ◌+ℤ◌, int_le, nat_eq, Bool, false, not, ◌&&◌, ◌||◌}
+use Rattle.sf_base.specs.declared.geometry.Rect.{Rect}
 use Rattle.sf_compose.specs.declared.area.Area.{Area}
-use Rattle.sf_view.specs.Image.{opaque_black}
 use Rattle.sf_view.specs.declared.content.Content.{Content}
 use Rattle.sf_view.specs.declared.content.Content.TheVariants as content
 use Rattle.sf_view.specs.declared.drawn.Drawn.{Drawn}
@@ -21,10 +19,14 @@ is_solid drawn = nat_eq drawn.alpha 255 && (drawn.opaque || is_solid_colour draw
 abbrev pub spans : ℤ → ℕ → ℕ → ℕ → Bool
 spans start extent first end = int_le start (pos first) && int_le (pos end) (start +ℤ pos extent)
 
--- a drawn layer hides the ground at each point of an area
-abbrev pub hides : Area → Drawn → Bool
-hides area drawn = is_solid drawn && (spans drawn.clip.x drawn.clip.width area.left area.right && spans drawn.clip.y drawn.clip.height area.top area.bottom)
+-- a rectangle has each point of an area
+abbrev pub has_area : Area → Rect → Bool
+has_area area rect = spans rect.x rect.width area.left area.right && spans rect.y rect.height area.top area.bottom
 
--- the ground of an area under drawn layers: where one of them hides it, what was there may stay
-unfoldable pub ground_under : Area → List Drawn → Rgba → Rgba
-ground_under area layers under = if list_any (hides area) layers then under else opaque_black
+-- a drawn layer hides the ground at each point of an area, whatever its pixels are
+abbrev pub hides : Area → Drawn → Bool
+hides area drawn = is_solid drawn && has_area area drawn.clip
+
+-- it hides the ground there if the alphas of its pixels are 255
+abbrev pub may_hide : Area → Drawn → Bool
+may_hide area drawn = (nat_eq drawn.alpha 255 && not drawn.opaque) && has_area area drawn.clip

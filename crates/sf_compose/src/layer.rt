@@ -1,21 +1,26 @@
-ghost use Rattle.std.specs.Prelude.{◌≡◌, ◌+◌, ◌-◌, ◌*◌, ◌<◌, ◌≤◌, ℕ, length, map, pos, true, ◌&&◌, ◌≤ℤ◌, ◌+ℤ◌, neg_ℤ};
+ghost use Rattle.std.specs.Prelude.{◌≡◌, ◌+◌, ◌-◌, ◌*◌, ◌<◌, ◌≤◌, ℕ, length, map, pos, true, IsTrue, ◌&&◌, ◌≤ℤ◌, ◌+ℤ◌, neg_ℤ};
+ghost use Rattle.std.specs.List.{between};
 ghost use Rattle.sf_base.specs.Paint.{painted};
+ghost use Rattle.sf_base.specs.Bytes.{pixel_in};
+ghost use Rattle.sf_base.specs.declared.pixel.Rgba.{Rgba as RgbaValue};
 ghost use Rattle.sf_compose.specs.Bands.{HasRows, IsInBand};
+ghost use Rattle.sf_compose.specs.Begun.{Spares};
 ghost use Rattle.sf_compose.specs.Painting.{is_in_area, Paints, PaintsSpan};
 ghost use Rattle.sf_compose.specs.Readings.{AreReadable, IsReadable, under_drawn, under_one};
+ghost use Rattle.sf_compose.specs.Seen.{ArePaintable, IsPaintable};
 ghost use Rattle.sf_picture.specs.Pixels.{pixel_at};
 ghost use Rattle.sf_base.specs.Geometry.{is_within, LiesWithin};
-ghost use Rattle.sf_view.specs.Contents.{is_in_content, source_of, unsigned};
-ghost use Rattle.sf_view.specs.Views.{is_in_clip};
+ghost use Rattle.sf_view.specs.Contents.{source_of, unsigned};
 
 use crate::area::{Area, cut};
 use crate::band::{Band, row_start};
 use crate::contents::read;
+use crate::ground::may_hide;
 use crate::pixels::Pixels;
-use crate::spans::{paint_colour, paint_pixels};
+use crate::spans::{copy_pixels, paint_colour, paint_pixels};
 use sf_base::{Rect, Rgba};
 use sf_picture::Painted;
-use sf_view::{Content, Drawn, View};
+use sf_view::{Content, Drawn};
 
 // Paints a colour over an area.
 pub fn paint_area(frame: &mut [u8], band: Band, area: Area, colour: Rgba, alpha: u8)
@@ -56,6 +61,47 @@ fn coordinate(at: u32, place: i32, edge: i32) -> usize
     (i64::from(at) - i64::from(place) + i64::from(edge)) as usize
 }
 
+// The number of the picture's pixel that a crop shows at a point of a row from one on and before
+// another: that of the first. The others follow it.
+fn crop_start(picture: &Painted, crop: Crop, y: u32, left: u32, right: u32) -> usize
+    requires crop { LiesWithin crop.rect picture.now.width picture.now.height }
+    requires ordered { left < right }
+    requires first { is_within crop.place.0 crop.rect.width (pos left) ≡ true }
+    requires last { is_within crop.place.0 crop.rect.width (pos (right - 1)) ≡ true }
+    requires down { is_within crop.place.1 crop.rect.height (pos y) ≡ true }
+    ensures place { result ≡ unsigned ((pos y +ℤ neg_ℤ crop.place.1) +ℤ crop.rect.y) * picture.now.width
+        + unsigned ((pos left +ℤ neg_ℤ crop.place.0) +ℤ crop.rect.x) }
+    ensures room { result + (right - left) ≤ picture.now.width * picture.now.height }
+{
+    let column = coordinate(left, crop.place.0, crop.rect.x);
+    let row = coordinate(y, crop.place.1, crop.rect.y);
+    row * picture.picture().width as usize + column
+}
+
+// So many pixels of bytes, from one on.
+fn pixels_from(bytes: &[u8], from: usize, count: usize) -> &[u8]
+    requires { 4 * (from + count) ≤ length bytes.now }
+    ensures { result.now ≡ between (4 * from) (4 * (from + count)) bytes.now }
+{
+    &bytes[4 * from..4 * (from + count)]
+}
+
+// The pixels of a crop at the points of a row from one on and before another.
+fn crop_row(picture: &Painted, crop: Crop, y: u32, left: u32, right: u32) -> &[u8]
+    requires crop { LiesWithin crop.rect picture.now.width picture.now.height }
+    requires ordered { left < right }
+    requires first { is_within crop.place.0 crop.rect.width (pos left) ≡ true }
+    requires last { is_within crop.place.0 crop.rect.width (pos (right - 1)) ≡ true }
+    requires down { is_within crop.place.1 crop.rect.height (pos y) ≡ true }
+    ensures size { length result.now ≡ 4 * (right - left) }
+    ensures pixels { (k : ℕ) → k < right - left → pixel_in result.now k ≡ pixel_at picture.now
+        (unsigned ((pos (left + k) +ℤ neg_ℤ crop.place.0) +ℤ crop.rect.x))
+        (unsigned ((pos y +ℤ neg_ℤ crop.place.1) +ℤ crop.rect.y)) }
+{
+    let from = crop_start(picture, crop, y, left, right);
+    pixels_from(picture.bytes(), from, (right - left) as usize)
+}
+
 // Paints the points of a row from one on and before another, where the row starts at a pixel of the frame.
 fn paint_crop_row(
     picture: &Painted,
@@ -77,18 +123,42 @@ fn paint_crop_row(
         (unsigned ((pos (i - start) +ℤ neg_ℤ crop.place.0) +ℤ crop.rect.x))
         (unsigned ((pos y +ℤ neg_ℤ crop.place.1) +ℤ crop.rect.y)))) crop.alpha) }
 {
-    let column = coordinate(left, crop.place.0, crop.rect.x);
-    let row = coordinate(y, crop.place.1, crop.rect.y);
-    let from = row * picture.picture().width as usize + column;
+    let row = crop_row(picture, crop, y, left, right);
     paint_pixels(
         frame,
         start + left as usize,
         start + right as usize,
-        picture.bytes(),
-        from,
+        row,
         crop.opaque,
         crop.alpha,
     );
+}
+
+// Copies the points of such a row, and tells whether all of them hide what was there. If not, some of
+// them may be copied.
+fn copy_crop_row(
+    picture: &Painted,
+    crop: Crop,
+    frame: &mut [u8],
+    start: usize,
+    y: u32,
+    left: u32,
+    right: u32,
+) -> bool
+    requires crop { LiesWithin crop.rect picture.now.width picture.now.height }
+    requires ordered { left < right }
+    requires first { is_within crop.place.0 crop.rect.width (pos left) ≡ true }
+    requires last { is_within crop.place.0 crop.rect.width (pos (right - 1)) ≡ true }
+    requires down { is_within crop.place.1 crop.rect.height (pos y) ≡ true }
+    requires room { 4 * (start + right) ≤ length frame.old }
+    ensures touched { PaintsSpan frame.old frame.new (start + left) (start + right) (λ i under. pixel_in frame.new i) }
+    ensures copied { IsTrue result → (ground : ℕ → RgbaValue) → PaintsSpan frame.old frame.new (start + left) (start + right) (λ i under.
+        painted (ground i) (pixel_at picture.now
+        (unsigned ((pos (i - start) +ℤ neg_ℤ crop.place.0) +ℤ crop.rect.x))
+        (unsigned ((pos y +ℤ neg_ℤ crop.place.1) +ℤ crop.rect.y))) 255) }
+{
+    let row = crop_row(picture, crop, y, left, right);
+    copy_pixels(frame, start + left as usize, start + right as usize, row)
 }
 
 // Paints a crop over an area that it covers.
@@ -112,6 +182,32 @@ fn paint_crop(picture: &Painted, crop: Crop, frame: &mut [u8], band: Band, area:
     }
 }
 
+// Copies a crop over an area that it covers, and tells whether each of its pixels hides what was
+// there. If not, some of them may be copied.
+fn copy_crop(picture: &Painted, crop: Crop, frame: &mut [u8], band: Band, area: Area) -> bool
+    requires crop { LiesWithin crop.rect picture.now.width picture.now.height }
+    requires inside { (x y : ℕ) → is_in_area area x y ≡ true
+        → (is_within crop.place.0 crop.rect.width (pos x) && is_within crop.place.1 crop.rect.height (pos y)) ≡ true }
+    requires within { IsInBand band area }
+    requires room { HasRows band frame.old }
+    ensures spared { Spares band.width band.top (is_in_area area) frame.old frame.new }
+    ensures copied { IsTrue result → (ground : ℕ → ℕ → RgbaValue) → Paints band.width band.top (is_in_area area) (λ x y under.
+        painted (ground x y) (pixel_at picture.now
+        (unsigned ((pos x +ℤ neg_ℤ crop.place.0) +ℤ crop.rect.x))
+        (unsigned ((pos y +ℤ neg_ℤ crop.place.1) +ℤ crop.rect.y))) 255) frame.old frame.new }
+{
+    if area.left >= area.right || area.top >= area.bottom {
+        return false;
+    }
+    for y in area.top..area.bottom {
+        let row = row_start(band, y);
+        if !copy_crop_row(picture, crop, frame, row, y, area.left, area.right) {
+            return false;
+        }
+    }
+    true
+}
+
 // A colour as its layer shows it: the alpha of an opaque layer's counts as 255.
 fn seen_colour(colour: Rgba, opaque: bool) -> Rgba
     ensures { result ≡ source_of opaque colour }
@@ -133,9 +229,7 @@ pub fn paint_layer<C: Pixels>(
     area: Area,
 )
     requires readable { IsReadable (map C.picture contents.now) drawn.now.content source }
-    requires upright { drawn.now.orient ≡ 0 }
-    requires inside { (x y : ℕ) → is_in_clip drawn.now (pos x) (pos y) ≡ true →
-        is_in_content drawn.now.content drawn.now.orient drawn.now.place (pos x) (pos y) ≡ true }
+    requires paintable { IsPaintable drawn.now }
     requires within { IsInBand band area }
     requires room { HasRows band frame.old }
     ensures { Paints band.width band.top (is_in_area area) (λ x y under.
@@ -159,22 +253,58 @@ pub fn paint_layer<C: Pixels>(
     }
 }
 
-// Paints the drawn layers of a view over an area, from the back.
+// Copies what a drawn layer shows over an area, and tells whether it hides what was there at each
+// point of it. If not, some points of the area may be copied.
+pub fn copy_layer<C: Pixels>(
+    drawn: &Drawn,
+    contents: &[C],
+    source: u32,
+    frame: &mut [u8],
+    band: Band,
+    area: Area,
+) -> bool
+    requires readable { IsReadable (map C.picture contents.now) drawn.now.content source }
+    requires paintable { IsPaintable drawn.now }
+    requires within { IsInBand band area }
+    requires room { HasRows band frame.old }
+    ensures spared { Spares band.width band.top (is_in_area area) frame.old frame.new }
+    ensures copied { IsTrue result → (ground : ℕ → ℕ → RgbaValue) → Paints band.width band.top (is_in_area area) (λ x y under.
+        under_one (map C.picture contents.now) (pos x) (pos y) (ground x y) drawn.now source) frame.old frame.new }
+{
+    if !may_hide(drawn, area) {
+        return false;
+    }
+    match drawn.content {
+        Content::Colour(_) => false,
+        Content::Buffer(shown) => {
+            let crop = Crop {
+                rect: shown.crop,
+                place: drawn.place,
+                opaque: false,
+                alpha: 255,
+            };
+            copy_crop(read(contents, source), crop, frame, band, area)
+        }
+    }
+}
+
+// Paints drawn layers over an area, from the back.
 pub fn paint_layers<C: Pixels>(
-    view: &View,
+    layers: &[Drawn],
     contents: &[C],
     sources: &[u32],
     band: Band,
     area: Area,
     frame: &mut [u8],
 )
-    requires readable { AreReadable (map C.picture contents.now) view.now.drawn sources.now }
+    requires readable { AreReadable (map C.picture contents.now) layers.now sources.now }
+    requires paintable { ArePaintable layers.now }
     requires within { IsInBand band area }
     requires room { HasRows band frame.old }
     ensures { Paints band.width band.top (is_in_area area) (λ x y under.
-        under_drawn (map C.picture contents.now) (pos x) (pos y) under view.now.drawn sources.now) frame.old frame.new }
+        under_drawn (map C.picture contents.now) (pos x) (pos y) under layers.now sources.now) frame.old frame.new }
 {
-    for (drawn, source) in view.drawn.as_slice().iter().zip(sources) {
+    for (drawn, source) in layers.iter().zip(sources) {
         paint_layer(drawn, contents, *source, frame, band, area);
     }
 }

@@ -1,10 +1,13 @@
 //! The image of a view: the drawn layers painted over one another, from the back, into the bytes
 //! of a frame. It is the last step of a frame's way: what a vsync latched is composed here, and
-//! only in the part that is asked for. Each layer goes row by row, one call of a row kernel for each.
+//! only in the part that is asked for. It is composed in slices of rows, all layers one after another
+//! in each. Each layer goes row by row, one call of a row kernel for each, and a slice begins with the
+//! topmost layer that hides all of it.
 #![tactic(auto)]
 
 mod area;
 mod band;
+mod begin;
 mod contents;
 mod crew;
 mod ground;
@@ -13,6 +16,8 @@ mod layer;
 mod one;
 mod pixels;
 mod seen;
+mod slices;
+mod solid;
 mod spans;
 mod whole;
 

@@ -1,4 +1,4 @@
-ghost use Rattle.std.specs.Prelude.{◌≡◌, ◌*◌, ◌≤◌, ◌&&◌, length, map, OnErr, OnOk, pos};
+ghost use Rattle.std.specs.Prelude.{◌≡◌, ◌*◌, ◌≤◌, ◌&&◌, length, map, drop, OnErr, OnOk, pos};
 ghost use Rattle.sf_base.specs.Geometry.{covers};
 ghost use Rattle.sf_compose.specs.Bands.{HasRows, IsInBand};
 ghost use Rattle.sf_compose.specs.Frames.{KeepsRest, Repaints, ShowsPart};
@@ -8,12 +8,14 @@ ghost use Rattle.sf_compose.specs.Seen.{ArePaintable, IsPaintable};
 ghost use Rattle.sf_damage.specs.Visible.{AreVisible};
 ghost use Rattle.sf_region.specs.Canonical.{IsDisjoint};
 ghost use Rattle.sf_region.specs.Points.{has};
+ghost use Rattle.sf_view.specs.Image.{opaque_black};
 
 use crate::area::{Area, cut};
 use crate::band::{Band, all_rows, area_of};
-use crate::ground::paint_ground;
+use crate::begin::begin;
 use crate::layer::paint_layer;
 use crate::pixels::Pixels;
+use crate::slices::{rows_at_once, slice_from};
 use sf_base::{NoMemory, Rect};
 use sf_region::Region;
 use sf_view::{Drawn, View};
@@ -74,6 +76,85 @@ fn paint_seen<C: Pixels>(
     paint_seen(above, contents, later, others, frame, band, area);
 }
 
+// Paints drawn layers from a number on over an area, from the back, each only where it shows.
+fn paint_seen_from<C: Pixels>(
+    first: usize,
+    layers: &[Drawn],
+    contents: &[C],
+    sources: &[u32],
+    shows: &[Region],
+    band: Band,
+    area: Area,
+    frame: &mut [u8],
+)
+    requires few { first ≤ length layers.now }
+    requires few_sources { first ≤ length sources.now }
+    requires few_shows { first ≤ length shows.now }
+    requires readable { AreReadable (map C.picture contents.now) layers.now sources.now }
+    requires paintable { ArePaintable layers.now }
+    requires visible { AreVisible layers.now shows.now }
+    requires within { IsInBand band area }
+    requires room { HasRows band frame.old }
+    ensures { Paints band.width band.top (is_in_area area) (λ x y under.
+        under_drawn (map C.picture contents.now) (pos x) (pos y) under (drop first layers.now) (drop first sources.now)) frame.old frame.new }
+{
+    let (layers, sources) = (&layers[first..], &sources[first..]);
+    let shows = &shows[first..];
+    paint_seen(layers, contents, sources, shows, frame, band, area);
+}
+
+// Composes an area, layer after layer, of each only what shows.
+fn compose_slice_seen<C: Pixels>(
+    layers: &[Drawn],
+    contents: &[C],
+    sources: &[u32],
+    shows: &[Region],
+    band: Band,
+    area: Area,
+    frame: &mut [u8],
+)
+    requires readable { AreReadable (map C.picture contents.now) layers.now sources.now }
+    requires paintable { ArePaintable layers.now }
+    requires visible { AreVisible layers.now shows.now }
+    requires within { IsInBand band area }
+    requires room { HasRows band frame.old }
+    ensures { Paints band.width band.top (is_in_area area) (λ x y under.
+        under_drawn (map C.picture contents.now) (pos x) (pos y) opaque_black layers.now sources.now) frame.old frame.new }
+{
+    let first = begin(layers, contents, sources, band, area, frame);
+    paint_seen_from(first, layers, contents, sources, shows, band, area, frame);
+}
+
+// Composes an area, slice by slice, of each layer only what shows.
+fn compose_area_seen<C: Pixels>(
+    layers: &[Drawn],
+    contents: &[C],
+    sources: &[u32],
+    shows: &[Region],
+    band: Band,
+    area: Area,
+    frame: &mut [u8],
+)
+    requires readable { AreReadable (map C.picture contents.now) layers.now sources.now }
+    requires paintable { ArePaintable layers.now }
+    requires visible { AreVisible layers.now shows.now }
+    requires within { IsInBand band area }
+    requires room { HasRows band frame.old }
+    ensures { Paints band.width band.top (is_in_area area) (λ x y under.
+        under_drawn (map C.picture contents.now) (pos x) (pos y) opaque_black layers.now sources.now) frame.old frame.new }
+{
+    if area.left >= area.right || area.top >= area.bottom {
+        return;
+    }
+    let rows = rows_at_once(area);
+    let mut top = area.top;
+    while top < area.bottom {
+        let slice = slice_from(area, top, rows);
+        compose_slice_seen(layers, contents, sources, shows, band, slice, frame);
+        top = slice.bottom;
+    }
+}
+
 // Composes the points of a band that lie in a rectangle, of each layer only what shows.
 fn compose_rect_seen<C: Pixels>(
     view: &View,
@@ -91,9 +172,15 @@ fn compose_rect_seen<C: Pixels>(
         (read_image (map C.picture contents.now) view.now sources.now) frame.old frame.new }
 {
     let area = cut(area_of(band), rect);
-    let layers = view.drawn.as_slice();
-    paint_ground(frame, band, area, layers);
-    paint_seen(layers, contents, sources, shows, frame, band, area);
+    compose_area_seen(
+        view.drawn.as_slice(),
+        contents,
+        sources,
+        shows,
+        band,
+        area,
+        frame,
+    );
 }
 
 // Composes the points of a band that lie in a part, of each layer only what shows.

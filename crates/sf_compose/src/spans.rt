@@ -1,9 +1,11 @@
-ghost use Rattle.std.specs.Prelude.{◌≡◌, ◌+◌, ◌-◌, ◌*◌, ◌≤◌, length, true};
+ghost use Rattle.std.specs.Prelude.{◌≡◌, ℕ, ◌-◌, ◌*◌, ◌≤◌, length, true, IsTrue};
 ghost use Rattle.sf_base.specs.Paint.{painted};
 ghost use Rattle.sf_compose.specs.Painting.{PaintsSpan};
 ghost use Rattle.sf_base.specs.Bytes.{pixel_in};
+ghost use Rattle.sf_base.specs.declared.pixel.Rgba.{Rgba as RgbaValue};
 ghost use Rattle.sf_view.specs.Contents.{source_of};
 
+use crate::solid::copy_solid;
 use sf_base::Rgba;
 use sf_rows::{blend_colour, blend_row, blend_row_opaque};
 
@@ -36,27 +38,30 @@ fn paint_row_opaque(frame: &mut [u8], start: usize, end: usize, row: &[u8], alph
     blend_row_opaque(&mut frame[4 * start..4 * end], row, alpha);
 }
 
-// Paints the pixels of a source from one number on over those of a frame from one on and before
-// another.
-pub fn paint_pixels(
-    frame: &mut [u8],
-    start: usize,
-    end: usize,
-    source: &[u8],
-    from: usize,
-    opaque: bool,
-    alpha: u8,
-)
+// Paints pixels, which may count as opaque, over those from one number on and before another.
+pub fn paint_pixels(frame: &mut [u8], start: usize, end: usize, row: &[u8], opaque: bool, alpha: u8)
     requires ordered { start ≤ end }
     requires within { 4 * end ≤ length frame.old }
-    requires source { 4 * (from + (end - start)) ≤ length source.now }
+    requires same { length row.now ≡ 4 * end - 4 * start }
     ensures { PaintsSpan frame.old frame.new start end
-        (λ i under. painted under (source_of opaque (pixel_in source.now (from + (i - start)))) alpha) }
+        (λ i under. painted under (source_of opaque (pixel_in row.now (i - start))) alpha) }
 {
-    let row = &source[4 * from..4 * (from + (end - start))];
     if opaque {
         paint_row_opaque(frame, start, end, row, alpha);
     } else {
         paint_row(frame, start, end, row, alpha);
     }
+}
+
+// Copies pixels over those from one number on and before another, and tells whether all of them hide
+// what was there. If not, some of them may be copied.
+pub fn copy_pixels(frame: &mut [u8], start: usize, end: usize, row: &[u8]) -> bool
+    requires ordered { start ≤ end }
+    requires within { 4 * end ≤ length frame.old }
+    requires same { length row.now ≡ 4 * end - 4 * start }
+    ensures touched { PaintsSpan frame.old frame.new start end (λ i under. pixel_in frame.new i) }
+    ensures copied { IsTrue result → (ground : ℕ → RgbaValue) → PaintsSpan frame.old frame.new start end
+        (λ i under. painted (ground i) (pixel_in row.now (i - start)) 255) }
+{
+    copy_solid(&mut frame[4 * start..4 * end], row)
 }

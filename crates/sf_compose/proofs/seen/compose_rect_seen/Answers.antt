@@ -1,22 +1,19 @@
-use Rattle.std.proofs.Common.{◌≡◌, ◌∙◌, List, map, pos, ap, sym, subst}
+use Rattle.std.proofs.Common.{◌≡◌, ◌∙◌, List, map, pos, ap, refl, sym, subst}
 use Rattle.sf_base.specs.Geometry.{covers}
+use Rattle.sf_view.specs.Image.{opaque_black}
 use Rattle.sf_view.specs.Views.{ViewOf}
 use Rattle.sf_view.specs.declared.drawn.Drawn.{Drawn}
-use Rattle.sf_compose.specs.Ground.{ground_under}
 use Rattle.sf_compose.specs.Painting.{is_in_area, Paints}
 use Rattle.sf_compose.specs.Readings.{read_image, under_drawn}
-use Rattle.sf_compose.proofs.GroundLemmas.{ground_enough}
-use Rattle.sf_compose.proofs.PaintLemmas.{Repaints-paints}
+use Rattle.sf_compose.proofs.BegunLemmas.{Repaints-area}
 use Rattle.sf_compose.proofs.seen.compose_rect_seen.Goals as goal
 
 pub returns : goal.returns
 unfolding covers read_image
 returns g c =
-    let layers : c.as_slice-layers.result.now ≡ c.args.view.now.drawn = c.as_slice-layers.ensures ∙ ap (λ (v : ViewOf). v.drawn) c.view.view_is in
-    let ground : Paints c.args.band.width c.args.band.top (is_in_area c.cut-area.result) (λ x y under. ground_under c.cut-area.result c.args.view.now.drawn under) c.args.frame.now c.paint_ground.new.frame =
-    subst (λ (drawn : List Drawn). Paints c.args.band.width c.args.band.top (is_in_area c.cut-area.result) (λ x y under. ground_under c.cut-area.result drawn under) c.args.frame.now c.paint_ground.new.frame) layers c.paint_ground.ensures in
-    let seen : Paints c.args.band.width c.args.band.top (is_in_area c.cut-area.result) (λ x y under. under_drawn (map g.C.Pixels.picture c.args.contents.now) (pos x) (pos y) under c.args.view.now.drawn c.args.sources.now) c.paint_ground.new.frame c.paint_seen.new.frame =
-    subst (λ (drawn : List Drawn). Paints c.args.band.width c.args.band.top (is_in_area c.cut-area.result) (λ x y under. under_drawn (map g.C.Pixels.picture c.args.contents.now) (pos x) (pos y) under drawn c.args.sources.now) c.paint_ground.new.frame c.paint_seen.new.frame) layers c.paint_seen.ensures in
-    Repaints-paints _ _ _ (is_in_area c.cut-area.result) _ _ _ _ _ _ _ ground seen
+    let layers : c.as_slice.result.now ≡ c.args.view.now.drawn = c.as_slice.ensures ∙ ap (λ (v : ViewOf). v.drawn) c.view.view_is in
+    let painted : Paints c.args.band.width c.args.band.top (is_in_area c.cut-area.result) (λ x y under. under_drawn (map g.C.Pixels.picture c.args.contents.now) (pos x) (pos y) opaque_black c.args.view.now.drawn c.args.sources.now) c.args.frame.now c.compose_area_seen.new.frame =
+    subst (λ (drawn : List Drawn). Paints c.args.band.width c.args.band.top (is_in_area c.cut-area.result) (λ x y under. under_drawn (map g.C.Pixels.picture c.args.contents.now) (pos x) (pos y) opaque_black drawn c.args.sources.now) c.args.frame.now c.compose_area_seen.new.frame) layers c.compose_area_seen.ensures in
+    Repaints-area _ _ _ (is_in_area c.cut-area.result) _ _ _ _ _ painted
     (λ x y wide low high. sym (rw (c.area_of.ensures.points x y wide low high) at (c.cut-area.ensures.points x y)))
-    (λ x y under t. ground_enough (map g.C.Pixels.picture c.args.contents.now) c.cut-area.result c.args.view.now.drawn c.args.sources.now x y under c.requires.readable t)
+    (λ x y under. refl)
