@@ -1,5 +1,6 @@
 -- What a step does that none of its own tests refuses.
-use Rattle.std.specs.Prelude.{◌≡◌, ◌≢◌, ℕ, ◌+◌, ◌-◌, ◌<◌, ◌≤◌, Bool, true, List, [], ◌∷◌, ◌++◌, get_or, is_some, length, if◌then◌else◌, nat_lt, slice_index, Option, Some, None}
+use Rattle.std.specs.Prelude.{◌≡◌, ◌≢◌, ℕ, ◌+◌, ◌-◌, ◌<◌, ◌≤◌, true, if◌then◌else◌, nat_lt}
+use Rattle.std.specs.Prelude.{[], ◌∷◌, ◌++◌, get_or, length, slice_index, Option, Some, None, is_some}
 use Rattle.atomic_table.specs.Seated.{TableId}
 use Rattle.sf_base.specs.declared.fences.Seen.{Seen}
 use Rattle.sf_picture.specs.declared.picture.Picture.{Picture}
@@ -55,10 +56,12 @@ module _ {B : Type 0} where
   Acts pictures home by place (step.Signal timeline value) before after old new came_to = Signals timeline value before after old new came_to
   Acts pictures home by place (step.Wait timeline value) before after old new came_to = Waits home timeline value before after old new came_to
   Acts pictures home by place (step.Tx number) before after old new came_to = Changes (after ≡ with_txn before number (Some empty)) old new came_to
-  Acts pictures home by place (step.Desire number time) before after old new came_to = Changes (Edits before after number (λ txn. record txn { desired = Some time })) old new came_to
+  Acts pictures home by place (step.Desire number time) before after old new came_to =
+      Changes (Edits before after number (λ txn. record txn { desired = Some time })) old new came_to
   Acts pictures home by place (step.Barrier number layer frame) before after old new came_to =
       Changes (Edits before after number (λ txn. record txn { barriers = txn.barriers ++ (layer_of layer, frame) ∷ [] })) old new came_to
-  Acts pictures home by place (step.Set number layer change) before after old new came_to = Changes (Edits before after number (λ txn. set txn (layer_of layer, op_of change))) old new came_to
+  Acts pictures home by place (step.Set number layer change) before after old new came_to =
+      Changes (Edits before after number (λ txn. set txn (layer_of layer, op_of change))) old new came_to
   Acts pictures home by place (step.Buffer number layer name) before after old new came_to = (came_to ≡ tried.Own 0) × Shows home by place number layer name before after old new
   Acts pictures home by place (step.Merge number other) before after old new came_to = (came_to ≡ tried.Own 0) × Merges home by place number other before after old new
   Acts pictures home by place (step.Apply number token) before after old new came_to = TriesSend home by place number token before after old new came_to
@@ -76,13 +79,15 @@ module _ {B : Type 0} where
   MayAct pictures table home (step.Draw name picture) hands = TakesPicture (pictures picture) (get_or hands.names name None)
   MayAct pictures table home (step.Queue name picture time crop points) hands =
       (is_lent (name_in (holdings_of hands) name) ≡ true) × HasQueueOf home (name_in (holdings_of hands) name) × ArePoints points × IsCrop crop
-  MayAct pictures table home (step.Cancel name points) hands = (is_lent (name_in (holdings_of hands) name) ≡ true) × HasQueueOf home (name_in (holdings_of hands) name) × ArePoints points
+  MayAct pictures table home (step.Cancel name points) hands =
+      (is_lent (name_in (holdings_of hands) name) ≡ true) × HasQueueOf home (name_in (holdings_of hands) name) × ArePoints points
   MayAct pictures table home (step.PDetach from to) hands = (is_lent (name_in (holdings_of hands) from) ≡ true) × HasQueueOf home (name_in (holdings_of hands) from)
   MayAct pictures table home (step.PAttach queue from to) hands = (has_queue home queue ≡ true) × (is_apart (name_in (holdings_of hands) from) ≡ true)
   MayAct pictures table home (step.MaxAcquired queue n) hands = has_queue home queue ≡ true
   MayAct pictures table home (step.Abandon queue) hands = has_queue home queue ≡ true
   MayAct pictures table home (step.Acquire queue name at) hands = has_queue home queue ≡ true
-  MayAct pictures table home (step.Release name points) hands = (is_frame (name_in (holdings_of hands) name) ≡ true) × HasQueueOf home (name_in (holdings_of hands) name) × ArePoints points
+  MayAct pictures table home (step.Release name points) hands =
+      (is_frame (name_in (holdings_of hands) name) ≡ true) × HasQueueOf home (name_in (holdings_of hands) name) × ArePoints points
   MayAct pictures table home (step.CDetach from to) hands = (is_frame (name_in (holdings_of hands) from) ≡ true) × HasQueueOf home (name_in (holdings_of hands) from)
   MayAct pictures table home (step.CAttach queue from to) hands = (has_queue home queue ≡ true) × (is_apart (name_in (holdings_of hands) from) ≡ true)
   MayAct pictures table home (step.Signal timeline value) hands = (1 ≤ timeline) × (timeline ≤ 64)
@@ -93,7 +98,8 @@ module _ {B : Type 0} where
   MayAct pictures table home (step.Apply number token) hands = is_some (get_or hands.transactions number None) ≡ true
   MayAct pictures table home (step.Set number layer change) hands = (is_some (get_or hands.transactions number None) ≡ true) × IsOperation (layer_of layer, op_of change)
   MayAct pictures table home (step.Buffer number layer name) hands =
-      (is_some (get_or hands.transactions number None) ≡ true) × HoldsShown (get_or hands.names name None) × (1 ≤ layer) × AreThere home (get_or hands.transactions number None)
+      (is_some (get_or hands.transactions number None) ≡ true) × HoldsShown (get_or hands.names name None) × (1 ≤ layer)
+      × AreThere home (get_or hands.transactions number None)
   MayAct pictures table home (step.Merge number other) hands =
       (is_some (get_or hands.transactions number None) ≡ true) × (is_some (get_or hands.transactions other None) ≡ true) × (other ≢ number)
       × AreThere home (get_or hands.transactions number None) × AreThere home (get_or hands.transactions other None)

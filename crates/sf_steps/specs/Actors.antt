@@ -65,7 +65,8 @@ module _ {B : Type 0} where
     pub keeps : Keeps pictures home of view
 
   -- what a try of its next step comes to: it keeps what it keeps, and tells what it did
-  pub record Steps (table : TableId) (pictures : ℕ → Picture) (home : DeskHome) (old : ActorOf B) (before : DeskView B) (actor : Actor B) (after : DeskView B) (stepped : Stepped) : Type 0 where
+  pub record Steps (table : TableId) (pictures : ℕ → Picture) (home : DeskHome) (old : ActorOf B) (before : DeskView B)
+      (actor : Actor B) (after : DeskView B) (stepped : Stepped) : Type 0 where
     pub new : ActorOf B
     pub is : IsActor table actor new
     pub keeps : Keeps pictures home new after

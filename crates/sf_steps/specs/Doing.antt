@@ -11,7 +11,8 @@ use Rattle.sf_steps.specs.declared.hands.Hands.{Hands}
 use Rattle.sf_steps.specs.declared.tried.Tried.{Tried}
 
 -- it makes the step's call, with tokens out of the hands
-pub record MakesCall {B : Type 0} (pictures : ℕ → Picture) (home : DeskHome) (by place : ℕ) (s : Step) (before after : Hands B) (old new : DeskView B) (tried : Tried) : Type 0 where
+pub record MakesCall {B : Type 0} (pictures : ℕ → Picture) (home : DeskHome) (by place : ℕ) (s : Step)
+    (before after : Hands B) (old new : DeskView B) (tried : Tried) : Type 0 where
   pub taken : Hands B
   pub asking : Asking B
   pub forms : FormsCall pictures s before taken asking

@@ -26,7 +26,8 @@ module _ {B : Type 0} where
 
   -- what is drawn leaves this under the name
   abbrev pub DrawsHolding : Picture → Seen → Holding B → Option (Holding B) → SeatView → SeatView → Type 0
-  DrawsHolding picture seen (holding.Lends lease) after old new = (given : WriteLeaseOf) × DrawsLease lease picture seen old new (Ok given) × (after ≡ Some (holding.Lends given))
+  DrawsHolding picture seen (holding.Lends lease) after old new =
+      (given : WriteLeaseOf) × DrawsLease lease picture seen old new (Ok given) × (after ≡ Some (holding.Lends given))
   DrawsHolding picture seen (holding.Owes owing held) after old new = PaysOwing owing picture seen old new (Ok tt) × (after ≡ None)
   DrawsHolding picture seen other after old new = ⊥
 

@@ -19,7 +19,12 @@ use Rattle.sf_steps.specs.declared.tried.Tried.TheVariants as tried
 
 -- a frame as a buffer of a transaction, on a layer
 abbrev pub buffer_with : ℕ → ReadLeaseOf → Buffer ReadLeaseOf
-buffer_with layer lease = record { layer = layer_of layer; shown = record { queue = lease.queue; frame = lease.frame; picture = lease.picture; crop = lease.crop }; fence = lease.fence; lease = lease }
+buffer_with layer lease = record {
+  layer = layer_of layer;
+  shown = record { queue = lease.queue; frame = lease.frame; picture = lease.picture; crop = lease.crop };
+  fence = lease.fence;
+  lease = lease;
+}
 
 -- the queue of a buffer's frame is there
 abbrev pub IsThere : DeskHome → Buffer ReadLeaseOf → Type 0

@@ -102,7 +102,8 @@ module _ {B : Type 0} where
   FormsCall pictures (step.PDetach s b) before taken asking =
       (lease : WriteLeaseOf) × Takes before taken s (holding.Lends lease) × (asking ≡ moving lease.queue s b lease.held (call.Detach lease))
   FormsCall pictures (step.Release i points) before taken asking =
-      (lease : ReadLeaseOf) × Takes before taken i (holding.Reads lease) × (asking ≡ moving lease.queue i i lease.held (call.Release lease (merged (fence_of points) lease.fence)))
+      (lease : ReadLeaseOf) × Takes before taken i (holding.Reads lease)
+      × (asking ≡ moving lease.queue i i lease.held (call.Release lease (merged (fence_of points) lease.fence)))
   FormsCall pictures (step.CDetach i b) before taken asking =
       (lease : ReadLeaseOf) × Takes before taken i (holding.Reads lease) × (asking ≡ moving lease.queue i b lease.held (call.DetachRead lease))
   FormsCall pictures (step.PAttach q b s) before taken asking =

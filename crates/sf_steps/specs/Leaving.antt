@@ -66,7 +66,8 @@ module _ {B : Type 0} where
   dropped_after queue came_to hands = if was_ok came_to then without_lent queue hands else hands
 
   -- a disconnect makes its call, and drops what the queue lent where it is done
-  pub record Disconnects (pictures : ℕ → Picture) (home : DeskHome) (by place : ℕ) (s : Step) (queue : ℕ) (before after : Hands B) (old new : DeskView B) (tried : Tried) : Type 0 where
+  pub record Disconnects (pictures : ℕ → Picture) (home : DeskHome) (by place : ℕ) (s : Step) (queue : ℕ)
+      (before after : Hands B) (old new : DeskView B) (tried : Tried) : Type 0 where
     pub called : Hands B
     pub makes : MakesCall pictures home by place s before called old new tried
     pub drops : after ≡ dropped_after queue tried called
