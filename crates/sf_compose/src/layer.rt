@@ -152,8 +152,8 @@ fn copy_crop_row(
     requires down { is_within crop.place.1 crop.rect.height (pos y) ≡ true }
     requires room { 4 * (start + right) ≤ length frame.old }
     ensures touched { PaintsSpan frame.old frame.new (start + left) (start + right) (λ i under. pixel_in frame.new i) }
-    ensures copied { IsTrue result → (ground : ℕ → RgbaValue) → PaintsSpan frame.old frame.new (start + left) (start + right) (λ i under.
-        painted (ground i) (pixel_at picture.now
+    ensures copied { IsTrue result → (below : ℕ → RgbaValue) → PaintsSpan frame.old frame.new (start + left) (start + right) (λ i under.
+        painted (below i) (pixel_at picture.now
         (unsigned ((pos (i - start) +ℤ neg_ℤ crop.place.0) +ℤ crop.rect.x))
         (unsigned ((pos y +ℤ neg_ℤ crop.place.1) +ℤ crop.rect.y))) 255) }
 {
@@ -191,8 +191,8 @@ fn copy_crop(picture: &Painted, crop: Crop, frame: &mut [u8], band: Band, area: 
     requires within { IsInBand band area }
     requires room { HasRows band frame.old }
     ensures spared { Spares band.width band.top (is_in_area area) frame.old frame.new }
-    ensures copied { IsTrue result → (ground : ℕ → ℕ → RgbaValue) → Paints band.width band.top (is_in_area area) (λ x y under.
-        painted (ground x y) (pixel_at picture.now
+    ensures copied { IsTrue result → (below : ℕ → ℕ → RgbaValue) → Paints band.width band.top (is_in_area area) (λ x y under.
+        painted (below x y) (pixel_at picture.now
         (unsigned ((pos x +ℤ neg_ℤ crop.place.0) +ℤ crop.rect.x))
         (unsigned ((pos y +ℤ neg_ℤ crop.place.1) +ℤ crop.rect.y))) 255) frame.old frame.new }
 {
@@ -268,8 +268,8 @@ pub fn copy_layer<C: Pixels>(
     requires within { IsInBand band area }
     requires room { HasRows band frame.old }
     ensures spared { Spares band.width band.top (is_in_area area) frame.old frame.new }
-    ensures copied { IsTrue result → (ground : ℕ → ℕ → RgbaValue) → Paints band.width band.top (is_in_area area) (λ x y under.
-        under_one (map C.picture contents.now) (pos x) (pos y) (ground x y) drawn.now source) frame.old frame.new }
+    ensures copied { IsTrue result → (below : ℕ → ℕ → RgbaValue) → Paints band.width band.top (is_in_area area) (λ x y under.
+        under_one (map C.picture contents.now) (pos x) (pos y) (below x y) drawn.now source) frame.old frame.new }
 {
     if !may_hide(drawn, area) {
         return false;

@@ -60,8 +60,8 @@ pub fn copy_pixels(frame: &mut [u8], start: usize, end: usize, row: &[u8]) -> bo
     requires within { 4 * end ≤ length frame.old }
     requires same { length row.now ≡ 4 * end - 4 * start }
     ensures touched { PaintsSpan frame.old frame.new start end (λ i under. pixel_in frame.new i) }
-    ensures copied { IsTrue result → (ground : ℕ → RgbaValue) → PaintsSpan frame.old frame.new start end
-        (λ i under. painted (ground i) (pixel_in row.now (i - start)) 255) }
+    ensures copied { IsTrue result → (below : ℕ → RgbaValue) → PaintsSpan frame.old frame.new start end
+        (λ i under. painted (below i) (pixel_in row.now (i - start)) 255) }
 {
     copy_solid(&mut frame[4 * start..4 * end], row)
 }
