@@ -1,5 +1,5 @@
 -- What a draw comes to: in a lent buffer, or of what is owed.
-use Rattle.std.proofs.Common.{◌≡◌, ◌≢◌, ℕ, ◌+◌, ◌<◌, ◌≤◌, ◌⊎◌, List, [], ◌∷◌, ◌++◌, length, set, inl, inr, arith, ap, ◌∙◌, sym, refl, subst, Option, Some, None}
+use Rattle.std.proofs.Common.{◌≡◌, ℕ, ◌+◌, ◌<◌, List, [], ◌∷◌, ◌++◌, length, set, inl, inr, arith, ap, ◌∙◌, sym, refl, subst, Option, Some, None}
 use Rattle.std.specs.Prelude.{get_or, true}
 use Rattle.std.specs.Option.{option_map}
 use Rattle.std.proofs.lemmas.List.{append-nil, length-append, set-get_or, set-set}
@@ -8,7 +8,6 @@ use Rattle.sf_base.specs.Points.{points_from}
 use Rattle.sf_base.specs.declared.fences.Fence.{Fence}
 use Rattle.sf_base.specs.declared.fences.Seen.{Seen}
 use Rattle.sf_picture.specs.declared.picture.Picture.{Picture}
-use Rattle.sf_scene.specs.declared.step.Step.{Step}
 use Rattle.sf_scene.specs.declared.step.Step.TheVariants as step
 use Rattle.sf_slots.specs.declared.slot.Held.{Held}
 use Rattle.sf_surface.specs.declared.work.Work.{Work}
@@ -24,11 +23,11 @@ use Rattle.sf_actor.specs.declared.holding.Holding.{Holding}
 use Rattle.sf_actor.specs.declared.holding.Holding.TheVariants as holding
 use Rattle.sf_actor.specs.Desks.{ChangesTimes, ChangesTurns, DeskHome, DeskView, has_queue, known_of, looks}
 use Rattle.sf_actor.specs.Known.{GoesOn, share_of}
-use Rattle.sf_actor.specs.Names.{Lent, Owing, Token, name_in}
+use Rattle.sf_actor.specs.Names.{Lent}
 use Rattle.sf_actor.specs.Parts.{PartsOf, drawn_picture, queue_held, token_of, turn_held}
 use Rattle.sf_actor.specs.Points.{undrawn_fence, waited_fence}
 use Rattle.sf_actor.specs.Tests.{refusal_of}
-use Rattle.sf_actor.specs.Tries.{ActorKept, ActorOf, AreThere, DrawsHeld, DrawsIn, EntersInTurn, EarlierTurn, LeavesStep, Open, Sees, SeesOpen, SeesSignalled, WhyNotYet, contents_in, held_in, owed_turn, past_of}
+use Rattle.sf_actor.specs.Tries.{ActorKept, ActorOf, AreThere, DrawsHeld, DrawsIn, EntersInTurn, EarlierTurn, Open, Sees, held_in, owed_turn, past_of}
 use Rattle.sf_actor.proofs.Bringing.{names_told}
 use Rattle.sf_actor.proofs.Drawing.{draw_lease_keeps, draw_owing_keeps, enters_goes}
 use Rattle.sf_actor.proofs.GoingOn.{keeps_on}
@@ -39,7 +38,7 @@ use Rattle.sf_actor.proofs.Naming.{with_held as parts_with}
 use Rattle.sf_steps.specs.Actors.{parts_of}
 use Rattle.sf_steps.specs.Calling.{with_held}
 use Rattle.sf_steps.specs.Coming.{Comes, IsReady, LeftWith, reply_with}
-use Rattle.sf_steps.specs.Drawing.{Draws, DrawsHolding, TriesDraw, WaitsToDraw, filled}
+use Rattle.sf_steps.specs.Drawing.{Draws, TriesDraw, filled}
 use Rattle.sf_steps.specs.declared.hands.Hands.{Hands}
 use Rattle.sf_steps.specs.declared.tried.Tried.{Tried}
 use Rattle.sf_steps.specs.declared.tried.Tried.TheVariants as tried

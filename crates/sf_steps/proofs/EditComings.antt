@@ -1,9 +1,9 @@
 -- What a step comes to that begins, changes, merges or sends a transaction.
-use Rattle.std.proofs.Common.{◌≡◌, ◌≢◌, ℕ, ◌+◌, ◌<◌, ◌≤◌, ◌==◌, Bool, true, false, List, [], ◌∷◌, ◌++◌, length, set, inl, inr, arith, ap, ◌∙◌, sym, refl, subst, Option, Some, None}
-use Rattle.std.specs.Prelude.{get_or, if◌then◌else◌, is_none, map, option_to_list}
+use Rattle.std.proofs.Common.{◌≡◌, ◌≢◌, ℕ, ◌+◌, ◌<◌, ◌≤◌, true, false, List, [], ◌∷◌, ◌++◌, length, set, inl, inr, arith, ap, ◌∙◌, sym, refl, subst, Option, Some, None}
+use Rattle.std.specs.Prelude.{get_or, is_none, map, option_to_list}
 use Rattle.std.specs.List.{All}
 use Rattle.std.specs.Option.{option_map}
-use Rattle.std.proofs.lemmas.Bool.{cases_Bool, eq-eqb, false≢true}
+use Rattle.std.proofs.lemmas.Bool.{cases_Bool, eq-eqb}
 use Rattle.std.proofs.lemmas.List.{append-nil, get_or-set_other, length-set, set-set, set_comm}
 use Rattle.sf_base.specs.Fences.{no_points, merged as with_points_of}
 use Rattle.sf_base.specs.declared.ids.QueueId.{QueueId}
@@ -14,13 +14,11 @@ use Rattle.sf_scene.specs.declared.step.Step.TheVariants as step
 use Rattle.sf_slots.specs.declared.calls.ReadToken.{ReadToken}
 use Rattle.sf_surface.specs.declared.call.QCall.{QCall}
 use Rattle.sf_surface.specs.declared.call.QCall.TheVariants as call
-use Rattle.sf_surface.specs.declared.call.QReply.{QReply}
 use Rattle.sf_surface.specs.Tokens.{EndingOf, ReadLeaseOf}
 use Rattle.sf_times.specs.declared.protocol.Knows.{Knows}
 use Rattle.sf_turns.specs.Views.{SeatView}
 use Rattle.sf_txn.specs.Buffers.{Buffer}
 use Rattle.sf_txn.specs.Transactions.{Contents, all_replaced, empty, merged, replaced_by, set_buffer, set as with_op}
-use Rattle.sf_actor.specs.declared.done.Answered.{Answered}
 use Rattle.sf_actor.specs.declared.done.Answered.TheVariants as answered
 use Rattle.sf_actor.specs.declared.done.Done.{Done}
 use Rattle.sf_actor.specs.declared.holding.Holding.{Holding}
@@ -28,7 +26,7 @@ use Rattle.sf_actor.specs.declared.holding.Holding.TheVariants as holding
 use Rattle.sf_actor.specs.Desks.{DeskHome, DeskView, MadeCall, has_queue, known_of, mark_among}
 use Rattle.sf_actor.specs.Known.{GoesOn, frame_of, plain_txn, share_of}
 use Rattle.sf_actor.specs.Names.{Frame, Holdings, name_in, transaction_in}
-use Rattle.sf_actor.specs.Parts.{PartsOf, queue_held, token_of}
+use Rattle.sf_actor.specs.Parts.{PartsOf, token_of}
 use Rattle.sf_actor.specs.Scripts.{layer_of, op_of}
 use Rattle.sf_actor.specs.Tests.{refusal_of}
 use Rattle.sf_actor.specs.Tries.{ActorKept, ActorOf, AreThere, contents_in, held_in, past_of}
@@ -46,16 +44,15 @@ use Rattle.sf_actor.proofs.Showing.{merge_keeps, show_keeps}
 use Rattle.sf_actor.proofs.Yielding.{GivesBack, IsMarked, no_end}
 use Rattle.sf_steps.specs.Acting.{Changes}
 use Rattle.sf_steps.specs.Actors.{parts_of}
-use Rattle.sf_steps.specs.Calling.{Ends, with_held}
+use Rattle.sf_steps.specs.Calling.{Ends}
 use Rattle.sf_steps.specs.Coming.{Comes, IsReady, reply_with}
-use Rattle.sf_steps.specs.Editing.{Edits, Merges, Releases, ReleasesAll, Sends, Shows, TakesTxn, TriesSend, buffer_with, with_txn}
+use Rattle.sf_steps.specs.Editing.{Edits, Merges, Releases, ReleasesAll, Shows, TriesSend, buffer_with, with_txn}
 use Rattle.sf_steps.specs.declared.hands.Hands.{Hands}
 use Rattle.sf_steps.specs.declared.tried.Tried.{Tried}
 use Rattle.sf_steps.specs.declared.tried.Tried.TheVariants as tried
 use Rattle.sf_steps.proofs.DrawComings.{there_with}
 use Rattle.sf_steps.proofs.OwnComings.{is_draw, no_draw, no_fence, own_done}
 use Rattle.sf_actor.specs.Points.{detached_fence}
-use Rattle.sf_actor.specs.Steps.{was_done}
 use Rattle.sf_actor.specs.Tries.{turn_ended}
 use Rattle.sf_actor.specs.Written.{signal_of}
 

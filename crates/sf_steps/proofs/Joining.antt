@@ -1,5 +1,5 @@
 -- What a step comes to that none of its own tests refuses, whatever its form.
-use Rattle.std.specs.Prelude.{◌≡◌, ℕ, ◌+◌, length, Option, None}
+use Rattle.std.specs.Prelude.{◌≡◌, ℕ, ◌+◌, length, None}
 use Rattle.sf_picture.specs.declared.picture.Picture.{Picture}
 use Rattle.sf_scene.specs.declared.step.Step.{Step}
 use Rattle.sf_scene.specs.declared.step.Step.TheVariants as step

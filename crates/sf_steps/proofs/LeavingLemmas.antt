@@ -1,5 +1,5 @@
 -- A step that takes a buffer out of its queue, once its fence is passed.
-use Rattle.std.proofs.Common.{◌≡◌, ℕ, false, Option}
+use Rattle.std.proofs.Common.{ℕ, Option}
 use Rattle.std.specs.Prelude.{IfOk, Result, Ok, Err}
 use Rattle.sf_base.specs.declared.fences.Fence.{Fence}
 use Rattle.sf_picture.specs.declared.picture.Picture.{Picture}

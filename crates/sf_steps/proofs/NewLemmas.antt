@@ -1,30 +1,21 @@
 -- An actor that has done nothing keeps what it keeps.
-use Rattle.std.proofs.Common.{◌≡◌, ℕ, zero, suc, ◌<◌, ◌≤◌, List, [], ◌∷◌, length, replicate, get_or, map, Option, Some, None, refl, ap, ◌∙◌, sym, subst, arith}
+use Rattle.std.proofs.Common.{◌≡◌, ℕ, zero, suc, List, [], replicate, get_or, map, Option, Some, None, refl, ap, ◌∙◌, sym, subst, arith}
 use Rattle.std.specs.Prelude.{Contains}
 use Rattle.std.specs.List.{All, AllZip}
 use Rattle.std.proofs.lemmas.List.Elements.{All-nil}
-use Rattle.sf_base.specs.Fences.{IsSignalled, no_points}
-use Rattle.sf_base.specs.declared.fences.Fence.{Fence}
-use Rattle.sf_base.specs.declared.fences.Seen.{Seen}
 use Rattle.sf_picture.specs.declared.picture.Picture.{Picture}
 use Rattle.sf_scene.specs.declared.step.ActorScript.{ActorScript}
-use Rattle.sf_slots.specs.declared.calls.Entry.{Entry}
 use Rattle.sf_surface.specs.Tokens.{ReadLeaseOf}
 use Rattle.sf_token.specs.Pending.{Arrival}
 use Rattle.sf_txn.specs.Transactions.{Contents}
 use Rattle.sf_actor.specs.declared.holding.Holding.{Holding}
 use Rattle.sf_actor.specs.Desks.{DeskHome, DeskView, known_of}
-use Rattle.sf_actor.specs.Draws.{entered_in}
 use Rattle.sf_actor.specs.Keeping.{TraceKept}
-use Rattle.sf_actor.specs.Known.{Call, Share, own_of, plain_arrival, plain_txn, share_of, told_by}
-use Rattle.sf_actor.specs.Names.{no_holdings}
-use Rattle.sf_actor.specs.Parts.{plain_of, token_of}
+use Rattle.sf_actor.specs.Known.{Call, Share, plain_arrival, share_of, told_by}
 use Rattle.sf_actor.specs.Rights.{BringsGiven, SendsAcquired}
-use Rattle.sf_actor.specs.Tales.{IsMade, IsTraceOf, made_on, sent_as}
-use Rattle.sf_actor.specs.Traces.{IsAnswered, Past, SentStep, made_by, no_past, past_after, past_from, places_from, places_of, sends_of}
-use Rattle.sf_actor.specs.Tries.{ActorKept, ActorOf, ArePermits, AreThere, Keeps, contents_in, dequeues_in, held_in}
-use Rattle.sf_actor.specs.Values.{replies_of}
-use Rattle.sf_actor.specs.Written.{paid_in}
+use Rattle.sf_actor.specs.Tales.{IsMade, sent_as}
+use Rattle.sf_actor.specs.Traces.{IsAnswered, past_from, places_from}
+use Rattle.sf_actor.specs.Tries.{Keeps, held_in}
 use Rattle.sf_actor.proofs.Reaching.{none_reached}
 use Rattle.sf_steps.specs.Actors.{IsNew, new_actor}
 

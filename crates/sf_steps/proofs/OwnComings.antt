@@ -1,10 +1,9 @@
 -- What a step comes to that is answered by its actor: the general form, and the steps of timelines.
-use Rattle.std.proofs.Common.{◌≡◌, ◌≢◌, ℕ, ◌+◌, ◌-◌, ◌<◌, ◌≤◌, Bool, true, false, suc, zero, List, [], ◌∷◌, ◌++◌, length, set, inl, inr, arith, ap, ◌∙◌, sym, refl, subst, Option, Some, None}
-use Rattle.std.specs.Prelude.{get_or, if◌then◌else◌, nat_lt, replicate, slice_index, slice_set, max}
-use Rattle.std.specs.List.{All}
+use Rattle.std.proofs.Common.{◌≡◌, ◌≢◌, ℕ, ◌+◌, ◌-◌, ◌<◌, ◌≤◌, Bool, true, false, suc, List, [], ◌∷◌, ◌++◌, length, inl, inr, arith, ap, ◌∙◌, sym, refl, subst, Some, None}
+use Rattle.std.specs.Prelude.{if◌then◌else◌, nat_lt, replicate, slice_index, slice_set, max}
 use Rattle.std.proofs.lemmas.Bool.{cases_Bool, false≢true, ltb-false, ltb-true}
-use Rattle.std.proofs.lemmas.List.{append-nil, get_or-replicate, get_or-set_same, length-append, length-replicate}
-use Rattle.sf_base.specs.Fences.{IsSignalled, no_points, value_of, with_point}
+use Rattle.std.proofs.lemmas.List.{append-nil, get_or-set_same, length-append, length-replicate}
+use Rattle.sf_base.specs.Fences.{no_points, value_of, with_point}
 use Rattle.sf_base.specs.Points.{points_from}
 use Rattle.sf_base.specs.declared.fences.Fence.{Fence}
 use Rattle.sf_base.specs.declared.fences.Seen.{Seen}
@@ -12,10 +11,6 @@ use Rattle.sf_picture.specs.declared.picture.Picture.{Picture}
 use Rattle.sf_scene.specs.declared.step.Step.{Step}
 use Rattle.sf_scene.specs.declared.step.Step.TheVariants as step
 use Rattle.sf_times.specs.declared.protocol.Knows.{Knows}
-use Rattle.sf_times.specs.Seats.{raised}
-use Rattle.sf_txn.specs.Transactions.{Contents}
-use Rattle.sf_surface.specs.Tokens.{ReadLeaseOf}
-use Rattle.sf_actor.specs.declared.done.Answered.{Answered}
 use Rattle.sf_actor.specs.declared.done.Answered.TheVariants as answered
 use Rattle.sf_actor.specs.declared.done.Done.{Done}
 use Rattle.sf_actor.specs.declared.tried.Reply.{Reply}
@@ -24,7 +19,7 @@ use Rattle.sf_actor.specs.Known.{GoesOn, Share, share_of}
 use Rattle.sf_actor.specs.Parts.{PartsOf}
 use Rattle.sf_actor.specs.Points.{detached_fence}
 use Rattle.sf_actor.specs.Tests.{refusal_of}
-use Rattle.sf_actor.specs.Tries.{ActorKept, ActorOf, AreThere, EntersInTurn, IsRefusedByFence, Keeps, Sees, WhyNotYet, Open, ended_by, past_of}
+use Rattle.sf_actor.specs.Tries.{ActorKept, ActorOf, AreThere, EntersInTurn, IsRefusedByFence, Sees, Open, ended_by, past_of}
 use Rattle.sf_actor.specs.Values.{reply_at}
 use Rattle.sf_actor.specs.Written.{signal_of}
 use Rattle.sf_actor.proofs.Adding.{at_end}
@@ -34,7 +29,7 @@ use Rattle.sf_actor.proofs.Moving.{stepped}
 use Rattle.sf_actor.proofs.Timing.{point_reached, signal_keeps, wait_keeps}
 use Rattle.sf_steps.specs.Acting.{Signals, Waits}
 use Rattle.sf_steps.specs.Actors.{parts_of}
-use Rattle.sf_steps.specs.Coming.{Comes, DoneWith, IsReady, LeftWith, after_step, reply_with}
+use Rattle.sf_steps.specs.Coming.{Comes, DoneWith, IsReady, after_step, reply_with}
 use Rattle.sf_steps.specs.declared.hands.Hands.{Hands}
 use Rattle.sf_steps.specs.declared.tried.Tried.{Tried}
 use Rattle.sf_steps.specs.declared.tried.Tried.TheVariants as tried

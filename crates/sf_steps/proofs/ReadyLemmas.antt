@@ -1,5 +1,5 @@
 -- What a step needs that none of its own tests refuses, where its actor keeps what it keeps.
-use Rattle.std.proofs.Common.{◌≡◌, ◌≢◌, ℕ, zero, suc, ◌+◌, ◌<◌, ◌≤◌, Bool, true, false, not, ◌||◌, List, [], ◌∷◌, length, drop, get_or, Option, Some, None}
+use Rattle.std.proofs.Common.{◌≡◌, ◌≢◌, ℕ, zero, suc, ◌<◌, ◌≤◌, Bool, true, false, not, ◌||◌, List, [], ◌∷◌, length, drop, get_or, Option, Some, None}
 use Rattle.std.proofs.Common.{refl, ap, ◌∙◌, sym, subst, arith}
 use Rattle.std.specs.Prelude.{◌==◌, is_none, is_some, slice_get, IfSome}
 use Rattle.std.specs.List.{All}
@@ -13,18 +13,16 @@ use Rattle.sf_scene.specs.declared.step.Step.TheVariants as step
 use Rattle.sf_scene.specs.Named.{timelines_in}
 use Rattle.sf_scene.specs.Ranges.{IsPart}
 use Rattle.sf_surface.specs.Tokens.{ReadLeaseOf}
-use Rattle.sf_txn.specs.Buffers.{Buffer}
 use Rattle.sf_txn.specs.Transactions.{Contents}
 use Rattle.sf_actor.specs.declared.holding.Holding.{Holding}
 use Rattle.sf_actor.specs.declared.holding.Holding.TheVariants as holding
 use Rattle.sf_actor.specs.Desks.{DeskHome, DeskView, has_queue}
 use Rattle.sf_actor.specs.Known.{plain_txn}
-use Rattle.sf_actor.specs.Names.{Holdings, Token, is_apart, is_frame, is_lent, is_owing, name_in, transaction_in}
+use Rattle.sf_actor.specs.Names.{Holdings, Token, is_frame, is_lent, is_owing, name_in, transaction_in}
 use Rattle.sf_actor.specs.Parts.{PartsOf, ShowsPictures, plain_of, queue_held, token_of}
 use Rattle.sf_actor.specs.Tests.{bad_value, can_not_show, empty, first_met, is_frameless, is_taken, occupied, refusal_of, shows_other, tests_of}
 use Rattle.sf_actor.specs.Tries.{ActorOf, contents_in, dequeues_in, held_in, is_dequeue, past_of}
 use Rattle.sf_steps.specs.Acting.{MayAct}
-use Rattle.sf_steps.specs.Actors.{parts_of}
 use Rattle.sf_steps.specs.Coming.{IsReady}
 use Rattle.sf_steps.specs.Doing.{HasQueueOf}
 use Rattle.sf_steps.specs.Drawing.{TakesPicture}

@@ -1,14 +1,13 @@
 -- The status of an actor's own tests, by what a name or a number holds.
-use Rattle.std.proofs.Common.{◌≡◌, ℕ, Bool, true, false, cond, not, ◌||◌, List, [], ◌∷◌, Option, Some, None, refl, sym}
+use Rattle.std.proofs.Common.{◌≡◌, ℕ, true, false, cond, not, ◌||◌, [], ◌∷◌, Option, Some, None, refl, sym}
 use Rattle.std.specs.Prelude.{◌==◌, is_some, is_none}
 use Rattle.std.proofs.lemmas.Bool.{false≢true}
-use Rattle.sf_base.specs.declared.ids.QueueId.{QueueId}
 use Rattle.sf_picture.specs.declared.picture.Picture.{Picture}
 use Rattle.sf_scene.specs.declared.step.Step.TheVariants as step
 use Rattle.sf_surface.specs.Tokens.{OwingOf, ReadLeaseOf, WriteLeaseOf, is_size_of}
 use Rattle.sf_slots.specs.declared.slot.Held.{Held}
 use Rattle.sf_actor.specs.Names.{Holdings, Token, is_frame, is_lent, is_owing, name_in, transaction_in}
-use Rattle.sf_actor.specs.Tests.{bad_value, can_not_show, empty, first_met, is_frameless, refusal_of}
+use Rattle.sf_actor.specs.Tests.{bad_value, empty, first_met, is_frameless, refusal_of}
 use Rattle.sf_steps.specs.Hands.{lent_of, owing_of, shown_of}
 
 -- drawing in a lent buffer

@@ -1,32 +1,24 @@
 -- A step that an own test refuses is done, and its actor keeps what it keeps.
-use Rattle.std.proofs.Common.{◌≡◌, ℕ, ◌+◌, ◌==◌, ◌&&◌, Bool, true, false, not, List, [], ◌∷◌, ◌++◌, length, Option, Some, None, refl, ap, ◌∙◌, sym, subst}
-use Rattle.std.specs.Prelude.{if◌then◌else◌, is_some}
+use Rattle.std.proofs.Common.{◌≡◌, ℕ, ◌+◌, ◌==◌, ◌&&◌, Bool, true, false, not, List, [], ◌∷◌, ◌++◌, length, Some, None, refl, ap, ◌∙◌, sym, subst}
 use Rattle.std.specs.List.{list_all}
 use Rattle.std.proofs.lemmas.Bool.{false≢true}
 use Rattle.std.proofs.lemmas.List.{append-nil}
-use Rattle.sf_base.specs.Fences.{no_points}
-use Rattle.sf_base.specs.declared.fences.Fence.{Fence}
 use Rattle.sf_picture.specs.declared.picture.Picture.{Picture}
 use Rattle.sf_scene.specs.declared.step.Step.{Step}
 use Rattle.sf_scene.specs.declared.step.Step.TheVariants as step
-use Rattle.sf_actor.specs.declared.done.Answered.{Answered}
 use Rattle.sf_actor.specs.declared.done.Answered.TheVariants as answered
 use Rattle.sf_actor.specs.declared.done.Done.{Done}
 use Rattle.sf_actor.specs.Desks.{DeskHome, DeskView, known_of}
-use Rattle.sf_actor.specs.Names.{Holdings, name_in}
+use Rattle.sf_actor.specs.Names.{Holdings}
 use Rattle.sf_actor.specs.Parts.{PartsOf}
-use Rattle.sf_actor.specs.Points.{shown_by, undrawn_fence}
 use Rattle.sf_actor.specs.Rights.{Turn}
 use Rattle.sf_actor.specs.Tests.{first_met, refusal_of, tests_of}
 use Rattle.sf_actor.specs.Traces.{Past}
-use Rattle.sf_actor.specs.Tries.{ActorKept, ActorOf, AreThere, DoesStep, Keeps, ended_by, past_of, turn_ended}
-use Rattle.sf_actor.specs.Written.{signal_of}
+use Rattle.sf_actor.specs.Tries.{ActorKept, ActorOf, AreThere, ended_by, past_of}
 use Rattle.sf_actor.specs.Known.{share_of}
-use Rattle.sf_actor.proofs.Adding.{at_end}
 use Rattle.sf_actor.proofs.Forms.{IsQuiet, refused_keeps}
 use Rattle.sf_actor.proofs.Growing.{goes_same}
 use Rattle.sf_actor.proofs.Moving.{stepped}
-use Rattle.sf_steps.specs.Actors.{parts_of}
 use Rattle.sf_steps.specs.Coming.{DoneWith, IsReady, after_step, reply_with}
 use Rattle.sf_steps.specs.declared.hands.Hands.{Hands}
 

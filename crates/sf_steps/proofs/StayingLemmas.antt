@@ -1,11 +1,10 @@
 -- What no step changes of the hands: whose they are, how many names and numbers they have, and of which table their permits are.
-use Rattle.std.proofs.Common.{◌≡◌, ℕ, Bool, true, false, List, [], ◌∷◌, length, map, Option, Some, None, refl, ap, ◌∙◌, sym, subst}
-use Rattle.std.specs.Prelude.{slice_set, if◌then◌else◌}
+use Rattle.std.proofs.Common.{◌≡◌, ℕ, Bool, true, false, ◌∷◌, length, Option, Some, None, refl, ap, ◌∙◌, sym, subst}
+use Rattle.std.specs.Prelude.{if◌then◌else◌}
 use Rattle.std.proofs.lemmas.List.{length-map, length-set}
 use Rattle.atomic_table.specs.Seated.{TableId}
 use Rattle.sf_base.specs.declared.fences.Fence.{Fence}
 use Rattle.sf_base.specs.declared.fences.Seen.{Seen}
-use Rattle.sf_base.specs.declared.ids.ActorId.{ActorId}
 use Rattle.sf_base.specs.declared.ids.QueueId.{QueueId}
 use Rattle.sf_calls.specs.Histories.{IsLegal, entry}
 use Rattle.sf_picture.specs.declared.picture.Picture.{Picture}
@@ -19,8 +18,8 @@ use Rattle.sf_surface.specs.declared.call.QCall.{QCall}
 use Rattle.sf_surface.specs.declared.call.QCall.TheVariants as call
 use Rattle.sf_surface.specs.declared.call.QReply.{QReply}
 use Rattle.sf_surface.specs.Hands.{IsReply, IsReplyDone, brought, permit_of}
-use Rattle.sf_surface.specs.Histories.{Answers, Made, Replied}
-use Rattle.sf_surface.specs.Tokens.{LooseOf, ReadLeaseOf, WriteLeaseOf}
+use Rattle.sf_surface.specs.Histories.{Answers, Replied}
+use Rattle.sf_surface.specs.Tokens.{ReadLeaseOf}
 use Rattle.sf_turns.specs.Views.{PermitView}
 use Rattle.sf_txn.specs.Transactions.{Contents, empty, merged}
 use Rattle.sf_actor.specs.declared.holding.Holding.{Holding}
@@ -32,7 +31,7 @@ use Rattle.sf_steps.specs.Doing.{MakesCall}
 use Rattle.sf_steps.specs.Drawing.{TriesDraw, filled}
 use Rattle.sf_steps.specs.Editing.{Edits, Merges, TakesTxn, TriesSend, with_txn}
 use Rattle.sf_steps.specs.Forming.{AreOfTable, FormsCall, IsOfTable, Takes, TakesPermit}
-use Rattle.sf_steps.specs.Leaving.{TriesToLeave, dropped_after, let_go_of, was_ok, without_lent}
+use Rattle.sf_steps.specs.Leaving.{TriesToLeave, let_go_of, was_ok, without_lent}
 use Rattle.sf_steps.specs.declared.asking.Asking.{Asking}
 use Rattle.sf_steps.specs.declared.asking.Homes.{Homes}
 use Rattle.sf_steps.specs.declared.hands.Hands.{Hands}

@@ -1,5 +1,5 @@
 -- A try of an actor's next step, of what it has and knows.
-use Rattle.std.proofs.Common.{◌≡◌, ℕ, zero, suc, ◌+◌, ◌==◌, Bool, true, false, List, [], ◌∷◌, ◌++◌, length, Option, Some, None, refl, ap, ◌∙◌, sym, subst, inl, inr, arith, length-append}
+use Rattle.std.proofs.Common.{◌≡◌, ℕ, zero, suc, ◌+◌, ◌==◌, true, false, List, [], ◌∷◌, ◌++◌, length, Option, Some, None, refl, ap, ◌∙◌, sym, subst, inl, inr, arith, length-append}
 use Rattle.std.specs.Prelude.{slice_get, IfSome}
 use Rattle.std.specs.List.{All}
 use Rattle.std.proofs.lemmas.Bool.{cases_Bool, eqb-true, false≢true}
@@ -17,7 +17,7 @@ use Rattle.sf_actor.specs.Desks.{DeskHome, DeskView}
 use Rattle.sf_actor.specs.Names.{Holdings}
 use Rattle.sf_actor.specs.Scripts.{picture_at}
 use Rattle.sf_actor.specs.Tests.{refusal_of}
-use Rattle.sf_actor.specs.Tries.{ActorOf, Keeps, next_step, past_of}
+use Rattle.sf_actor.specs.Tries.{ActorOf, Keeps, past_of}
 use Rattle.sf_steps.specs.Acting.{Attempts, MayAct}
 use Rattle.sf_steps.specs.Actors.{IsActor, IsKept, Steps}
 use Rattle.sf_steps.specs.Coming.{Comes, DoneWith, IsReady, LeftWith, after_step, is_done, reply_told}

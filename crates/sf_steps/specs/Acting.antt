@@ -1,5 +1,5 @@
 -- What a step does that none of its own tests refuses.
-use Rattle.std.specs.Prelude.{◌≡◌, ◌≢◌, ℕ, ◌+◌, ◌-◌, ◌<◌, ◌≤◌, true, if◌then◌else◌, nat_lt}
+use Rattle.std.specs.Prelude.{◌≡◌, ◌≢◌, ℕ, ◌-◌, ◌<◌, ◌≤◌, true, if◌then◌else◌, nat_lt}
 use Rattle.std.specs.Prelude.{[], ◌∷◌, ◌++◌, get_or, length, slice_index, Option, Some, None, is_some}
 use Rattle.atomic_table.specs.Seated.{TableId}
 use Rattle.sf_base.specs.declared.fences.Seen.{Seen}
@@ -8,7 +8,7 @@ use Rattle.sf_layer.specs.Ranges.{IsOperation}
 use Rattle.sf_scene.specs.declared.step.Step.{Step}
 use Rattle.sf_scene.specs.declared.step.Step.TheVariants as step
 use Rattle.sf_times.specs.Seats.{raised}
-use Rattle.sf_txn.specs.Transactions.{Contents, empty, set}
+use Rattle.sf_txn.specs.Transactions.{empty, set}
 use Rattle.sf_actor.specs.Desks.{ChangesTimes, DeskHome, DeskView, has_queue}
 use Rattle.sf_actor.specs.Names.{is_apart, is_frame, is_lent, name_in}
 use Rattle.sf_actor.specs.Points.{frame_fence, requested_fence}

@@ -1,5 +1,5 @@
 -- What contracts see of an actor. Its trace is not in its memory: contracts speak of each trace that fits what it has.
-use Rattle.std.specs.Prelude.{◌≡◌, ℕ, ◌≤◌, false, List, [], length, replicate, Option, None}
+use Rattle.std.specs.Prelude.{◌≡◌, ℕ, ◌≤◌, false, List, [], length, replicate, None}
 use Rattle.atomic_table.specs.Seated.{TableId}
 use Rattle.sf_base.specs.declared.ids.ActorId.{ActorId}
 use Rattle.sf_picture.specs.declared.picture.Picture.{Picture}

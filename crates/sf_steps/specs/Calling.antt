@@ -1,6 +1,5 @@
 -- What an actor has after a call on a queue.
-use Rattle.std.specs.Prelude.{◌≡◌, ℕ, List, slice_set, Option, Some, None}
-use Rattle.sf_base.specs.declared.ids.QueueId.{QueueId}
+use Rattle.std.specs.Prelude.{◌≡◌, ℕ, slice_set, Option, Some, None}
 use Rattle.sf_surface.specs.declared.call.Gives.{Gives}
 use Rattle.sf_surface.specs.declared.call.Gives.TheVariants as gives
 use Rattle.sf_surface.specs.declared.call.QCall.{QCall}

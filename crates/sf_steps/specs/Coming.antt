@@ -1,5 +1,5 @@
 -- What a try of a step comes to for its actor.
-use Rattle.std.specs.Prelude.{◌≡◌, ℕ, ◌+◌, Bool, true, false, List, [], ◌∷◌, ◌++◌, length, Option, Some, None, IfSome}
+use Rattle.std.specs.Prelude.{◌≡◌, ℕ, ◌+◌, Bool, true, false, List, [], ◌∷◌, ◌++◌, length, Some, IfSome}
 use Rattle.sf_base.specs.Statuses.{number_of}
 use Rattle.sf_picture.specs.declared.picture.Picture.{Picture}
 use Rattle.sf_scene.specs.declared.step.Step.{Step}
@@ -7,8 +7,7 @@ use Rattle.sf_scene.specs.Named.{picture_named}
 use Rattle.sf_actor.specs.declared.done.Done.{Done}
 use Rattle.sf_actor.specs.declared.tried.Reply.{Reply}
 use Rattle.sf_actor.specs.Desks.{DeskHome, DeskView}
-use Rattle.sf_actor.specs.Tests.{refusal_of}
-use Rattle.sf_actor.specs.Tries.{ActorOf, DoesStep, Keeps, LeavesStep, next_step, past_of}
+use Rattle.sf_actor.specs.Tries.{ActorOf, DoesStep, Keeps, LeavesStep, next_step}
 use Rattle.sf_steps.specs.Actors.{parts_of}
 use Rattle.sf_steps.specs.Playable.{IsPlayable}
 use Rattle.sf_steps.specs.declared.hands.Hands.{Hands}

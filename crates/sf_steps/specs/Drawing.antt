@@ -1,7 +1,5 @@
 -- What a step does that draws, that waits for a timeline, or that takes a buffer out of its queue behind its fence.
-use Rattle.std.specs.Prelude.{◌≡◌, ◌≢◌, ℕ, true, Option, Some, None, Result, Ok, Err, get_or}
-use Rattle.sf_base.specs.Fences.{IsSignalled}
-use Rattle.sf_base.specs.declared.fences.Fence.{Fence}
+use Rattle.std.specs.Prelude.{◌≡◌, ℕ, true, Option, Some, None, Ok, Err, get_or}
 use Rattle.sf_base.specs.declared.fences.Seen.{Seen}
 use Rattle.sf_picture.specs.declared.picture.Picture.{Picture}
 use Rattle.sf_surface.specs.declared.drawing.DrawFault.TheVariants.{NotYet as Waits}

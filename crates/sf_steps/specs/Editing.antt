@@ -1,5 +1,5 @@
 -- What a step does that begins, changes, merges or sends a transaction.
-use Rattle.std.specs.Prelude.{◌≡◌, ◌≢◌, ℕ, ◌++◌, true, List, [], ◌∷◌, get_or, slice_set, option_to_list, Option, Some, None}
+use Rattle.std.specs.Prelude.{◌≡◌, ◌≢◌, ℕ, true, List, [], ◌∷◌, get_or, slice_set, option_to_list, Option, Some, None}
 use Rattle.std.specs.List.{All}
 use Rattle.sf_base.specs.Fences.{no_points, merged as with_points_of}
 use Rattle.sf_surface.specs.declared.call.QCall.TheVariants as call

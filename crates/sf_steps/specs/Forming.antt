@@ -1,5 +1,5 @@
 -- The calls of steps with their tokens: what a step takes out of its actor's hands, and what it asks.
-use Rattle.std.specs.Prelude.{◌≡◌, ℕ, ◌≤◌, ◌<◌, ◌^◌, Bool, true, false, List, [], ◌∷◌, ◌++◌, get_or, option_to_list, Option, Some, None, unwrap_or}
+use Rattle.std.specs.Prelude.{◌≡◌, ℕ, ◌≤◌, ◌<◌, ◌^◌, true, false, List, ◌∷◌, ◌++◌, get_or, option_to_list, Option, Some, None, unwrap_or}
 use Rattle.std.specs.List.{All}
 use Rattle.atomic_table.specs.Seated.{TableId}
 use Rattle.std.specs.Option.{option_map}

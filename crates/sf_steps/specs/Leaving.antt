@@ -1,6 +1,6 @@
 -- What a step does that takes a buffer out of its queue: a loose buffer carries no fence, so the step is refused where a point
 -- of its fence is not signalled.
-use Rattle.std.specs.Prelude.{◌≡◌, ℕ, ◌==◌, Bool, true, false, if◌then◌else◌, List, [], ◌∷◌, map, Option, Some, None}
+use Rattle.std.specs.Prelude.{◌≡◌, ℕ, ◌==◌, Bool, true, false, if◌then◌else◌, map, Option, Some, None}
 use Rattle.sf_base.specs.Fences.{IsSignalled}
 use Rattle.sf_base.specs.declared.fences.Fence.{Fence}
 use Rattle.sf_base.specs.declared.fences.Seen.{Seen}

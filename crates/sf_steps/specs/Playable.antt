@@ -1,5 +1,5 @@
 -- What a step needs of the desk and of the pictures. A scene's reader and its limits give it.
-use Rattle.std.specs.Prelude.{◌≡◌, ℕ, ◌≤◌, true, List, length, All, IfSome}
+use Rattle.std.specs.Prelude.{◌≡◌, ◌≤◌, true, List, length, All, IfSome}
 use Rattle.sf_layer.specs.Ranges.{IsOperation}
 use Rattle.sf_picture.specs.declared.picture.Picture.{Picture}
 use Rattle.sf_scene.specs.declared.step.ActorScript.{ActorScript}

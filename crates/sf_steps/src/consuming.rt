@@ -8,13 +8,13 @@ use sf_surface::QCall;
 use sf_turns::TableName;
 
 impl<B: TableName> Hands<B> {
-    ghost use Rattle.std.specs.Prelude.{◌≡◌, ◌<◌, ℕ, true, false, length, IfOk};
+    ghost use Rattle.std.specs.Prelude.{◌≡◌, ℕ, true, IfOk};
     ghost use Rattle.sf_picture.specs.declared.picture.Picture.{Picture};
     ghost use Rattle.sf_scene.specs.declared.step.Step.TheVariants as step;
     ghost use Rattle.sf_actor.specs.Desks.{has_queue};
-    ghost use Rattle.sf_actor.specs.Names.{is_apart, is_frame, is_lent, name_in};
+    ghost use Rattle.sf_actor.specs.Names.{is_apart, is_frame, name_in};
     ghost use Rattle.sf_steps.specs.Doing.{HasQueueOf, MakesCall};
-    ghost use Rattle.sf_steps.specs.Forming.{AreOfTable, ArePoints, IsCrop, permits_of};
+    ghost use Rattle.sf_steps.specs.Forming.{ArePoints};
     ghost use Rattle.sf_steps.specs.Hands.{holdings_of};
 
     /// Limits how many buffers a consumer may hold.

@@ -1,8 +1,7 @@
-ghost use Rattle.std.specs.Prelude.{◌≡◌, ◌-◌, ◌<◌, ◌≤◌, slice_index, if◌then◌else◌, nat_lt};
+ghost use Rattle.std.specs.Prelude.{◌≡◌, ◌-◌, ◌<◌, ◌≤◌, slice_index, nat_lt};
 ghost use Rattle.sf_actor.specs.Desks.{ChangesTimes};
 ghost use Rattle.sf_actor.specs.Tries.{Sees};
 ghost use Rattle.sf_times.specs.Seats.{raised};
-ghost use Rattle.sf_steps.specs.declared.tried.Tried.TheVariants as tried;
 
 use crate::hands::Hands;
 use crate::tried::Tried;

@@ -2,7 +2,6 @@ ghost use Rattle.std.specs.Prelude.{◌≡◌, ◌≢◌, ◌≤◌, true, OnOk}
 ghost use Rattle.std.specs.List.{All};
 ghost use Rattle.sf_actor.specs.Desks.{has_queue};
 ghost use Rattle.sf_actor.specs.Scripts.{op_of, parent_of};
-ghost use Rattle.sf_steps.specs.Calling.{Ends};
 ghost use Rattle.sf_steps.specs.Editing.{IsThere, Releases, ReleasesAll, buffer_with};
 
 use crate::calling::leave;

@@ -1,5 +1,4 @@
 ghost use Rattle.std.specs.Prelude.{◌≡◌};
-ghost use Rattle.sf_actor.specs.Desks.{ChangesTimes};
 ghost use Rattle.sf_steps.specs.Leaving.{Looks, was_ok};
 
 use crate::asking::{moving, named};

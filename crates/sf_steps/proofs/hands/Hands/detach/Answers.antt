@@ -1,5 +1,4 @@
-use Rattle.std.proofs.Common.{ℕ, false, subst, sym, ap, Bool, Option}
-use Rattle.std.specs.Prelude.{IfOk}
+use Rattle.std.proofs.Common.{ℕ, subst, Option}
 use Rattle.sf_base.specs.declared.fences.Fence.{Fence}
 use Rattle.sf_picture.specs.declared.picture.Picture.{Picture}
 use Rattle.sf_scene.specs.declared.step.Step.TheVariants as step
@@ -8,7 +7,7 @@ use Rattle.sf_actor.specs.Names.{name_in}
 use Rattle.sf_actor.specs.Points.{requested_fence}
 use Rattle.sf_steps.specs.Doing.{MakesCall}
 use Rattle.sf_steps.specs.Hands.{holdings_of}
-use Rattle.sf_steps.specs.Leaving.{LooksFor, Looks, TriesToLeave}
+use Rattle.sf_steps.specs.Leaving.{LooksFor, Looks}
 use Rattle.sf_steps.specs.declared.tried.Tried.{Tried}
 use Rattle.sf_steps.proofs.LeavingLemmas.{leaves, ok-map}
 use Rattle.sf_steps.proofs.hands.Hands.detach.Goals as goal

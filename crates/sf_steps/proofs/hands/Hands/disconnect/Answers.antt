@@ -1,4 +1,4 @@
-use Rattle.std.proofs.Common.{◌≡◌, ◌∙◌, ap, sym, refl, Bool}
+use Rattle.std.proofs.Common.{◌∙◌, ap, sym, refl, Bool}
 use Rattle.std.specs.Prelude.{if◌then◌else◌}
 use Rattle.sf_steps.specs.Leaving.{without_lent}
 use Rattle.sf_steps.proofs.hands.Hands.disconnect.Goals as goal

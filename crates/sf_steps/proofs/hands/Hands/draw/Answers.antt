@@ -1,4 +1,4 @@
-use Rattle.std.proofs.Common.{◌≡◌, ◌∙◌, ℕ, List, Option, Some, ap, sym, subst}
+use Rattle.std.proofs.Common.{◌∙◌, List, Option, Some, ap, sym, subst}
 use Rattle.sf_actor.specs.declared.holding.Holding.{Holding}
 use Rattle.sf_actor.specs.declared.holding.Holding.TheVariants as holding
 use Rattle.sf_steps.specs.Drawing.{TriesDraw}

@@ -1,5 +1,4 @@
 use Rattle.std.proofs.Common.{cond, None, Some, ◌∙◌, Bool, ap, not, sym}
-use Rattle.std.specs.Prelude.{◌==◌}
 use Rattle.sf_picture.specs.declared.picture.Picture.{Picture}
 use Rattle.sf_surface.specs.Tokens.{is_size_of}
 use Rattle.sf_actor.specs.Scripts.{picture_at}

@@ -1,4 +1,4 @@
-use Rattle.std.proofs.Common.{ℕ, arith, ap, sym, ◌∙◌, None, get_or}
+use Rattle.std.proofs.Common.{arith, ap, sym, ◌∙◌, None, get_or}
 use Rattle.sf_steps.specs.Calling.{with_held}
 use Rattle.sf_steps.specs.Leaving.{let_go_of}
 use Rattle.sf_steps.specs.declared.hands.Hands.{Hands}

@@ -1,5 +1,4 @@
-use Rattle.std.proofs.Common.{List, Option, Some, refl, ap}
-use Rattle.sf_actor.specs.declared.holding.Holding.{Holding}
+use Rattle.std.proofs.Common.{Some, refl, ap}
 use Rattle.sf_actor.specs.declared.holding.Holding.TheVariants as holding
 use Rattle.sf_steps.proofs.hands.Hands.paint.Goals as goal
 
