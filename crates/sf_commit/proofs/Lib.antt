@@ -5,7 +5,9 @@ pub mod FollowLemmas
 pub mod HeldLemmas
 pub mod KnownLemmas
 pub mod LeadLemmas
+pub mod LendLemmas
 pub mod ListLemmas
+pub mod MarkLemmas
 pub mod NextLemmas
 pub mod SettleLemmas
 pub mod StandingAlong

@@ -13,7 +13,8 @@ use Rattle.sf_picture.specs.declared.picture.Picture.{Picture}
 use Rattle.sf_view.specs.Views.{ViewOf, Views}
 use Rattle.sf_commit.specs.Deciding.{ShowsIts}
 use Rattle.sf_commit.specs.Handlers.{last_of, source_of}
-use Rattle.sf_commit.specs.Leases.{IsReleaseOf, ShowsLease, ends_of, pictures}
+use Rattle.sf_commit.specs.Leases.{IsReleaseOf, ShowsLease, pictures_here}
+use Rattle.sf_commit.specs.Lending.{KeptRead, reads_of}
 use Rattle.sf_commit.specs.OnLayers.{OnLayer, shown_on}
 use Rattle.sf_commit.specs.Releases.{ReleaseOf}
 use Rattle.sf_commit.specs.Rounds.{Decided, Round, StageOf, held}
@@ -39,14 +40,14 @@ module _ {L E R C : Type 0} (lease : Ghosts L E R C) where
     pub holds : waits ≡ held lease.shown seen expected end
     pub eye_is : IsEyeAfter lease eye eye' []
 
-  -- what goes was handed back, what is new is read, and the display shows the layers
-  pub record SettlesAll (stage : StageOf L) (width height : ℕ) (eye : E) (on : List (OnLayer L)) (contents : List Picture)
-      (view : ViewOf) (sources : List ℕ) (releases : List (ReleaseOf L)) (eye' : E) : Type 0 where
+  -- what goes was handed back and its reads are kept, what is new is read, and the display shows the layers
+  pub record SettlesAll (stage : StageOf L) (width height : ℕ) (kept : List (KeptRead L)) (on : List (OnLayer L)) (contents : List Picture)
+      (view : ViewOf) (sources : List ℕ) (releases : List (ReleaseOf L)) (kept' : List (KeptRead L)) : Type 0 where
     pub on_is : on ≡ map shown_on stage.on
-    pub contents_are : contents ≡ pictures lease stage.on
+    pub contents_are : contents ≡ pictures_here lease stage.on
     pub crops : All (ShowsLease lease) on
     pub few : length on ≤ 4294967295
     pub view_is : Views stage.tree.layers width height view
     pub sources_are : sources ≡ map (source_of stage.on) view.drawn
     pub released : AllZip (IsReleaseOf lease) stage.gone releases
-    pub reads : IsEyeAfter lease eye eye' (ends_of lease stage.gone)
+    pub kept_are : kept' ≡ kept ++ reads_of stage.gone

@@ -1,5 +1,5 @@
 -- What the compositor holds between two vsyncs, and what a vsync makes of it.
-use Rattle.std.specs.Prelude.{◌≡◌, ℕ, ◌≤◌, Bool, true, false, List, [], ◌∷◌, ◌++◌, length, map}
+use Rattle.std.specs.Prelude.{◌≡◌, ℕ, ◌≤◌, Bool, true, false, List, [], ◌∷◌, ◌++◌, length, map, Option, Some, None, IfSome}
 use Rattle.std.specs.List.{All, AllZip, find, position}
 use Rattle.std.specs.Option.{option_map, unwrap_or}
 use Rattle.sf_base.specs.declared.fences.Seen.{Seen}
@@ -15,12 +15,14 @@ use Rattle.sf_view.specs.Views.{IsDisplay, Views}
 use Rattle.sf_view.specs.declared.drawn.Drawn.{Drawn}
 use Rattle.sf_commit.specs.OnLayers.{OnLayer, is_on, shown_on}
 use Rattle.sf_commit.specs.Rounds.{Decided, Round, held}
-use Rattle.sf_commit.specs.Leases.{AllOn, IsReleaseOf, ShowsLease, ends_of, pictures}
+use Rattle.sf_commit.specs.Leases.{AllOn, IsReleaseOf, ShowsLease, pictures, pictures_here}
+use Rattle.sf_commit.specs.Lending.{AllKept, AreThere, KeptRead, ends_of, kept_if, left_if, read_of, reads_of}
 use Rattle.sf_commit.specs.Releases.{VsyncOf}
 use Rattle.sf_commit.specs.Standing.{Stands}
 
 -- what decides in a vsync: the size of the display, the tree, what is pending, the frames that were committed, the
--- buffers on layers, the greatest arrival number, and whether memory was wanting
+-- buffers on layers, the greatest arrival number, and whether memory was wanting; and beside it the pictures that are
+-- lent, if buffers are, and the reads that are kept until these come back
 pub record HandlerOf (L : Type 0) : Type 0 where
   pub width : ℕ
   pub height : ℕ
@@ -30,6 +32,13 @@ pub record HandlerOf (L : Type 0) : Type 0 where
   pub on : List (OnLayer L)
   pub last : ℕ
   pub is_spent : Bool
+  pub lent : Option (List Picture)
+  pub kept : List (KeptRead L)
+
+-- the pixels of what is lent, each at its place
+abbrev pub lent_pixels : Option (List Picture) → List (Option Picture)
+lent_pixels None = []
+lent_pixels (Some lent) = map (λ picture. Some picture) lent
 
 module _ {L : Type 0} where
   -- a compositor to which nothing was sent, for so many layers
@@ -43,6 +52,8 @@ module _ {L : Type 0} where
     on = [];
     last = 0;
     is_spent = false;
+    lent = None;
+    kept = [];
   }
 
   -- a vsync begins with all that arrived
@@ -68,6 +79,7 @@ module _ {L E R C : Type 0} (lease : Ghosts L E R C) where
   pub record FitsHandler (eye : E) (handler : HandlerOf L) : Type 0 where
     pub pending : AllLeases (lease.fits (lease.mark eye)) handler.pending
     pub on : AllOn (lease.fits (lease.mark eye)) handler.on
+    pub kept : AllKept (lease.fits (lease.mark eye)) handler.kept
 
   -- what a handler keeps between two vsyncs: each layer shows the one buffer that stands for it, whose crop lies in its
   -- picture, all of them are read, and the numbers of what is pending rise
@@ -78,15 +90,19 @@ module _ {L E R C : Type 0} (lease : Ghosts L E R C) where
     pub crops : All (ShowsLease lease) handler.on
     pub rising : IsRisingFrom 0 handler.pending handler.last
 
-  -- what a handler keeps inside: its pixels are those of the buffers on layers, in order, which 32 bits can count; the
-  -- rest holds until it is spent
-  pub record IsKept (handler : HandlerOf L) (contents : List Picture) : Type 0 where
-    pub same : contents ≡ pictures lease handler.on
+  -- what a handler keeps inside: the pixels at hand are those of the buffers on layers that are not lent, in order, and
+  -- 32 bits can count them all; those of the reads that go on are lent at places of their own, and no read is kept where
+  -- nothing is lent; what was lent is what is shown while no vsync has changed it; the rest holds until it is spent
+  pub record IsKept (handler : HandlerOf L) (contents : List Picture) (has_changed : Bool) : Type 0 where
+    pub same : contents ≡ pictures_here lease handler.on
     pub few : length handler.on ≤ 4294967295
+    pub lends : AreThere lease (lent_pixels handler.lent) (handler.kept ++ map read_of handler.on)
+    pub unlent : handler.lent ≡ None → handler.kept ≡ []
+    pub unchanged : IfSome handler.lent (λ lent. has_changed ≡ false → (lent ≡ pictures lease handler.on) × (handler.kept ≡ []))
     pub keeps : handler.is_spent ≡ false → IsHandler handler
 
   -- how a vsync ends, once all is decided: the buffers that go are handed back, those that are newly shown are read,
-  -- and the display shows the layers as they are now
+  -- and the display shows the layers as they are now. The reads of what goes are left, or kept while buffers are lent
   pub record Settles (old : HandlerOf L) (eye : E) (arrived : List (Arrival L)) (end : Round L) (seen : Seen) (expected : ℕ) (told : VsyncOf L)
       (new : HandlerOf L) (eye' : E) : Type 0 where
     pub commits : told.commits ≡ end.stage.commits
@@ -101,8 +117,10 @@ module _ {L E R C : Type 0} (lease : Ghosts L E R C) where
       pending = end.pending;
       frames = new.frames;
       last = last_of old.last arrived;
+      kept = new.kept;
     }
-    pub reads : IsEyeAfter lease eye eye' (ends_of lease end.stage.gone)
+    pub kept : new.kept ≡ old.kept ++ kept_if old.lent (reads_of end.stage.gone)
+    pub reads : IsEyeAfter lease eye eye' (ends_of lease (left_if old.lent (reads_of end.stage.gone)))
     pub fits : FitsHandler eye old → AllLeases (lease.fits (lease.mark eye)) arrived → FitsHandler eye' new
 
   -- a vsync looks once at each lease of what is pending, in the order of arrival, and then decides by what the looks
@@ -115,3 +133,13 @@ module _ {L E R C : Type 0} (lease : Ghosts L E R C) where
     pub end : Round L
     pub decided : Decided lease.shown seen expected (begun old looked) end
     pub settled : Settles old eye arrived end seen expected told new eye'
+
+  -- what a vsync leaves for want of memory: what was lent is lent still. Of the buffers that were to go it handed some
+  -- back, whose reads are left, or kept while buffers are lent
+  pub record Stops (old : HandlerOf L) (eye : E) (new : HandlerOf L) (eye' : E) : Type 0 where
+    pub spent : new.is_spent ≡ true
+    pub lent : new.lent ≡ old.lent
+    pub handed : List (KeptRead L)
+    pub kept : new.kept ≡ old.kept ++ kept_if old.lent handed
+    pub reads : IsEyeAfter lease eye eye' (ends_of lease (left_if old.lent handed))
+    pub fits : AllKept (lease.fits (lease.mark eye)) old.kept → AllKept (lease.fits (lease.mark eye)) new.kept

@@ -1,5 +1,6 @@
--- How a buffer on a layer lies in memory: its pixels taken out, or still behind the lease that a transaction brought.
-use Rattle.std.specs.Prelude.{◌≡◌, ℕ, true, false, List, [], ◌++◌, map, Result, Ok, Err}
+-- How a buffer on a layer lies in memory: its pixels taken out, or still behind the lease that a transaction brought; and
+-- the room for pixels that come back.
+use Rattle.std.specs.Prelude.{◌≡◌, ℕ, ◌≤◌, Bool, true, false, List, [], ◌∷◌, ◌++◌, get_or, map, set, Option, Some, None, Result, Ok, Err}
 use Rattle.sf_base.specs.Fences.{no_points}
 use Rattle.sf_base.specs.declared.ids.LayerId.{LayerId}
 use Rattle.sf_layer.specs.declared.layer.Layer.{Layer}
@@ -11,22 +12,65 @@ use Rattle.sf_tree.specs.Trees.{TreeOf}
 use Rattle.sf_txn.specs.Buffers.{Buffer, Shows}
 use Rattle.sf_txn.specs.Transactions.{shown_by}
 use Rattle.sf_txn.specs.declared.lease.Lease.{Ghosts}
+use Rattle.sf_picture.specs.declared.picture.Picture.{Picture}
+use Rattle.sf_commit.specs.Leases.{here_if}
 use Rattle.sf_commit.specs.OnLayers.{OnLayer}
 use Rattle.sf_commit.specs.Rounds.{StageOf, accepted, frames_in, layers_in, pressed_in, rejected}
+use Rattle.sf_commit.specs.declared.on.Image.{Image}
+use Rattle.sf_commit.specs.declared.on.Image.TheVariants as image
 use Rattle.sf_commit.specs.declared.on.Pixels.{Pixels}
 use Rattle.sf_commit.specs.declared.on.Pixels.TheVariants as pixels
 
+-- the place where pixels are lent, if they are, and the picture that they show at hand
+abbrev pub place_of : Image → Option ℕ
+place_of (image.Here painted) = None
+place_of (image.Lent place) = Some place
+
+abbrev pub here_of : Image → List Picture
+here_of (image.Here painted) = painted ∷ []
+here_of (image.Lent place) = []
+
+-- the pixels of a read: those at hand, or those that stand at its place; and what stands at places without them
+abbrev pub taken_from : List (Option Picture) → Image → Option Picture
+taken_from slots (image.Here painted) = Some painted
+taken_from slots (image.Lent place) = get_or slots place None
+
+abbrev pub cleared : List (Option Picture) → Option ℕ → List (Option Picture)
+cleared slots None = slots
+cleared slots (Some place) = set slots place None
+
+-- pixels at hand show a picture
+abbrev pub ShowsHere : Image → Picture → Type 0
+ShowsHere taken picture = here_of taken ≡ here_if (place_of taken) picture
+
+-- room for pixels that come back: a slot for each of those that are lent, and for each buffer on a layer, which may be
+-- lent next; and, once a vsync has changed what is shown, a list that takes the pixels of all buffers on layers
+pub record HasRoom (lent on : ℕ) (has_changed : Bool) (slots contents : ℕ × ℕ) : Type 0 where
+  pub no_slots : slots.0 ≡ 0
+  pub lent_slots : lent ≤ slots.1
+  pub next_slots : on ≤ slots.1
+  pub no_contents : contents.0 ≡ 0
+  pub all_contents : has_changed ≡ true → on ≤ contents.1
+
 module _ {L E R C : Type 0} (lease : Ghosts L E R C) where
   abbrev pub on_of : LayerId → Shown → Pixels L E R C → OnLayer L
-  on_of layer shown (pixels.Read reading painted) =
-      record { layer = layer; shown = shown; fence = no_points; lease = lease.opened reading; is_read = true }
+  on_of layer shown (pixels.Read reading taken) =
+      record { layer = layer; shown = shown; fence = no_points; lease = lease.opened reading; is_read = true; place = place_of taken }
   on_of layer shown (pixels.Brought fence l) =
-      record { layer = layer; shown = shown; fence = fence; lease = l; is_read = false }
+      record { layer = layer; shown = shown; fence = fence; lease = l; is_read = false; place = None }
 
   -- what is shown lies in the picture that the lease expects, which the pixels show where they were taken out
+  -- and are at hand
   abbrev pub IsOn : Shown → Pixels L E R C → Type 0
-  IsOn shown (pixels.Read reading painted) = Shows shown (lease.picture (lease.opened reading)) × (painted ≡ lease.picture (lease.opened reading))
+  IsOn shown (pixels.Read reading taken) = Shows shown (lease.picture (lease.opened reading)) × ShowsHere taken (lease.picture (lease.opened reading))
   IsOn shown (pixels.Brought fence l) = Shows shown (lease.picture l)
+
+  -- what has yet to be done to leave a read, and the pixels that have to come back for it
+  pub record IsKeptRead (l : L) (closing : C) (taken : Image) : Type 0 where
+    pub end : lease.closing_end closing ≡ lease.end l
+    pub picture : lease.closing_picture closing ≡ lease.picture l
+    pub fits : (m : lease.Mark) → lease.fits m l → lease.closing_fits m closing
+    pub here : ShowsHere taken (lease.picture l)
 
 -- what is decided from after these buffers were shown, and with these layers
 pub record Notes (old new : FactsOf) (shown : List (LayerId × Shown)) (layers : List Layer) : Type 0 where

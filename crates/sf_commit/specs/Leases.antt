@@ -1,5 +1,5 @@
 -- What looks, reads and releases make of leases.
-use Rattle.std.specs.Prelude.{◌≡◌, ℕ, Bool, true, false, if◌then◌else◌, List, [], ◌∷◌, ◌++◌, map}
+use Rattle.std.specs.Prelude.{◌≡◌, ℕ, Bool, true, false, List, [], ◌∷◌, ◌++◌, map, Option, Some, None}
 use Rattle.std.specs.List.{All}
 use Rattle.sf_picture.specs.declared.picture.Picture.{Picture}
 use Rattle.sf_txn.specs.Buffers.{Shows}
@@ -11,10 +11,20 @@ use Rattle.sf_commit.specs.Releases.{ReleaseOf}
 abbrev pub AllOn : {L : Type 0} → (L → Type 0) → List (OnLayer L) → Type 0
 AllOn P on = All (λ one. P one.lease) on
 
+-- the picture of a read where its pixels are at hand, and none where they are lent at a place
+abbrev pub here_if : Option ℕ → Picture → List Picture
+here_if None picture = picture ∷ []
+here_if (Some _) picture = []
+
 module _ {L E R C : Type 0} (lease : Ghosts L E R C) where
   -- the pictures of the buffers on layers, in order
   abbrev pub pictures : List (OnLayer L) → List Picture
   pictures on = map (λ one. lease.picture one.lease) on
+
+  -- the pictures of the buffers on layers whose pixels are at hand, in order
+  abbrev pub pictures_here : List (OnLayer L) → List Picture
+  pictures_here [] = []
+  pictures_here (one ∷ on) = here_if one.place (lease.picture one.lease) ++ pictures_here on
 
   -- what is shown of a buffer lies in the picture that its lease expects
   abbrev pub ShowsLease : OnLayer L → Type 0
@@ -35,11 +45,3 @@ module _ {L E R C : Type 0} (lease : Ghosts L E R C) where
     pub frame : release.frame ≡ on.shown.frame
     pub fence : release.fence ≡ on.fence
     pub handed : HandsBack on.is_read on.lease release.lease
-
-  -- the end of the read of a buffer that goes, if it was read, and those of several, in their order
-  abbrev pub ended_by : OnLayer L → List (ℕ × ℕ)
-  ended_by one = if one.is_read then lease.end one.lease ∷ [] else []
-
-  abbrev pub ends_of : List (OnLayer L) → List (ℕ × ℕ)
-  ends_of [] = []
-  ends_of (one ∷ gone) = ended_by one ++ ends_of gone

@@ -5,6 +5,7 @@ pub mod Handlers
 pub mod Holding
 pub mod Inside
 pub mod Leases
+pub mod Lending
 pub mod Next
 pub mod OnLayers
 pub mod Releases

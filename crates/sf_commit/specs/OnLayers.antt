@@ -1,5 +1,5 @@
 -- The buffers that layers show, and what a transaction's operations do to them.
-use Rattle.std.specs.Prelude.{◌==◌, ◌&&◌, Bool, true, false, List, [], ◌∷◌, ◌++◌}
+use Rattle.std.specs.Prelude.{ℕ, ◌+◌, ◌==◌, ◌&&◌, Bool, true, false, List, [], ◌∷◌, ◌++◌, Option, Some, None}
 use Rattle.std.specs.List.{find}
 use Rattle.std.specs.Option.{option_to_list}
 use Rattle.sf_base.specs.Fences.{no_points}
@@ -12,22 +12,33 @@ use Rattle.sf_txn.specs.Buffers.{Buffer}
 use Rattle.sf_txn.specs.Transactions.{without_first}
 
 -- a buffer that a layer shows, with the lease of its pixels and the fence with which it goes back unread. It is read
--- where a layer showed it at the end of an earlier vsync; it has no fence then
+-- where a layer showed it at the end of an earlier vsync; it has no fence then. Where its pixels are lent, it has their
+-- place among all that are
 pub record OnLayer (L : Type 0) : Type 0 where
   pub layer : LayerId
   pub shown : Shown
   pub fence : Fence
   pub lease : L
   pub is_read : Bool
+  pub place : Option ℕ
 
 module _ {L : Type 0} where
   -- a buffer as a transaction brings it
   abbrev pub brought : Buffer L → OnLayer L
-  brought buffer = record { layer = buffer.layer; shown = buffer.shown; fence = buffer.fence; lease = buffer.lease; is_read = false }
+  brought buffer = record { layer = buffer.layer; shown = buffer.shown; fence = buffer.fence; lease = buffer.lease; is_read = false; place = None }
 
   -- a buffer that is shown at the end of a vsync
   abbrev pub shown_on : OnLayer L → OnLayer L
   shown_on on = record on { fence = no_points; is_read = true }
+
+  -- a buffer whose pixels are at hand
+  abbrev pub at_hand : OnLayer L → OnLayer L
+  at_hand on = record on { place = None }
+
+  -- buffers whose pixels are lent in their order, from this place on
+  abbrev pub lent_from : ℕ → List (OnLayer L) → List (OnLayer L)
+  lent_from place [] = []
+  lent_from place (one ∷ on) = record one { place = Some place } ∷ lent_from (place + 1) on
 
   abbrev pub is_on : LayerId → OnLayer L → Bool
   is_on layer on = on.layer.0 == layer.0

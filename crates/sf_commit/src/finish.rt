@@ -2,8 +2,11 @@ ghost use Rattle.std.specs.List.{All};
 ghost use Rattle.std.specs.Prelude.{◌≡◌, [], IfOk};
 ghost use Rattle.sf_commit.specs.Following.{SettlesAll};
 ghost use Rattle.sf_commit.specs.Leases.{AllOn, IsKnownOn};
+ghost use Rattle.sf_commit.specs.Lending.{KeepsSome};
+ghost use Rattle.sf_txn.specs.Leases.{IsEyeAfter};
 ghost use Rattle.sf_view.specs.Views.{IsDisplay};
 
+use crate::keeping::KeptRead;
 use crate::on::OnLayer;
 use crate::opening::{Reading, open_all};
 use crate::settle::release_all;
@@ -26,7 +29,8 @@ pub(crate) struct Settled<L: Lease> {
     pub releases: Vec<Release<L>>,
 }
 
-/// Hands back the buffers that go, reads those that are newly shown, and views the layers.
+/// Hands back the buffers that go, whose reads are kept, reads those that are newly shown, and views
+/// the layers. Want of memory leaves the reads of those that were handed back.
 pub(crate) fn settle_all<L: Lease + Drop>(
     alloc: Global,
     tree: &Tree,
@@ -34,21 +38,21 @@ pub(crate) fn settle_all<L: Lease + Drop>(
     gone: Vec<OnLayer<L>>,
     width: u32,
     height: u32,
+    kept: &mut Vec<KeptRead<L>>,
     eye: &mut L::Eye,
 ) -> Result<Settled<L>, NoMemory>
 where
     L::Reading: Drop,
     requires display { IsDisplay width height }
-    requires going { AllOn (L.fits (L.mark eye.old)) gone.items }
     requires staying { AllOn (L.fits (L.mark eye.old)) on.items }
     requires known { All (IsKnownOn L.Lease eye.old) on.items }
     ensures settles { IfOk result (λ s. SettlesAll L.Lease
-        (record { tree = tree.now; on = on.items; commits = []; gone = gone.items }) width height eye.old
-        s.on.items s.contents.items s.view s.sources.items s.releases.items eye.new) }
-    ensures mark { L.mark eye.new ≡ L.mark eye.old }
-    ensures keeps { (l : L) → L.knows eye.old l → L.knows eye.new l }
+        (record { tree = tree.now; on = on.items; commits = []; gone = gone.items }) width height kept.old.items
+        s.on.items s.contents.items s.view s.sources.items s.releases.items kept.new.items) }
+    ensures some { KeepsSome kept.old.items kept.new.items gone.items }
+    ensures eye { IsEyeAfter L.Lease eye.old eye.new [] }
 {
-    let releases = release_all(alloc, eye, gone)?;
+    let releases = release_all(alloc, kept, gone)?;
     let mut readings = Vec::new(alloc);
     let mut contents = Vec::new(alloc);
     open_all(eye, on, &mut readings, &mut contents)?;

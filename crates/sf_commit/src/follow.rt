@@ -1,8 +1,9 @@
-ghost use Rattle.std.specs.Prelude.{◌≡◌, IfOk};
+ghost use Rattle.std.specs.Prelude.{[], IfOk};
 ghost use Rattle.sf_commit.specs.Following.{DecidesAll};
 ghost use Rattle.sf_commit.specs.Handlers.{last_of};
 ghost use Rattle.sf_token.specs.Looking.{AllLeases};
 ghost use Rattle.sf_token.specs.Pending.{IsRisingFrom};
+ghost use Rattle.sf_txn.specs.Leases.{IsEyeAfter};
 
 use crate::commit::Stage;
 use crate::decide::decide;
@@ -19,6 +20,7 @@ use std::alloc::Global;
 
 /// Takes what arrived, looks once at each pending lease, and commits until nothing is left to
 /// commit. Tells what the stage is then, and what waits.
+#[tactic(auto, using(crate::proofs::SettleLemmas::eye_same))]
 pub(crate) fn decide_all<L: Lease + Drop>(
     alloc: Global,
     tree: Tree,
@@ -38,8 +40,7 @@ where
     requires rising { IsRisingFrom queues.old.last arrived.items (last_of queues.old.last arrived.items) }
     ensures decides { IfOk result (λ d. DecidesAll L.Lease tree on.items facts.old queues.old eye.old arrived.items seen.now expected
         d.0 d.1.items queues.new facts.new eye.new) }
-    ensures mark { L.mark eye.new ≡ L.mark eye.old }
-    ensures keeps { (l : L) → L.knows eye.old l → L.knows eye.new l }
+    ensures eye { IsEyeAfter L.Lease eye.old eye.new [] }
 {
     receive(queues, arrived)?;
     let looks = queues.look(eye)?;

@@ -1,15 +1,19 @@
 ghost use Rattle.std.specs.List.{position};
-ghost use Rattle.std.specs.Prelude.{◌≡◌, ◌≤◌, true, false, IfOk, IsErr, OnErr};
+ghost use Rattle.std.specs.Prelude.{◌≡◌, ◌≤◌, true, false, [], IfOk, IsErr, None, OnErr, Some, is_some, map};
 ghost use Rattle.sf_token.specs.Pending.{IsRisingFrom};
 ghost use Rattle.sf_view.specs.Views.{IsDisplay};
-ghost use Rattle.sf_commit.specs.Handlers.{Decides, FitsHandler, IsHandler, last_of, new_handler};
+ghost use Rattle.sf_commit.specs.Handlers.{Decides, FitsHandler, IsHandler, Stops, last_of, new_handler};
 ghost use Rattle.sf_commit.specs.Leases.{pictures};
-ghost use Rattle.sf_commit.specs.OnLayers.{is_frame};
+ghost use Rattle.sf_commit.specs.Lending.{AllKept, ends_of};
+ghost use Rattle.sf_commit.specs.OnLayers.{at_hand, is_frame, lent_from};
 ghost use Rattle.sf_token.specs.Looking.{AllLeases};
+ghost use Rattle.sf_txn.specs.Leases.{IsEyeAfter};
 
 use crate::commit::Stage;
 use crate::finish::{Settled, settle_all};
 use crate::follow::decide_all;
+use crate::keeping::KeptRead;
+use crate::lending::{Contents, Room, leave_unlent, mark_at_hand, mark_lent, put_back};
 use crate::opening::{Reading, gather};
 use crate::sources::index_of_frame;
 use crate::vsync::Vsync;
@@ -22,12 +26,14 @@ use sf_tree::Tree;
 use sf_txn::Lease;
 use std::alloc::Global;
 use std::marker::Model;
+use std::mem;
+use std::snapshot::Snapshot;
 
 // How many layers there are at most where no limit is given.
 const MOST_LAYERS: u32 = 256;
 
-/// The compositor's layers, the buffers that they show, and the transactions that wait.
-#[derive(Drop)]
+/// The compositor's layers, the buffers that they show, and the transactions that wait. It may keep
+/// reads, which only the pixels that are lent can end, so it is used up by `finish`.
 pub struct Handler<L: Lease> {
     alloc: Global,
     width: u32,
@@ -36,12 +42,22 @@ pub struct Handler<L: Lease> {
     queues: TokenQueues<L>,
     facts: Facts,
     on: Vec<Reading<L>>,
+    // The pixels of the buffers on layers that are not lent, in their order.
     contents: Vec<Painted>,
+    lent: Option<Snapshot<Contents>>,
+    // Whether a vsync came since the pixels were lent.
+    has_changed: bool,
+    kept: Vec<KeptRead<L>>,
+    room: Room,
     is_spent: bool,
 }
 
 impl<L: Lease> Model for Handler<L> {
-    ghost use Rattle.sf_commit.specs.Handlers.{HandlerOf, IsKept};
+    ghost use Rattle.std.specs.Option.{option_map};
+    ghost use Rattle.std.specs.Prelude.{length};
+    ghost use Rattle.std.specs.Vec.{vec_capacity, vec_len};
+    ghost use Rattle.sf_commit.specs.Handlers.{HandlerOf, IsKept, lent_pixels};
+    ghost use Rattle.sf_commit.specs.Inside.{HasRoom};
 
     ghost Value = { HandlerOf L };
 
@@ -54,6 +70,8 @@ impl<L: Lease> Model for Handler<L> {
       on = h.on.items;
       last = h.queues.last;
       is_spent = h.is_spent;
+      lent = option_map (λ lent. lent.value) h.lent;
+      kept = h.kept.items;
     } };
 
     ghost invariant = { λ h. IsKept L.Lease (record {
@@ -65,7 +83,11 @@ impl<L: Lease> Model for Handler<L> {
       on = h.on.items;
       last = h.queues.last;
       is_spent = h.is_spent;
-    }) h.contents.items };
+      lent = option_map (λ lent. lent.value) h.lent;
+      kept = h.kept.items;
+    }) h.contents.items h.has_changed
+        × HasRoom (length (lent_pixels (option_map (λ lent. lent.value) h.lent))) (length h.on.items) h.has_changed
+        (vec_len h.room.slots, vec_capacity h.room.slots) (vec_len h.room.contents, vec_capacity h.room.contents) };
 }
 
 impl<L: Lease + Drop> Handler<L>
@@ -101,6 +123,10 @@ where
             facts: Facts::new(alloc),
             on: Vec::new(alloc),
             contents: Vec::new(alloc),
+            lent: None,
+            has_changed: false,
+            kept: Vec::new(alloc),
+            room: Room::new(alloc),
             is_spent: false,
         })
     }
@@ -110,8 +136,11 @@ where
     /// transaction of a token is held. `seen` is what was observed of the timelines. The eye fits
     /// every lease that was handed in, and the numbers of what arrived rise above all earlier ones.
     ///
+    /// While the pixels are lent, the leases of what goes are handed on and their reads kept until the
+    /// pixels are given back; else these reads have ended when it returns.
+    ///
     /// After want of memory the handler is spent: everything pending is given up, and every later
-    /// vsync answers so.
+    /// vsync answers so. What was lent can be given back then, too.
     pub fn vsync(
         &mut self,
         eye: &mut L::Eye,
@@ -123,7 +152,7 @@ where
         requires brought { AllLeases (L.fits (L.mark eye.old)) arrived.items }
         requires rising { self.old.is_spent ≡ false → IsRisingFrom self.old.last arrived.items (last_of self.old.last arrived.items) }
         ensures decides { IfOk result (λ told. Decides L.Lease self.old eye.old arrived.items seen.now expected told self.new eye.new) }
-        ensures spent { OnErr result (self.new.is_spent ≡ true) }
+        ensures stops { OnErr result (Stops L.Lease self.old eye.old self.new eye.new) }
         ensures again { self.old.is_spent ≡ true → IsErr result }
         ensures mark { L.mark eye.new ≡ L.mark eye.old }
         ensures keeps { (l : L) → L.knows eye.old l → L.knows eye.new l }
@@ -133,9 +162,11 @@ where
         }
         self.is_spent = true;
         let alloc = self.alloc;
-        let tree = std::mem::replace(&mut self.tree, Tree::new(alloc)?);
-        let readings = std::mem::replace(&mut self.on, Vec::new(alloc));
-        let contents = std::mem::replace(&mut self.contents, Vec::new(alloc));
+        let tree = mem::replace(&mut self.tree, Tree::new(alloc)?);
+        let is_lent = self.lent.is_some();
+        self.has_changed = is_lent;
+        let readings = mem::replace(&mut self.on, Vec::new(alloc));
+        let contents = mem::replace(&mut self.contents, Vec::new(alloc));
         let on = gather(alloc, readings, contents)?;
         let (stage, held) = decide_all(
             alloc,
@@ -155,13 +186,25 @@ where
             gone,
             ..
         } = stage;
+        let settled = settle_all(
+            alloc,
+            &tree,
+            on,
+            gone,
+            self.width,
+            self.height,
+            &mut self.kept,
+            eye,
+        );
+        leave_unlent(alloc, eye, &mut self.kept, is_lent);
         let Settled {
             on,
             contents,
             view,
             sources,
             releases,
-        } = settle_all(alloc, &tree, on, gone, self.width, self.height, eye)?;
+        } = settled?;
+        self.room.make(on.len(), is_lent)?;
         self.tree = tree;
         self.on = on;
         self.contents = contents;
@@ -175,8 +218,78 @@ where
         })
     }
 
-    /// The pixels of the buffers on layers, as they were entered for reading.
+    /// Moves the pixels of the buffers on layers out, which are not lent. It takes no memory.
+    pub fn lend(&mut self) -> Contents
+        requires { self.old.lent ≡ None }
+        ensures pictures { result ≡ pictures L.Lease self.old.on }
+        ensures lent { self.new ≡ record self.old { on = lent_from 0 self.old.on; lent = Some (pictures L.Lease self.old.on) } }
+    {
+        mark_lent(&mut self.on);
+        let list = mem::replace(&mut self.contents, Vec::new(self.alloc));
+        let contents = Contents { list };
+        self.lent = Some(Snapshot::of(&contents));
+        self.has_changed = false;
+        contents
+    }
+
+    /// Puts the pixels back that were lent, with the pictures that they had, in their order, and
+    /// leaves each read whose lease was handed on since. It takes no memory.
+    pub fn give_back(&mut self, eye: &mut L::Eye, contents: Contents)
+        requires lent { self.old.lent ≡ Some contents }
+        requires fits { AllKept (L.fits (L.mark eye.old)) self.old.kept }
+        ensures back { self.new ≡ record self.old { on = map at_hand self.old.on; lent = None; kept = [] } }
+        ensures reads { IsEyeAfter L.Lease eye.old eye.new (ends_of L.Lease self.old.kept) }
+    {
+        let alloc = self.alloc;
+        let kept = mem::replace(&mut self.kept, Vec::new(alloc));
+        let stayed = mem::replace(&mut self.contents, Vec::new(alloc));
+        self.contents = put_back(
+            alloc,
+            eye,
+            kept,
+            &mut self.room,
+            &self.on,
+            stayed,
+            contents.list,
+            self.has_changed,
+        );
+        mark_at_hand(&mut self.on);
+        self.lent = None;
+        self.has_changed = false;
+    }
+
+    /// Whether the pixels are lent. It takes no memory.
+    pub fn is_lent(&self) -> bool
+        ensures { result ≡ is_some self.now.lent }
+    {
+        self.lent.is_some()
+    }
+
+    /// Ends the compositor, whose pixels are not lent. It takes no memory.
+    pub fn finish(self)
+        requires { self.lent ≡ None }
+    {
+        let Handler {
+            alloc: _,
+            width: _,
+            height: _,
+            tree: _,
+            queues: _,
+            facts: _,
+            on: _,
+            contents: _,
+            lent: _,
+            has_changed: _,
+            kept,
+            room: _,
+            is_spent: _,
+        } = self;
+        kept.destroy_empty();
+    }
+
+    /// The pixels of the buffers on layers, which are not lent, as they were entered for reading.
     pub fn contents(&self) -> &[Painted]
+        requires { self.now.lent ≡ None }
         ensures pictures { result.now ≡ pictures L.Lease self.now.on }
         ensures kept { self.now.is_spent ≡ false → IsHandler L.Lease self.now }
     {
@@ -190,8 +303,8 @@ where
         &self.tree
     }
 
-    /// The place of this frame of a queue in the contents; None exactly where no layer shows it. It
-    /// takes no memory.
+    /// The place of this frame of a queue in the contents, as they stand when nothing is lent; None
+    /// exactly where no layer shows it. It takes no memory.
     pub fn source(&self, shown: &Shown) -> Option<u32>
         ensures { result ≡ position (is_frame shown.now) self.now.on }
     {

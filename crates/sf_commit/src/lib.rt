@@ -1,6 +1,7 @@
 //! The compositor between two vsyncs: it takes the transactions that arrived, and at each vsync
 //! commits those that are ready, takes their buffers, tells what the display shows, and releases
-//! the buffers that no layer shows any more. A buffer on a layer stays entered for reading.
+//! the buffers that no layer shows any more. A buffer on a layer stays entered for reading, and its
+//! pixels can be lent while the next vsync is decided.
 #![tactic(auto)]
 
 mod asking;
@@ -10,6 +11,8 @@ mod finish;
 mod follow;
 mod handler;
 mod held;
+mod keeping;
+mod lending;
 mod next;
 mod note;
 mod on;
@@ -21,4 +24,5 @@ mod stage;
 mod vsync;
 
 pub use handler::Handler;
+pub use lending::Contents;
 pub use vsync::{Commit, Release, Vsync};

@@ -4,11 +4,20 @@ use sf_picture::Painted;
 use sf_txn::{BufferOp, Lease};
 use std::marker::Model;
 
+/// The pixels of a buffer that the compositor reads.
+#[derive(Drop)]
+pub(crate) enum Image {
+    /// They are at hand.
+    Here(Painted),
+    /// They are lent, at this place among those that are.
+    Lent(usize),
+}
+
 /// How the compositor has the pixels of a buffer on a layer.
 #[derive(Drop)]
 pub(crate) enum Pixels<L: Lease> {
     /// They were taken out when the buffer was first shown.
-    Read(L::Reading, Painted),
+    Read(L::Reading, Image),
     /// A transaction of this vsync brought the right to them, behind this acquire fence.
     Brought(Fence, L),
 }

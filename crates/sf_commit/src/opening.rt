@@ -1,16 +1,19 @@
 ghost use Rattle.std.specs.List.{All};
-ghost use Rattle.std.specs.Prelude.{◌≡◌, ◌++◌, false, [], IfOk, OnOk, map};
-ghost use Rattle.sf_commit.specs.Leases.{AllOn, IsKnownOn, ShowsLease, pictures};
+ghost use Rattle.std.specs.Option.{option_to_list};
+ghost use Rattle.std.specs.Prelude.{◌≡◌, ◌<◌, ◌++◌, false, [], IfOk, None, OnOk, length, map};
+ghost use Rattle.sf_commit.specs.Inside.{here_of, place_of};
+ghost use Rattle.sf_commit.specs.Leases.{AllOn, IsKnownOn, ShowsLease, here_if, pictures_here};
 ghost use Rattle.sf_commit.specs.OnLayers.{shown_on};
 ghost use Rattle.sf_txn.specs.Leases.{IsEyeAfter};
 
-use crate::on::{OnLayer, Pixels};
+use crate::on::{Image, OnLayer, Pixels};
 use sf_base::{LayerId, NoMemory};
 use sf_layer::Shown;
 use sf_picture::Painted;
 use sf_txn::Lease;
 use std::alloc::Global;
 use std::marker::Model;
+use std::vec;
 
 /// A buffer on a layer, whose pixels are out.
 #[derive(Drop)]
@@ -18,6 +21,8 @@ pub(crate) struct Reading<L: Lease> {
     pub layer: LayerId,
     pub shown: Shown,
     pub reading: L::Reading,
+    /// The place of its pixels among those that are lent, if they are.
+    pub place: Option<usize>,
 }
 
 impl<L: Lease> Model for Reading<L> {
@@ -28,17 +33,51 @@ impl<L: Lease> Model for Reading<L> {
 
     ghost Value = { OnLayer L };
 
-    ghost view = { λ r. record { layer = r.layer; shown = r.shown; fence = no_points; lease = L.opened r.reading; is_read = true } };
+    ghost view = { λ r. record {
+      layer = r.layer;
+      shown = r.shown;
+      fence = no_points;
+      lease = L.opened r.reading;
+      is_read = true;
+      place = r.place;
+    } };
 
     ghost invariant = { λ r. Shows r.shown (L.picture (L.opened r.reading)) };
 }
 
-/// Takes the pixels of a buffer out, where they are not out yet.
-fn open_one<L: Lease + Drop>(eye: &mut L::Eye, one: OnLayer<L>) -> (Reading<L>, Painted)
+/// The pixels of a buffer: those that are lent at its place, or the next of these.
+pub(crate) fn image_at(place: Option<usize>, pixels: &mut vec::IntoIter<Painted>) -> Image
+    requires { place ≡ None → 0 < length pixels.old.rest.items }
+    ensures place { place_of result ≡ place }
+    ensures here { here_of result ++ pixels.new.rest.items ≡ pixels.old.rest.items }
+{
+    match place {
+        Some(place) => Image::Lent(place),
+        None => match pixels.next() {
+            Some(painted) => Image::Here(painted),
+            None => unreachable!(),
+        },
+    }
+}
+
+/// Where pixels are lent, and the pixels where they are at hand.
+fn apart(image: Image) -> (Option<usize>, Option<Painted>)
+    ensures place { result.0 ≡ place_of image }
+    ensures here { option_to_list result.1 ≡ here_of image }
+{
+    match image {
+        Image::Here(painted) => (None, Some(painted)),
+        Image::Lent(place) => (Some(place), None),
+    }
+}
+
+/// Takes the pixels of a buffer out, where they are not out yet, and tells them where they are at
+/// hand.
+fn open_one<L: Lease + Drop>(eye: &mut L::Eye, one: OnLayer<L>) -> (Reading<L>, Option<Painted>)
     requires fits { L.fits (L.mark eye.old) one.lease }
     requires known { one.is_read ≡ false → L.knows eye.old one.lease }
     ensures reading { result.0 ≡ shown_on one }
-    ensures picture { result.1 ≡ L.picture one.lease }
+    ensures picture { option_to_list result.1 ≡ here_if one.place (L.picture one.lease) }
     ensures crop { ShowsLease L.Lease result.0 }
     ensures eye { IsEyeAfter L.Lease eye.old eye.new [] }
 {
@@ -47,16 +86,33 @@ fn open_one<L: Lease + Drop>(eye: &mut L::Eye, one: OnLayer<L>) -> (Reading<L>, 
         shown,
         pixels,
     } = one;
-    let (reading, painted) = match pixels {
-        Pixels::Read(reading, painted) => (reading, painted),
-        Pixels::Brought(_, lease) => lease.open(eye),
+    let (reading, place, painted) = match pixels {
+        Pixels::Read(reading, image) => {
+            let (place, painted) = apart(image);
+            (reading, place, painted)
+        }
+        Pixels::Brought(_, lease) => {
+            let (reading, painted) = lease.open(eye);
+            (reading, None, Some(painted))
+        }
     };
     let reading = Reading {
         layer,
         shown,
         reading,
+        place,
     };
     (reading, painted)
+}
+
+/// Appends pixels to a list, if there are any.
+fn add_painted(contents: &mut Vec<Painted>, painted: Option<Painted>) -> Result<(), NoMemory>
+    ensures { OnOk result (contents.new.items ≡ contents.old.items ++ option_to_list painted) }
+{
+    if let Some(painted) = painted {
+        contents.push(painted)?;
+    }
+    Ok(())
 }
 
 /// Takes the pixels of all buffers on layers out, in their order, where they are not out yet.
@@ -71,19 +127,19 @@ where
     requires fits { AllOn (L.fits (L.mark eye.old)) on.items }
     requires known { All (IsKnownOn L.Lease eye.old) on.items }
     ensures readings { OnOk result (readings.new.items ≡ readings.old.items ++ map shown_on on.items) }
-    ensures contents { OnOk result (contents.new.items ≡ contents.old.items ++ pictures L.Lease on.items) }
+    ensures contents { OnOk result (contents.new.items ≡ contents.old.items ++ pictures_here L.Lease on.items) }
     ensures crops { OnOk result (All (ShowsLease L.Lease) readings.old.items → All (ShowsLease L.Lease) readings.new.items) }
     ensures eye { IsEyeAfter L.Lease eye.old eye.new [] }
 {
     for one in on {
         let (reading, painted) = open_one(eye, one);
         readings.push(reading)?;
-        contents.push(painted)?;
+        add_painted(contents, painted)?;
     }
     Ok(())
 }
 
-/// The buffers on layers, each with its pixels, which are out.
+/// The buffers on layers, each with its pixels, which are out. These are the ones at hand.
 pub(crate) fn gather<L: Lease + Drop>(
     alloc: Global,
     readings: Vec<Reading<L>>,
@@ -91,7 +147,7 @@ pub(crate) fn gather<L: Lease + Drop>(
 ) -> Result<Vec<OnLayer<L>>, NoMemory>
 where
     L::Reading: Drop,
-    requires { contents.items ≡ pictures L.Lease readings.items }
+    requires { contents.items ≡ pictures_here L.Lease readings.items }
     ensures { IfOk result (λ on. on.items ≡ readings.items) }
 {
     let mut on = Vec::new(alloc);
@@ -101,14 +157,14 @@ where
             layer,
             shown,
             reading,
+            place,
         } = reading;
-        if let Some(painted) = pixels.next() {
-            on.push(OnLayer {
-                layer,
-                shown,
-                pixels: Pixels::Read(reading, painted),
-            })?;
-        }
+        let image = image_at(place, &mut pixels);
+        on.push(OnLayer {
+            layer,
+            shown,
+            pixels: Pixels::Read(reading, image),
+        })?;
     }
     Ok(on)
 }

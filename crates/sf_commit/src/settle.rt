@@ -1,8 +1,10 @@
 ghost use Rattle.std.specs.List.{AllZip};
-ghost use Rattle.std.specs.Prelude.{◌≡◌, IfOk, OnOk};
-ghost use Rattle.sf_commit.specs.Leases.{AllOn, IsReleaseOf, ends_of, ended_by};
-ghost use Rattle.sf_txn.specs.Leases.{IsEyeAfter};
+ghost use Rattle.std.specs.Prelude.{◌≡◌, ◌+◌, ◌≤◌, ◌<◌, ◌++◌, ◌∷◌, [], IfOk, OnErr, OnOk};
+ghost use Rattle.std.specs.Vec.{vec_capacity, vec_len};
+ghost use Rattle.sf_commit.specs.Leases.{IsReleaseOf};
+ghost use Rattle.sf_commit.specs.Lending.{KeepsSome, reads_of};
 
+use crate::keeping::{KeptRead, keep};
 use crate::on::{OnLayer, Pixels};
 use crate::vsync::Release;
 use sf_base::{Fence, NoMemory};
@@ -10,30 +12,25 @@ use sf_txn::Lease;
 use std::alloc::Global;
 
 /// A buffer that goes is handed back: an unread one as it came, one that was read by the lease that
-/// its reading hands on before it ends.
+/// its reading hands on. The read is kept.
 fn release<L: Lease + Drop>(
     alloc: Global,
-    eye: &mut L::Eye,
+    kept: &mut Vec<KeptRead<L>>,
     one: OnLayer<L>,
 ) -> Result<Release<L>, NoMemory>
 where
     L::Reading: Drop,
-    requires fits { L.fits (L.mark eye.old) one.lease }
+    requires room { vec_len kept.old < vec_capacity kept.old }
     ensures released { IfOk result (IsReleaseOf L.Lease one) }
-    ensures reads { OnOk result (IsEyeAfter L.Lease eye.old eye.new (ended_by L.Lease one)) }
-    ensures mark { L.mark eye.new ≡ L.mark eye.old }
-    ensures keeps { (l : L) → L.knows eye.old l → L.knows eye.new l }
+    ensures kept { OnOk result (kept.new.items ≡ kept.old.items ++ reads_of (one ∷ [])) }
+    ensures back { OnErr result (kept.new.items ≡ kept.old.items) }
+    ensures room { vec_capacity kept.new ≡ vec_capacity kept.old }
+    ensures len { vec_len kept.new ≤ vec_len kept.old + 1 }
 {
     let OnLayer { shown, pixels, .. } = one;
     let (fence, lease) = match pixels {
         Pixels::Brought(fence, lease) => (fence, lease),
-        Pixels::Read(reading, painted) => match L::hand_on(alloc, reading) {
-            Ok((closing, lease)) => {
-                L::close(closing, eye, painted);
-                (Fence::none(), lease)
-            }
-            Err(_) => return Err(NoMemory),
-        },
+        Pixels::Read(reading, image) => (Fence::none(), keep(alloc, kept, reading, image)?),
     };
     Ok(Release {
         queue: shown.queue,
@@ -43,24 +40,24 @@ where
     })
 }
 
-/// All buffers that go are handed back, in their order.
+/// All buffers that go are handed back, in their order, and their reads are kept behind the earlier
+/// ones. Want of memory leaves the reads of those that were handed back.
 #[tactic(auto, using(crate::proofs::SettleLemmas::released_none, crate::proofs::SettleLemmas::released_all))]
 pub(crate) fn release_all<L: Lease + Drop>(
     alloc: Global,
-    eye: &mut L::Eye,
+    kept: &mut Vec<KeptRead<L>>,
     gone: Vec<OnLayer<L>>,
 ) -> Result<Vec<Release<L>>, NoMemory>
 where
     L::Reading: Drop,
-    requires fits { AllOn (L.fits (L.mark eye.old)) gone.items }
     ensures released { IfOk result (λ releases. AllZip (IsReleaseOf L.Lease) gone.items releases.items) }
-    ensures reads { OnOk result (IsEyeAfter L.Lease eye.old eye.new (ends_of L.Lease gone.items)) }
-    ensures mark { L.mark eye.new ≡ L.mark eye.old }
-    ensures keeps { (l : L) → L.knows eye.old l → L.knows eye.new l }
+    ensures kept { OnOk result (kept.new.items ≡ kept.old.items ++ reads_of gone.items) }
+    ensures some { KeepsSome kept.old.items kept.new.items gone.items }
 {
+    kept.reserve(gone.len())?;
     let mut releases = Vec::new(alloc);
     for one in gone {
-        releases.push(release(alloc, eye, one)?)?;
+        releases.push(release(alloc, kept, one)?)?;
     }
     Ok(releases)
 }

@@ -3,18 +3,20 @@ ghost use Rattle.sf_commit.specs.Handlers.{last_of};
 ghost use Rattle.sf_token.specs.Pending.{IsRisingFrom};
 
 use page_lease::{Page, Writes};
-use sf_base::{ActorId, Seen, TokenId};
-use sf_commit::{Handler, Vsync};
+use sf_base::{ActorId, Seen};
+use sf_commit::{Contents, Handler, Vsync};
+use sf_picture::Painted;
 use sf_token::Arrived;
 use sf_txn::Transaction;
 use std::alloc::Global;
 use std::marker::Model;
 use std::mem;
 
-/// A compositor, and what arrived for it since its last vsync.
-#[derive(Drop)]
+/// A compositor, the pixels that it lent, and what arrived for it since its last vsync. It is used
+/// up by `finish`.
 pub struct Compositor {
     handler: Handler<Page>,
+    lent: Option<Contents>,
     arrived: Vec<Arrived<Page>>,
     // The greatest number of all that arrived.
     last: u32,
@@ -28,7 +30,7 @@ impl Model for Compositor {
 
     ghost view = { λ c. c.last };
 
-    ghost invariant = { λ c. c.handler.is_spent ≡ false → IsRisingFrom c.handler.last c.arrived.items c.last };
+    ghost invariant = { λ c. (c.handler.lent ≡ c.lent) × (c.handler.is_spent ≡ false → IsRisingFrom c.handler.last c.arrived.items c.last) };
 }
 
 impl Compositor {
@@ -36,6 +38,7 @@ impl Compositor {
     pub fn new(alloc: Global) -> Option<Compositor> {
         Some(Compositor {
             handler: Handler::new(alloc, 4, 1).ok()?,
+            lent: None,
             arrived: Vec::new(alloc),
             last: 0,
         })
@@ -74,8 +77,45 @@ impl Compositor {
         step(&mut self.handler, eye, arrived, seen, expected)
     }
 
-    pub fn handler(&self) -> &Handler<Page> {
-        &self.handler
+    /// Lends the pixels; None where they are lent already.
+    pub fn lend(&mut self) -> Option<()> {
+        if self.lent.is_some() {
+            return None;
+        }
+        self.lent = Some(self.handler.lend());
+        Some(())
+    }
+
+    /// Gives the pixels back; None where they are not lent.
+    pub fn give_back(&mut self, eye: &mut Writes) -> Option<()> {
+        let contents = self.lent.take()?;
+        self.handler.give_back(eye, contents);
+        Some(())
+    }
+
+    /// The pixels of the buffers on layers; None where they are lent.
+    pub fn contents(&self) -> Option<&[Painted]> {
+        match &self.lent {
+            Some(_) => None,
+            None => Some(self.handler.contents()),
+        }
+    }
+
+    /// Ends the compositor, with what it lent given back first.
+    pub fn finish(self, eye: &mut Writes) {
+        let Compositor {
+            mut handler,
+            lent,
+            arrived: _,
+            last: _,
+        } = self;
+        match lent {
+            Some(contents) => {
+                handler.give_back(eye, contents);
+                handler.finish();
+            }
+            None => handler.finish(),
+        }
     }
 }
 
@@ -89,6 +129,7 @@ fn step(
 ) -> Option<Vsync<Page>>
     requires { handler.old.is_spent ≡ false → IsRisingFrom handler.old.last arrived.items (last_of handler.old.last arrived.items) }
     ensures alive { handler.new.is_spent ≡ false → handler.old.is_spent ≡ false }
+    ensures lent { handler.new.lent ≡ handler.old.lent }
     ensures last { handler.new.is_spent ≡ false → handler.new.last ≡ last_of handler.old.last arrived.items }
 {
     match handler.vsync(eye, arrived, seen, expected) {

@@ -14,6 +14,7 @@
 //! | `writes COUNT` | so many writes ended |
 //! | `seen TIMELINE VALUE` | what was observed of a timeline |
 //! | `vsync EXPECTED` | a vsync, which expects its frame at this present time |
+//! | `lend`, `give` | the pixels of the buffers on layers are lent, or given back |
 #![tactic(auto)]
 
 mod compositor;
@@ -25,12 +26,13 @@ mod words;
 use reply::Reply;
 use run::Run;
 use std::alloc::Global;
-use std::io;
 use std::io::{BufRead, BufReader};
+use std::{io, mem};
 
 // A case begins.
 fn begin(alloc: Global, run: &mut Run) -> Option<Reply> {
-    *run = Run::new(alloc)?;
+    let last = mem::replace(run, Run::new(alloc)?);
+    last.finish();
     Some(Reply::Done)
 }
 
@@ -56,6 +58,7 @@ fn step(rt: &impl Print, alloc: Global, run: &mut Run, line: &str) -> io::Result
     match follow(alloc, run, line) {
         Some(Reply::Done) => Ok(()),
         Some(Reply::Told(told)) => println!(rt; "{told}"),
+        Some(Reply::Back(back)) => println!(rt; "{back}"),
         None => println!(rt; "{line}: not done"),
     }
 }
@@ -71,7 +74,11 @@ fn follow_all(rt: &HostRuntime, run: &mut Run) -> io::Result<()> {
 
 fn main(rt: HostRuntime) -> io::Result<()> {
     match Run::new(rt.alloc()) {
-        Some(mut run) => follow_all(&rt, &mut run),
+        Some(mut run) => {
+            let done = follow_all(&rt, &mut run);
+            run.finish();
+            done
+        }
         None => println!(rt; "no memory"),
     }
 }

@@ -11,15 +11,25 @@ pub enum Reply {
     Done,
     /// What a vsync did.
     Told(Told),
+    /// What the pixels show that were given back.
+    Back(Back),
 }
 
 /// A vsync that expected its frame at this present time, what it did, the picture that each drawn
-/// layer shows then, and the reads that ended, in their order.
+/// layer shows then, where the pixels are not lent, and the reads that ended, in their order.
 #[derive(Drop)]
 pub struct Told {
     pub expected: u64,
     pub vsync: Vsync<Page>,
-    pub layers: Vec<(LayerId, Option<u32>)>,
+    pub layers: Option<Vec<(LayerId, Option<u32>)>>,
+    pub reads: Vec<(u32, u64)>,
+}
+
+/// The pictures that the pixels show that were given back, and the reads that ended then, in their
+/// order.
+#[derive(Drop)]
+pub struct Back {
+    pub pictures: Vec<u32>,
     pub reads: Vec<(u32, u64)>,
 }
 
@@ -119,7 +129,20 @@ impl fmt::Display for Told {
         write_commits(f, self.vsync.commits.as_slice())?;
         write_releases(f, self.vsync.releases.as_slice())?;
         write_held(f, self.vsync.held.as_slice())?;
-        write_layers(f, self.layers.as_slice())?;
+        match &self.layers {
+            Some(layers) => write_layers(f, layers.as_slice())?,
+            None => write!(f, "\n  the pixels are lent")?,
+        }
+        write_reads(f, self.reads.as_slice())
+    }
+}
+
+impl fmt::Display for Back {
+    fn fmt<W: fmt::Write>(&self, f: &mut fmt::Formatter<W>) -> fmt::Result {
+        write!(f, "given back")?;
+        for picture in &self.pictures {
+            write!(f, "\n  pixels of {picture}")?;
+        }
         write_reads(f, self.reads.as_slice())
     }
 }

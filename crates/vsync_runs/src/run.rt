@@ -3,7 +3,7 @@ ghost use Rattle.vsync_runs.specs.Plain.{IsPlain};
 
 use crate::compositor::Compositor;
 use crate::reply::Reply;
-use crate::tell::tell;
+use crate::tell::{tell, tell_back};
 use crate::words::{fence, layer, number32, number64, timeline};
 use page_lease::{Ends, Page, Writes};
 use sf_base::{Fence, LayerId, QueueId, Rect, Seen, TokenId};
@@ -13,8 +13,7 @@ use std::alloc::Global;
 use std::mem;
 use std::str::SplitWhitespace;
 
-/// A compositor, what is sent to it, and what it observes.
-#[derive(Drop)]
+/// A compositor, what is sent to it, and what it observes. It is used up by `finish`.
 pub struct Run {
     compositor: Compositor,
     // The transaction that is sent next.
@@ -47,6 +46,8 @@ impl Run {
         match form {
             "send" => self.send(alloc, words),
             "vsync" => self.vsync(alloc, number64(words)?),
+            "lend" => self.lend(),
+            "give" => self.give(alloc),
             "writes" | "seen" => self.observe(form, words),
             "page" | "behind" => self.show(alloc, form, words),
             "barrier" | "desire" => self.wait(form, words),
@@ -119,9 +120,34 @@ impl Run {
         let vsync = self
             .compositor
             .vsync(alloc, &mut self.eye, &self.seen, expected)?;
-        let handler = self.compositor.handler();
+        let contents = self.compositor.contents();
         let ends = &mut self.eye.ends;
-        Some(Reply::Told(tell(alloc, expected, vsync, handler, ends)?))
+        Some(Reply::Told(tell(alloc, expected, vsync, contents, ends)?))
+    }
+
+    // The pixels are lent.
+    fn lend(&mut self) -> Option<Reply> {
+        self.compositor.lend()?;
+        Some(Reply::Done)
+    }
+
+    // They are given back.
+    fn give(&mut self, alloc: Global) -> Option<Reply> {
+        self.compositor.give_back(&mut self.eye)?;
+        let contents = self.compositor.contents()?;
+        let ends = &mut self.eye.ends;
+        Some(Reply::Back(tell_back(alloc, contents, ends)?))
+    }
+
+    /// Ends the compositor.
+    pub fn finish(self) {
+        let Run {
+            compositor,
+            next: _,
+            seen: _,
+            mut eye,
+        } = self;
+        compositor.finish(&mut eye);
     }
 }
 

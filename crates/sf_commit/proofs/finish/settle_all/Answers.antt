@@ -1,23 +1,17 @@
 use Rattle.std.proofs.Common.{◌∙◌, ◌++◌, [], ap, sym, subst, map, arith}
 use Rattle.sf_view.specs.Views.{ViewOf}
 use Rattle.std.specs.List.{All}
-use Rattle.std.proofs.lemmas.List.{append-nil}
 use Rattle.std.proofs.lemmas.List.Elements.{All-nil}
-use Rattle.sf_txn.specs.Leases.{IsEyeAfter}
 use Rattle.sf_commit.proofs.FollowLemmas.{sources_read}
-use Rattle.sf_commit.proofs.SettleLemmas.{then_after}
 use Rattle.sf_commit.specs.Handlers.{source_of}
-use Rattle.sf_commit.specs.Leases.{ShowsLease, ends_of, pictures}
+use Rattle.sf_commit.specs.Leases.{ShowsLease, pictures_here}
 use Rattle.sf_commit.specs.OnLayers.{shown_on}
 use Rattle.sf_commit.proofs.finish.settle_all.Goals as goal
-
-pub returns-clause-keeps : goal.returns-clause-keeps
-returns-clause-keeps g c = λ l knows. c.open_all.ensures.eye.keeps l (c.release_all.ensures.keeps l knows)
 
 pub returns-clause-settles : goal.returns-clause-settles
 returns-clause-settles g c =
     let on = c.in_ok-open_all.ensures.readings ∙ ap (λ xs. xs ++ map shown_on c.args.on.items) c.new-readings.ensures.items in
-    let contents = c.in_ok-open_all.ensures.contents ∙ ap (λ xs. xs ++ pictures g.L.Lease c.args.on.items) c.new-contents.ensures.items in
+    let contents = c.in_ok-open_all.ensures.contents ∙ ap (λ xs. xs ++ pictures_here g.L.Lease c.args.on.items) c.new-contents.ensures.items in
     record {
       on_is = on;
       contents_are = contents;
@@ -28,6 +22,5 @@ returns-clause-settles g c =
           ∙ ((λ i. map (source_of ((c.as_slice-2.ensures.value ∙ on) i)) ((c.as_slice.ensures ∙ ap (λ (v : ViewOf). v.drawn) c.view.view_is) i))
           ∙ sources_read c.args.on.items c.in_ok-view.view.drawn);
       released = c.in_ok-releases.ensures.released;
-      reads = subst (IsEyeAfter g.L.Lease c.args.eye.now c.open_all.new.eye) (append-nil (ends_of g.L.Lease c.args.gone.items))
-          (then_after g.L.Lease c.args.eye.now c.release_all.new.eye c.open_all.new.eye (ends_of g.L.Lease c.args.gone.items) [] c.in_ok-releases.ensures.reads c.in_ok-open_all.ensures.eye);
+      kept_are = c.in_ok-releases.ensures.kept;
     }

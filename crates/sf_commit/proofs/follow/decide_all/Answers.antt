@@ -31,12 +31,6 @@ decide-requires-clause-rising g c =
     let rises = rising_looked g.L.Lease 0 end c.receive.new.queues.pending c.look.new.self.pending c.in_ok-looks.ensures.looked received in
     subst (AreRising 0) (sym (c.as_slice.ensures.value ∙ c.in_ok-looks.ensures.looks)) (looks_rise g.L.Lease 0 end c.look.new.self.pending rises)
 
-pub returns-in_err-waits-clause-keeps : goal.returns-in_err-waits-clause-keeps
-returns-in_err-waits-clause-keeps g c = c.look.ensures.eye.keeps
-
-pub returns-clause-keeps : goal.returns-clause-keeps
-returns-clause-keeps g c = c.look.ensures.eye.keeps
-
 pub held-requires : goal.held-requires
 held-requires g c =
     let end = last_of c.args.queues.now.last c.args.arrived.items in

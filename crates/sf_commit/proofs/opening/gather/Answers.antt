@@ -1,11 +1,40 @@
-use Rattle.std.proofs.Common.{◌∙◌, ap, sym, get_or}
-use Rattle.sf_commit.specs.Leases.{pictures}
+use Rattle.std.proofs.Common.{◌∙◌, ◌<◌, ◌∷◌, ◌++◌, [], true, List, ap, sym, subst, append_assoc, length}
+use Rattle.sf_base.specs.Fences.{no_points}
+use Rattle.sf_picture.specs.declared.picture.Picture.{Picture}
+use Rattle.sf_commit.proofs.SettleLemmas.{image_is, some_here}
+use Rattle.sf_commit.specs.Inside.{ShowsHere}
+use Rattle.sf_commit.specs.Leases.{pictures_here}
 use Rattle.sf_commit.specs.OnLayers.{OnLayer}
 use Rattle.sf_commit.proofs.opening.gather.Goals as goal
 
+pub image_at-image-requires : goal.image_at-image-requires
+image_at-image-requires g c =
+    let one = c.in-Some.reading in
+    let rest = pictures_here g.L.Lease c.next.new.self.rest.items in
+    λ none. subst (λ (ps : List Picture). 0 < length ps) (sym (c.loop-reading.invariant.1 ∙ ap (pictures_here g.L.Lease) c.in-Some.ensures.steps.0))
+    (some_here one.place (g.L.Lease.picture one.lease) rest (sym (ap (λ (x : OnLayer g.row.L.Denot). x.place) c.reading.view_is) ∙ none))
+
 pub invariant_of-push : goal.invariant_of-push
 invariant_of-push g c =
-    let both = sym c.in-Some-next.ensures.items ∙ (c.loop-reading.invariant.1 ∙ ap (pictures g.L.Lease) c.in-Some.ensures.steps.0) in (
-      c.reading.invariant,
-      ap (λ xs. get_or xs 0 c.in-Some-next.painted) both ∙ ap (λ (one : OnLayer g.row.L.Denot). g.L.Lease.picture one.lease) (sym c.reading.view_is),
+    let one = c.in-Some.reading in
+    let rest = pictures_here g.L.Lease c.next.new.self.rest.items in
+    let taken = c.image_at-image in
+    let here = taken.ensures.here ∙ (c.loop-reading.invariant.1 ∙ ap (pictures_here g.L.Lease) c.in-Some.ensures.steps.0) in
+    let is = image_is taken.result one.place (g.L.Lease.picture one.lease) rest taken.new.pixels.rest.items (taken.ensures.place ∙ ap (λ (x : OnLayer g.row.L.Denot). x.place) c.reading.view_is) here in
+    (c.reading.invariant, subst (λ (x : OnLayer g.row.L.Denot). ShowsHere taken.result (g.L.Lease.picture x.lease)) (sym c.reading.view_is) is.0)
+
+pub loop-reading-preserved : goal.loop-reading-preserved
+loop-reading-preserved g c =
+    let one = c.in-Some.reading in
+    let later = c.next.new.self.rest.items in
+    let inside = c.reading.inside in
+    let taken = c.image_at-image in
+    let here = taken.ensures.here ∙ (c.loop-reading.invariant.1 ∙ ap (pictures_here g.L.Lease) c.in-Some.ensures.steps.0) in
+    let is = image_is taken.result one.place (g.L.Lease.picture one.lease) (pictures_here g.L.Lease later) taken.new.pixels.rest.items
+    (taken.ensures.place ∙ ap (λ (x : OnLayer g.row.L.Denot). x.place) c.reading.view_is) here in
+    let same = (λ i. record { layer = inside.layer; shown = inside.shown; fence = no_points; lease = g.L.Lease.opened inside.reading; is_read = true; place = taken.ensures.place i }) ∙ c.reading.view_is in (
+      ap (λ (xs : List (OnLayer g.row.L.Denot)). xs ++ later) c.in_ok-push.ensures.items
+          ∙ (append_assoc c.loop-reading.on.items _ later ∙ (ap (λ (x : OnLayer g.row.L.Denot). c.loop-reading.on.items ++ x ∷ later) same
+          ∙ (ap (λ (xs : List (OnLayer g.row.L.Denot)). c.loop-reading.on.items ++ xs) (sym c.in-Some.ensures.steps.0) ∙ c.loop-reading.invariant.0))),
+      is.1,
     )

@@ -16,13 +16,13 @@ open_one-reading-requires g c =
 pub returns-in_err-push-clause-eye : goal.returns-in_err-push-clause-eye
 returns-in_err-push-clause-eye g c = then_after g.L.Lease c.args.eye.now c.loop-one.eye c.open_one-reading.new.eye [] [] c.loop-one.invariant.eye c.open_one-reading.ensures.eye
 
-pub returns-in_err-push-2-clause-eye : goal.returns-in_err-push-2-clause-eye
-returns-in_err-push-2-clause-eye g c = then_after g.L.Lease c.args.eye.now c.loop-one.eye c.open_one-reading.new.eye [] [] c.loop-one.invariant.eye c.open_one-reading.ensures.eye
+pub returns-in_err-add_painted-clause-eye : goal.returns-in_err-add_painted-clause-eye
+returns-in_err-add_painted-clause-eye g c = then_after g.L.Lease c.args.eye.now c.loop-one.eye c.open_one-reading.new.eye [] [] c.loop-one.invariant.eye c.open_one-reading.ensures.eye
 
 pub loop-one-preserved : goal.loop-one-preserved
 loop-one-preserved g c =
     let so = subst (λ rest. Opened g.L.Lease c.args.on.items (c.args.readings.now.items, c.args.contents.now.items) (c.loop-one.readings.items, c.loop-one.contents.items) rest c.args.eye.now c.loop-one.eye) c.in-Some.ensures.steps.0 c.loop-one.invariant in
-    rw (c.in_ok-push.ensures.items, c.in_ok-push-2.ensures.items, c.open_one-reading.ensures.reading, c.open_one-reading.ensures.picture)
+    rw (c.in_ok-push.ensures.items, c.in_ok-add_painted.ensures, c.open_one-reading.ensures.reading, c.open_one-reading.ensures.picture)
     (opened_more g.L.Lease c.args.on.items c.next.new.self.rest.items (c.args.readings.now.items, c.args.contents.now.items) c.loop-one.readings.items c.loop-one.contents.items c.in-Some.one c.args.eye.now c.loop-one.eye c.open_one-reading.new.eye so c.open_one-reading.ensures.eye
     (subst (ShowsLease g.L.Lease) c.open_one-reading.ensures.reading c.open_one-reading.ensures.crop))
 

@@ -1,16 +1,29 @@
-use Rattle.std.proofs.Common.{subst}
-use Rattle.std.proofs.lemmas.List.Elements.{All-head}
-use Rattle.sf_commit.proofs.SettleLemmas.{Released, released_more}
-use Rattle.sf_commit.specs.Leases.{AllOn}
+use Rattle.std.proofs.Common.{◌∙◌, ◌∷◌, ◌++◌, [], List, ap, length, refl, subst, sym, arith}
+use Rattle.sf_commit.proofs.SettleLemmas.{Released, released_more, released_none, released_some}
 use Rattle.sf_commit.specs.OnLayers.{OnLayer}
 use Rattle.sf_commit.proofs.settle.release_all.Goals as goal
 
-pub release-requires : goal.release-requires
-release-requires g c =
-    let fits = subst (AllOn (g.L.Lease.fits (g.L.Lease.mark c.loop-one.eye))) c.in-Some.ensures.steps.0 c.loop-one.invariant.fits in
-    record { fits = All-head (λ (x : OnLayer g.row.L.Denot). g.L.Lease.fits (g.L.Lease.mark c.loop-one.eye) x.lease) c.in-Some.one c.next.new.self.rest.items fits }
+pub returns-in_err-reserve-clause-some : goal.returns-in_err-reserve-clause-some
+returns-in_err-reserve-clause-some g c =
+    released_some g.L.Lease c.args.gone.items [] c.args.gone.items c.args.kept.now.items c.args.kept.now.items c.reserve.new.self.items
+    (released_none g.L.Lease c.args.gone.items c.args.kept.now.items c.args.kept.now.items refl) c.reserve.ensures.items
 
 pub loop-one-preserved : goal.loop-one-preserved
 loop-one-preserved g c =
-    let so = subst (λ rest. Released g.L.Lease c.args.gone.items c.loop-one.releases.items rest c.args.eye.now c.loop-one.eye) c.in-Some.ensures.steps.0 c.loop-one.invariant in
-    rw (c.in_ok-push.ensures.items) (released_more g.L.Lease c.args.gone.items c.next.new.self.rest.items c.loop-one.releases.items c.in-Some.one c.in_ok-release.field-0 c.args.eye.now c.loop-one.eye c.release.new.eye so c.in_ok-release.ensures.released c.in_ok-release.ensures.reads)
+    let steps = c.in-Some.ensures.steps.0 in
+    let so = subst (λ rest. Released g.L.Lease c.args.gone.items c.loop-one.releases.items rest c.args.kept.now.items c.loop-one.kept.items) steps c.loop-one.invariant.so in
+    let enough = c.loop-one.invariant.room in
+    let fewer = ap (λ (xs : List (OnLayer g.row.L.Denot)). length xs) steps in
+    record {
+      so = rw (c.in_ok-push.ensures.items)
+          (released_more g.L.Lease c.args.gone.items c.next.new.self.rest.items c.loop-one.releases.items c.in-Some.one c.in_ok-release.field-0 c.args.kept.now.items c.loop-one.kept.items
+          c.release.new.kept.items so c.in_ok-release.ensures.released c.in_ok-release.ensures.kept);
+      room = omega (arith, enough, fewer, c.release.ensures.room, c.release.ensures.len);
+    }
+
+pub returns-in_err-push-clause-some : goal.returns-in_err-push-clause-some
+returns-in_err-push-clause-some g c =
+    let so = subst (λ rest. Released g.L.Lease c.args.gone.items c.loop-one.releases.items rest c.args.kept.now.items c.loop-one.kept.items) c.in-Some.ensures.steps.0 c.loop-one.invariant.so in
+    released_some g.L.Lease c.args.gone.items (c.loop-one.releases.items ++ c.in_ok-release.field-0 ∷ []) c.next.new.self.rest.items c.args.kept.now.items c.release.new.kept.items c.release.new.kept.items
+    (released_more g.L.Lease c.args.gone.items c.next.new.self.rest.items c.loop-one.releases.items c.in-Some.one c.in_ok-release.field-0 c.args.kept.now.items c.loop-one.kept.items
+    c.release.new.kept.items so c.in_ok-release.ensures.released c.in_ok-release.ensures.kept) refl
