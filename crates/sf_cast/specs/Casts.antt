@@ -1,0 +1,90 @@
+-- What contracts see of a cast. Its actors' traces are not in its memory: contracts speak of each list of traces that fits
+-- what the actors have.
+use Rattle.std.specs.Prelude.{◌≡◌, ℕ, Bool, false, List, [], map, slice_get, slice_set, Some}
+use Rattle.std.specs.List.{All, AllZip}
+use Rattle.std.specs.List.Sorted.{IsStrictlyIncreasing}
+use Rattle.atomic_table.specs.Seated.{TableId}
+use Rattle.sf_picture.specs.declared.picture.Picture.{Picture}
+use Rattle.sf_scene.specs.declared.declarations.QueueDecl.{QueueDecl}
+use Rattle.sf_scene.specs.declared.step.ActorScript.{ActorScript}
+use Rattle.sf_times.specs.Seats.{opened}
+use Rattle.sf_turns.specs.Views.{SeatView}
+use Rattle.sf_actor.specs.declared.tried.Stepped.{Stepped}
+use Rattle.sf_actor.specs.Desks.{DeskHome, DeskView}
+use Rattle.sf_actor.specs.Plain.{PlainOf, home_of, view_of}
+use Rattle.sf_actor.specs.Scripts.{picture_at}
+use Rattle.sf_actor.specs.Tries.{ActorOf, Keeps, Tries}
+use Rattle.sf_steps.specs.Actors.{IsActor, IsKept}
+use Rattle.sf_steps.specs.Playable.{MayPlay}
+use Rattle.sf_steps.specs.declared.actor.Actor.{Actor}
+use Rattle.sf_cast.specs.Opening.{IsSortedFrom, OpensQueues, new_actors}
+
+-- the scene's pictures, its actors, the desk, and whether a try found no memory
+pub record CastOf (B : Type 0) : Type 0 where
+  pub pictures : List Picture
+  pub actors : List (Actor B)
+  pub desk : PlainOf B
+  pub is_spent : Bool
+
+abbrev pub numbers_of : List ActorScript → List ℕ
+numbers_of scripts = map (λ (script : ActorScript). script.number) scripts
+
+module _ {B : Type 0} where
+  abbrev pub script_of : Actor B → ActorScript
+  script_of actor = actor.script
+
+  abbrev pub scripts_of : List (Actor B) → List ActorScript
+  scripts_of actors = map script_of actors
+
+  abbrev pub number_of : Actor B → ℕ
+  number_of actor = actor.script.number
+
+  -- an actor is what contracts see of it, and keeps what it keeps
+  pub record KeepsAs (table : TableId) (pictures : ℕ → Picture) (home : DeskHome) (view : DeskView B) (actor : Actor B) (of : ActorOf B) : Type 0 where
+    pub is : IsActor table actor of
+    pub keeps : Keeps pictures home of view
+
+  -- so is each of these actors
+  abbrev pub KeepAs : TableId → (ℕ → Picture) → DeskHome → DeskView B → List (Actor B) → List (ActorOf B) → Type 0
+  KeepAs table pictures home view actors ofs = AllZip (KeepsAs table pictures home view) actors ofs
+
+  -- over a desk: no number is an actor's twice, each actor may play, and each keeps what it keeps
+  pub record MayStep (table : TableId) (pictures : List Picture) (actors : List (Actor B)) (desk : PlainOf B) : Type 0 where
+    pub rising : IsStrictlyIncreasing (numbers_of (scripts_of actors))
+    pub plays : All (MayPlay (home_of desk) pictures) (scripts_of actors)
+    pub kept : All (λ actor. IsKept table (picture_at pictures) (home_of desk) actor (view_of desk)) actors
+
+  module _ (table : TableId) (pictures : ℕ → Picture) (place : ℕ) where
+    -- a try of the actor at a place: it does what its script says, and every other one is as before; all keep what they keep
+    pub record StepsAt (olds : List (ActorOf B)) (before : PlainOf B) (actors : List (Actor B)) (after : PlainOf B) (stepped : Stepped) : Type 0 where
+      pub old : ActorOf B
+      pub new : ActorOf B
+      pub here : slice_get olds place ≡ Some old
+      pub tries : Tries pictures (home_of before) old (view_of before) new (view_of after) stepped
+      pub keep : KeepAs table pictures (home_of after) (view_of after) actors (slice_set olds place new)
+
+  -- nothing that a try leaves as it is was changed
+  pub record IsSameCast (old new : CastOf B) : Type 0 where
+    pub pictures : new.pictures ≡ old.pictures
+    pub scripts : scripts_of new.actors ≡ scripts_of old.actors
+    pub home : home_of new.desk ≡ home_of old.desk
+
+  -- what a cast keeps of itself
+  pub record IsCast (table : TableId) (cast : CastOf B) : Type 0 where
+    pub rising : IsStrictlyIncreasing (numbers_of (scripts_of cast.actors))
+    pub plays : All (MayPlay (home_of cast.desk) cast.pictures) (scripts_of cast.actors)
+    pub kept : cast.is_spent ≡ false → All (λ actor. IsKept table (picture_at cast.pictures) (home_of cast.desk) actor (view_of cast.desk)) cast.actors
+
+  module _ (table : TableId) (queues : List QueueDecl) (pictures : List Picture) (scripts : List ActorScript) where
+    -- a cast that has done nothing, over queues that were not called, no arrivals, timelines that nobody raised, and the seat
+    -- at the turns
+    pub record Opens (seat : SeatView) (stock : List ℕ) (cast : CastOf B) : Type 0 where
+      pub same_pictures : cast.pictures ≡ pictures
+      pub queues_opened : OpensQueues queues cast.desk.queues
+      pub none_arrived : cast.desk.arrivals ≡ []
+      pub none_raised : cast.desk.times.knows ≡ opened
+      pub same_seat : cast.desk.turns ≡ seat
+      pub declared : List ActorScript
+      pub sorted : IsSortedFrom (λ (script : ActorScript). script.number) scripts declared
+      pub keep : KeepAs table (picture_at cast.pictures) (home_of cast.desk) (view_of cast.desk) cast.actors (new_actors declared stock)
+      pub unspent : cast.is_spent ≡ false

@@ -1,0 +1,3 @@
+pub mod Casts
+pub mod Opening
+pub mod Scripts

@@ -1,0 +1,13 @@
+//! The actors of a scene, by rising number, over the desk of one thread. A cast tries the next step
+//! of one actor at a time: that actor does what its script says, and every other one keeps what it
+//! kept.
+#![tactic(auto)]
+
+mod cast;
+mod open;
+mod permits;
+mod playable;
+
+pub use cast::Cast;
+pub use permits::permits_for;
+pub use playable::is_playable;
