@@ -1,0 +1,15 @@
+pub mod Arrivals
+pub mod Buffers
+pub mod Commits
+pub mod Examples
+pub mod Frames
+pub mod Histories
+pub mod Holds
+pub mod Least
+pub mod Played
+pub mod Replies
+pub mod Runs
+pub mod Stages
+pub mod Stuck
+pub mod Turns
+pub mod Vsyncs
