@@ -26,7 +26,7 @@ use Rattle.sf_actor.specs.Asking.{Asked}
 use Rattle.sf_actor.specs.Desks.{DeskHome, DeskView, MadeCall, known_of, mark_among}
 use Rattle.sf_actor.specs.Known.{Call, Share, frame_of, share_of}
 use Rattle.sf_actor.specs.Names.{Frame, Holdings, with_name}
-use Rattle.sf_actor.specs.Rights.{Acquires, EndsIn, MadeWith, WasAcquired, given_turn, turn_by}
+use Rattle.sf_actor.specs.Rights.{EndsIn, MadeWith, Takes, WasTaken, given_turn, turn_by}
 use Rattle.sf_actor.specs.Scripts.{queue_of}
 use Rattle.sf_actor.specs.Steps.{holdings_next, is_refusal}
 use Rattle.sf_actor.specs.Tests.{refusal_of}
@@ -86,12 +86,12 @@ module _ {B : Type 0} where
       some_none permit e = cc
 
   -- the newest call acquired the frame
-  acquired_now : (q expected : ℕ) (lease : ReadLeaseOf) (made : Call B) (old new : Share B) → OneMore q made old new → lease.queue.0 ≡ q → made.made.call.1 ≡ call.Acquire expected → made.made.reply.gives ≡ gives.Read lease → WasAcquired new.calls (frame_of lease) (Some (turn_by lease.turn))
+  acquired_now : (q expected : ℕ) (lease : ReadLeaseOf) (made : Call B) (old new : Share B) → OneMore q made old new → lease.queue.0 ≡ q → made.made.call.1 ≡ call.Acquire expected → made.made.reply.gives ≡ gives.Read lease → WasTaken new.calls lease
   acquired_now q expected lease made old new more at called gave = (
     made,
     subst (λ (queue : ℕ). Contains (new.calls queue) made) (sym at) (is_made q made old new more),
-    subst (λ (asked : QCall B). Acquires (frame_of lease) (Some (turn_by lease.turn)) asked made.made.reply.gives) (sym called)
-        (subst (λ (given : Gives B). Acquires (frame_of lease) (Some (turn_by lease.turn)) (call.Acquire expected) given) (sym gave) (refl, refl)),
+    subst (λ (asked : QCall B). Takes lease asked made.made.reply.gives) (sym called)
+        (subst (λ (given : Gives B). Takes lease (call.Acquire expected) given) (sym gave) refl),
   )
 
   -- An acquire that is done gives the frame; one that the queue refuses moves nothing.

@@ -21,9 +21,9 @@ use Rattle.sf_actor.specs.declared.holding.Holding.TheVariants as holding
 use Rattle.sf_actor.specs.declared.tried.Reply.{Reply}
 use Rattle.sf_actor.specs.Draws.{EntersCounted, IsInOrder, entered_at, entered_in}
 use Rattle.sf_actor.specs.Keeping.{TraceKept}
-use Rattle.sf_actor.specs.Known.{AreAmong, Call, CountsRise, Rise, Share, frame_of, plain_arrival, told_by}
+use Rattle.sf_actor.specs.Known.{AreAmong, Call, CountsRise, Rise, Share, plain_arrival, told_by}
 use Rattle.sf_actor.specs.Names.{FrameOf}
-use Rattle.sf_actor.specs.Rights.{BringsGiven, EndsIn, HoldsAcquired, IsFrom, IsOfCall, MadeWith, QueuesPicture, SendsAcquired, Turn, WasAcquired, WasGivenAt, WasPaid, brought_turn, turn_by}
+use Rattle.sf_actor.specs.Rights.{BringsGiven, EndsIn, HoldsAcquired, IsFrom, IsOfCall, MadeWith, QueuesPicture, SendsAcquired, Turn, WasAcquired, WasTaken, WasGivenAt, WasPaid, brought_turn}
 use Rattle.sf_actor.specs.Tales.{IsMade, made_on, sent_as, step_done}
 use Rattle.sf_actor.specs.Traces.{DoneAt, GivenAt, IsAnswered, MadeStep, NoToken, Past, Source, TakenFrame, made_at, made_by, next, no_past, past_after, past_from, places_from, places_of, sent_at}
 use Rattle.sf_actor.specs.Values.{reply_at}
@@ -127,10 +127,13 @@ module _ {B : Type 0} where
     pub acquired_still : (frame : FrameOf) (turn : Option Turn) → WasAcquired old frame turn → WasAcquired new frame turn
     acquired_still frame turn was = (was.0, still (old frame.0.0) (new frame.0.0) (added frame.0.0) was.0 (joined frame.0.0) was.1, was.2)
 
+    pub taken_still : (lease : ReadLeaseOf) → WasTaken old lease → WasTaken new lease
+    taken_still lease was = (was.0, still (old lease.queue.0) (new lease.queue.0) (added lease.queue.0) was.0 (joined lease.queue.0) was.1, was.2)
+
     pub of_call_still : (held : Holding B) → IsOfCall old held → IsOfCall new held
     of_call_still (holding.Lends lease) is = tt
     of_call_still (holding.Owes owing held) is = (is.0, is.1, still (old is.0) (new is.0) (added is.0) is.1 (joined is.0) is.2, is.3)
-    of_call_still (holding.Reads lease) is = λ numbered. acquired_still (frame_of lease) (Some (turn_by lease.turn)) (is numbered)
+    of_call_still (holding.Reads lease) is = λ numbered. taken_still lease (is numbered)
     of_call_still (holding.Frees queue loose) is = tt
 
     from_still : (source : Source) (turn : Option Turn) → IsFrom old source turn → IsFrom new source turn
@@ -141,7 +144,7 @@ module _ {B : Type 0} where
     sends_still : (arrived : Arrival ReadLeaseOf) → SendsAcquired old arrived → SendsAcquired new arrived
     sends_still arrived is =
         All-weaker (HoldsAcquired old) (HoldsAcquired new)
-        (λ (buffer : Buffer ReadLeaseOf). acquired_still (frame_of buffer.lease) (Some (turn_by buffer.lease.turn)))
+        (λ (buffer : Buffer ReadLeaseOf). taken_still buffer.lease)
         arrived.txn.buffers is
 
     order_still : (place later : ℕ) → IsInOrder old place later → IsInOrder new place later

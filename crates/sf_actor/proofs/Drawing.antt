@@ -4,7 +4,7 @@ use Rattle.std.specs.Prelude.{Contains, get_or}
 use Rattle.std.specs.List.{All}
 use Rattle.std.specs.Option.{option_map}
 use Rattle.std.proofs.lemmas.List.{append-nil}
-use Rattle.std.proofs.lemmas.List.Elements.{All-weaker, Contains-append_left, Contains-append_right}
+use Rattle.std.proofs.lemmas.List.Elements.{All-weaker, Contains-append_right}
 use Rattle.sf_base.specs.Fences.{IsSignalled}
 use Rattle.sf_base.specs.Points.{greatest}
 use Rattle.sf_base.proofs.PointLemmas.{greatest-append, has_le}
@@ -16,7 +16,6 @@ use Rattle.sf_scene.specs.declared.step.Step.{Step}
 use Rattle.sf_scene.specs.declared.step.Step.TheVariants as step
 use Rattle.sf_slots.specs.declared.calls.WriteToken.{WriteToken}
 use Rattle.sf_slots.specs.declared.slot.Held.{Held}
-use Rattle.sf_surface.specs.declared.call.Gives.TheVariants as gives
 use Rattle.sf_surface.specs.declared.work.Work.{Work}
 use Rattle.sf_surface.specs.declared.work.Work.TheVariants as work
 use Rattle.sf_surface.specs.Calls.{write_token}

@@ -20,15 +20,15 @@ use Rattle.sf_txn.specs.Transactions.{Contents}
 use Rattle.sf_actor.specs.declared.done.Answered.TheVariants as answered
 use Rattle.sf_actor.specs.declared.done.Done.{Done}
 use Rattle.sf_actor.specs.declared.holding.Holding.{Holding}
-use Rattle.sf_actor.specs.Known.{Call, Rise, Share, frame_of}
+use Rattle.sf_actor.specs.Known.{Call, Rise, Share}
 use Rattle.sf_actor.specs.Names.{Holdings, Token, moved, with_name}
 use Rattle.sf_actor.specs.Parts.{PartsOf, ShowsPictures, plain_of, token_of, turn_held}
 use Rattle.sf_actor.specs.Points.{shown_next}
-use Rattle.sf_actor.specs.Rights.{HoldsAcquired, IsOfCall, Turn, WasGivenAt, given_turn, turn_by}
+use Rattle.sf_actor.specs.Rights.{HoldsAcquired, IsOfCall, Turn, WasGivenAt, given_turn}
 use Rattle.sf_actor.specs.Steps.{filled_by, holdings_next, is_refusal, was_done}
 use Rattle.sf_actor.specs.Traces.{Past, next, no_past, past_after, past_from, since_next, since_with}
 use Rattle.sf_actor.specs.Tries.{ActorKept, ActorOf, ArePermits, contents_in, held_in, past_of}
-use Rattle.sf_actor.proofs.Adding.{acquired_still, given_still, of_call_still}
+use Rattle.sf_actor.proofs.Adding.{taken_still, given_still, of_call_still}
 use Rattle.sf_actor.proofs.GoingOn.{signalled_on}
 use Rattle.sf_actor.proofs.Making.{OneMore}
 use Rattle.sf_actor.proofs.Moving.{PartsMove, stepped}
@@ -98,7 +98,7 @@ module _ {B : Type 0} where
   pub all_still : (old new : Share B) (added : ℕ → List (Call B)) (buffers : List (Buffer ReadLeaseOf)) → ((queue : ℕ) → new.calls queue ≡ old.calls queue ++ added queue) → All (HoldsAcquired old.calls) buffers → All (HoldsAcquired new.calls) buffers
   all_still old new added buffers calls all =
       All-weaker (HoldsAcquired old.calls) (HoldsAcquired new.calls)
-      (λ (buffer : Buffer ReadLeaseOf). acquired_still old.calls new.calls added calls (frame_of buffer.lease) (Some (turn_by buffer.lease.turn)))
+      (λ (buffer : Buffer ReadLeaseOf). taken_still old.calls new.calls added calls buffer.lease)
       buffers all
 
   pub changes_move : (pictures : ℕ → Picture) (actor : ActorOf B) (done : Done) (parts : PartsOf B) (old new : Share B) (added : ℕ → List (Call B)) → ActorKept pictures actor old → PartsChange pictures actor done parts old new added → PartsMove pictures actor done parts new

@@ -18,17 +18,17 @@ use Rattle.sf_actor.specs.declared.done.Done.{Done}
 use Rattle.sf_actor.specs.declared.holding.Holding.{Holding}
 use Rattle.sf_actor.specs.Asking.{Asked, call_of}
 use Rattle.sf_actor.specs.Draws.{EntersCounted, IsInOrder, entered_at, entered_in}
-use Rattle.sf_actor.specs.Known.{AreAmong, Call, CountsRise, Rise, Share, frame_of, plain_arrival}
+use Rattle.sf_actor.specs.Known.{AreAmong, Call, CountsRise, Rise, Share, plain_arrival}
 use Rattle.sf_actor.specs.Parts.{PartsOf, ShowsPictures, plain_of, turn_held}
 use Rattle.sf_actor.specs.Points.{shown_next}
-use Rattle.sf_actor.specs.Rights.{BringsGiven, HoldsAcquired, IsOfCall, MadeWith, SendsAcquired, WasGivenAt, WasPaid, turn_by}
+use Rattle.sf_actor.specs.Rights.{BringsGiven, HoldsAcquired, IsOfCall, MadeWith, SendsAcquired, WasGivenAt, WasPaid}
 use Rattle.sf_actor.specs.Steps.{holdings_next, used_by}
 use Rattle.sf_actor.specs.Tales.{IsMade, made_on, sent_as}
 use Rattle.sf_actor.specs.Traces.{DoneAt, IsAnswered, MadeStep, Past, Source, made_at, overtaken, own_call, sent_at, since_next, source_in}
 use Rattle.sf_actor.specs.Tries.{ActorKept, ActorOf, ArePermits, contents_in, dequeues_in, held_in, is_dequeue, next_step, past_of}
 use Rattle.sf_actor.specs.Values.{reply_at}
 use Rattle.sf_actor.specs.Written.{FrameNumber, paid_at, signal_of}
-use Rattle.sf_actor.proofs.Adding.{Adds, acquired_still, at_end, given_still, kept_with, of_call_still, past_with}
+use Rattle.sf_actor.proofs.Adding.{Adds, taken_still, at_end, given_still, kept_with, of_call_still, past_with}
 
 -- an own answer is no call's, and so is an arrival
 pub own_unmade : (place status : ℕ) (asking : Option Asked) (source : Source) → own_call place asking (answered.Own status) source ≡ []
@@ -170,7 +170,7 @@ module _ {B : Type 0} where
     of_call = λ name held there. of_call_still old.calls new.calls added stay.calls held (is.of_call name held there);
     acquired = λ number txn there.
         All-weaker (HoldsAcquired old.calls) (HoldsAcquired new.calls)
-        (λ (buffer : Buffer ReadLeaseOf). acquired_still old.calls new.calls added stay.calls (frame_of buffer.lease) (Some (turn_by buffer.lease.turn)))
+        (λ (buffer : Buffer ReadLeaseOf). taken_still old.calls new.calls added stay.calls buffer.lease)
         txn.buffers (is.acquired number txn there);
     shows = is.shows;
     reached = stay.reached;

@@ -11,15 +11,15 @@ use Rattle.sf_txn.specs.Buffers.{Buffer}
 use Rattle.sf_surface.specs.Tokens.{ReadLeaseOf}
 use Rattle.sf_actor.specs.declared.done.Done.{Done}
 use Rattle.sf_actor.specs.declared.holding.Holding.{Holding}
-use Rattle.sf_actor.specs.Known.{Call, Share, frame_of}
+use Rattle.sf_actor.specs.Known.{Call, Share}
 use Rattle.sf_actor.specs.Names.{Holdings, Token, with_name}
 use Rattle.sf_actor.specs.Parts.{PartsOf, ShowsPictures, plain_of, token_of, turn_held}
 use Rattle.sf_actor.specs.Points.{shown_next}
-use Rattle.sf_actor.specs.Rights.{HoldsAcquired, IsOfCall, WasGivenAt, turn_by}
+use Rattle.sf_actor.specs.Rights.{HoldsAcquired, IsOfCall, WasGivenAt}
 use Rattle.sf_actor.specs.Steps.{holdings_next}
 use Rattle.sf_actor.specs.Traces.{since_next}
 use Rattle.sf_actor.specs.Tries.{ActorKept, ActorOf, ArePermits, held_in, past_of}
-use Rattle.sf_actor.proofs.Adding.{acquired_still, given_still, of_call_still}
+use Rattle.sf_actor.proofs.Adding.{taken_still, given_still, of_call_still}
 use Rattle.sf_actor.proofs.Moving.{PartsMove, stepped}
 
 module _ {B : Type 0} where
@@ -68,7 +68,7 @@ module _ {B : Type 0} where
             (λ apart was. of_call_still old.calls new.calls added move.calls now (is.of_call other now was));
         acquired = λ number txn there.
             All-weaker (HoldsAcquired old.calls) (HoldsAcquired new.calls)
-            (λ (buffer : Buffer ReadLeaseOf). acquired_still old.calls new.calls added move.calls (frame_of buffer.lease) (Some (turn_by buffer.lease.turn)))
+            (λ (buffer : Buffer ReadLeaseOf). taken_still old.calls new.calls added move.calls buffer.lease)
             txn.buffers (is.acquired number txn there);
         shows = λ other now there. held_case actor.parts name held stock other now move.low there
             (λ same is_held. move.shows now is_held)

@@ -17,7 +17,7 @@ use Rattle.sf_surface.specs.declared.mark.QueueMark.{QueueMark}
 use Rattle.sf_surface.specs.Histories.{Answers, Made}
 use Rattle.sf_surface.specs.Objects.{ObjectOf, mark_of}
 use Rattle.sf_actor.specs.Desks.{IsAsBefore, MadeCall, WaitsForCall, has_queue, mark_among}
-use Rattle.sf_actor.specs.Plain.{PlainOf, WaitsOn, calls_among, home_of, is_queue, view_of}
+use Rattle.sf_actor.specs.Plain.{PlainOf, WaitsOn, calls_among, home_of, is_queue, taken_in, view_of}
 
 -- what the first place is where a test passes
 place_is : {X : Type 0} (test : X → Bool) (xs : List X) (place : ℕ) → position test xs ≡ Some place → (position_or_len test xs ≡ place) × (place < length xs)
@@ -157,7 +157,7 @@ module _ {B : Type 0} where
   -- what no call changes stays
   pub home_stays : (desk : PlainOf B) (queue place : ℕ) (one next : ObjectOf B) → IsAfterCall desk queue place one next → home_of (with_queue desk place next) ≡ home_of desk
   home_stays desk queue place one next h =
-      ap (λ (marks : List QueueMark). record { marks = marks; is_exact = true; tables = desk.times.table ∷ []; serves = λ by. true }) (is_called desk queue place one next h).marks
+      ap (λ (marks : List QueueMark). record { marks = marks; is_exact = true; tables = desk.times.table ∷ []; serves = λ by. true; taken = taken_in desk.arrivals }) (is_called desk queue place one next h).marks
 
   -- the same of whatever a call answers
   pub if_made : (desk : PlainOf B) (by queue place : ℕ) (asked : ℕ × QCall B) (result : Result (QReply B) (CallFault (QCall B))) (one next : ObjectOf B) → IsAfterCall desk queue place one next → IfOk result (λ reply. next.calls ≡ entry by asked reply ∷ one.calls) → IfOk result (MadeCall (home_of desk) (view_of desk) (view_of (with_queue desk place next)) by queue asked)

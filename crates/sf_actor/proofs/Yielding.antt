@@ -1,5 +1,5 @@
 -- What an actor's releases of frames add, whose places in a transaction others took.
-use Rattle.std.proofs.Common.{◌≡◌, ℕ, ◌+◌, ◌==◌, inl, inr, true, suc, List, [], ◌∷◌, ◌++◌, arith, ap, ◌∙◌, sym, refl, subst, Some, None}
+use Rattle.std.proofs.Common.{◌≡◌, ℕ, ◌==◌, inl, inr, true, suc, List, [], ◌∷◌, ◌++◌, arith, ap, ◌∙◌, sym, refl, subst, Some, None}
 use Rattle.std.specs.Prelude.{Contains, map}
 use Rattle.std.specs.List.{All, AllZip}
 use Rattle.std.proofs.lemmas.Bool.{cases_Bool, eq-eqb}
@@ -12,6 +12,8 @@ use Rattle.sf_slots.specs.declared.calls.PlainCall.TheVariants as plain_call
 use Rattle.sf_slots.specs.declared.calls.PlainReply.{PlainReply}
 use Rattle.sf_slots.specs.declared.calls.PlainReply.TheVariants as plain
 use Rattle.sf_slots.specs.declared.calls.ReadToken.{ReadToken}
+use Rattle.sf_surface.specs.declared.call.Gives.{Gives}
+use Rattle.sf_surface.specs.declared.call.Gives.TheVariants as gives
 use Rattle.sf_surface.specs.declared.call.QCall.{QCall}
 use Rattle.sf_surface.specs.declared.call.QCall.TheVariants as call
 use Rattle.sf_surface.specs.declared.call.QReply.{QReply}
@@ -21,7 +23,7 @@ use Rattle.sf_surface.specs.Tokens.{ReadLeaseOf}
 use Rattle.sf_actor.specs.Asking.{Asked, release_of}
 use Rattle.sf_actor.specs.Desks.{DeskHome, DeskView, MadeCall, known_of, mark_among}
 use Rattle.sf_actor.specs.Known.{AreAmong, Call, CountsRise, Rise, Share, frame_of, share_of, told_by}
-use Rattle.sf_actor.specs.Rights.{BringsGiven, WasAcquired, turn_by}
+use Rattle.sf_actor.specs.Rights.{Acquires, BringsGiven, Takes, WasAcquired, WasTaken, turn_by}
 use Rattle.sf_actor.specs.Tales.{IsMade, made_on}
 use Rattle.sf_actor.specs.Traces.{release_at}
 use Rattle.sf_actor.proofs.Making.{OneMore, answer_told, joined, made_call, one_more, only, only_one}
@@ -45,9 +47,35 @@ module _ {B : Type 0} where
   abbrev pub IsRelease : Call B → Type 0
   IsRelease made = (lease : ReadLeaseOf) × (fence : Fence) × (made.made.call.1 ≡ call.Release lease fence) × (made.made.reply.ends ≡ None)
 
-  -- an actor acquired this frame
+  -- a call of an actor gave this lease
   abbrev pub IsAcquired : (ℕ → List (Call B)) → ReadLeaseOf → Type 0
-  IsAcquired calls lease = WasAcquired calls (frame_of lease) (Some (turn_by lease.turn))
+  IsAcquired calls lease = WasTaken calls lease
+
+  takes_frame : (lease : ReadLeaseOf) (asked : QCall B) (given : Gives B) → Takes lease asked given → Acquires (frame_of lease) (Some (turn_by lease.turn)) asked given
+  takes_frame lease (call.Acquire expected) (gives.Read other) is = rw is (refl, refl)
+  takes_frame lease (call.Acquire expected) (gives.Write other) is = absurd is
+  takes_frame lease (call.Acquire expected) (gives.Owes other) is = absurd is
+  takes_frame lease (call.Acquire expected) (gives.Free other) is = absurd is
+  takes_frame lease (call.Acquire expected) gives.Nothing is = absurd is
+  takes_frame lease call.Connect given is = absurd is
+  takes_frame lease call.Disconnect given is = absurd is
+  takes_frame lease (call.MaxDequeued _) given is = absurd is
+  takes_frame lease (call.Async _) given is = absurd is
+  takes_frame lease (call.Dequeue _ _ _ _) given is = absurd is
+  takes_frame lease (call.Request _) given is = absurd is
+  takes_frame lease (call.Queue _ _ _ _ _) given is = absurd is
+  takes_frame lease (call.Cancel _ _) given is = absurd is
+  takes_frame lease (call.Detach _) given is = absurd is
+  takes_frame lease (call.Attach _) given is = absurd is
+  takes_frame lease (call.MaxAcquired _) given is = absurd is
+  takes_frame lease call.Abandon given is = absurd is
+  takes_frame lease (call.Release _ _) given is = absurd is
+  takes_frame lease (call.DetachRead _) given is = absurd is
+  takes_frame lease (call.AttachRead _) given is = absurd is
+
+  -- the lease of a frame has its turn
+  pub taken_acquired : (calls : ℕ → List (Call B)) (lease : ReadLeaseOf) → WasTaken calls lease → WasAcquired calls (frame_of lease) (Some (turn_by lease.turn))
+  taken_acquired calls lease was = (was.0, was.1, takes_frame lease was.0.made.call.1 was.0.made.reply.gives was.2)
 
   -- what the releases add to the actor's share
   pub record GaveBack (place : ℕ) (leases : List ReadLeaseOf) (old new : Share B) : Type 0 where
@@ -109,7 +137,7 @@ module _ {B : Type 0} where
           | inr unmet ↦ rw (queue_is, unmet) (rest.made queue)
         ];
         tokens = λ known all queue.
-            let acquired : IsAcquired known lease = all 0 lease (omega arith) in
+            let acquired : WasAcquired known (frame_of lease) (Some (turn_by lease.turn)) = taken_acquired known lease (all 0 lease (omega arith)) in
             let others : All (IsAcquired known) later = λ k d low. all (suc k) d (omega (arith, low)) in
             elim (cases_Bool (lease.queue.0 == queue)) [
               | inl met ↦ rw (queue_is, met) (rw calls acquired, rest.tokens known others queue)

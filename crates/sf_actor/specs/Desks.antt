@@ -19,12 +19,14 @@ use Rattle.sf_txn.specs.Transactions.{Contents}
 use Rattle.sf_actor.specs.Known.{ArriveWithout, Known}
 
 -- What no call of a desk changes: the marks of its queues; whether all that happens goes through it, so that what it knows
--- is exact; the tables that its passes and seats are of; and the callers that it serves.
+-- is exact; the tables that its passes and seats are of; the callers that it serves; and, where it is exact, how many of its
+-- arrivals a compositor has taken.
 pub record DeskHome : Type 0 where
   pub marks : List QueueMark
   pub is_exact : Bool
   pub tables : List TableId
   pub serves : ℕ → Bool
+  pub taken : ℕ
 
 abbrev pub has_queue : DeskHome → ℕ → Bool
 has_queue home queue = list_any (λ (mark : QueueMark). mark.queue.0 == queue) home.marks

@@ -8,7 +8,7 @@ use Rattle.sf_surface.specs.Objects.{ObjectOf, mark_of}
 use Rattle.sf_surface.specs.Tokens.{Issued, ReadLeaseOf}
 use Rattle.sf_times.specs.Seats.{IsAlone}
 use Rattle.sf_times.specs.Views.{SeatView as TimesView}
-use Rattle.sf_token.specs.Arrivals.{Calls, sent}
+use Rattle.sf_token.specs.Arrivals.{Calls, is_take, sent}
 use Rattle.sf_turns.specs.Views.{SeatView}
 use Rattle.sf_txn.specs.Transactions.{Contents}
 use Rattle.sf_actor.specs.Desks.{DeskHome, DeskView}
@@ -19,6 +19,11 @@ pub record PlainOf (B : Type 0) : Type 0 where
   pub arrivals : Calls ReadLeaseOf SeatView ReadLeaseOf Issued
   pub times : TimesView
   pub turns : SeatView
+
+-- how many of the arrivals a compositor has taken
+abbrev pub taken_in : Calls ReadLeaseOf SeatView ReadLeaseOf Issued → ℕ
+taken_in [] = 0
+taken_in (call ∷ earlier) = if is_take call.call then length (sent earlier) else taken_in earlier
 
 module _ {B : Type 0} where
   abbrev pub is_queue : ℕ → ObjectOf B → Bool
@@ -31,7 +36,13 @@ module _ {B : Type 0} where
 
   -- what no call changes: all that happens goes through it, and it serves every caller
   abbrev pub home_of : PlainOf B → DeskHome
-  home_of desk = record { marks = map mark_of desk.queues; is_exact = true; tables = desk.times.table ∷ []; serves = λ by. true }
+  home_of desk = record {
+    marks = map mark_of desk.queues;
+    is_exact = true;
+    tables = desk.times.table ∷ [];
+    serves = λ by. true;
+    taken = taken_in desk.arrivals;
+  }
 
   -- what it knows: the histories of its objects, whole, and what its seats know
   abbrev pub view_of : PlainOf B → DeskView B

@@ -77,11 +77,19 @@ module _ {B : Type 0} where
   WasAcquired calls frame turn =
       (made : Call B) × Contains (calls frame.0.0) made × Acquires frame turn made.made.call.1 made.made.reply.gives
 
-  -- A call gave the drawing that a name owes, just as it is owed; and a call acquired a frame that has a number.
+  -- the call acquired a frame, with this lease
+  abbrev pub Takes : ReadLeaseOf → QCall B → Gives B → Type 0
+  Takes lease (call.Acquire expected) (gives.Read given) = given ≡ lease
+  Takes lease asked given = ⊥
+
+  abbrev pub WasTaken : (ℕ → List (Call B)) → ReadLeaseOf → Type 0
+  WasTaken calls lease = (made : Call B) × Contains (calls lease.queue.0) made × Takes lease made.made.call.1 made.made.reply.gives
+
+  -- A call gave the drawing that a name owes, just as it is owed; and a call gave the lease of a frame that has a number.
   abbrev pub IsOfCall : (ℕ → List (Call B)) → Holding B → Type 0
   IsOfCall calls (holding.Lends lease) = Unit {0}
   IsOfCall calls (holding.Owes owing held) = (queue : ℕ) × (made : Call B) × Contains (calls queue) made × (made.made.reply.gives ≡ gives.Owes owing)
-  IsOfCall calls (holding.Reads lease) = lease.frame ≢ 0 → WasAcquired calls (frame_of lease) (Some (turn_by lease.turn))
+  IsOfCall calls (holding.Reads lease) = lease.frame ≢ 0 → WasTaken calls lease
   IsOfCall calls (holding.Frees queue loose) = Unit {0}
 
   -- the token that a call brings has the turn with which it was given
@@ -93,9 +101,9 @@ module _ {B : Type 0} where
   abbrev pub BringsGiven : (ℕ → List (Call B)) → MadeStep → Call B → Type 0
   BringsGiven calls step made = IsFrom calls step.brings (brought_turn made.made.call.1)
 
-  -- and so have the frames of a transaction that was sent
+  -- the leases of a transaction that was sent are just those that calls gave
   abbrev pub HoldsAcquired : (ℕ → List (Call B)) → Buffer ReadLeaseOf → Type 0
-  HoldsAcquired calls buffer = WasAcquired calls (frame_of buffer.lease) (Some (turn_by buffer.lease.turn))
+  HoldsAcquired calls buffer = WasTaken calls buffer.lease
 
   abbrev pub SendsAcquired : (ℕ → List (Call B)) → Arrival ReadLeaseOf → Type 0
   SendsAcquired calls arrived = All (HoldsAcquired calls) arrived.txn.buffers

@@ -5,7 +5,7 @@ ghost use Rattle.sf_calls.specs.Histories.{IsLegal, entry};
 ghost use Rattle.sf_surface.specs.Histories.{Answers};
 ghost use Rattle.sf_surface.specs.Marks.{PermitFits, SpareFits};
 ghost use Rattle.sf_surface.specs.Objects.{mark_of};
-ghost use Rattle.sf_actor.specs.Plain.{IsSentTo, WaitsOn, is_queue};
+ghost use Rattle.sf_actor.specs.Plain.{IsSentTo, WaitsOn, is_queue, taken_in};
 
 use crate::desk::Desk;
 use crate::tokens::TokensOf;
@@ -88,6 +88,7 @@ fn send_to<B: TableName>(
 ) -> Result<u32, (NoMemory, Transaction<ReadLease<B>>)>
     ensures sent { IfOk result (λ number. IsSentTo arrivals.old arrivals.new by.0 step txn number) }
     ensures back { IfErr result (λ back. (back.1 ≡ txn) × (arrivals.new ≡ arrivals.old)) }
+    ensures taken { taken_in arrivals.new ≡ taken_in arrivals.old }
 {
     match arrivals.apply(by.0, ArriveCall::Send(step, txn)) {
         Outcome::Done(ArriveReply::Number(number)) => Ok(number),

@@ -1,14 +1,16 @@
 -- A cast that has done nothing.
-use Rattle.std.proofs.Common.{◌≡◌, ℕ, ◌≤◌, Bool, true, false, List, [], length, map, refl, ap, ◌∙◌, sym, subst, arith}
+use Rattle.std.proofs.Common.{◌≡◌, ℕ, ◌≤◌, true, false, List, [], length, refl, ap, ◌∙◌, sym, subst, arith}
 use Rattle.std.specs.List.{All, AllPairs}
 use Rattle.std.specs.List.Sorted.{IsStrictlyIncreasing}
+use Rattle.std.proofs.lemmas.List.Elements.{All-weaker}
 use Rattle.std.proofs.lemmas.List.Sorted.{All-permutation, sum_by-IsPermutation}
 use Rattle.atomic_table.specs.Seated.{TableId}
 use Rattle.sf_picture.specs.declared.picture.Picture.{Picture}
+use Rattle.sf_scene.specs.Limits.{IsActor as IsActorOf, most_actors}
 use Rattle.sf_scene.specs.Scene.{has_queue}
 use Rattle.sf_scene.specs.declared.declarations.QueueDecl.{QueueDecl}
 use Rattle.sf_scene.specs.declared.step.ActorScript.{ActorScript}
-use Rattle.sf_surface.specs.Objects.{ObjectOf, mark_of}
+use Rattle.sf_surface.specs.Objects.{ObjectOf}
 use Rattle.sf_times.specs.Seats.{opened as unraised}
 use Rattle.sf_token.specs.Arrivals.{sent}
 use Rattle.sf_turns.specs.Counts.{range, stock_at}
@@ -21,8 +23,8 @@ use Rattle.sf_actor.specs.Scripts.{picture_at}
 use Rattle.sf_actor.specs.Tries.{dequeues_in}
 use Rattle.sf_steps.specs.Playable.{MayPlay}
 use Rattle.sf_steps.specs.declared.actor.Actor.{Actor}
-use Rattle.sf_cast.specs.Casts.{CastOf, IsCast, KeepAs, Opens, numbers_of, scripts_of}
-use Rattle.sf_cast.specs.Opening.{OpensActors, OpensQueues, new_actors, new_queue}
+use Rattle.sf_cast.specs.Casts.{IsCast, KeepAs, Opens, numbers_of, scripts_of}
+use Rattle.sf_cast.specs.Opening.{OpensActors, OpensQueues, new_actors}
 use Rattle.sf_cast.specs.Scripts.{AreOfScene, are_playable, permits_of}
 use Rattle.sf_cast.proofs.OpeningLemmas.{KnowsNone, news_keep, news_scripts, none_called}
 use Rattle.sf_cast.proofs.PlayingLemmas.{has_opened, may_play}
@@ -72,6 +74,10 @@ module _ {B : Type 0} where
       rising = subst (λ (ss : List ActorScript). IsStrictlyIncreasing (numbers_of ss)) (sym same)
           (sorted_rises (λ (script : ActorScript). script.number) scripts opened.declared
           (subst (λ (ss : List ActorScript). AllPairs (λ (x y : ActorScript). x.number ≡ y.number → ⊥) ss) scene.scripts_of scene.limits.actors.differ) opened.sorted);
+      numbered = subst (λ (ss : List ActorScript). All (λ (script : ActorScript). 1 ≤ script.number) ss) (sym same)
+          (All-permutation (λ (script : ActorScript). 1 ≤ script.number) scripts opened.declared opened.sorted.permutation
+          (subst (λ (ss : List ActorScript). All (λ (script : ActorScript). 1 ≤ script.number) ss) scene.scripts_of
+          (All-weaker (IsActorOf (most_actors scene.scene.version)) (λ (script : ActorScript). 1 ≤ script.number) (λ script is. is.low) scene.scene.actors scene.limits.actors.each)));
       plays = subst (λ (ss : List ActorScript). All (MayPlay (home_of desk) pictures) ss) (sym same)
           (All-permutation (MayPlay (home_of desk) pictures) scripts opened.declared opened.sorted.permutation (scene_plays queues pictures scripts (home_of desk) scene playable has (λ n. refl)));
       kept = λ unspent. kept_as table (picture_at pictures) (home_of desk) (view_of desk) (view_of desk) actors _ keep;

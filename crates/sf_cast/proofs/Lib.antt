@@ -1,4 +1,6 @@
+pub mod ArrivalLemmas
 pub mod CastLemmas
+pub mod CompositingLemmas
 pub mod OpeningLemmas
 pub mod PlayingLemmas
 pub mod RisingLemmas

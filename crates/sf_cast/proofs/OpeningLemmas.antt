@@ -1,9 +1,8 @@
 -- Actors that have done nothing keep what they keep, each with its share of a stock.
-use Rattle.std.proofs.Common.{◌≡◌, ℕ, zero, suc, ◌+◌, ◌-◌, ◌<◌, ◌≤◌, Bool, true, false, List, [], ◌∷◌, ◌++◌, length, take, drop, filter, map, cond, refl, ap, ◌∙◌, sym, subst, arith, append_assoc, get_or}
+use Rattle.std.proofs.Common.{◌≡◌, ℕ, zero, suc, ◌+◌, ◌<◌, ◌≤◌, Bool, true, false, List, [], ◌∷◌, ◌++◌, length, take, drop, filter, map, cond, refl, ap, ◌∙◌, sym, subst, arith, append_assoc, get_or}
 use Rattle.std.specs.Prelude.{◌==◌}
-use Rattle.std.specs.List.{All, AllZip, sum_by}
+use Rattle.std.specs.List.{All, AllZip}
 use Rattle.std.proofs.lemmas.List.{append-nil, drop_more, length-take-le, map-append, take-append-drop, take_more}
-use Rattle.std.proofs.lemmas.List.Elements.{All-cons, All-nil}
 use Rattle.std.proofs.lemmas.List.Sums.{count_by-le-length, length-filter, sum_by-cons}
 use Rattle.atomic_table.specs.Seated.{TableId}
 use Rattle.sf_picture.specs.declared.picture.Picture.{Picture}
@@ -11,19 +10,18 @@ use Rattle.sf_scene.specs.declared.declarations.QueueDecl.{QueueDecl}
 use Rattle.sf_scene.specs.declared.step.ActorScript.{ActorScript}
 use Rattle.sf_scene.specs.declared.step.Step.{Step}
 use Rattle.sf_surface.specs.Histories.{Made}
-use Rattle.sf_surface.specs.Objects.{ObjectOf}
 use Rattle.sf_surface.specs.Tokens.{ReadLeaseOf}
 use Rattle.sf_token.specs.Pending.{Arrival}
 use Rattle.sf_turns.specs.Counts.{stock_at}
 use Rattle.sf_turns.proofs.Tallies.{stock_at-append}
-use Rattle.sf_actor.specs.Desks.{DeskHome, DeskView, known_of, mark_among}
-use Rattle.sf_actor.specs.Known.{Call, is_sent_by, own_calls}
+use Rattle.sf_actor.specs.Desks.{DeskHome, DeskView, mark_among}
+use Rattle.sf_actor.specs.Known.{is_sent_by, own_calls}
 use Rattle.sf_actor.specs.Plain.{calls_among}
-use Rattle.sf_actor.specs.Tries.{ActorOf, dequeues_in, is_dequeue}
+use Rattle.sf_actor.specs.Tries.{dequeues_in, is_dequeue}
 use Rattle.sf_steps.specs.Actors.{IsActor, IsNew, new_actor}
 use Rattle.sf_steps.specs.declared.actor.Actor.{Actor}
 use Rattle.sf_steps.proofs.NewLemmas.{new_keeps}
-use Rattle.sf_cast.specs.Casts.{KeepAs, KeepsAs, scripts_of}
+use Rattle.sf_cast.specs.Casts.{KeepAs, scripts_of}
 use Rattle.sf_cast.specs.Opening.{new_actors, new_queue}
 use Rattle.sf_cast.specs.Scripts.{permits_of}
 

@@ -1,5 +1,5 @@
 -- The actors of a scene may play.
-use Rattle.std.proofs.Common.{◌≡◌, ℕ, zero, suc, ◌+◌, ◌<◌, ◌≤◌, Bool, true, false, ◌||◌, List, [], ◌∷◌, length, get_or, map, Option, Some, None, refl, ap, ◌∙◌, sym, subst, arith}
+use Rattle.std.proofs.Common.{◌≡◌, ℕ, ◌≤◌, Bool, true, false, ◌||◌, List, [], ◌∷◌, get_or, map, Option, Some, None, refl, ap, ◌∙◌, sym, subst, arith}
 use Rattle.std.specs.Prelude.{◌==◌, IfSome, nat_le}
 use Rattle.std.specs.List.{All, list_any}
 use Rattle.std.specs.List.Sorted.{IsPermutation}
@@ -7,7 +7,6 @@ use Rattle.std.proofs.lemmas.Bool.{eqb-true, false≢true}
 use Rattle.std.proofs.lemmas.List.Elements.{All-head, All-tail}
 use Rattle.std.proofs.lemmas.List.Sorted.{list_any-IsPermutation}
 use Rattle.std.proofs.lemmas.List.Sums.{AllPass-from_list_all}
-use Rattle.sf_picture.specs.declared.picture.Picture.{Picture}
 use Rattle.sf_layer.specs.Ranges.{IsInRange}
 use Rattle.sf_scene.specs.Limits.{IsWithinLimits}
 use Rattle.sf_scene.specs.Named.{queue_named, timelines_named}
@@ -16,7 +15,6 @@ use Rattle.sf_scene.specs.Scene.{SceneValue, has_queue, has_timeline}
 use Rattle.sf_scene.specs.declared.change.Change.{Change}
 use Rattle.sf_scene.specs.declared.change.Change.TheVariants as change
 use Rattle.sf_scene.specs.declared.declarations.QueueDecl.{QueueDecl}
-use Rattle.sf_scene.specs.declared.step.ActorScript.{ActorScript}
 use Rattle.sf_scene.specs.declared.step.Step.{Step}
 use Rattle.sf_scene.specs.declared.step.Step.TheVariants as step
 use Rattle.sf_surface.specs.Objects.{mark_of}
@@ -24,9 +22,9 @@ use Rattle.sf_surface.specs.declared.mark.QueueMark.{QueueMark}
 use Rattle.sf_actor.specs.Desks.{DeskHome}
 use Rattle.sf_actor.specs.Desks.{has_queue as has_mark}
 use Rattle.sf_actor.specs.Scripts.{op_of}
-use Rattle.sf_steps.specs.Playable.{IsPlayable, IsTaken, MayPlay}
+use Rattle.sf_steps.specs.Playable.{IsTaken, MayPlay}
 use Rattle.sf_cast.specs.Opening.{new_queue}
-use Rattle.sf_cast.specs.Scripts.{AreOfScene, are_playable, are_taken, is_taken}
+use Rattle.sf_cast.specs.Scripts.{are_playable, are_taken, is_taken}
 
 le_from : (m n : ℕ) → nat_le m n ≡ true → m ≤ n
 le_from m n e = grind arith

@@ -1,7 +1,7 @@
 -- A try of one of the actors over an exact desk: every other one keeps what it keeps.
-use Rattle.std.proofs.Common.{◌≡◌, ◌≢◌, ℕ, zero, suc, ◌+◌, ◌<◌, ◌≤◌, Bool, true, false, List, [], ◌∷◌, length, get_or, set, take, drop, ◌++◌, map, Option, Some, None, refl, ap, ◌∙◌, sym, subst, arith}
+use Rattle.std.proofs.Common.{◌≡◌, ◌≢◌, ℕ, zero, suc, ◌<◌, ◌≤◌, Bool, true, false, List, [], ◌∷◌, length, get_or, set, take, drop, ◌++◌, Some, refl, ap, ◌∙◌, sym, subst, arith}
 use Rattle.std.specs.Prelude.{slice_get, is_err, IfOk, Result, Ok, Err}
-use Rattle.std.specs.List.{All, AllPairs, AllZip}
+use Rattle.std.specs.List.{All, AllPairs}
 use Rattle.std.specs.List.Sorted.{IsStrictlyIncreasing}
 use Rattle.std.proofs.lemmas.Bool.{false≢true}
 use Rattle.std.proofs.lemmas.List.{get_or-map, length-map}
@@ -26,7 +26,7 @@ use Rattle.sf_cast.proofs.RisingLemmas.{rising_differ}
 
 module _ {B : Type 0} where
   -- what an actor keeps stays while the histories go on without an entry of it
-  keeps_after : (pictures : ℕ → Picture) (home : DeskHome) (of : ActorOf B) (before after : DeskView B) → GoesOn of.script.number (known_of home before) (known_of home after) → Keeps pictures home of before → Keeps pictures home of after
+  pub keeps_after : (pictures : ℕ → Picture) (home : DeskHome) (of : ActorOf B) (before after : DeskView B) → GoesOn of.script.number (known_of home before) (known_of home after) → Keeps pictures home of before → Keeps pictures home of after
   keeps_after pictures home of before after goes keeps = record { kept = keeps_on pictures of (known_of home before) (known_of home after) goes keeps.kept; there = keeps.there }
 
   -- so it is for every other actor, whatever a try came to
@@ -74,7 +74,7 @@ module _ {B : Type 0} where
     kept_at (suc place) (first ∷ actors) (of ∷ ofs) d there keep = kept_at place actors ofs d (omega arith) keep.1
 
     -- actors that keep what they keep do so as some traces
-    gathered : (actors : List (Actor B)) → All (λ actor. IsKept table pictures home actor before) actors → (ofs : List (ActorOf B)) × KeepAs table pictures home before actors ofs
+    pub gathered : (actors : List (Actor B)) → All (λ actor. IsKept table pictures home actor before) actors → (ofs : List (ActorOf B)) × KeepAs table pictures home before actors ofs
     gathered [] kept = ([], tt)
     gathered (actor ∷ actors) kept =
         let first = All-head (λ actor. IsKept table pictures home actor before) actor actors kept in
@@ -87,16 +87,26 @@ module _ {B : Type 0} where
     kept_as (actor ∷ actors) (of ∷ ofs) keep =
         All-cons (λ actor. IsKept table pictures home actor before) actor actors (record { of = of; is = keep.0.is; keeps = keep.0.keeps }) (kept_as actors ofs keep.1)
 
+  read_at : (xs : List (Actor B)) (n : ℕ) (d : Actor B) → n < length xs → slice_get xs n ≡ Some (get_or xs n d)
+  read_at [] n d low = absurd (omega arith)
+  read_at (x ∷ xs) zero d low = refl
+  read_at (x ∷ xs) (suc n) d low = read_at xs n d (omega arith)
+
+  read_set : (xs : List (Actor B)) (n : ℕ) (x : Actor B) → n < length xs → slice_get (set xs n x) n ≡ Some x
+  read_set [] n x low = absurd (omega arith)
+  read_set (first ∷ xs) zero x low = refl
+  read_set (first ∷ xs) (suc n) x low = read_set xs n x (omega arith)
+
   -- what a try of the actor at a place comes to, whatever the traces
   abbrev pub TriesAt : TableId → List Picture → ℕ → List (Actor B) → PlainOf B → List (Actor B) → PlainOf B → Result Stepped NoMemory → Type 0
   TriesAt table pictures place actors before news after came_to =
-      (ofs : List (ActorOf B)) → KeepAs table (picture_at pictures) (home_of before) (view_of before) actors ofs → IfOk came_to (StepsAt table (picture_at pictures) place ofs before news after)
+      (ofs : List (ActorOf B)) → KeepAs table (picture_at pictures) (home_of before) (view_of before) actors ofs → IfOk came_to (StepsAt table (picture_at pictures) place actors ofs before news after)
 
   -- a try of the actor at a place is one of the cast
   pub steps_at : (table : TableId) (pictures : ℕ → Picture) (place : ℕ) (actors : List (Actor B)) (ofs : List (ActorOf B)) (before after : PlainOf B) (d one : Actor B) (came_to : Result Stepped NoMemory)
       → place < length actors → IsStrictlyIncreasing (numbers_of (scripts_of actors)) → home_of after ≡ home_of before
-      → ((of : ActorOf B) → IsActor table (get_or actors place d) of → Keeps pictures (home_of before) of (view_of before) → IfOk came_to (Steps table pictures (home_of before) of (view_of before) one (view_of after)))
-      → KeepAs table pictures (home_of before) (view_of before) actors ofs → IfOk came_to (StepsAt table pictures place ofs before (set actors place one) after)
+      → ((of : ActorOf B) → IsActor table (get_or actors place d) of → Keeps pictures (home_of before) of (view_of before) → IfOk came_to (Steps table pictures (home_of before) (get_or actors place d).hands of (view_of before) one (view_of after)))
+      → KeepAs table pictures (home_of before) (view_of before) actors ofs → IfOk came_to (StepsAt table pictures place actors ofs before (set actors place one) after)
   steps_at table pictures place actors ofs before after d one (Err e) there rising same steps keep = tt
   steps_at table pictures place actors ofs before after d one (Ok came_to) there rising same steps keep =
       let home = home_of before in
@@ -112,6 +122,11 @@ module _ {B : Type 0} where
         keep = subst (λ (h : DeskHome). KeepAs table pictures h (view_of after) (set actors place one) (set ofs place does.new)) (sym same)
             (all_keep table pictures home (view_of before) (view_of after) one does.new (record { is = does.is; keeps = does.keeps }) place actors ofs there (rising_differ _ rising)
             (λ of other. others_keep pictures home old does.new (view_of before) (view_of after) came_to refl does.tries of (λ e. other (e ∙ number))) keep);
+        was_here = get_or actors place d;
+        now_here = one;
+        was_at = read_at actors place d there;
+        now_at = read_set actors place one there;
+        acts = does.acts;
       }
 
   -- the actor at a place may play
@@ -129,7 +144,7 @@ module _ {B : Type 0} where
   -- actors of which each keeps what it keeps still do after a try that found memory
   pub still_kept : (table : TableId) (pictures : ℕ → Picture) (place : ℕ) (actors news : List (Actor B)) (before after : PlainOf B) (came_to : Stepped)
       → All (λ actor. IsKept table pictures (home_of before) actor (view_of before)) actors
-      → ((ofs : List (ActorOf B)) → KeepAs table pictures (home_of before) (view_of before) actors ofs → StepsAt table pictures place ofs before news after came_to)
+      → ((ofs : List (ActorOf B)) → KeepAs table pictures (home_of before) (view_of before) actors ofs → StepsAt table pictures place actors ofs before news after came_to)
       → All (λ actor. IsKept table pictures (home_of after) actor (view_of after)) news
   still_kept table pictures place actors news before after came_to kept steps =
       let all = gathered table pictures (home_of before) (view_of before) (view_of after) actors kept in
@@ -161,6 +176,7 @@ module _ {B : Type 0} where
       → TriesAt table pictures place actors before news after came_to → IsCast table (record { pictures = pictures; actors = news; desk = after; is_spent = spent })
   is_cast_after table pictures place actors news before after came_to is_spent spent unspent found is scripts home tries = record {
     rising = subst (λ (ss : List ActorScript). IsStrictlyIncreasing (numbers_of ss)) (sym scripts) is.rising;
+    numbered = subst (λ (ss : List ActorScript). All (λ (script : ActorScript). 1 ≤ script.number) ss) (sym scripts) is.numbered;
     plays = subst (λ (ss : List ActorScript). All (MayPlay (home_of after) pictures) ss) (sym scripts) (subst (λ (h : DeskHome). All (MayPlay h pictures) (scripts_of actors)) (sym home) is.plays);
     kept = λ unspent_now. kept_unless table pictures place actors news before after came_to (is.kept unspent) tries (sym found ∙ unspent_now);
   }

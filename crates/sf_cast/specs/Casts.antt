@@ -1,20 +1,21 @@
 -- What contracts see of a cast. Its actors' traces are not in its memory: contracts speak of each list of traces that fits
 -- what the actors have.
-use Rattle.std.specs.Prelude.{◌≡◌, ℕ, Bool, false, List, [], map, slice_get, slice_set, Some}
+use Rattle.std.specs.Prelude.{◌≡◌, ℕ, ◌+◌, ◌≤◌, Bool, false, List, [], length, map, slice_get, slice_set, Some}
 use Rattle.std.specs.List.{All, AllZip}
 use Rattle.std.specs.List.Sorted.{IsStrictlyIncreasing}
 use Rattle.atomic_table.specs.Seated.{TableId}
 use Rattle.sf_picture.specs.declared.picture.Picture.{Picture}
 use Rattle.sf_scene.specs.declared.declarations.QueueDecl.{QueueDecl}
 use Rattle.sf_scene.specs.declared.step.ActorScript.{ActorScript}
+use Rattle.sf_scene.specs.declared.step.Step.{Step}
 use Rattle.sf_times.specs.Seats.{opened}
 use Rattle.sf_turns.specs.Views.{SeatView}
 use Rattle.sf_actor.specs.declared.tried.Stepped.{Stepped}
 use Rattle.sf_actor.specs.Desks.{DeskHome, DeskView}
 use Rattle.sf_actor.specs.Plain.{PlainOf, home_of, view_of}
 use Rattle.sf_actor.specs.Scripts.{picture_at}
-use Rattle.sf_actor.specs.Tries.{ActorOf, Keeps, Tries}
-use Rattle.sf_steps.specs.Actors.{IsActor, IsKept}
+use Rattle.sf_actor.specs.Tries.{ActorOf, Keeps, Tries, next_step}
+use Rattle.sf_steps.specs.Actors.{Acts, IsActor, IsKept}
 use Rattle.sf_steps.specs.Playable.{MayPlay}
 use Rattle.sf_steps.specs.declared.actor.Actor.{Actor}
 use Rattle.sf_cast.specs.Opening.{IsSortedFrom, OpensQueues, new_actors}
@@ -55,13 +56,20 @@ module _ {B : Type 0} where
     pub kept : All (λ actor. IsKept table (picture_at pictures) (home_of desk) actor (view_of desk)) actors
 
   module _ (table : TableId) (pictures : ℕ → Picture) (place : ℕ) where
-    -- a try of the actor at a place: it does what its script says, and every other one is as before; all keep what they keep
-    pub record StepsAt (olds : List (ActorOf B)) (before : PlainOf B) (actors : List (Actor B)) (after : PlainOf B) (stepped : Stepped) : Type 0 where
+    -- A try of the actor at a place: it does what its script says, with the tokens in its hands, and every other one is as before;
+    -- all keep what they keep.
+    pub record StepsAt (was : List (Actor B)) (olds : List (ActorOf B)) (before : PlainOf B) (actors : List (Actor B)) (after : PlainOf B) (stepped : Stepped) : Type 0 where
       pub old : ActorOf B
       pub new : ActorOf B
       pub here : slice_get olds place ≡ Some old
       pub tries : Tries pictures (home_of before) old (view_of before) new (view_of after) stepped
       pub keep : KeepAs table pictures (home_of after) (view_of after) actors (slice_set olds place new)
+      pub was_here : Actor B
+      pub now_here : Actor B
+      pub was_at : slice_get was place ≡ Some was_here
+      pub now_at : slice_get actors place ≡ Some now_here
+      pub acts : (next : Step) → next_step old ≡ Some next
+          → Acts pictures (home_of before) next (length old.trace + 1) was_here.hands (view_of before) now_here.hands (view_of after)
 
   -- nothing that a try leaves as it is was changed
   pub record IsSameCast (old new : CastOf B) : Type 0 where
@@ -69,9 +77,10 @@ module _ {B : Type 0} where
     pub scripts : scripts_of new.actors ≡ scripts_of old.actors
     pub home : home_of new.desk ≡ home_of old.desk
 
-  -- what a cast keeps of itself
+  -- what a cast keeps of itself; no actor has the compositor's number, which is 0
   pub record IsCast (table : TableId) (cast : CastOf B) : Type 0 where
     pub rising : IsStrictlyIncreasing (numbers_of (scripts_of cast.actors))
+    pub numbered : All (λ (script : ActorScript). 1 ≤ script.number) (scripts_of cast.actors)
     pub plays : All (MayPlay (home_of cast.desk) cast.pictures) (scripts_of cast.actors)
     pub kept : cast.is_spent ≡ false → All (λ actor. IsKept table (picture_at cast.pictures) (home_of cast.desk) actor (view_of cast.desk)) cast.actors
 

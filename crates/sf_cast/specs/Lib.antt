@@ -1,3 +1,4 @@
 pub mod Casts
+pub mod Compositing
 pub mod Opening
 pub mod Scripts

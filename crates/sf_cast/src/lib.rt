@@ -4,6 +4,7 @@
 #![tactic(auto)]
 
 mod cast;
+mod compositing;
 mod open;
 mod permits;
 mod playable;

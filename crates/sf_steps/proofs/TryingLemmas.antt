@@ -17,9 +17,9 @@ use Rattle.sf_actor.specs.Desks.{DeskHome, DeskView}
 use Rattle.sf_actor.specs.Names.{Holdings}
 use Rattle.sf_actor.specs.Scripts.{picture_at}
 use Rattle.sf_actor.specs.Tests.{refusal_of}
-use Rattle.sf_actor.specs.Tries.{ActorOf, Keeps, past_of}
+use Rattle.sf_actor.specs.Tries.{ActorOf, Keeps, next_step, past_of}
 use Rattle.sf_steps.specs.Acting.{Attempts, MayAct}
-use Rattle.sf_steps.specs.Actors.{IsActor, IsKept, Steps}
+use Rattle.sf_steps.specs.Actors.{Acts, IsActor, IsKept, Steps}
 use Rattle.sf_steps.specs.Coming.{Comes, DoneWith, IsReady, LeftWith, after_step, is_done, reply_told}
 use Rattle.sf_steps.specs.Hands.{holdings_of}
 use Rattle.sf_steps.specs.Playable.{IsPlayable, MayPlay}
@@ -110,8 +110,26 @@ module _ {B : Type 0} where
     stays_for actor is left after place came_to attempts =
         attempt_stays table (refusal_of (picture_at pictures) (holdings_of old.hands) s) (picture_at pictures) home old.hands.by.0 place s old.hands left before after came_to is.of_table attempts
 
+    -- what the step did, for each actor that fits
+    acts_for : (actor : ActorOf B) → IsActor table old actor → (left : Hands B) (after : DeskView B) (place : ℕ) (came_to : Tried) → place ≡ length old.replies.items + 1 → Attempts (refusal_of (picture_at pictures) (holdings_of old.hands) s) (picture_at pictures) home old.hands.by.0 place s old.hands left before after came_to → (t : Step) → next_step actor ≡ Some t → Acts (picture_at pictures) home t (length actor.trace + 1) old.hands before left after
+    acts_for actor is left after place came_to at attempts t next =
+        let here : place ≡ length actor.trace + 1 = at ∙ ap (λ (n : ℕ). n + 1) (sym is.trace) in
+        let same : s ≡ t = same_step s t (sym there ∙ sym (next_is actor is) ∙ next) in
+        record {
+          came_to = came_to;
+          attempts =
+              subst (λ (u : Step). Attempts (refusal_of (picture_at pictures) (holdings_of old.hands) u) (picture_at pictures) home old.hands.by.0 (length actor.trace + 1) u old.hands left before after came_to) same
+              (subst (λ (n : ℕ). Attempts (refusal_of (picture_at pictures) (holdings_of old.hands) s) (picture_at pictures) home old.hands.by.0 n s old.hands left before after came_to) here attempts);
+        }
+      where
+        same_step : (a b : Step) → Some a ≡ Some b → a ≡ b
+        same_step a b e = cc
+
+        next_is : (actor : ActorOf B) → IsActor table old actor → next_step actor ≡ slice_get old.script.steps (length old.replies.items)
+        next_is actor is = ap (λ (script : ActorScript). slice_get script.steps (length actor.trace)) is.script ∙ ap (slice_get old.script.steps) is.trace
+
     -- the step is not done
-    pub is_left : (actor : ActorOf B) → IsActor table old actor → Keeps (picture_at pictures) home actor before → (new : Actor B) (after : DeskView B) (place : ℕ) (came_to : Tried) → place ≡ length old.replies.items + 1 → Attempts (refusal_of (picture_at pictures) (holdings_of old.hands) s) (picture_at pictures) home old.hands.by.0 place s old.hands new.hands before after came_to → is_done came_to ≡ false → new.script ≡ old.script → new.replies.items ≡ old.replies.items → new.is_spent ≡ old.is_spent → Steps table (picture_at pictures) home actor before new after stepped.NotYet
+    pub is_left : (actor : ActorOf B) → IsActor table old actor → Keeps (picture_at pictures) home actor before → (new : Actor B) (after : DeskView B) (place : ℕ) (came_to : Tried) → place ≡ length old.replies.items + 1 → Attempts (refusal_of (picture_at pictures) (holdings_of old.hands) s) (picture_at pictures) home old.hands.by.0 place s old.hands new.hands before after came_to → is_done came_to ≡ false → new.script ≡ old.script → new.replies.items ≡ old.replies.items → new.is_spent ≡ old.is_spent → Steps table (picture_at pictures) home old.hands actor before new after stepped.NotYet
     is_left actor is keeps new after place came_to at attempts undone script replies spent =
         let left = left_so (picture_at pictures) home actor new.hands before after came_to undone (comes_for actor is keeps new.hands after place came_to at attempts) in
         let stays = stays_for actor is new.hands after place came_to attempts in
@@ -130,10 +148,11 @@ module _ {B : Type 0} where
           };
           keeps = left.keeps;
           tries = left.leaves;
+          acts = acts_for actor is new.hands after place came_to at attempts;
         }
 
     -- the step is done
-    pub is_made : (actor : ActorOf B) → IsActor table old actor → Keeps (picture_at pictures) home actor before → (new : Actor B) (after : DeskView B) (place : ℕ) (came_to : Tried) (reply : Reply) → place ≡ length old.replies.items + 1 → Attempts (refusal_of (picture_at pictures) (holdings_of old.hands) s) (picture_at pictures) home old.hands.by.0 place s old.hands new.hands before after came_to → is_done came_to ≡ true → reply ≡ reply_told old.script.number place came_to → new.script ≡ old.script → new.replies.items ≡ old.replies.items ++ reply ∷ [] → new.is_spent ≡ old.is_spent → Steps table (picture_at pictures) home actor before new after stepped.Done
+    pub is_made : (actor : ActorOf B) → IsActor table old actor → Keeps (picture_at pictures) home actor before → (new : Actor B) (after : DeskView B) (place : ℕ) (came_to : Tried) (reply : Reply) → place ≡ length old.replies.items + 1 → Attempts (refusal_of (picture_at pictures) (holdings_of old.hands) s) (picture_at pictures) home old.hands.by.0 place s old.hands new.hands before after came_to → is_done came_to ≡ true → reply ≡ reply_told old.script.number place came_to → new.script ≡ old.script → new.replies.items ≡ old.replies.items ++ reply ∷ [] → new.is_spent ≡ old.is_spent → Steps table (picture_at pictures) home old.hands actor before new after stepped.Done
     is_made actor is keeps new after place came_to reply at attempts done_now replied script replies spent =
         let done = done_so (picture_at pictures) home actor new.hands before after came_to done_now (comes_for actor is keeps new.hands after place came_to at attempts) in
         let stays = stays_for actor is new.hands after place came_to attempts in
@@ -160,13 +179,20 @@ module _ {B : Type 0} where
           };
           keeps = done.keeps;
           tries = (told, done.does);
+          acts = acts_for actor is new.hands after place came_to at attempts;
         }
 
   -- no step is left
-  pub is_over : (table : TableId) (pictures : ℕ → Picture) (home : DeskHome) (old : Actor B) (before : DeskView B) (actor : ActorOf B) → slice_get old.script.steps (length old.replies.items) ≡ None → IsActor table old actor → Keeps pictures home actor before → Steps table pictures home actor before old before stepped.Ended
-  is_over table pictures home old before actor none is keeps = record {
-    new = actor;
-    is = is;
-    keeps = keeps;
-    tries = (refl, refl, ap (λ (script : ActorScript). slice_get script.steps (length actor.trace)) is.script ∙ ap (slice_get old.script.steps) is.trace ∙ none);
-  }
+  pub is_over : (table : TableId) (pictures : ℕ → Picture) (home : DeskHome) (old : Actor B) (before : DeskView B) (actor : ActorOf B) → slice_get old.script.steps (length old.replies.items) ≡ None → IsActor table old actor → Keeps pictures home actor before → Steps table pictures home old.hands actor before old before stepped.Ended
+  is_over table pictures home old before actor none is keeps =
+      let over : next_step actor ≡ None = ap (λ (script : ActorScript). slice_get script.steps (length actor.trace)) is.script ∙ ap (slice_get old.script.steps) is.trace ∙ none in
+      record {
+        new = actor;
+        is = is;
+        keeps = keeps;
+        tries = (refl, refl, over);
+        acts = λ s next. absurd (none_some s (sym over ∙ next));
+      }
+    where
+      none_some : (s : Step) → None ≡ Some s → ⊥
+      none_some s e = cc

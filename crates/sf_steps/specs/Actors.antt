@@ -1,19 +1,24 @@
 -- What contracts see of an actor. Its trace is not in its memory: contracts speak of each trace that fits what it has.
-use Rattle.std.specs.Prelude.{◌≡◌, ℕ, ◌≤◌, false, List, [], length, replicate, None}
+use Rattle.std.specs.Prelude.{◌≡◌, ℕ, ◌+◌, ◌≤◌, false, List, [], length, replicate, None, Some}
 use Rattle.atomic_table.specs.Seated.{TableId}
 use Rattle.sf_base.specs.declared.ids.ActorId.{ActorId}
 use Rattle.sf_picture.specs.declared.picture.Picture.{Picture}
 use Rattle.sf_scene.specs.declared.step.ActorScript.{ActorScript}
+use Rattle.sf_scene.specs.declared.step.Step.{Step}
 use Rattle.sf_turns.specs.Counts.{stock_at}
 use Rattle.sf_turns.specs.Views.{StockView}
 use Rattle.sf_actor.specs.declared.tried.Stepped.{Stepped}
 use Rattle.sf_actor.specs.Desks.{DeskHome, DeskView, known_of}
 use Rattle.sf_actor.specs.Known.{share_of}
 use Rattle.sf_actor.specs.Parts.{PartsOf}
-use Rattle.sf_actor.specs.Tries.{ActorOf, Keeps, Tries, dequeues_in}
+use Rattle.sf_actor.specs.Tests.{refusal_of}
+use Rattle.sf_actor.specs.Tries.{ActorOf, Keeps, Tries, dequeues_in, next_step}
+use Rattle.sf_steps.specs.Acting.{Attempts}
 use Rattle.sf_steps.specs.Forming.{AreOfTable, permits_of}
+use Rattle.sf_steps.specs.Hands.{holdings_of}
 use Rattle.sf_steps.specs.declared.actor.Actor.{Actor}
 use Rattle.sf_steps.specs.declared.hands.Hands.{Hands}
+use Rattle.sf_steps.specs.declared.tried.Tried.{Tried}
 
 module _ {B : Type 0} where
   -- what an actor has in its hands, with the numbers of the buffers that it may still open
@@ -64,10 +69,16 @@ module _ {B : Type 0} where
     pub is : IsActor table actor of
     pub keeps : Keeps pictures home of view
 
-  -- what a try of its next step comes to: it keeps what it keeps, and tells what it did
-  pub record Steps (table : TableId) (pictures : ℕ → Picture) (home : DeskHome) (old : ActorOf B) (before : DeskView B)
+  -- what a try of a step did with the tokens in its actor's hands, with calls and with turns
+  pub record Acts (pictures : ℕ → Picture) (home : DeskHome) (next : Step) (place : ℕ) (was : Hands B) (before : DeskView B) (hands : Hands B) (after : DeskView B) : Type 0 where
+    pub came_to : Tried
+    pub attempts : Attempts (refusal_of pictures (holdings_of was) next) pictures home was.by.0 place next was hands before after came_to
+
+  -- what a try of its next step comes to: it keeps what it keeps, and tells what it did; its hands were these before
+  pub record Steps (table : TableId) (pictures : ℕ → Picture) (home : DeskHome) (was : Hands B) (old : ActorOf B) (before : DeskView B)
       (actor : Actor B) (after : DeskView B) (stepped : Stepped) : Type 0 where
     pub new : ActorOf B
     pub is : IsActor table actor new
     pub keeps : Keeps pictures home new after
     pub tries : Tries pictures home old before new after stepped
+    pub acts : (next : Step) → next_step old ≡ Some next → Acts pictures home next (length old.trace + 1) was before actor.hands after

@@ -106,7 +106,7 @@ impl<B: TableName> Actor<B> {
         requires plays { MayPlay (D.home desk.old) pictures.now self.old.script }
         requires kept { self.old.is_spent ≡ false → IsKept B.table (picture_at pictures.now) (D.home desk.old) self.old (D.view desk.old) }
         ensures steps { (actor : ActorOf B) → IsActor B.table self.old actor → Keeps (picture_at pictures.now) (D.home desk.old) actor (D.view desk.old)
-            → IfOk result (Steps B.table (picture_at pictures.now) (D.home desk.old) actor (D.view desk.old) self.new (D.view desk.new)) }
+            → IfOk result (Steps B.table (picture_at pictures.now) (D.home desk.old) self.old.hands actor (D.view desk.old) self.new (D.view desk.new)) }
         ensures spent { self.old.is_spent ≡ true → IsErr result }
         ensures no_memory { IfErr result (λ _. self.new.is_spent ≡ true) }
         ensures script { self.new.script ≡ self.old.script }
@@ -129,7 +129,7 @@ impl<B: TableName> Actor<B> {
         requires plays { MayPlay (D.home desk.old) pictures.now self.old.script }
         requires kept { IsKept B.table (picture_at pictures.now) (D.home desk.old) self.old (D.view desk.old) }
         ensures steps { (actor : ActorOf B) → IsActor B.table self.old actor → Keeps (picture_at pictures.now) (D.home desk.old) actor (D.view desk.old)
-            → IfOk result (Steps B.table (picture_at pictures.now) (D.home desk.old) actor (D.view desk.old) self.new (D.view desk.new)) }
+            → IfOk result (Steps B.table (picture_at pictures.now) (D.home desk.old) self.old.hands actor (D.view desk.old) self.new (D.view desk.new)) }
         ensures spent { self.new.is_spent ≡ self.old.is_spent }
         ensures script { self.new.script ≡ self.old.script }
         ensures home { D.home desk.new ≡ D.home desk.old }

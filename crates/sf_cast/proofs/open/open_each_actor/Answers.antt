@@ -1,9 +1,9 @@
-use Rattle.std.proofs.Common.{◌∙◌, ap, length, rules}
+use Rattle.std.proofs.Common.{◌∙◌, ap, rules}
 use Rattle.std.proofs.lemmas.Iterator.Adapters.{YieldsList-from_vec}
 use Rattle.std.proofs.lemmas.Iterator.Consumers.{YieldsList-end, YieldsList-turn}
 use Rattle.std.proofs.lemmas.List.{length_push}
 use Rattle.sf_turns.specs.Views.{StockView}
-use Rattle.sf_cast.proofs.OpeningLemmas.{next_enough, opening_first, opening_last, opening_more}
+use Rattle.sf_cast.proofs.OpeningLemmas.{next_enough, opening_last, opening_more}
 use Rattle.sf_cast.proofs.open.open_each_actor.Goals as goal
 
 pub open_actor-requires-clause-own : goal.open_actor-requires-clause-own

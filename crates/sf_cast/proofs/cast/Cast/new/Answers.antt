@@ -1,4 +1,4 @@
-use Rattle.std.proofs.Common.{◌≡◌, ◌∙◌, ap, List, subst}
+use Rattle.std.proofs.Common.{◌∙◌, ap, List, subst}
 use Rattle.sf_scene.specs.declared.step.ActorScript.{ActorScript}
 use Rattle.sf_actor.specs.Plain.{PlainOf}
 use Rattle.sf_cast.specs.Opening.{OpensActors}

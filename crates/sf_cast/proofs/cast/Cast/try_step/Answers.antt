@@ -1,4 +1,4 @@
-use Rattle.std.proofs.Common.{◌≡◌, ◌∙◌, ap, sym, subst, List, take, drop, ◌++◌, length, Bool}
+use Rattle.std.proofs.Common.{◌∙◌, ap, List, length}
 use Rattle.sf_steps.specs.declared.actor.Actor.{Actor}
 use Rattle.sf_cast.specs.Casts.{CastOf, scripts_of}
 use Rattle.sf_cast.proofs.SteppingLemmas.{as_lent, is_cast_after, many_same, may_step, whole_tries, written_back}
