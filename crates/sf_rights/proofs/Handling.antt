@@ -1,0 +1,149 @@
+-- What a call takes out of an actor's hands and puts into them.
+use Rattle.std.proofs.Common.{◌≡◌, ℕ, ◌+◌, ◌≤◌, List, [], ◌∷◌, suc, zero, arith, ap, ◌∙◌, refl, get_or, set, Option, Some, None}
+use Rattle.std.specs.List.{flat_map, sum_by}
+use Rattle.std.proofs.lemmas.List.Sums.{sum_by-cons}
+use Rattle.sf_picture.specs.declared.picture.Picture.{Picture}
+use Rattle.sf_scene.specs.declared.step.Step.{Step}
+use Rattle.sf_scene.specs.declared.step.Step.TheVariants as step
+use Rattle.sf_surface.specs.declared.call.Gives.{Gives}
+use Rattle.sf_surface.specs.declared.call.Gives.TheVariants as gives
+use Rattle.sf_turns.specs.Views.{PermitView}
+use Rattle.sf_actor.specs.declared.holding.Holding.{Holding}
+use Rattle.sf_actor.specs.declared.holding.Holding.TheVariants as holding
+use Rattle.sf_actor.specs.Rights.{Turn}
+use Rattle.sf_steps.specs.declared.asking.Asking.{Asking}
+use Rattle.sf_steps.specs.declared.asking.Homes.{Homes}
+use Rattle.sf_steps.specs.declared.hands.Hands.{Hands}
+use Rattle.sf_steps.specs.Calling.{placed, with_held, with_spare}
+use Rattle.sf_steps.specs.Forming.{FormsCall, Takes}
+use Rattle.sf_rights.specs.Calls.{brought_rights, given_rights}
+use Rattle.sf_rights.specs.States.{right_of}
+use Rattle.sf_rights.proofs.Summing.{sum-flat_map}
+
+module _ {A : Type 0} (f : A → ℕ) where
+  -- another item in a place
+  pub set_most : (xs : List A) (i : ℕ) (y : A) → sum_by f (set xs i y) ≤ sum_by f xs + f y
+  set_most [] i y = omega arith
+  set_most (x ∷ xs) zero y =
+      let a = sum_by-cons f x xs in
+      let b = sum_by-cons f y xs in
+      omega (arith, a, b)
+  set_most (x ∷ xs) (suc i) y =
+      let rest = set_most xs i y in
+      let a = sum_by-cons f x xs in
+      let b = sum_by-cons f x (set xs i y) in
+      omega (arith, rest, a, b)
+
+module _ {A : Type 0} (f : Option A → ℕ) where
+  -- an item is taken out of its place
+  pub set_none : (xs : List (Option A)) (i : ℕ) (y : A) → get_or xs i None ≡ Some y → sum_by f (set xs i None) + f (Some y) ≡ sum_by f xs + f None
+  set_none [] i y there = absurd (cc (there))
+  set_none (x ∷ xs) zero y there =
+      let a = sum_by-cons f x xs in
+      let b = sum_by-cons f None xs in
+      let c = ap f there in
+      omega (arith, a, b, c)
+  set_none (x ∷ xs) (suc i) y there =
+      let rest = set_none xs i y there in
+      let a = sum_by-cons f x xs in
+      let b = sum_by-cons f x (set xs i None) in
+      omega (arith, rest, a, b)
+
+module _ {B : Type 0} (w : Turn → ℕ) where
+  abbrev held_weight : Option (Holding B) → ℕ
+  held_weight held = sum_by w (right_of held)
+
+  -- what is counted of the rights that names hold
+  abbrev pub names_weight : Hands B → ℕ
+  names_weight hands = sum_by w (flat_map right_of hands.names)
+
+  pub weight_is : (hands : Hands B) → names_weight hands ≡ sum_by held_weight hands.names
+  weight_is hands = sum-flat_map w right_of hands.names
+
+  -- what a call brings was taken out of the hands
+  pub record FormsSum (before taken : Hands B) (asking : Asking B) : Type 0 where
+    pub names : names_weight taken + sum_by w (brought_rights asking.call) ≡ names_weight before
+    pub transactions : taken.transactions ≡ before.transactions
+
+  brings_nothing : (before taken : Hands B) (asking exact : Asking B) → taken.names ≡ before.names → taken.transactions ≡ before.transactions → asking ≡ exact → sum_by w (brought_rights exact.call) ≡ 0 → FormsSum before taken asking
+  brings_nothing before taken asking exact names transactions same none = record {
+    names =
+        let a = ap (λ (x : Asking B). sum_by w (brought_rights x.call)) same in
+        let b = ap (λ (xs : List (Option (Holding B))). sum_by w (flat_map right_of xs)) names in
+        omega (arith, a, b, none);
+    transactions = transactions;
+  }
+
+  brings_held : (before taken : Hands B) (asking exact : Asking B) (name : ℕ) (held : Holding B) → Takes before taken name held → asking ≡ exact → sum_by w (brought_rights exact.call) ≡ held_weight (Some held) → FormsSum before taken asking
+  brings_held before taken asking exact name held takes same equal = record {
+    names =
+        let a = ap (λ (x : Asking B). sum_by w (brought_rights x.call)) same in
+        let b = ap (λ (hands : Hands B). names_weight hands) takes.rest in
+        let c = weight_is (with_held before name None) in
+        let d = weight_is before in
+        let e = set_none held_weight before.names name held takes.held_there in
+        omega (arith, a, b, c, d, e, equal);
+    transactions = ap (λ (hands : Hands B). hands.transactions) takes.rest;
+  }
+
+  pub forms_sum : (pictures : ℕ → Picture) (s : Step) (before taken : Hands B) (asking : Asking B) → FormsCall pictures s before taken asking → FormsSum before taken asking
+  forms_sum pictures (step.Connect q) before taken asking forms = brings_nothing before taken asking _ (ap (λ (hands : Hands B). hands.names) forms.0) (ap (λ (hands : Hands B). hands.transactions) forms.0) forms.1 refl
+  forms_sum pictures (step.Disconnect q) before taken asking forms = brings_nothing before taken asking _ (ap (λ (hands : Hands B). hands.names) forms.0) (ap (λ (hands : Hands B). hands.transactions) forms.0) forms.1 refl
+  forms_sum pictures (step.MaxDequeued q n) before taken asking forms = brings_nothing before taken asking _ (ap (λ (hands : Hands B). hands.names) forms.0) (ap (λ (hands : Hands B). hands.transactions) forms.0) forms.1 refl
+  forms_sum pictures (step.Async q on) before taken asking forms = brings_nothing before taken asking _ (ap (λ (hands : Hands B). hands.names) forms.0) (ap (λ (hands : Hands B). hands.transactions) forms.0) forms.1 refl
+  forms_sum pictures (step.MaxAcquired q n) before taken asking forms = brings_nothing before taken asking _ (ap (λ (hands : Hands B). hands.names) forms.0) (ap (λ (hands : Hands B). hands.transactions) forms.0) forms.1 refl
+  forms_sum pictures (step.Abandon q) before taken asking forms = brings_nothing before taken asking _ (ap (λ (hands : Hands B). hands.names) forms.0) (ap (λ (hands : Hands B). hands.transactions) forms.0) forms.1 refl
+  forms_sum pictures (step.Acquire q i at) before taken asking forms = brings_nothing before taken asking _ (ap (λ (hands : Hands B). hands.names) forms.0) (ap (λ (hands : Hands B). hands.transactions) forms.0) forms.1 refl
+  forms_sum pictures (step.Dequeue q s size) before taken asking forms =
+      brings_nothing before taken asking _ (ap (λ (hands : Hands B). hands.names) forms.1.same) (ap (λ (hands : Hands B). hands.transactions) forms.1.same) forms.2 refl
+  forms_sum pictures (step.DequeueWait q s size) before taken asking forms =
+      brings_nothing before taken asking _ (ap (λ (hands : Hands B). hands.names) forms.1.same) (ap (λ (hands : Hands B). hands.transactions) forms.1.same) forms.2 refl
+  forms_sum pictures (step.Request s) before taken asking forms = brings_held before taken asking _ s (holding.Lends forms.0) forms.1 forms.2 refl
+  forms_sum pictures (step.Queue s p time crop points) before taken asking forms = brings_held before taken asking _ s (holding.Lends forms.0) forms.1 forms.2 refl
+  forms_sum pictures (step.Cancel s points) before taken asking forms = brings_held before taken asking _ s (holding.Lends forms.0) forms.1 forms.2 refl
+  forms_sum pictures (step.PDetach s b) before taken asking forms = brings_held before taken asking _ s (holding.Lends forms.0) forms.1 forms.2 refl
+  forms_sum pictures (step.Release i points) before taken asking forms = brings_held before taken asking _ i (holding.Reads forms.0) forms.1 forms.2 refl
+  forms_sum pictures (step.CDetach i b) before taken asking forms = brings_held before taken asking _ i (holding.Reads forms.0) forms.1 forms.2 refl
+  forms_sum pictures (step.PAttach q b s) before taken asking forms = brings_held before taken asking _ b (holding.Frees forms.0 forms.1) forms.2 forms.3 refl
+  forms_sum pictures (step.CAttach q b i) before taken asking forms = brings_held before taken asking _ b (holding.Frees forms.0 forms.1) forms.2 forms.3 refl
+  forms_sum pictures other before taken asking forms = absurd forms
+
+  -- what a reply gives goes into the hands
+  held_most : (hands : Hands B) (name : ℕ) (held : Holding B) → names_weight (with_held hands name (Some held)) ≤ names_weight hands + held_weight (Some held)
+  held_most hands name held =
+      let a = weight_is (with_held hands name (Some held)) in
+      let b = weight_is hands in
+      let c = set_most held_weight hands.names name (Some held) in
+      omega (arith, a, b, c)
+
+  placed_most : (homes : Homes) (hands : Hands B) (given : Gives B) → names_weight (placed homes hands given) ≤ names_weight hands + sum_by w (given_rights given)
+  placed_most homes hands gives.Nothing = omega arith
+  placed_most homes hands (gives.Write lease) = held_most hands homes.lent (holding.Lends lease)
+  placed_most homes hands (gives.Owes owing) = held_most hands homes.lent (holding.Owes owing homes.held)
+  placed_most homes hands (gives.Read lease) = held_most hands homes.frame (holding.Reads lease)
+  placed_most homes hands (gives.Free loose) = held_most hands homes.free (holding.Frees homes.last loose)
+
+  spare_same : (hands : Hands B) (spare : Option PermitView) → (with_spare hands spare).names ≡ hands.names
+  spare_same hands None = refl
+  spare_same hands (Some permit) = refl
+
+  pub given_most : (homes : Homes) (hands : Hands B) (given : Gives B) (spare : Option PermitView) → names_weight (with_spare (placed homes hands given) spare) ≤ names_weight hands + sum_by w (given_rights given)
+  given_most homes hands given spare =
+      let a = placed_most homes hands given in
+      let b = ap (λ (xs : List (Option (Holding B))). sum_by w (flat_map right_of xs)) (spare_same (placed homes hands given) spare) in
+      omega (arith, a, b)
+
+module _ {B : Type 0} where
+  placed_transactions : (homes : Homes) (hands : Hands B) (given : Gives B) → (placed homes hands given).transactions ≡ hands.transactions
+  placed_transactions homes hands gives.Nothing = refl
+  placed_transactions homes hands (gives.Write lease) = refl
+  placed_transactions homes hands (gives.Owes owing) = refl
+  placed_transactions homes hands (gives.Read lease) = refl
+  placed_transactions homes hands (gives.Free loose) = refl
+
+  spare_transactions : (hands : Hands B) (spare : Option PermitView) → (with_spare hands spare).transactions ≡ hands.transactions
+  spare_transactions hands None = refl
+  spare_transactions hands (Some permit) = refl
+
+  pub given_transactions : (homes : Homes) (hands : Hands B) (given : Gives B) (spare : Option PermitView) → (with_spare (placed homes hands given) spare).transactions ≡ hands.transactions
+  given_transactions homes hands given spare = spare_transactions (placed homes hands given) spare ∙ placed_transactions homes hands given

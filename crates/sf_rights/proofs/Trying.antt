@@ -1,0 +1,230 @@
+-- A try of a step that makes a call keeps the ledger.
+use Rattle.std.proofs.Common.{◌≡◌, ◌≢◌, ℕ, ◌+◌, ◌≤◌, true, List, [], ◌∷◌, ◌++◌, arith, ap, ◌∙◌, sym, inl, inr, subst, length, Option, None}
+use Rattle.std.specs.List.{flat_map, list_any, sum_by}
+use Rattle.std.proofs.lemmas.Bool.{cases_Bool}
+use Rattle.std.proofs.lemmas.List.Elements.{Contains-append_left}
+use Rattle.std.proofs.lemmas.List.Sums.{sum_by-append}
+use Rattle.sf_calls.specs.Histories.{IsLegal, entry}
+use Rattle.sf_picture.specs.declared.picture.Picture.{Picture}
+use Rattle.sf_scene.specs.declared.step.Step.{Step}
+use Rattle.sf_slots.specs.declared.calls.PlainReply.{PlainReply}
+use Rattle.sf_surface.specs.declared.call.Gives.{Gives}
+use Rattle.sf_surface.specs.declared.call.QCall.{QCall}
+use Rattle.sf_surface.specs.declared.call.QReply.{QReply}
+use Rattle.sf_surface.specs.declared.mark.QueueMark.{QueueMark}
+use Rattle.sf_surface.specs.Histories.{Answers, Made, Replied, told_reply}
+use Rattle.sf_turns.specs.Views.{PermitView}
+use Rattle.sf_token.specs.Pending.{Arrival}
+use Rattle.sf_surface.specs.Tokens.{ReadLeaseOf}
+use Rattle.sf_actor.specs.declared.done.Answered.{Answered}
+use Rattle.sf_actor.specs.declared.done.Answered.TheVariants as answered
+use Rattle.sf_actor.specs.Desks.{DeskHome, DeskView, has_queue, mark_among}
+use Rattle.sf_actor.specs.Rights.{Turn}
+use Rattle.sf_actor.specs.Tests.{refusal_of}
+use Rattle.sf_actor.specs.Written as written
+use Rattle.sf_steps.specs.declared.asking.Asking.{Asking}
+use Rattle.sf_steps.specs.declared.hands.Hands.{Hands}
+use Rattle.sf_steps.specs.declared.tried.Tried.{Tried}
+use Rattle.sf_steps.specs.Actors.{parts_of}
+use Rattle.sf_steps.specs.Calling.{Calls, placed, with_spare}
+use Rattle.sf_steps.specs.Forming.{FormsCall}
+use Rattle.sf_steps.specs.Hands.{holdings_of}
+use Rattle.sf_rights.specs.Calls.{brought_rights, given_rights, move_of}
+use Rattle.sf_rights.specs.Ledgers.{IsLedger, Write}
+use Rattle.sf_rights.specs.Moves.{AreIn, Gets, HasAtMost, ended_by, owed_by, written_by}
+use Rattle.sf_rights.specs.States.{CallsOnce, State, all_owed, all_written, is_queue, ledger_of, move_on, right_of, rights_arrived, rights_held, rights_in, rights_of}
+use Rattle.sf_rights.specs.Steps.{CallStep}
+use Rattle.sf_rights.specs.Tries.{TriesIn}
+use Rattle.sf_rights.proofs.Acting.{held_sum, held_there, none_sent, owed_get, written_get}
+use Rattle.sf_rights.proofs.Counting.{counted, found, is_turn}
+use Rattle.sf_rights.proofs.Ending.{ending_left, ends_are, owes_are, turns_of}
+use Rattle.sf_rights.proofs.Freeing.{forms_free, forms_owe}
+use Rattle.sf_rights.proofs.Handling.{forms_sum, given_most, given_transactions, names_weight}
+use Rattle.sf_rights.proofs.Marking.{mark_there}
+use Rattle.sf_rights.proofs.Owing.{gets_end, gets_more, given_owes, hands_owe, nothing_owes, owes_by}
+use Rattle.sf_rights.proofs.Stepping.{call_keeps}
+use Rattle.sf_rights.proofs.Telling.{calls_make, calls_write}
+
+cons_apart : {A : Type 0} (x : A) (xs : List A) → x ∷ xs ≡ [] → ⊥
+cons_apart x xs same = cc
+
+module _ {B : Type 0} where
+  -- what is counted of the rights in hands
+  pub hands_weight : (w : Turn → ℕ) (hands : Hands B) → sum_by w (rights_of (parts_of hands)) ≡ names_weight w hands + sum_by w (flat_map rights_in hands.transactions)
+  hands_weight w hands = sum_by-append w (flat_map right_of hands.names) (flat_map rights_in hands.transactions)
+
+  -- what a call brings was in the hands
+  forms_brought : (pictures : ℕ → Picture) (s : Step) (before taken : Hands B) (asking : Asking B) → FormsCall pictures s before taken asking → AreIn (brought_rights asking.call) (rights_of (parts_of before))
+  forms_brought pictures s before taken asking forms turn there =
+      let counts = counted turn (brought_rights asking.call) there in
+      let sum = (forms_sum (is_turn turn) pictures s before taken asking forms).names in
+      Contains-append_left (flat_map right_of before.names) (flat_map rights_in before.transactions) turn
+      (found turn (flat_map right_of before.names) (omega (arith, counts, sum)))
+
+  -- what hands hold after a call's tokens were taken out and others put in
+  pub forms_then : (w : Turn → ℕ) (pictures : ℕ → Picture) (s : Step) (before taken after : Hands B) (asking : Asking B) (given : Gives B) (spare : Option PermitView) → FormsCall pictures s before taken asking
+      → after ≡ with_spare (placed asking.homes taken given) spare → sum_by w (rights_of (parts_of after)) + sum_by w (brought_rights asking.call) ≤ sum_by w (rights_of (parts_of before)) + sum_by w (given_rights given)
+  forms_then w pictures s before taken after asking given spare forms same =
+      let sum = forms_sum w pictures s before taken asking forms in
+      let names = sum.names in
+      let most = given_most w asking.homes taken given spare in
+      let a = hands_weight w before in
+      let b = hands_weight w after in
+      let c = ap (names_weight w) same in
+      let d = ap (λ (hands : Hands B). sum_by w (flat_map rights_in hands.transactions)) same in
+      let e = ap (λ xs. sum_by w (flat_map rights_in xs)) (given_transactions asking.homes taken given spare) in
+      let f = ap (λ xs. sum_by w (flat_map rights_in xs)) sum.transactions in
+      omega (arith, names, most, a, b, c, d, e, f)
+
+module _ {B : Type 0} (pictures : ℕ → Picture) (home : DeskHome) (place : ℕ) (s : Step) (came_to : Tried) (before after : Hands B) (old new : State B) (tries : TriesIn pictures home place s came_to before after old new) where
+  abbrev pub by : ℕ
+  by = before.by.0
+
+  abbrev pub number : ℕ
+  number = length tries.was.trace + 1
+
+  -- from this view on, which knows the calls, the turns and the arrivals of the old state, a call was made
+  pub record FromHere (from : DeskView B) : Type 0 where
+    pub calls : from.calls ≡ old.view.calls
+    pub leaves : from.turns.leaves ≡ old.view.turns.leaves
+    pub arrivals : from.arrivals ≡ old.view.arrivals
+
+  calls_once : (from : DeskView B) (asking : Asking B) (reply : QReply B) (taken called : Hands B) → FromHere from → Calls home by number asking taken called from new.view reply → CallsOnce home.marks old.view.calls new.view.calls by asking.queue.0 number asking.call reply
+  calls_once from asking reply taken called here made = record {
+    apart = tries.apart;
+    there = is_there;
+    newest = newest;
+    others = others;
+    replied = replied;
+  }
+    where
+      queue : ℕ
+      queue = asking.queue.0
+
+      ended : new.view.calls ≡ made.made_view.calls
+      ended = (ending_left reply.ends made.made_view new.view made.ends).1
+
+      earlier : made.made.earlier ≡ old.view.calls queue
+      earlier = made.made.alone tries.exact ∙ ap (λ (calls : ℕ → List (Made B)). calls queue) here.calls
+
+      newest : new.view.calls queue ≡ entry by (number, asking.call) reply ∷ old.view.calls queue
+      newest = ap (λ (calls : ℕ → List (Made B)). calls queue) ended ∙ made.made.newest ∙ ap (λ (calls : List (Made B)). entry by (number, asking.call) reply ∷ calls) earlier
+
+      others : (other : ℕ) → other ≢ queue → new.view.calls other ≡ old.view.calls other
+      others other apart = ap (λ (calls : ℕ → List (Made B)). calls other) ended ∙ made.made.changes.others other apart ∙ ap (λ (calls : ℕ → List (Made B)). calls other) here.calls
+
+      legal : IsLegal (Answers (mark_among home.marks queue)) (entry by (number, asking.call) reply ∷ old.view.calls queue)
+      legal = subst (IsLegal (Answers (mark_among home.marks queue))) (made.made.newest ∙ ap (λ (calls : List (Made B)). entry by (number, asking.call) reply ∷ calls) earlier) made.made.legal
+
+      replied : Replied (mark_among home.marks queue) (old.view.calls queue) by asking.call reply
+      replied = legal.0
+
+      is_there : list_any (is_queue queue) home.marks ≡ true
+      is_there = elim (cases_Bool (has_queue home queue)) [
+        | inl met ↦ met
+        | inr unmet ↦ absurd (cons_apart (entry by (number, asking.call) reply) (old.view.calls queue) (sym newest ∙ tries.not_called queue unmet))
+      ]
+
+  -- what is told of a call that was made
+  abbrev pub TellsCall : Type 0
+  TellsCall = (queue : ℕ) (asked : QCall B) (reply : QReply B) → CallsOnce home.marks old.view.calls new.view.calls by queue number asked reply
+      → (answer : Answered) × (written.written_in tries.is.trace ≡ written.written_in tries.was.trace ++ written.written_by (holdings_of before) s answer)
+      × (written.written_by (holdings_of before) s answer ≡ written.written_by (holdings_of before) s (answered.Called (told_reply (mark_among home.marks queue) (old.view.calls queue) by asked)))
+
+  -- a call was made, with tokens out of the hands, and what the reply gave came into them; something more may be dropped behind it
+  pub record CallsFrom (from : DeskView B) (taken called : Hands B) (asking : Asking B) (reply : QReply B) : Type 0 where
+    pub here : FromHere from
+    pub forms : FormsCall pictures s before taken asking
+    pub unrefused : refusal_of pictures (holdings_of before) s ≡ None
+    pub calls : Calls home by number asking taken called from new.view reply
+    pub dropped : (w : Turn → ℕ) → sum_by w (rights_of (parts_of after)) ≤ sum_by w (rights_of (parts_of called))
+    pub owed : Gets (hands_owe called) [] (hands_owe after)
+    pub tells : TellsCall
+
+  pub call_done : (from : DeskView B) (taken called : Hands B) (asking : Asking B) (reply : QReply B) → CallsFrom from taken called asking reply → IsLedger (ledger_of old) → IsLedger (ledger_of new)
+  call_done from taken called asking reply made is = call_keeps old new by asking.queue.0 number asking.call reply step is
+    where
+      once : CallsOnce home.marks old.view.calls new.view.calls by asking.queue.0 number asking.call reply
+      once = calls_once from asking reply taken called made.here made.calls
+
+      once_old : CallsOnce old.marks old.view.calls new.view.calls by asking.queue.0 number asking.call reply
+      once_old = subst (λ (marks : List QueueMark). CallsOnce marks old.view.calls new.view.calls by asking.queue.0 number asking.call reply) (sym tries.marks_old) once
+
+      mark : QueueMark
+      mark = mark_among old.marks asking.queue.0
+
+      told : PlainReply
+      told = told_reply mark (old.view.calls asking.queue.0) by asking.call
+
+      same_mark : mark_among home.marks asking.queue.0 ≡ mark
+      same_mark = ap (λ (marks : List QueueMark). mark_among marks asking.queue.0) (sym tries.marks_old)
+
+      same_queue : mark.queue ≡ asking.queue
+      same_queue = let e = (mark_there old.marks asking.queue.0 once_old.there).1 in λ i. record { 0 = e i }
+
+      ended : Gets made.calls.made_view.turns.leaves (turns_of reply.ends) new.view.turns.leaves × (new.view.calls ≡ made.calls.made_view.calls) × (new.view.arrivals ≡ made.calls.made_view.arrivals)
+      ended = ending_left reply.ends made.calls.made_view new.view made.calls.ends
+
+      none : tries.sends ≡ []
+      none = none_sent pictures home place s came_to before after old new tries
+          (ended.2 ∙ ap (λ (view : DeskView B). view.arrivals) made.calls.made.changes.same ∙ made.here.arrivals)
+
+      held : HasAtMost (rights_held old ++ given_rights reply.gives) (brought_rights asking.call) [] (rights_held new)
+      held w =
+          let all = held_sum pictures home place s came_to before after old new tries w in
+          let nothing = ap (λ (xs : List (Arrival ReadLeaseOf)). sum_by w (flat_map rights_arrived xs)) none in
+          let hands = forms_then w pictures s before taken called asking reply.gives reply.spare made.forms made.calls.hands in
+          let less = made.dropped w in
+          let joined = sum_by-append w (rights_held old) (given_rights reply.gives) in
+          omega (arith, all, nothing, hands, less, joined)
+
+      called_owes : Gets (hands_owe taken) (owes_by reply.gives) (hands_owe called)
+      called_owes = subst (λ (hands : Hands B). Gets (hands_owe taken) (owes_by reply.gives) (hands_owe hands)) (sym made.calls.hands)
+          (elim (forms_free pictures s before taken asking made.forms made.unrefused tries.ranges tries.wide) [
+            | inl quiet ↦ nothing_owes asking.homes taken reply.gives reply.spare (quiet.0 mark.queue told reply once_old.replied.answer)
+            | inr free ↦ given_owes asking.homes taken reply.gives reply.spare free
+          ])
+
+      after_called : (more : List Write) → Gets (hands_owe taken) more (hands_owe called) → Gets (hands_owe taken) more (hands_owe after)
+      after_called more gets = record {
+        no_others = λ x there. gets.no_others x (made.owed.no_others x there);
+        all = λ x there. made.owed.all x (gets.all x there);
+      }
+
+      owed : Gets (all_owed old) (owed_by (move_on old.marks old.view.calls by asking.queue.0 asking.call)) (all_owed new)
+      owed = subst (λ (more : List Write). Gets (all_owed old) more (all_owed new)) (owes_are mark.queue asking.call told reply once_old.replied.answer)
+          (owed_get pictures home place s came_to before after old new tries (owes_by reply.gives)
+          (gets_more (hands_owe before) (owes_by reply.gives) (hands_owe taken) (hands_owe after) (forms_owe pictures s before taken asking made.forms) (after_called (owes_by reply.gives) called_owes)))
+
+      left : Gets old.view.turns.leaves (ended_by (move_on old.marks old.view.calls by asking.queue.0 asking.call)) new.view.turns.leaves
+      left = subst (λ (xs : List Turn). Gets xs (ended_by (move_on old.marks old.view.calls by asking.queue.0 asking.call)) new.view.turns.leaves)
+          (ap (λ (view : DeskView B). view.turns.leaves) made.calls.made.changes.same ∙ made.here.leaves)
+          (subst (λ (xs : List Turn). Gets made.calls.made_view.turns.leaves xs new.view.turns.leaves) (ends_are mark.queue asking.call told reply once_old.replied.answer) ended.0)
+
+      tells : (answer : Answered) × (written.written_in tries.is.trace ≡ written.written_in tries.was.trace ++ written.written_by (holdings_of before) s answer)
+          × (written.written_by (holdings_of before) s answer ≡ written.written_by (holdings_of before) s (answered.Called (told_reply (mark_among home.marks asking.queue.0) (old.view.calls asking.queue.0) by asking.call)))
+      tells = made.tells asking.queue.0 asking.call reply once
+
+      writes : written.written_in tries.is.trace ≡ written.written_in tries.was.trace ++ written_by (move_of mark.queue asking.call told)
+      writes =
+          tells.1
+          ∙ ap (λ (xs : List written.FrameNumber). written.written_in tries.was.trace ++ xs)
+          (tells.2 ∙ ap (λ (m : QueueMark). written.written_by (holdings_of before) s (answered.Called (told_reply m (old.view.calls asking.queue.0) by asking.call))) same_mark)
+          ∙ ap (λ (xs : List written.FrameNumber). written.written_in tries.was.trace ++ xs) (calls_write pictures s before taken asking mark.queue told made.forms same_queue)
+
+      wrote : Gets (all_written old) (written_by (move_on old.marks old.view.calls by asking.queue.0 asking.call)) (all_written new)
+      wrote = written_get pictures home place s came_to before after old new tries (written_by (move_of mark.queue asking.call told))
+          (subst (λ (xs : List written.FrameNumber). Gets (written.written_in tries.was.trace) (written_by (move_of mark.queue asking.call told)) xs) (sym writes)
+          (gets_end (written.written_in tries.was.trace) (written_by (move_of mark.queue asking.call told))))
+
+      step : CallStep old new by asking.queue.0 number asking.call reply
+      step = record {
+        marks = tries.marks_new ∙ sym tries.marks_old;
+        once = once_old;
+        brought = λ turn there. held_there pictures home place s came_to before after old new tries turn (forms_brought pictures s before taken asking made.forms turn there);
+        held = held;
+        owed = owed;
+        left = left;
+        written = wrote;
+        unmade = λ buffer there. tries.unmade buffer (calls_make pictures s before taken asking mark.queue told buffer made.forms there);
+      }

@@ -1,0 +1,15 @@
+pub mod Actors
+pub mod Calls
+pub mod Ledgers
+pub mod Looks
+pub mod Moves
+pub mod Older
+pub mod Owed
+pub mod Queuing
+pub mod Slots
+pub mod Stays
+pub mod Standing
+pub mod States
+pub mod Steps
+pub mod Tries
+pub mod Vsyncs
