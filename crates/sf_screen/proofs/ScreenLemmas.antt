@@ -1,0 +1,52 @@
+-- Frames of views, whole and composed again.
+use Rattle.std.proofs.Common.{◌≡◌, ℕ, ℤ, Ok, Err, Result, List, OnOk, pos, ◌∙◌}
+use Rattle.sf_base.specs.Geometry.{covers}
+use Rattle.sf_base.specs.declared.geometry.Rect.{Rect}
+use Rattle.sf_compose.specs.Again.{ShowsView}
+use Rattle.sf_compose.specs.Frames.{KeepsRest, ShowsPart}
+use Rattle.sf_compose.specs.Readings.{read_image}
+use Rattle.sf_compose.specs.Sources.{HasSources}
+use Rattle.sf_compose.proofs.AgainLemmas.{composed_again}
+use Rattle.sf_compose.proofs.FrameLemmas.{covers_display}
+use Rattle.sf_compose.proofs.ReadingLemmas.{read_image-same}
+use Rattle.sf_compose.proofs.RowLemmas.{frame-from}
+use Rattle.sf_damage.specs.Damage.{Damages}
+use Rattle.sf_picture.specs.declared.picture.Picture.{Picture}
+use Rattle.sf_region.specs.Points.{has}
+use Rattle.sf_screen.specs.Screens.{IsSameSize, IsWhole, image_bytes}
+use Rattle.sf_view.specs.Stacks.{view_image}
+use Rattle.sf_view.specs.Views.{ViewOf}
+
+pub on_ok : {T E : Type 0} (P Q : Type 0) (r : Result T E) → (P → Q) → OnOk r P → OnOk r Q
+on_ok P Q (Ok x) f p = f p
+on_ok P Q (Err e) f p = p
+
+-- a part that is the whole display shows the view
+pub whole_shows : (picture : ℕ → Picture) (view : ViewOf) (contents : List Picture) (sources : List ℕ) (part : List Rect) (frame : List ℕ)
+    → ((x y : ℤ) → has part x y ≡ covers (record { x = pos 0; y = pos 0; width = view.width; height = view.height }) x y)
+    → HasSources picture view contents sources → ShowsPart view part (read_image contents view sources) frame → ShowsView picture view frame
+whole_shows picture view contents sources part frame all has_sources shown = record {
+  pixels = λ x y wide high.
+      shown.pixels x y wide high (all (pos x) (pos y) ∙ covers_display view.width view.height x y wide high)
+      ∙ read_image-same picture view contents sources x y has_sources;
+}
+
+-- what differs was composed over the old frame
+pub again_shows : (picture : ℕ → Picture) (old new : ViewOf) (contents : List Picture) (sources : List ℕ) (part : List Rect) (before after : List ℕ)
+    → IsSameSize before new old → Damages old new part → ShowsPart new part (read_image contents new sources) after → KeepsRest new part before after
+    → HasSources picture new contents sources → ShowsView picture old before → ShowsView picture new after
+again_shows picture old new contents sources part before after same damage shown rest has_sources last =
+    composed_again picture old new part before after (record {
+      wide = same.wide;
+      high = same.high;
+      damage = damage;
+      last = last;
+      shown = record { pixels = λ x y wide high at. shown.pixels x y wide high at ∙ read_image-same picture new contents sources x y has_sources };
+      rest = rest;
+    })
+
+-- a whole frame that shows a view has its bytes
+pub shown_bytes : (picture : ℕ → Picture) (view : ViewOf) (frame : List ℕ) → IsWhole view frame → ShowsView picture view frame → frame ≡ image_bytes picture view
+unfolding image_bytes
+shown_bytes picture view frame whole shown =
+    frame-from frame (λ x y. view_image picture view (pos x) (pos y)) view.width view.height whole shown.pixels

@@ -1,0 +1,7 @@
+//! What a display shows: its frame, composed over the one before it. Only where the new view differs
+//! from the last one is anything painted, and of each layer only what shows of it.
+#![tactic(auto)]
+
+mod screen;
+
+pub use screen::Screen;

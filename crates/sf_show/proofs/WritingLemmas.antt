@@ -1,0 +1,99 @@
+-- What was written of several records.
+use Rattle.std.proofs.Common.{◌≡◌, ℕ, ◌≤◌, ◌+◌, ◌<◌, List, [], ◌∷◌, ◌++◌, length, get_or, take, drop, map, Option, Result, Ok, Err, ap, ◌∙◌, sym, subst, arith, OnErr, OnOk}
+use Rattle.std.proofs.KnownBytes.{Appends-nil, Appends-trans}
+use Rattle.std.proofs.lemmas.List.{append-nil, map-append, take-append-drop, drop_more, take_all, take_more}
+use Rattle.std.proofs.lemmas.List.Concat.{flat_map-append}
+use Rattle.std.proofs.lemmas.List.Elements.{All-append, All-cons, All-nil}
+use Rattle.std.specs.Io.KnownBytes.{Appends}
+use Rattle.sf_io.specs.Streams.{TookPrefix}
+use Rattle.sf_io.proofs.StreamLemmas.{TookPrefix-front, TookPrefix-rest}
+use Rattle.sf_record.specs.declared.encode.RunFault.{RunFault}
+use Rattle.sf_record.specs.Fitting.{RecordFits}
+use Rattle.sf_record.specs.Records.{bytes_of, record_bytes}
+use Rattle.sf_record.specs.declared.record.Record.{Record}
+use Rattle.sf_record.specs.declared.record.Record.TheVariants as rec
+use Rattle.sf_commit.specs.declared.vsync.Commit.{Commit as Decided}
+use Rattle.sf_run.specs.Commits.{commit_shown}
+use Rattle.sf_show.specs.Writing.{Writes, WritesPart}
+
+pub one_record : (r : Record) → record_bytes r ≡ bytes_of (r ∷ [])
+unfolding bytes_of
+one_record r = sym (append-nil (record_bytes r))
+
+more_bytes : (rs ss : List Record) → bytes_of (rs ++ ss) ≡ bytes_of rs ++ bytes_of ss
+unfolding bytes_of
+more_bytes rs ss = flat_map-append record_bytes rs ss
+
+-- nothing was written
+pub writes_none : (a : Option (List ℕ)) → Writes a a []
+unfolding bytes_of
+writes_none a = record { bytes = Appends-nil a; fits = All-nil RecordFits }
+
+pub writes_more : (a b c : Option (List ℕ)) (rs ss : List Record) → Writes a b rs → Writes b c ss → Writes a c (rs ++ ss)
+writes_more a b c rs ss first second = record {
+  bytes = subst (Appends a c) (sym (more_bytes rs ss)) (Appends-trans a b c (bytes_of rs) (bytes_of ss) first.bytes second.bytes);
+  fits = All-append RecordFits rs ss first.fits second.fits;
+}
+
+-- whole records, and then a part of the next ones
+pub part_more : (a b c : Option (List ℕ)) (rs ss : List Record) → Writes a b rs → WritesPart b c ss → WritesPart a c (rs ++ ss)
+part_more a b c rs ss first second = subst (TookPrefix a c) (sym (more_bytes rs ss)) (TookPrefix-rest a b c (bytes_of rs) (bytes_of ss) first.bytes second)
+
+-- a part of the first records
+pub part_front : (a b : Option (List ℕ)) (rs ss : List Record) → WritesPart a b rs → WritesPart a b (rs ++ ss)
+part_front a b rs ss part = subst (TookPrefix a b) (sym (more_bytes rs ss)) (TookPrefix-front a b (bytes_of rs) (bytes_of ss) part)
+
+pub part_none : (a : Option (List ℕ)) (rs : List Record) → WritesPart a a rs
+part_none a rs = (0, omega arith, Appends-nil a)
+
+pub part_whole : (a b : Option (List ℕ)) (rs : List Record) → Writes a b rs → WritesPart a b rs
+part_whole a b rs all = (length (bytes_of rs), omega arith, subst (Appends a b) (sym (take_all (length (bytes_of rs)) (bytes_of rs) (omega arith))) all.bytes)
+
+-- one record was made and written
+pub one_written : (r : Result (Unit {0}) RunFault) (a b : Option (List ℕ)) (made expected : Record) → made ≡ expected → OnOk r (Appends a b (record_bytes made)) → OnOk r (RecordFits made) → OnOk r (Writes a b (expected ∷ []))
+one_written (Ok u) a b made expected is bytes fits =
+    subst (λ (x : Record). Writes a b (x ∷ [])) is (record { bytes = subst (Appends a b) (one_record made) bytes; fits = All-cons RecordFits made [] fits (All-nil RecordFits) })
+one_written (Err e) a b made expected is bytes fits = tt
+
+pub one_part : (r : Result (Unit {0}) RunFault) (a b : Option (List ℕ)) (made expected : Record) → made ≡ expected → OnErr r (TookPrefix a b (record_bytes made)) → OnErr r (WritesPart a b (expected ∷ []))
+one_part (Ok u) a b made expected is part = tt
+one_part (Err e) a b made expected is part = subst (λ (x : Record). WritesPart a b (x ∷ [])) is (subst (TookPrefix a b) (one_record made) part)
+
+-- one more of a list
+pub map_next : {X : Type 0} (f : X → Record) (xs : List X) (i : ℕ) (d : X) → i < length xs → map f (take (i + 1) xs) ≡ map f (take i xs) ++ f (get_or xs i d) ∷ []
+map_next f xs i d below = ap (map f) (take_more xs i d below) ∙ map-append f (take i xs) (get_or xs i d ∷ [])
+
+pub map_split : {X : Type 0} (f : X → Record) (xs : List X) (i : ℕ) → map f (take i xs) ++ map f (drop i xs) ≡ map f xs
+map_split f xs i = sym (map-append f (take i xs) (drop i xs)) ∙ ap (map f) (take-append-drop i xs)
+
+pub commits_next : (xs : List Decided) (i : ℕ) (d : Decided) → i < length xs
+    → map rec.Comm (map commit_shown (take (i + 1) xs)) ≡ map rec.Comm (map commit_shown (take i xs)) ++ rec.Comm (commit_shown (get_or xs i d)) ∷ []
+commits_next xs i d below = ap (map rec.Comm) (ap (map commit_shown) (take_more xs i d below) ∙ map-append commit_shown (take i xs) (get_or xs i d ∷ [])) ∙ map-append rec.Comm (map commit_shown (take i xs)) (commit_shown (get_or xs i d) ∷ [])
+
+pub commits_split : (xs : List Decided) (i : ℕ) → map rec.Comm (map commit_shown (take i xs)) ++ map rec.Comm (map commit_shown (drop i xs)) ≡ map rec.Comm (map commit_shown xs)
+commits_split xs i = sym (map-append rec.Comm (map commit_shown (take i xs)) (map commit_shown (drop i xs))) ∙ ap (map rec.Comm) (sym (map-append commit_shown (take i xs) (drop i xs)) ∙ ap (map commit_shown) (take-append-drop i xs))
+
+commits_front : (xs : List Decided) (i : ℕ) (d : Decided) → i < length xs
+    → map rec.Comm (map commit_shown (drop i xs)) ≡ rec.Comm (commit_shown (get_or xs i d)) ∷ map rec.Comm (map commit_shown (drop (i + 1) xs))
+commits_front xs i d below = ap (λ (l : List Decided). map rec.Comm (map commit_shown l)) (drop_more xs i d below)
+
+-- one more commit was written
+pub commits_more : (a b c : Option (List ℕ)) (xs : List Decided) (i : ℕ) (x : Decided) → i < length xs → x ≡ get_or xs i x
+    → Writes a b (map rec.Comm (map commit_shown (take i xs))) → Writes b c (rec.Comm (commit_shown x) ∷ []) → Writes a c (map rec.Comm (map commit_shown (take (i + 1) xs)))
+commits_more a b c xs i x below is before now =
+    subst (Writes a c) (sym (commits_next xs i x below))
+    (writes_more a b c (map rec.Comm (map commit_shown (take i xs))) (rec.Comm (commit_shown (get_or xs i x)) ∷ []) before
+    (subst (λ (d : Decided). Writes b c (rec.Comm (commit_shown d) ∷ [])) is now))
+
+-- a part of the next commit was written
+pub commits_part : (a b c : Option (List ℕ)) (xs : List Decided) (i : ℕ) (x : Decided) → i < length xs → x ≡ get_or xs i x
+    → Writes a b (map rec.Comm (map commit_shown (take i xs))) → WritesPart b c (rec.Comm (commit_shown x) ∷ []) → WritesPart a c (map rec.Comm (map commit_shown xs))
+commits_part a b c xs i x below is before now =
+    subst (WritesPart a c) (commits_split xs i)
+    (part_more a b c (map rec.Comm (map commit_shown (take i xs))) (map rec.Comm (map commit_shown (drop i xs))) before
+    (subst (WritesPart b c) (sym (commits_front xs i x below))
+    (part_front b c (rec.Comm (commit_shown (get_or xs i x)) ∷ []) (map rec.Comm (map commit_shown (drop (i + 1) xs)))
+    (subst (λ (d : Decided). WritesPart b c (rec.Comm (commit_shown d) ∷ [])) is now))))
+
+pub still_later : (a b c : ℕ) → a ≤ b → b ≤ c → a ≤ c
+still_later a b c p q = omega arith

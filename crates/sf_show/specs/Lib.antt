@@ -1,0 +1,2 @@
+pub mod Vsyncs
+pub mod Writing
