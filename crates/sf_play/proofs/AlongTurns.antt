@@ -1,0 +1,270 @@
+-- A try of a player's actor is a turn of the play of its scene.
+use Rattle.std.proofs.Common.{◌≡◌, ◌≢◌, ℕ, zero, suc, ◌+◌, ◌<◌, ◌≤◌, ◌==◌, Bool, true, false, List, [], ◌∷◌, ◌++◌, length, map, set, Option, Some, None, refl, sym, ap, ◌∙◌, subst, inl, inr, arith, length-append}
+use Rattle.std.specs.Prelude.{All, Contains, find, slice_get}
+use Rattle.std.specs.List.{flat_map}
+use Rattle.std.specs.List.Sorted.{IsPermutation}
+use Rattle.std.proofs.lemmas.Bool.{cases_Bool, eq-eqb, eqb-true}
+use Rattle.std.proofs.lemmas.List.{append-nil}
+use Rattle.std.proofs.lemmas.List.Concat.{flat_map-append}
+use Rattle.std.proofs.lemmas.List.Elements.{All-contains}
+use Rattle.std.proofs.lemmas.List.Sorted.{Contains-permutation, IsPermutation-sym}
+use Rattle.atomic_table.specs.Seated.{TableId}
+use Rattle.sf_calls.specs.Histories.{IsLegal}
+use Rattle.sf_surface.specs.Histories.{Answers, Made}
+use Rattle.sf_surface.specs.declared.mark.QueueMark.{QueueMark}
+use Rattle.sf_token.specs.Pending.{Arrival}
+use Rattle.sf_surface.specs.Tokens.{ReadLeaseOf}
+use Rattle.sf_scene.specs.Scene.{SceneValue, has_queue}
+use Rattle.sf_scene.specs.declared.declarations.Pick.{Pick}
+use Rattle.sf_scene.specs.declared.step.ActorScript.{ActorScript}
+use Rattle.sf_scene.specs.declared.step.Step.{Step}
+use Rattle.sf_actor.specs.declared.done.Done.{Done}
+use Rattle.sf_actor.specs.declared.tried.Reply.{Reply}
+use Rattle.sf_actor.specs.declared.tried.Stepped.TheVariants as stepped
+use Rattle.sf_actor.specs.Desks.{DeskHome, DeskView, KnowsAll, mark_among}
+use Rattle.sf_actor.specs.Known.{AreAmong, plain_arrival}
+use Rattle.sf_actor.specs.Names.{FrameOf}
+use Rattle.sf_actor.specs.Plain.{home_of, view_of}
+use Rattle.sf_actor.specs.Scripts.{picture_at}
+use Rattle.sf_actor.specs.Tries.{ActorOf, DoesStep, LeavesStep}
+use Rattle.sf_cast.specs.Casts.{CastOf, IsSameCast, StepsAt}
+use Rattle.sf_record.specs.declared.event.Event.{Event}
+use Rattle.sf_record.specs.declared.event.Event.TheVariants as event
+use Rattle.sf_record.specs.declared.event.VsyncReport.{VsyncReport}
+use Rattle.sf_run.specs.Actors.{AreActors, AreCalls, arrivals_of, number_of, run_of, script_of, trace_among}
+use Rattle.sf_run.specs.Plays.{TakesTurn}
+use Rattle.sf_run.specs.Replies.{reply_shown}
+use Rattle.sf_run.specs.Runs.{rising_actors, signals_in}
+use Rattle.sf_run.specs.Stepping.{DrawsInTime, KnowsRun}
+use Rattle.sf_run.specs.Stopping.{TellsOlder}
+use Rattle.sf_run.specs.Stuck.{IsNotReady, next_step}
+use Rattle.sf_run.specs.Vsyncs.{vsync_in, vsyncs_in}
+use Rattle.sf_run.specs.Worlds.{Turn, World, actor_turn, idle, with_list}
+use Rattle.sf_run.proofs.Advancing.{not_none}
+use Rattle.sf_run.proofs.AsQueued.{one_passes}
+use Rattle.sf_run.proofs.Desking.{desk_called, sent_numbered}
+use Rattle.sf_run.proofs.Keeping.{got_has}
+use Rattle.sf_run.proofs.Members.{has_map}
+use Rattle.sf_run.proofs.NextStep.{desk_turn, script_of_number, traces}
+use Rattle.sf_run.proofs.Rising.{rising_actors_are}
+use Rattle.sf_run.proofs.SteppingLemmas.{idle_ended, idle_waits}
+use Rattle.sf_run.proofs.Stopping.{left_not_ready, run_stays}
+use Rattle.sf_run.proofs.Tracing.{trace_here}
+use Rattle.sf_play.proofs.AlongLemmas.{plays_idle, plays_pick, plays_step}
+use Rattle.sf_play.proofs.Stepping.{stands_done, stands_waiting}
+use Rattle.sf_play.specs.Alongs.{DeskKnows, PlaysSo, PlaysTo, world_so}
+use Rattle.sf_play.specs.Players.{PlayOf, SoFar, Stands}
+use Rattle.sf_play.specs.declared.place.Place.{Place}
+use Rattle.sf_play.specs.declared.place.Place.TheVariants as at
+
+-- where one trace has one step more, none is shorter
+longer : (traces : ℕ → List Done) (number : ℕ) (done : Done) (actor : ℕ) → length (traces actor) ≤ length (with_list traces number (traces number ++ done ∷ []) actor)
+longer traces number done actor = elim (cases_Bool (actor == number)) [
+  | inl met ↦
+      let many = length-append (traces number) (done ∷ []) in
+      let same = ap (λ (n : ℕ). length (traces n)) (eqb-true actor number met) in
+      rw met (omega (arith, many, same))
+  | inr unmet ↦ rw unmet (omega arith)
+]
+
+longer_own : (traces : ℕ → List Done) (number : ℕ) (done : Done) → length (traces number) < length (with_list traces number (traces number ++ done ∷ []) number)
+longer_own traces number done = (let many = length-append (traces number) (done ∷ []) in rw (eq-eqb number number refl) (omega (arith, many)))
+
+got_map : {X Y : Type 0} (f : X → Y) (xs : List X) (n : ℕ) (x : X) → slice_get xs n ≡ Some x → slice_get (map f xs) n ≡ Some (f x)
+got_map f [] n x e = absurd (cc (e))
+got_map f (y ∷ xs) zero x e = (let same : y ≡ x = cc in ap (λ z. Some (f z)) same)
+got_map f (y ∷ xs) (suc n) x e = got_map f xs n x e
+
+-- the compositor is none of the actors
+takes_actor : (scene : SceneValue) (number : ℕ) (world : World) (turn : Turn) → 0 ≢ number → turn ≡ actor_turn scene number world → TakesTurn scene number world turn
+takes_actor scene zero world turn some is = absurd (some refl)
+takes_actor scene (suc n) world turn some is = is
+
+-- a reply is no vsync
+reply_no_vsync : (events : List Event) (e : Event) → vsync_in e ≡ [] → vsyncs_in (events ++ e ∷ []) ≡ vsyncs_in events
+unfolding vsyncs_in
+reply_no_vsync events e none = flat_map-append vsync_in events (e ∷ []) ∙ ap (λ (v : List VsyncReport). flat_map vsync_in events ++ (v ++ [])) none ∙ append-nil (flat_map vsync_in events)
+
+module _ {B : Type 0} where
+  module _ (table : TableId) (scene : SceneValue) (so : SoFar B) (play : PlayOf B) (stands : Stands table scene so play) where
+    abbrev home : DeskHome
+    home = home_of play.cast.desk
+
+    abbrev view : DeskView B
+    view = view_of play.cast.desk
+
+    -- what was called is a queue of the scene
+    pub calls_declared : (queue : ℕ) (made : Made B) → Contains (view.calls queue) made → has_queue scene.queues queue ≡ true
+    calls_declared queue made there =
+        let mark = one_passes (λ (mark : QueueMark). mark.queue.0 == queue) home.marks (desk_called play.cast.desk queue made there) in
+        subst (λ (n : ℕ). has_queue scene.queues n ≡ true) (eqb-true mark.0.queue.0 queue mark.2)
+        (All-contains (λ (mark : QueueMark). has_queue scene.queues mark.queue.0 ≡ true) home.marks mark.0 stands.desk.declared mark.1)
+
+    pub calls_so : DeskKnows play → AreCalls scene so.actors home view
+    calls_so knows = record { marks = stands.desk.marks; declared = calls_declared; legal = knows.legal; callers = stands.tell.callers }
+
+    pub knows_so : DeskKnows play → KnowsRun scene so.actors home view
+    knows_so knows = record { actors = stands.tell.actors; knows = knows.knows; signals = stands.tell.signals }
+
+    -- the actor at a place
+    module _ (place : ℕ) (old : ActorOf B) (here : slice_get so.actors place ≡ Some old) where
+      pub script_at : slice_get (rising_actors scene) place ≡ Some old.script
+      script_at =
+          ap (λ (scripts : List ActorScript). slice_get scripts place) (rising_actors_are scene so.actors home view stands.of_scene.limits stands.tell.actors)
+          ∙ got_map script_of so.actors place old here
+
+      script_there : Contains scene.actors old.script
+      script_there = Contains-permutation (map script_of so.actors) scene.actors old.script (IsPermutation-sym scene.actors (map script_of so.actors) stands.tell.actors.scripts)
+          (has_map script_of so.actors old (got_has so.actors place old here))
+
+      is_found : find (λ (s : ActorScript). s.number == old.script.number) scene.actors ≡ Some old.script
+      is_found = script_of_number scene so.actors home view old stands.tell.actors (got_has so.actors place old here)
+
+      is_some : 0 ≢ old.script.number
+      is_some = not_none scene so.actors home view old.script.number stands.of_scene.limits stands.tell.actors (has_map number_of so.actors old (got_has so.actors place old here))
+
+      its_trace : trace_among so.actors old.script.number ≡ old.trace
+      its_trace = trace_here so.actors old stands.tell.actors.apart (got_has so.actors place old here)
+
+      module _ (cast : CastOf B) (same : IsSameCast play.cast cast) where
+        abbrev later_play : PlayOf B
+        later_play = record play { cast = cast }
+
+        abbrev after : DeskView B
+        after = view_of cast.desk
+
+        -- nothing was called or sent: the world is as it was
+        left_world : ((queue : ℕ) → after.calls queue ≡ view.calls queue) → after.arrivals ≡ view.arrivals → world_so so later_play ≡ world_so so play
+        left_world calls arrivals = λ i. record {
+          run = run_stays so.actors home (home_of cast.desk) view after (ap (λ (h : DeskHome). h.marks) same.home) calls i;
+          arrivals = map plain_arrival (arrivals i);
+          reports = vsyncs_in so.events;
+          vsyncs = play.vsyncs;
+        }
+
+        module _ (nothing : actor_turn scene old.script.number (world_so so play) ≡ idle (world_so so play)) (left : world_so so later_play ≡ world_so so play) where
+          idle_pick : (at' done : ℕ) (pick : Pick) → PlaysSo scene so play (at.Order at' done) → slice_get scene.order at' ≡ Some pick → done < pick.times → pick.actor ≡ old.script.number
+              → PlaysSo scene so later_play (at.Order at' (done + 1))
+          idle_pick at' done pick plays there less is =
+              subst (λ (w : World). PlaysTo scene so.events w (at.Order at' (done + 1))) (sym left)
+              (subst (λ (es : List Event). PlaysTo scene es (world_so so play) (at.Order at' (done + 1))) (append-nil so.events)
+              (plays_pick scene so.events (world_so so play) at' done pick (idle (world_so so play)) plays there less
+              (subst (λ (n : ℕ). TakesTurn scene n (world_so so play) (idle (world_so so play))) (sym is)
+              (takes_actor scene old.script.number (world_so so play) (idle (world_so so play)) is_some (sym nothing)))))
+
+          idle_round : (stepped : Bool) → PlaysSo scene so play (at.Round place stepped) → PlaysSo scene so later_play (at.Round (place + 1) stepped)
+          idle_round stepped plays =
+              subst (λ (w : World). PlaysTo scene so.events w (at.Round (place + 1) stepped)) (sym left)
+              (plays_idle scene so.events (world_so so play) place stepped old.script (idle (world_so so play)) plays script_at
+              (takes_actor scene old.script.number (world_so so play) (idle (world_so so play)) is_some (sym nothing)) refl)
+
+  module _ (table : TableId) (scene : SceneValue) (so : SoFar B) (play : PlayOf B) (stands : Stands table scene so play) (place : ℕ) (cast : CastOf B)
+      (same : IsSameCast play.cast cast) (acts : cast.is_spent ≡ false) where
+    abbrev new_play : PlayOf B
+    new_play = record play { cast = cast }
+
+    -- no step is left
+    module _ (s : StepsAt table (picture_at scene.pictures) place play.cast.actors so.actors play.cast.desk cast.actors cast.desk stepped.Ended) where
+      nothing_ended : actor_turn scene s.old.script.number (world_so so play) ≡ idle (world_so so play)
+      nothing_ended = idle_ended scene (world_so so play) s.old.script (is_found table scene so play stands place s.old s.here)
+          (ap (λ (t : List Done). slice_get s.old.script.steps (length t)) (its_trace table scene so play stands place s.old s.here) ∙ s.tries.2)
+
+      left_ended : world_so so new_play ≡ world_so so play
+      left_ended = left_world table scene so play stands place s.old s.here cast same (λ queue. ap (λ (v : DeskView B). v.calls queue) s.tries.1) (ap (λ (v : DeskView B). v.arrivals) s.tries.1)
+
+      pub pick_ended : (at' done : ℕ) (pick : Pick) → PlaysSo scene so play (at.Order at' done) → slice_get scene.order at' ≡ Some pick → done < pick.times → pick.actor ≡ s.old.script.number
+          → PlaysSo scene so new_play (at.Order at' (done + 1))
+      pick_ended = idle_pick table scene so play stands place s.old s.here cast same nothing_ended left_ended
+
+      pub round_ended : (stepped : Bool) → PlaysSo scene so play (at.Round place stepped) → PlaysSo scene so new_play (at.Round (place + 1) stepped)
+      round_ended = idle_round table scene so play stands place s.old s.here cast same nothing_ended left_ended
+
+    -- the step is not done
+    module _ (s : StepsAt table (picture_at scene.pictures) place play.cast.actors so.actors play.cast.desk cast.actors cast.desk stepped.NotYet) (knows : DeskKnows new_play)
+        (older : TellsOlder scene (run_of so.actors (home_of cast.desk) (view_of cast.desk)) s.old (view_of play.cast.desk) (view_of cast.desk)) where
+      leaves : LeavesStep (picture_at scene.pictures) (home_of play.cast.desk) s.old (view_of play.cast.desk) s.new (view_of cast.desk)
+      leaves = s.tries
+
+      is_now : Stands table scene so new_play
+      is_now = stands_waiting table scene so play place cast stands same acts s
+
+      left_waits : world_so so new_play ≡ world_so so play
+      left_waits = left_world table scene so play stands place s.old s.here cast same (leaves.calls refl) leaves.arrivals
+
+      not_ready : IsNotReady scene (world_so so new_play).run s.old.script (next_step (world_so so new_play).run s.old.script)
+      not_ready = left_not_ready scene so.actors (home_of cast.desk) (view_of play.cast.desk) (view_of cast.desk) s.old s.new stands.of_scene.limits refl is_now.tell.actors
+          (calls_so table scene so new_play is_now knows) is_now.tell.signals (got_has so.actors place s.old s.here) older
+          (subst (λ (h : DeskHome). LeavesStep (picture_at scene.pictures) h s.old (view_of play.cast.desk) s.new (view_of cast.desk)) (sym same.home) leaves)
+
+      next_is : next_step (world_so so play).run s.old.script ≡ Some leaves.next
+      next_is = ap (λ (t : List Done). slice_get s.old.script.steps (length t)) (its_trace table scene so play stands place s.old s.here) ∙ leaves.step
+
+      nothing_yet : actor_turn scene s.old.script.number (world_so so play) ≡ idle (world_so so play)
+      nothing_yet = idle_waits scene (world_so so play) s.old.script leaves.next (is_found table scene so play stands place s.old s.here) next_is
+          (subst (IsNotReady scene (world_so so play).run s.old.script) next_is
+          (subst (λ (w : World). IsNotReady scene w.run s.old.script (next_step w.run s.old.script)) left_waits not_ready))
+
+      pub pick_waits : (at' done : ℕ) (pick : Pick) → PlaysSo scene so play (at.Order at' done) → slice_get scene.order at' ≡ Some pick → done < pick.times → pick.actor ≡ s.old.script.number
+          → PlaysSo scene so new_play (at.Order at' (done + 1))
+      pick_waits = idle_pick table scene so play stands place s.old s.here cast same nothing_yet left_waits
+
+      pub round_waits : (stepped : Bool) → PlaysSo scene so play (at.Round place stepped) → PlaysSo scene so new_play (at.Round (place + 1) stepped)
+      round_waits = idle_round table scene so play stands place s.old s.here cast same nothing_yet left_waits
+
+    -- the step is done
+    module _ (s : StepsAt table (picture_at scene.pictures) place play.cast.actors so.actors play.cast.desk cast.actors cast.desk stepped.Done) (knows : DeskKnows play) (known : DeskKnows new_play)
+        (draws : DrawsInTime scene (world_so so play) s.old.script s.tries.1.done.step) where
+      abbrev later_so : SoFar B
+      later_so = record { actors = set so.actors place s.new; events = so.events ++ event.Reply (reply_shown s.tries.0) ∷ [] }
+
+      does : DoesStep (picture_at scene.pictures) (home_of play.cast.desk) s.old (view_of play.cast.desk) s.new (view_of cast.desk) s.tries.0
+      does = s.tries.1
+
+      stands_now : Stands table scene later_so new_play
+      stands_now = stands_done table scene so play place cast stands same acts s
+
+      runs_now : KnowsRun scene later_so.actors (home_of play.cast.desk) (view_of cast.desk)
+      runs_now = subst (λ (h : DeskHome). KnowsRun scene later_so.actors h (view_of cast.desk)) same.home (knows_so table scene later_so new_play stands_now known)
+
+      calls_now : AreCalls scene later_so.actors (home_of play.cast.desk) (view_of cast.desk)
+      calls_now = subst (λ (h : DeskHome). AreCalls scene later_so.actors h (view_of cast.desk)) same.home (calls_so table scene later_so new_play stands_now known)
+
+      same_vsyncs : vsyncs_in later_so.events ≡ vsyncs_in so.events
+      same_vsyncs = reply_no_vsync so.events (event.Reply (reply_shown s.tries.0)) refl
+
+      abbrev turn : Turn
+      turn = record { events = event.Reply (reply_shown s.tries.0) ∷ []; world = world_so later_so new_play }
+
+      turn_now : actor_turn scene s.old.script.number (world_so so play) ≡ turn
+      turn_now =
+          desk_turn scene so.actors (home_of play.cast.desk) (view_of play.cast.desk) (view_of cast.desk) place s.old s.new s.tries.0 (vsyncs_in so.events) play.vsyncs stands.of_scene.limits refl s.here s.tries.1
+          (knows_so table scene so play stands knows) runs_now calls_now (sent_numbered cast.desk.arrivals) draws
+          ∙ (λ i. record {
+            events = event.Reply (reply_shown s.tries.0) ∷ [];
+            world = record {
+              run = run_of later_so.actors (sym same.home i) (view_of cast.desk);
+              arrivals = arrivals_of (view_of cast.desk);
+              reports = sym same_vsyncs i;
+              vsyncs = play.vsyncs;
+            };
+          })
+
+      traces_now : (actor : ℕ) → trace_among later_so.actors actor ≡ with_list (trace_among so.actors) s.old.script.number (trace_among so.actors s.old.script.number ++ s.tries.1.done ∷ []) actor
+      traces_now =
+          traces scene so.actors (home_of play.cast.desk) (view_of play.cast.desk) (view_of cast.desk) place s.old s.new s.tries.0 (vsyncs_in so.events) play.vsyncs stands.of_scene.limits refl s.here s.tries.1
+          (knows_so table scene so play stands knows) runs_now calls_now (sent_numbered cast.desk.arrivals)
+
+      takes_now : TakesTurn scene s.old.script.number (world_so so play) turn
+      takes_now = takes_actor scene s.old.script.number (world_so so play) turn (is_some table scene so play stands place s.old s.here) (sym turn_now)
+
+      pub pick_done : (at' done : ℕ) (pick : Pick) → PlaysSo scene so play (at.Order at' done) → slice_get scene.order at' ≡ Some pick → done < pick.times → pick.actor ≡ s.old.script.number
+          → PlaysSo scene later_so new_play (at.Order at' (done + 1))
+      pick_done at' done pick plays there less is =
+          plays_pick scene so.events (world_so so play) at' done pick turn plays there less (subst (λ (n : ℕ). TakesTurn scene n (world_so so play) turn) (sym is) takes_now)
+
+      pub round_done : (stepped : Bool) → PlaysSo scene so play (at.Round place stepped) → PlaysSo scene later_so new_play (at.Round (place + 1) true)
+      round_done stepped plays =
+          plays_step scene so.events (world_so so play) place stepped s.old.script turn plays (script_at table scene so play stands place s.old s.here)
+          (script_there table scene so play stands place s.old s.here) takes_now same_vsyncs
+          (λ actor. subst (λ (t : List Done). length (trace_among so.actors actor) ≤ length t) (sym (traces_now actor)) (longer (trace_among so.actors) s.old.script.number s.tries.1.done actor))
+          (subst (λ (t : List Done). length (trace_among so.actors s.old.script.number) < length t) (sym (traces_now s.old.script.number)) (longer_own (trace_among so.actors) s.old.script.number s.tries.1.done))

@@ -1,0 +1,84 @@
+-- Where a player stands, told by how far the play of its scene has come.
+use Rattle.std.specs.Prelude.{◌≡◌, ℕ, ◌-◌, ◌≤◌, ◌==◌, Bool, true, false, not, ◌||◌, if◌then◌else◌}
+use Rattle.std.specs.Prelude.{List, [], ◌∷◌, ◌++◌, drop, length, map, replicate, Option, Some, None}
+use Rattle.std.specs.List.{flat_map, list_all, list_any}
+use Rattle.atomic_table.specs.Seated.{TableId}
+use Rattle.sf_calls.specs.Histories.{IsLegal}
+use Rattle.sf_ready.specs.declared.hold.Hold.{Hold}
+use Rattle.sf_commit.specs.declared.vsync.Commit.{Commit}
+use Rattle.sf_scene.specs.Scene.{SceneValue}
+use Rattle.sf_scene.specs.declared.declarations.Pick.{Pick}
+use Rattle.sf_scene.specs.declared.step.ActorScript.{ActorScript}
+use Rattle.sf_surface.specs.Histories.{Answers}
+use Rattle.sf_actor.specs.Desks.{KnowsAll, mark_among}
+use Rattle.sf_actor.specs.Plain.{home_of, view_of}
+use Rattle.sf_record.specs.declared.event.Event.{Event}
+use Rattle.sf_run.specs.Plays.{IsBegun, IsOver, Playing, picks_of}
+use Rattle.sf_run.specs.Progress.{is_time}
+use Rattle.sf_run.specs.Runs.{actor_number, rising_actors}
+use Rattle.sf_run.specs.Vsyncs.{vsyncs_in}
+use Rattle.sf_run.specs.Worlds.{World}
+use Rattle.sf_report.specs.Reports.{has_commits}
+use Rattle.sf_play.specs.Players.{PlayOf, SoFar, Stands, arrived_at, run_so}
+use Rattle.sf_play.specs.declared.place.Place.{Place}
+use Rattle.sf_play.specs.declared.place.Place.TheVariants as at
+
+-- the picks that are left where so many turns of the first of these are done
+abbrev pub left_in : List Pick → ℕ → List ℕ
+left_in [] done = []
+left_in (pick ∷ later) done = replicate (pick.times - done) pick.actor ++ flat_map picks_of later
+
+-- those of a round in which so many actors had their turn
+abbrev pub left_of_round : SceneValue → ℕ → List ℕ
+left_of_round scene place = map actor_number (drop place (rising_actors scene)) ++ 0 ∷ []
+
+-- no actor of the scene did a step between two worlds
+abbrev pub none_stepped : SceneValue → World → World → Bool
+none_stepped scene before now = list_all (λ (script : ActorScript). length (now.run.trace script.number) == length (before.run.trace script.number)) scene.actors
+
+-- in a round: the picks that are left, that nothing was committed since it began, and whether a step was done since
+pub record IsInRound (scene : SceneValue) (playing : Playing) (place : ℕ) (stepped : Bool) : Type 0 where
+  pub before : World
+  pub round : playing.before ≡ Some before
+  pub left : playing.left ≡ left_of_round scene place
+  pub reports : playing.world.reports ≡ before.reports
+  pub grows : (actor : ℕ) → length (before.run.trace actor) ≤ length (playing.world.run.trace actor)
+  pub did : none_stepped scene before playing.world ≡ not stepped
+
+abbrev pub IsPlace : SceneValue → Playing → Place → Type 0
+IsPlace scene playing (at.Order place done) = (playing.before ≡ None) × (playing.left ≡ left_in (drop place scene.order) done)
+IsPlace scene playing (at.Round place stepped) = IsInRound scene playing place stepped
+IsPlace scene playing at.End = IsOver scene playing
+
+-- a play that has begun showed these events, and has come to this world and this place
+pub record PlaysTo (scene : SceneValue) (events : List Event) (world : World) (place : Place) : Type 0 where
+  pub playing : Playing
+  pub begun : IsBegun scene playing
+  pub shows : playing.events ≡ events
+  pub comes : playing.world ≡ world
+  pub at_place : IsPlace scene playing place
+
+-- the place behind the vsync of a round: another round follows where a step was done, something was committed, or something
+-- waits for a time
+abbrev pub behind_round : Bool → List Commit → List (ℕ × Hold) → Place
+behind_round stepped commits holds = if stepped || (has_commits commits || list_any (λ (h : ℕ × Hold). is_time h.1) holds) then at.Round 0 false else at.End
+
+module _ {B : Type 0} where
+  -- what a desk of one thread keeps: all is known, and the calls on its queues are legal
+  pub record DeskKnows (play : PlayOf B) : Type 0 where
+    pub knows : KnowsAll (view_of play.cast.desk)
+    pub legal : (queue : ℕ) → IsLegal (Answers (mark_among (home_of play.cast.desk).marks queue)) ((view_of play.cast.desk).calls queue)
+
+  -- the world that a player has come to
+  abbrev pub world_so : SoFar B → PlayOf B → World
+  world_so so play = record { run = run_so so play; arrivals = arrived_at play; reports = vsyncs_in so.events; vsyncs = play.vsyncs }
+
+  abbrev pub PlaysSo : SceneValue → SoFar B → PlayOf B → Place → Type 0
+  PlaysSo scene so play place = PlaysTo scene so.events (world_so so play) place
+
+  -- a player stands, along with the play of its scene, after a turn; what was shown is as it was, where the turn showed nothing
+  pub record PlaysOn (table : TableId) (scene : SceneValue) (so : SoFar B) (play : PlayOf B) (place : Place) (has_shown : Bool) : Type 0 where
+    pub later : SoFar B
+    pub stands : Stands table scene later play
+    pub along : PlaysSo scene later play place
+    pub same : has_shown ≡ false → later ≡ so

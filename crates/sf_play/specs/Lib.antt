@@ -1,0 +1,11 @@
+pub mod Alongs
+pub mod Ending
+pub mod Fuel
+pub mod Giving
+pub mod Happening
+pub mod Places
+pub mod Players
+pub mod Playing
+pub mod Showing
+pub mod Turning
+pub mod Vsyncing

@@ -1,0 +1,59 @@
+-- What a player is, and what its turns do.
+use Rattle.std.specs.Prelude.{◌≡◌, ◌+◌, ◌*◌, false, [], None, All}
+use Rattle.atomic_table.specs.Seated.{TableId}
+use Rattle.sf_picture.specs.declared.picture.Picture.{Picture}
+use Rattle.sf_commit.specs.OnLayers.{OnLayer}
+use Rattle.sf_commit.specs.Releases.{VsyncOf}
+use Rattle.sf_surface.specs.Tokens.{ReadLeaseOf}
+use Rattle.sf_turns.specs.Views.{SeatView}
+use Rattle.sf_txn.specs.declared.lease.Lease.{Ghosts}
+use Rattle.sf_scene.specs.Scene.{SceneValue}
+use Rattle.sf_steps.specs.Playable.{MayPlay}
+use Rattle.sf_cast.specs.Casts.{scripts_of}
+use Rattle.sf_rights.specs.Standing.{LedgerStands}
+use Rattle.sf_play.specs.Players.{PlayOf, PlayerOf, SoFar, Stands, home_in, view_in}
+use Rattle.sf_play.specs.Vsyncing.{MakesVsync}
+use Rattle.sf_report.specs.declared.report.VsyncReport.{VsyncReport}
+
+-- the picture that the pixels of a buffer on a layer show
+abbrev pub expected_by : OnLayer ReadLeaseOf → Picture
+expected_by on = on.lease.turn.expects
+
+module _ {B : Type 0} where
+  -- the ledger of the rights stands, and each actor may play
+  pub record KeepsRights (table : TableId) (scene : SceneValue) (so : SoFar B) (play : PlayOf B) : Type 0 where
+    pub ledger : LedgerStands table.slots (home_in play) (view_in play) so.actors play.handler
+    pub plays : All (MayPlay (home_in play) scene.pictures) (scripts_of play.cast.actors)
+
+  -- a play that stands, of some scene
+  pub record IsStanding (table : TableId) (play : PlayOf B) : Type 0 where
+    pub scene : SceneValue
+    pub so : SoFar B
+    pub stands : Stands table scene so play
+    pub rights : KeepsRights table scene so play
+
+  -- what a player keeps of itself
+  pub record IsPlayer (table : TableId) (player : PlayerOf B) : Type 0 where
+    pub unlent : player.play.handler.lent ≡ None
+    pub stands : player.is_spent ≡ false → IsStanding table player.play
+
+  -- the play of a scene, where nothing happened yet
+  pub record Begins (table : TableId) (scene : SceneValue) (player : PlayerOf B) : Type 0 where
+    pub so : SoFar B
+    pub nothing : so.events ≡ []
+    pub stands : Stands table scene so player.play
+    pub rights : KeepsRights table scene so player.play
+    pub held : player.held ≡ []
+    pub unspent : player.is_spent ≡ false
+
+module _ {B : Type 0} {R C : Type 0} (lease : Ghosts ReadLeaseOf SeatView R C) where
+  -- a vsync was made, and this is its report
+  pub record MakesReport (table : TableId) (old new : PlayerOf B) (report : VsyncReport) : Type 0 where
+    pub told : VsyncOf ReadLeaseOf
+    pub makes : MakesVsync lease table old.play report.seen told new.play
+    pub number : report.number ≡ old.play.vsyncs + 1
+    pub expected : report.expected ≡ (old.play.vsyncs + 1) * old.play.period
+    pub commits : report.commits ≡ told.commits
+    pub view : report.view ≡ told.view
+    pub sources : report.sources ≡ told.sources
+    pub held : new.held ≡ told.held

@@ -1,0 +1,26 @@
+-- What is shown of a vsync.
+use Rattle.std.specs.Prelude.{ℕ, List, map}
+use Rattle.sf_base.specs.declared.fences.Seen.{Seen}
+use Rattle.sf_commit.specs.declared.vsync.Commit.{Commit as Decided}
+use Rattle.sf_tree.specs.Trees.{TreeOf}
+use Rattle.sf_scene.specs.Scene.{SceneValue}
+use Rattle.sf_record.specs.declared.event.VsyncReport.{VsyncReport}
+use Rattle.sf_record.specs.declared.record.TimelineValue.{TimelineValue}
+use Rattle.sf_run.specs.Commits.{commit_shown}
+use Rattle.sf_run.specs.Progress.{frame_after}
+use Rattle.sf_run.specs.Seeing.{value_shown}
+use Rattle.sf_run.specs.Vsyncs.{rising_timelines}
+
+-- what it saw of the declared timelines, by rising number
+abbrev pub values_shown : SceneValue → Seen → List TimelineValue
+values_shown scene seen = map (value_shown seen) (rising_timelines scene)
+
+-- a vsync with these commits, which leave this tree
+abbrev pub vsync_shown : SceneValue → ℕ → ℕ → Seen → List Decided → TreeOf → VsyncReport
+vsync_shown scene number expected seen commits tree = record {
+  number = number;
+  expected = expected;
+  timelines = values_shown scene seen;
+  commits = map commit_shown commits;
+  frame = frame_after scene (map commit_shown commits) tree;
+}

@@ -1,0 +1,109 @@
+-- What a turn of a player does.
+use Rattle.std.specs.Prelude.{◌≡◌, ℕ, zero, suc, ◌+◌, ◌==◌, nat_lt, Bool, true, false, ◌||◌, if◌then◌else◌, List, [], length, Option, Some, None, slice_get}
+use Rattle.std.specs.List.{list_any, position}
+use Rattle.atomic_table.specs.Seated.{TableId}
+use Rattle.sf_ready.specs.declared.hold.Hold.{Hold}
+use Rattle.sf_surface.specs.Tokens.{ReadLeaseOf}
+use Rattle.sf_turns.specs.Views.{SeatView}
+use Rattle.sf_txn.specs.declared.lease.Lease.{Ghosts}
+use Rattle.sf_commit.specs.declared.vsync.Commit.{Commit}
+use Rattle.sf_scene.specs.declared.declarations.Pick.{Pick}
+use Rattle.sf_steps.specs.declared.actor.Actor.{Actor}
+use Rattle.sf_actor.specs.declared.tried.Stepped.{Stepped}
+use Rattle.sf_actor.specs.declared.tried.Stepped.TheVariants as stepped
+use Rattle.sf_actor.specs.Scripts.{picture_at}
+use Rattle.sf_actor.specs.Tries.{ActorOf}
+use Rattle.sf_actor.specs.Plain.{home_of, view_of}
+use Rattle.sf_cast.specs.Casts.{IsSameCast, KeepAs, StepsAt, number_of}
+use Rattle.sf_run.specs.Progress.{is_time}
+use Rattle.sf_play.specs.Places.{settled}
+use Rattle.sf_play.specs.Players.{PlayOf, PlayerOf}
+use Rattle.sf_play.specs.Playing.{MakesReport}
+use Rattle.sf_play.specs.declared.place.Place.{Place}
+use Rattle.sf_play.specs.declared.place.Place.TheVariants as at
+use Rattle.sf_report.specs.Reports.{has_commits}
+use Rattle.sf_report.specs.declared.report.VsyncReport.{VsyncReport}
+use Rattle.sf_play.specs.declared.turn.Turn.{Turn}
+use Rattle.sf_play.specs.declared.turn.Turn.TheVariants as turn
+
+-- what a turn did whose actor's try came to this
+abbrev pub turn_by : ℕ → Stepped → Turn
+turn_by place stepped.Done = turn.Step place
+turn_by place other = turn.Idle
+
+abbrev pub is_step : Turn → Bool
+is_step (turn.Step place) = true
+is_step other = false
+
+-- the other parts of a player are as they were
+abbrev pub with_place : {B : Type 0} → PlayerOf B → PlayOf B → Place → PlayerOf B
+with_place player play place = record player { play = play; place = place }
+
+module _ {B : Type 0} where
+  -- these actors keep what they keep
+  abbrev pub KeepsCast : TableId → PlayOf B → List (ActorOf B) → Type 0
+  KeepsCast table play ofs = KeepAs table (picture_at play.cast.pictures) (home_of play.cast.desk) (view_of play.cast.desk) play.cast.actors ofs
+
+  -- the next step of the actor at a place was tried
+  pub record TriesStep (table : TableId) (place : ℕ) (ofs : List (ActorOf B)) (old new : PlayOf B) (came_to : Turn) : Type 0 where
+    pub stepped : Stepped
+    pub is : came_to ≡ turn_by place stepped
+    pub steps : StepsAt table (picture_at old.cast.pictures) place old.cast.actors ofs old.cast.desk new.cast.actors new.cast.desk stepped
+    pub same : IsSameCast old.cast new.cast
+    pub acts : new.cast.is_spent ≡ false
+    pub rest : new ≡ record old { cast = new.cast }
+
+module _ {B : Type 0} {R C : Type 0} (lease : Ghosts ReadLeaseOf SeatView R C) (table : TableId) (ofs : List (ActorOf B)) where
+  -- a vsync was made
+  pub record TurnsVsync (old new : PlayerOf B) (came_to : Turn) : Type 0 where
+    pub report : VsyncReport
+    pub is : came_to ≡ turn.Vsync report
+    pub makes : MakesReport lease table old new report
+
+  abbrev pub TriesIf : Option ℕ → PlayOf B → PlayOf B → Turn → Type 0
+  TriesIf None old new came_to = (came_to ≡ turn.Idle) × (new ≡ old)
+  TriesIf (Some place) old new came_to = TriesStep table place ofs old new came_to
+
+  -- the turn of a pick: a vsync for 0, else the next step of the actor of this number
+  abbrev pub Picks : ℕ → PlayerOf B → PlayerOf B → Turn → Type 0
+  Picks zero old new came_to = TurnsVsync old new came_to
+  Picks (suc n) old new came_to =
+      TriesIf (position (λ (actor : Actor B). number_of actor == suc n) old.play.cast.actors) old.play new.play came_to × (new.held ≡ old.held)
+
+  -- a round goes on: a step was done in it, something was committed, or something is held until its time
+  abbrev pub goes_on : Bool → List Commit → List (ℕ × Hold) → Bool
+  goes_on stepped commits held = stepped || (has_commits commits || list_any (λ (h : ℕ × Hold). is_time h.1) held)
+
+  -- the vsync behind the actors of a round
+  pub record EndsRound (stepped : Bool) (old new : PlayerOf B) (came_to : Turn) : Type 0 where
+    pub vsync : TurnsVsync old new came_to
+    pub next : new.place ≡ (if goes_on stepped vsync.report.commits new.held then at.Round 0 false else at.End)
+
+  pub record GoesRound (place : ℕ) (stepped : Bool) (old new : PlayerOf B) (came_to : Turn) : Type 0 where
+    pub tries : TriesStep table place ofs old.play new.play came_to
+    pub held : new.held ≡ old.held
+    pub next : new.place ≡ at.Round (place + 1) (stepped || is_step came_to)
+
+  -- the turn of a round, in which the actors before this place were tried
+  abbrev pub RoundsIf : Bool → ℕ → Bool → PlayerOf B → PlayerOf B → Turn → Type 0
+  RoundsIf true place stepped old new came_to = GoesRound place stepped old new came_to
+  RoundsIf false place stepped old new came_to = EndsRound stepped old new came_to
+
+  abbrev pub Rounds : ℕ → Bool → PlayerOf B → PlayerOf B → Turn → Type 0
+  Rounds place stepped old new came_to = RoundsIf (nat_lt place (length old.play.cast.actors)) place stepped old new came_to
+
+  -- a turn of a pick of the order
+  pub record TakesPick (place done : ℕ) (old new : PlayerOf B) (came_to : Turn) : Type 0 where
+    pub pick : Pick
+    pub there : slice_get old.play.order place ≡ Some pick
+    pub picks : Picks pick.actor old new came_to
+    pub next : new.place ≡ at.Order place (done + 1)
+
+  abbrev pub TurnsAt : Place → PlayerOf B → PlayerOf B → Turn → Type 0
+  TurnsAt (at.Order place done) old new came_to = TakesPick place done old new came_to
+  TurnsAt (at.Round place stepped) old new came_to = Rounds place stepped old new came_to
+  TurnsAt at.End old new came_to = (came_to ≡ turn.End) × (new ≡ old)
+
+  -- the next turn of a player
+  abbrev pub Turns : PlayerOf B → PlayerOf B → Turn → Type 0
+  Turns old new came_to = TurnsAt (settled old.play.order old.place) old new came_to

@@ -1,0 +1,197 @@
+ghost use Rattle.std.specs.Prelude.{◌≡◌, ◌+◌, ◌<◌, ◌≤◌, true, [], All, IfOk, OnOk, map};
+ghost use Rattle.sf_actor.specs.Desks.{has_queue};
+ghost use Rattle.sf_actor.specs.Plain.{home_of, taken_in, view_of};
+ghost use Rattle.sf_cast.specs.Compositing.{OnlyDesk};
+ghost use Rattle.sf_cast.specs.Scripts.{are_playable, permits_of};
+ghost use Rattle.sf_commit.specs.Releases.{ReleaseOf};
+ghost use Rattle.sf_surface.specs.Tokens.{ReadLeaseOf};
+ghost use Rattle.sf_turns.specs.Counts.{range};
+ghost use Rattle.sf_play.specs.Giving.{GivesFrames};
+ghost use Rattle.sf_play.specs.Playing.{Begins, IsStanding, MakesReport, expected_by};
+
+use crate::place::Place;
+use sf_base::{Items, NoMemory};
+use sf_cast::Cast;
+use sf_commit::{Handler, Release, Vsync};
+use sf_picture::Painted;
+use sf_ready::Hold;
+use sf_report::VsyncReport;
+use sf_scene::{Pick, Scene};
+use sf_surface::ReadLease;
+use sf_turns::{Stock, TableName, TurnSeat};
+use sf_txn::Lease;
+use std::alloc::Global;
+use std::marker::Model;
+
+/// The play of a scene, one turn after another.
+pub struct Player<B: TableName> {
+    pub(crate) period: u64,
+    pub(crate) order: Items<Pick>,
+    pub(crate) cast: Cast<B>,
+    pub(crate) handler: Handler<ReadLease<B>>,
+    /// How many vsyncs there were.
+    pub(crate) vsyncs: u32,
+    pub(crate) place: Place,
+    /// What was held after the last vsync, by the numbers of arrivals.
+    pub(crate) held: Items<(u32, Hold)>,
+    /// Whether it found no memory, after which nothing is done any more.
+    pub(crate) is_spent: bool,
+}
+
+impl<B: TableName> Model for Player<B> {
+    ghost use Rattle.sf_play.specs.Playing.{IsPlayer};
+    ghost use Rattle.sf_play.specs.Players.{PlayerOf};
+
+    ghost Value = { PlayerOf B };
+
+    ghost view = { λ p. record {
+      play = record { period = p.period; order = p.order; cast = p.cast; handler = p.handler; vsyncs = p.vsyncs };
+      place = p.place;
+      held = p.held;
+      is_spent = p.is_spent;
+    } };
+
+    ghost invariant = { λ p. IsPlayer B.table (record {
+      play = record { period = p.period; order = p.order; cast = p.cast; handler = p.handler; vsyncs = p.vsyncs };
+      place = p.place;
+      held = p.held;
+      is_spent = p.is_spent;
+    }) };
+}
+
+/// Gives frames back to their queues, in order, for the vsync of this number.
+fn release_all<B: TableName>(
+    cast: &mut Cast<B>,
+    number: u32,
+    releases: Vec<Release<ReadLease<B>>>,
+) -> Result<(), NoMemory>
+    requires there { All (λ (release : ReleaseOf ReadLeaseOf). has_queue (home_of cast.old.desk) release.queue.0 ≡ true) releases.items }
+    ensures gives { OnOk result (GivesFrames (home_of cast.old.desk) number releases.items (view_of cast.old.desk) (view_of cast.new.desk)) }
+    ensures only { OnOk result (OnlyDesk B.table (taken_in cast.old.desk.arrivals) cast.old cast.new) }
+{
+    for release in releases {
+        cast.release(number, release)?;
+    }
+    Ok(())
+}
+
+impl<B: TableName> Player<B> {
+    /// The play of a scene, before its first turn. It takes the seat and the whole stock of the turns,
+    /// with a permit for each dequeue.
+    pub fn new(
+        alloc: Global,
+        scene: Scene,
+        seat: TurnSeat<Painted>,
+        stock: Stock<Painted>,
+    ) -> Result<Player<B>, NoMemory>
+        requires version { scene.version ≡ 1 }
+        requires playable { are_playable scene.actors ≡ true }
+        requires own { (seat.table ≡ B.table) × (stock.table ≡ B.table) }
+        requires first { (seat.is_first ≡ true) × (seat.out ≡ 0) }
+        requires fresh { seat.leaves ≡ [] }
+        requires whole { stock.buffers ≡ range 0 (permits_of scene.actors) }
+        requires sized { permits_of scene.actors ≤ B.table.slots }
+        ensures { IfOk result (λ player. Begins B.table scene player) }
+    {
+        let Scene {
+            width,
+            height,
+            period,
+            queues,
+            pictures,
+            actors,
+            order,
+            ..
+        } = scene;
+        let cast = Cast::new(alloc, queues.as_slice(), pictures, actors, seat, stock)?;
+        let handler = Handler::new(alloc, width, height)?;
+        Ok(Player {
+            period,
+            order,
+            cast,
+            handler,
+            vsyncs: 0,
+            place: Place::Order(0, 0),
+            held: Items::new(Vec::new(alloc)),
+            is_spent: false,
+        })
+    }
+
+    /// The actors and their desk.
+    pub fn cast(&self) -> &Cast<B>
+        ensures { result.now ≡ self.now.play.cast }
+    {
+        &self.cast
+    }
+
+    /// How many vsyncs there were.
+    pub fn vsyncs(&self) -> u32
+        ensures { result ≡ self.now.play.vsyncs }
+    {
+        self.vsyncs
+    }
+
+    /// What is held since the last vsync, by the numbers of arrivals.
+    pub fn held(&self) -> &[(u32, Hold)]
+        ensures { result.now ≡ self.now.held }
+    {
+        self.held.as_slice()
+    }
+
+    /// The pixels of the buffers on layers since the last vsync.
+    pub fn contents(&self) -> &[Painted]
+        ensures { result.now ≡ map expected_by self.now.play.handler.on }
+    {
+        self.handler.contents()
+    }
+
+    /// Ends the play.
+    pub fn finish(self) {
+        let Player {
+            period: _,
+            order: _,
+            cast: _,
+            handler,
+            vsyncs: _,
+            place: _,
+            held: _,
+            is_spent: _,
+        } = self;
+        handler.finish();
+    }
+
+    /// Does a vsync.
+    pub(crate) fn vsync(&mut self) -> Result<VsyncReport, NoMemory>
+        requires spent { self.old.is_spent ≡ true }
+        requires stands { IsStanding B.table self.old.play }
+        requires early { self.old.play.vsyncs < 4294967295 }
+        ensures makes { IfOk result (λ report. MakesReport ⟦<ReadLease<B> as Lease>⟧ B.table self.old self.new report) }
+        ensures spent { self.new.is_spent ≡ true }
+        ensures place { self.new.place ≡ self.old.place }
+    {
+        let number = self.vsyncs + 1;
+        self.vsyncs = number;
+        let expected = u64::from(number) * self.period;
+        let seen = self.cast.see();
+        let arrived = self.cast.take()?;
+        let Vsync {
+            commits,
+            view,
+            sources,
+            releases,
+            held,
+        } = self
+            .cast
+            .vsync(&mut self.handler, arrived, &seen, expected)?;
+        release_all(&mut self.cast, number, releases.into_vec())?;
+        self.held = held;
+        Ok(VsyncReport {
+            number,
+            expected,
+            seen,
+            commits,
+            view,
+            sources,
+        })
+    }
+}

@@ -1,0 +1,175 @@
+ghost use Rattle.std.specs.Prelude.{◌≡◌, ◌<◌, ◌||◌, ℕ, true, false, if◌then◌else◌, List, length, IfErr, IfOk, IsErr};
+ghost use Rattle.std.specs.List.{list_any};
+ghost use Rattle.sf_ready.specs.declared.hold.Hold.{Hold as HoldValue};
+ghost use Rattle.sf_run.specs.Progress.{is_time};
+ghost use Rattle.sf_actor.specs.Tries.{ActorOf};
+ghost use Rattle.sf_play.specs.Playing.{IsStanding};
+ghost use Rattle.sf_play.specs.Places.{settled};
+ghost use Rattle.sf_play.specs.declared.place.Place.TheVariants as at;
+ghost use Rattle.sf_report.specs.Reports.{has_commits};
+ghost use Rattle.sf_play.specs.Turning.{KeepsCast, Picks, Rounds, TriesStep, Turns, TurnsAt, is_step, turn_by};
+
+use crate::place::Place;
+use crate::player::Player;
+use sf_actor::Stepped;
+use sf_base::NoMemory;
+use sf_ready::Hold;
+use sf_report::VsyncReport;
+use sf_surface::ReadLease;
+use sf_turns::TableName;
+use sf_txn::Lease;
+
+/// What a turn of a play did.
+#[derive(Drop)]
+pub enum Turn {
+    /// The actor of this place, from 0, did a step.
+    Step(usize),
+    /// The picked actor did nothing: it has ended, or it is not time for its next step.
+    Idle,
+    Vsync(VsyncReport),
+    /// Nothing, and nothing will be done any more.
+    End,
+}
+
+impl Turn {
+    /// Whether an actor did a step.
+    fn is_step(&self) -> bool
+        ensures { result ≡ is_step self.now }
+    {
+        match self {
+            Turn::Step(_) => true,
+            _ => false,
+        }
+    }
+}
+
+/// What a turn did whose actor's try came to this.
+fn turn_by(place: usize, stepped: Stepped) -> Turn
+    ensures { result ≡ turn_by place stepped }
+{
+    match stepped {
+        Stepped::Done => Turn::Step(place),
+        _ => Turn::Idle,
+    }
+}
+
+/// Whether it is held until its time.
+fn is_time(entry: &(u32, Hold)) -> bool
+    ensures { result ≡ is_time entry.now.1 }
+{
+    match entry.1 {
+        Hold::Time(_) => true,
+        _ => false,
+    }
+}
+
+/// Whether something is held until its time.
+fn waits_for_time(held: &[(u32, Hold)]) -> bool
+    ensures { result ≡ list_any (λ (h : ℕ × HoldValue). is_time h.1) held.now }
+{
+    held.iter().any(is_time)
+}
+
+/// Where a play stands behind the vsync of a round: before the next round, where a step was done,
+/// something was committed, or something is held until its time.
+fn behind_round(stepped: bool, commits: bool, waits: bool) -> Place
+    ensures { result ≡ (if stepped || (commits || waits) then at.Round 0 false else at.End) }
+{
+    if stepped || commits || waits {
+        Place::Round(0, false)
+    } else {
+        Place::End
+    }
+}
+
+impl<B: TableName> Player<B> {
+    /// Tries the next step of the actor at a place.
+    fn step(&mut self, place: usize) -> Result<Turn, NoMemory>
+        requires spent { self.old.is_spent ≡ true }
+        requires there { place < length self.old.play.cast.actors }
+        ensures tries { (ofs : List (ActorOf B)) → KeepsCast B.table self.old.play ofs → IfOk result (TriesStep B.table place ofs self.old.play self.new.play) }
+        ensures rest { self.new ≡ record self.old { play = record self.old.play { cast = self.new.play.cast } } }
+    {
+        let stepped = self.cast.try_step(place)?;
+        Ok(turn_by(place, stepped))
+    }
+
+    /// Does the turn of a pick: a vsync for 0, else the next step of the actor of this number.
+    fn pick(&mut self, number: u32) -> Result<Turn, NoMemory>
+        requires spent { self.old.is_spent ≡ true }
+        requires stands { IsStanding B.table self.old.play }
+        requires early { self.old.play.vsyncs < 4294967295 }
+        ensures picks { (ofs : List (ActorOf B)) → KeepsCast B.table self.old.play ofs → IfOk result (Picks ⟦<ReadLease<B> as Lease>⟧ B.table ofs number self.old self.new) }
+        ensures spent { self.new.is_spent ≡ true }
+        ensures place { self.new.place ≡ self.old.place }
+    {
+        if number == 0 {
+            return Ok(Turn::Vsync(self.vsync()?));
+        }
+        match self.cast.place_of(number) {
+            Some(place) => self.step(place),
+            None => Ok(Turn::Idle),
+        }
+    }
+
+    /// Does a turn of a round, in which the actors before this place were tried.
+    fn round(&mut self, place: usize, stepped: bool) -> Result<Turn, NoMemory>
+        requires spent { self.old.is_spent ≡ true }
+        requires stands { IsStanding B.table self.old.play }
+        requires early { self.old.play.vsyncs < 4294967295 }
+        ensures rounds { (ofs : List (ActorOf B)) → KeepsCast B.table self.old.play ofs → IfOk result (Rounds ⟦<ReadLease<B> as Lease>⟧ B.table ofs place stepped self.old self.new) }
+        ensures spent { self.new.is_spent ≡ true }
+    {
+        if place < self.cast.actors().len() {
+            let turn = self.step(place)?;
+            self.place = Place::Round(place + 1, stepped || turn.is_step());
+            return Ok(turn);
+        }
+        let report = self.vsync()?;
+        let commits = report.has_commits();
+        let waits = waits_for_time(self.held.as_slice());
+        self.place = behind_round(stepped, commits, waits);
+        Ok(Turn::Vsync(report))
+    }
+
+    /// Does the next turn, from this place on.
+    fn turn_at(&mut self, place: Place) -> Result<Turn, NoMemory>
+        requires spent { self.old.is_spent ≡ true }
+        requires stands { IsStanding B.table self.old.play }
+        requires early { self.old.play.vsyncs < 4294967295 }
+        requires settled { place ≡ settled self.old.play.order self.old.place }
+        ensures turns { (ofs : List (ActorOf B)) → KeepsCast B.table self.old.play ofs → IfOk result (TurnsAt ⟦<ReadLease<B> as Lease>⟧ B.table ofs place self.old self.new) }
+        ensures spent { self.new.is_spent ≡ true }
+    {
+        match place {
+            Place::Order(place, done) => {
+                self.place = Place::Order(place, done + 1);
+                let number = self.order.as_slice()[place].actor;
+                self.pick(number)
+            }
+            Place::Round(place, stepped) => self.round(place, stepped),
+            Place::End => Ok(Turn::End),
+        }
+    }
+
+    /// Does the next turn of the play. A player that found no memory does nothing any more.
+    pub fn next(&mut self) -> Result<Turn, NoMemory>
+        requires early { self.old.is_spent ≡ false → self.old.play.vsyncs < 4294967295 }
+        ensures turns { (ofs : List (ActorOf B)) → KeepsCast B.table self.old.play ofs → IfOk result (Turns ⟦<ReadLease<B> as Lease>⟧ B.table ofs self.old self.new) }
+        ensures no_memory { IfErr result (λ _. self.new.is_spent ≡ true) }
+        ensures ok { IfOk result (λ _. self.new.is_spent ≡ false) }
+        ensures spent { self.old.is_spent ≡ true → IsErr result }
+    {
+        if self.is_spent {
+            return Err(NoMemory);
+        }
+        self.is_spent = true;
+        self.cast.exact();
+        self.cast.legal();
+        self.cast.owns();
+        let place = self.place.settled(self.order.as_slice());
+        let turn = self.turn_at(place)?;
+        self.is_spent = false;
+        Ok(turn)
+    }
+}
