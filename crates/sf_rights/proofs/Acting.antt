@@ -13,15 +13,14 @@ use Rattle.sf_surface.specs.Tokens.{ReadLeaseOf}
 use Rattle.sf_token.specs.Pending.{Arrival}
 use Rattle.sf_actor.specs.Desks.{DeskHome}
 use Rattle.sf_actor.specs.Parts.{PartsOf}
-use Rattle.sf_actor.specs.Rights.{Turn}
 use Rattle.sf_actor.specs.Tries.{ActorOf}
 use Rattle.sf_actor.specs.Written as written
 use Rattle.sf_steps.specs.declared.hands.Hands.{Hands}
 use Rattle.sf_steps.specs.declared.tried.Tried.{Tried}
 use Rattle.sf_steps.specs.Actors.{parts_of}
-use Rattle.sf_rights.specs.Ledgers.{Write}
+use Rattle.sf_rights.specs.Makers.{RightAt, WriteAt, places_arrived, places_held, places_of, places_out, places_owed, right_read}
 use Rattle.sf_rights.specs.Moves.{AreIn, Gets}
-use Rattle.sf_rights.specs.States.{State, all_owed, all_written, lease_turn, owed_of, rights_arrived, rights_held, rights_of}
+use Rattle.sf_rights.specs.States.{State, all_written}
 use Rattle.sf_rights.specs.Tries.{TriesIn}
 use Rattle.sf_rights.proofs.Marking.{in_all}
 use Rattle.sf_rights.proofs.Owing.{gets_set, got_there, loses_set}
@@ -35,29 +34,29 @@ module _ {B : Type 0} (pictures : ℕ → Picture) (home : DeskHome) (place : �
   was_here = get_or_from_slice_get old.actors place tries.was tries.was tries.here
 
   -- what is counted of the rights of all actors
-  actors_sum : (w : Turn → ℕ) → sum_by w (flat_map (λ (a : ActorOf B). rights_of a.parts) new.actors) + sum_by w (rights_of (parts_of before)) ≡ sum_by w (flat_map (λ (a : ActorOf B). rights_of a.parts) old.actors) + sum_by w (rights_of (parts_of after))
+  actors_sum : (w : RightAt → ℕ) → sum_by w (flat_map (λ (a : ActorOf B). places_held a.parts) new.actors) + sum_by w (places_held (parts_of before)) ≡ sum_by w (flat_map (λ (a : ActorOf B). places_held a.parts) old.actors) + sum_by w (places_held (parts_of after))
   actors_sum w =
-      let f = λ (a : ActorOf B). sum_by w (rights_of a.parts) in
-      let a = sum-flat_map w (λ (x : ActorOf B). rights_of x.parts) new.actors in
-      let b = sum-flat_map w (λ (x : ActorOf B). rights_of x.parts) old.actors in
+      let f = λ (a : ActorOf B). sum_by w (places_held a.parts) in
+      let a = sum-flat_map w (λ (x : ActorOf B). places_held x.parts) new.actors in
+      let b = sum-flat_map w (λ (x : ActorOf B). places_held x.parts) old.actors in
       let c = sum_by-set f old.actors place tries.is tries.was low in
       let d = ap (sum_by f) tries.actors in
       let e = ap f was_here in
-      let p = ap (λ (parts : PartsOf B). sum_by w (rights_of parts)) tries.parts_was in
-      let q = ap (λ (parts : PartsOf B). sum_by w (rights_of parts)) tries.parts_is in
+      let p = ap (λ (parts : PartsOf B). sum_by w (places_held parts)) tries.parts_was in
+      let q = ap (λ (parts : PartsOf B). sum_by w (places_held parts)) tries.parts_is in
       omega (arith, a, b, c, d, e, p, q)
 
   -- and of all that are held
-  pub held_sum : (w : Turn → ℕ) → sum_by w (rights_held new) + sum_by w (rights_of (parts_of before)) ≡ (sum_by w (rights_held old) + sum_by w (rights_of (parts_of after))) + sum_by w (flat_map rights_arrived tries.sends)
+  pub held_sum : (w : RightAt → ℕ) → sum_by w (places_out new) + sum_by w (places_held (parts_of before)) ≡ (sum_by w (places_out old) + sum_by w (places_held (parts_of after))) + sum_by w (flat_map places_arrived tries.sends)
   held_sum w =
       let actors = actors_sum w in
-      let waits = ap (λ (xs : List (Arrival ReadLeaseOf)). sum_by w (flat_map rights_arrived xs)) tries.waiting ∙ ap (sum_by w) (flat_map-append rights_arrived old.waiting tries.sends) in
-      let joined = sum_by-append w (flat_map rights_arrived old.waiting) (flat_map rights_arrived tries.sends) in
-      let on = ap (λ (xs : List ReadLeaseOf). sum_by w (map lease_turn xs)) tries.on in
-      let a = sum_by-append w (flat_map (λ (x : ActorOf B). rights_of x.parts) new.actors ++ flat_map rights_arrived new.waiting) (map lease_turn new.on) in
-      let b = sum_by-append w (flat_map (λ (x : ActorOf B). rights_of x.parts) new.actors) (flat_map rights_arrived new.waiting) in
-      let c = sum_by-append w (flat_map (λ (x : ActorOf B). rights_of x.parts) old.actors ++ flat_map rights_arrived old.waiting) (map lease_turn old.on) in
-      let d = sum_by-append w (flat_map (λ (x : ActorOf B). rights_of x.parts) old.actors) (flat_map rights_arrived old.waiting) in
+      let waits = ap (λ (xs : List (Arrival ReadLeaseOf)). sum_by w (flat_map places_arrived xs)) tries.waiting ∙ ap (sum_by w) (flat_map-append places_arrived old.waiting tries.sends) in
+      let joined = sum_by-append w (flat_map places_arrived old.waiting) (flat_map places_arrived tries.sends) in
+      let on = ap (λ (xs : List ReadLeaseOf). sum_by w (map right_read xs)) tries.on in
+      let a = sum_by-append w (flat_map (λ (x : ActorOf B). places_held x.parts) new.actors ++ flat_map places_arrived new.waiting) (map right_read new.on) in
+      let b = sum_by-append w (flat_map (λ (x : ActorOf B). places_held x.parts) new.actors) (flat_map places_arrived new.waiting) in
+      let c = sum_by-append w (flat_map (λ (x : ActorOf B). places_held x.parts) old.actors ++ flat_map places_arrived old.waiting) (map right_read old.on) in
+      let d = sum_by-append w (flat_map (λ (x : ActorOf B). places_held x.parts) old.actors) (flat_map places_arrived old.waiting) in
       omega (arith, actors, waits, joined, on, a, b, c, d)
 
   -- nothing is sent where nothing arrived
@@ -71,37 +70,37 @@ module _ {B : Type 0} (pictures : ℕ → Picture) (home : DeskHome) (place : �
   actors_get {A} f more gets = subst (λ (xs : List (ActorOf B)). Gets (flat_map f old.actors) more (flat_map f xs)) (sym tries.actors)
       (gets_set f more old.actors place tries.was tries.is low (subst (λ (a : ActorOf B). Gets (f a) more (f tries.is)) (sym was_here) gets))
 
-  pub owed_get : (more : List Write) → Gets (owed_of (parts_of before)) more (owed_of (parts_of after)) → Gets (all_owed old) more (all_owed new)
-  owed_get more gets = actors_get (λ (a : ActorOf B). owed_of a.parts) more
-      (subst (λ (parts : PartsOf B). Gets (owed_of parts) more (owed_of tries.is.parts)) (sym tries.parts_was) (subst (λ (parts : PartsOf B). Gets (owed_of (parts_of before)) more (owed_of parts)) (sym tries.parts_is) gets))
+  pub owed_get : (more : List WriteAt) → Gets (places_owed (parts_of before)) more (places_owed (parts_of after)) → Gets (places_of old).owed more (places_of new).owed
+  owed_get more gets = actors_get (λ (a : ActorOf B). places_owed a.parts) more
+      (subst (λ (parts : PartsOf B). Gets (places_owed parts) more (places_owed tries.is.parts)) (sym tries.parts_was) (subst (λ (parts : PartsOf B). Gets (places_owed (parts_of before)) more (places_owed parts)) (sym tries.parts_is) gets))
 
-  pub owed_lose : (less : List Write) → AreIn (owed_of (parts_of after)) (owed_of (parts_of before)) → AreIn (owed_of (parts_of before)) (less ++ owed_of (parts_of after)) → AreIn (all_owed new) (all_owed old) × AreIn (all_owed old) (less ++ all_owed new)
-  owed_lose less fewer lost = subst (λ (xs : List (ActorOf B)). AreIn (flat_map f xs) (all_owed old) × AreIn (all_owed old) (less ++ flat_map f xs)) (sym tries.actors)
+  pub owed_lose : (less : List WriteAt) → AreIn (places_owed (parts_of after)) (places_owed (parts_of before)) → AreIn (places_owed (parts_of before)) (less ++ places_owed (parts_of after)) → AreIn (places_of new).owed (places_of old).owed × AreIn (places_of old).owed (less ++ (places_of new).owed)
+  owed_lose less fewer lost = subst (λ (xs : List (ActorOf B)). AreIn (flat_map f xs) (places_of old).owed × AreIn (places_of old).owed (less ++ flat_map f xs)) (sym tries.actors)
       (loses_set f less old.actors place tries.was tries.is low
-      (subst (λ (xs : List Write). AreIn (f tries.is) xs) (sym was_owes) (subst (λ (xs : List Write). AreIn xs (owed_of (parts_of before))) (sym is_owes) fewer))
-      (subst (λ (xs : List Write). AreIn xs (less ++ f tries.is)) (sym was_owes) (subst (λ (xs : List Write). AreIn (owed_of (parts_of before)) (less ++ xs)) (sym is_owes) lost)))
+      (subst (λ (xs : List WriteAt). AreIn (f tries.is) xs) (sym was_owes) (subst (λ (xs : List WriteAt). AreIn xs (places_owed (parts_of before))) (sym is_owes) fewer))
+      (subst (λ (xs : List WriteAt). AreIn xs (less ++ f tries.is)) (sym was_owes) (subst (λ (xs : List WriteAt). AreIn (places_owed (parts_of before)) (less ++ xs)) (sym is_owes) lost)))
     where
-      f : ActorOf B → List Write
-      f a = owed_of a.parts
+      f : ActorOf B → List WriteAt
+      f a = places_owed a.parts
 
-      was_owes : f (get_or old.actors place tries.was) ≡ owed_of (parts_of before)
-      was_owes = ap (λ (a : ActorOf B). owed_of a.parts) was_here ∙ ap owed_of tries.parts_was
+      was_owes : f (get_or old.actors place tries.was) ≡ places_owed (parts_of before)
+      was_owes = ap (λ (a : ActorOf B). places_owed a.parts) was_here ∙ ap places_owed tries.parts_was
 
-      is_owes : f tries.is ≡ owed_of (parts_of after)
-      is_owes = ap owed_of tries.parts_is
+      is_owes : f tries.is ≡ places_owed (parts_of after)
+      is_owes = ap places_owed tries.parts_is
 
   pub written_get : (more : List written.FrameNumber) → Gets (written.written_in tries.was.trace) more (written.written_in tries.is.trace) → Gets (all_written old) more (all_written new)
   written_get more gets = actors_get (λ (a : ActorOf B). written.written_in a.trace) more gets
 
   -- what the actor held is held
-  pub held_there : (turn : Turn) → Contains (rights_of (parts_of before)) turn → Contains (rights_held old) turn
-  held_there turn there = Contains-append_left (flat_map (λ (a : ActorOf B). rights_of a.parts) old.actors ++ flat_map rights_arrived old.waiting) (map lease_turn old.on) turn
-      (Contains-append_left (flat_map (λ (a : ActorOf B). rights_of a.parts) old.actors) (flat_map rights_arrived old.waiting) turn
-      (in_all (λ (a : ActorOf B). rights_of a.parts) old.actors tries.was turn
+  pub held_there : (turn : RightAt) → Contains (places_held (parts_of before)) turn → Contains (places_out old) turn
+  held_there turn there = Contains-append_left (flat_map (λ (a : ActorOf B). places_held a.parts) old.actors ++ flat_map places_arrived old.waiting) (map right_read old.on) turn
+      (Contains-append_left (flat_map (λ (a : ActorOf B). places_held a.parts) old.actors) (flat_map places_arrived old.waiting) turn
+      (in_all (λ (a : ActorOf B). places_held a.parts) old.actors tries.was turn
       (subst (Contains old.actors) was_here (got_there old.actors place tries.was low))
-      (subst (λ (parts : PartsOf B). Contains (rights_of parts) turn) (sym tries.parts_was) there)))
+      (subst (λ (parts : PartsOf B). Contains (places_held parts) turn) (sym tries.parts_was) there)))
 
-  pub owed_there : (write : Write) → Contains (owed_of (parts_of before)) write → Contains (all_owed old) write
-  owed_there write there = in_all (λ (a : ActorOf B). owed_of a.parts) old.actors tries.was write
+  pub owed_there : (write : WriteAt) → Contains (places_owed (parts_of before)) write → Contains (places_of old).owed write
+  owed_there write there = in_all (λ (a : ActorOf B). places_owed a.parts) old.actors tries.was write
       (subst (Contains old.actors) was_here (got_there old.actors place tries.was low))
-      (subst (λ (parts : PartsOf B). Contains (owed_of parts) write) (sym tries.parts_was) there)
+      (subst (λ (parts : PartsOf B). Contains (places_owed parts) write) (sym tries.parts_was) there)

@@ -29,15 +29,19 @@ use Rattle.sf_steps.specs.Calling.{with_held}
 use Rattle.sf_steps.specs.Drawing.{Draws, DrawsHolding, WaitsToDraw, filled}
 use Rattle.sf_steps.specs.Hands.{holdings_of}
 use Rattle.sf_steps.proofs.HoldingLemmas.{name_in-held}
+use Rattle.sf_run.proofs.Members.{has_map}
 use Rattle.sf_rights.specs.Ledgers.{IsLedger, Write}
+use Rattle.sf_rights.specs.Makers.{RightAt, WriteAt, place_of, place_owed, places_arrived, places_held, places_of, places_out, places_owed}
 use Rattle.sf_rights.specs.Moves.{AreIn, Gets, HasAtMost}
-use Rattle.sf_rights.specs.States.{State, all_owed, ledger_of, owed_of, right_of, rights_arrived, rights_held, rights_of, write_owed}
+use Rattle.sf_rights.specs.States.{State, ledger_of}
 use Rattle.sf_rights.specs.Tries.{AnswersAs, TriesIn, WritesTry}
 use Rattle.sf_rights.proofs.Acting.{held_sum, none_sent, owed_lose, owed_there, written_get}
 use Rattle.sf_rights.proofs.Counting.{first, none_in}
 use Rattle.sf_rights.proofs.Handling.{set_most, set_none, weight_is}
+use Rattle.sf_rights.proofs.MakersTurns.{write_at}
 use Rattle.sf_rights.proofs.Marking.{in_all}
 use Rattle.sf_rights.proofs.Owing.{gets_push, gets_same, gets_set, loses_set, hands_owe, got_there}
+use Rattle.sf_rights.proofs.Placing.{Went, owed_in, owed_writes, rest_turns, rests_went}
 use Rattle.sf_rights.proofs.Quiet.{hands_only, rests_keeps, same_hands}
 use Rattle.sf_rights.proofs.Resting.{pay_keeps}
 use Rattle.sf_rights.proofs.Trying.{hands_weight}
@@ -101,7 +105,7 @@ module _ {B : Type 0} (pictures : ℕ → Picture) (home : DeskHome) (place name
 
     -- a picture is drawn in a lease
     draws_lease : (lease : WriteLeaseOf) (picture : Picture) → came_to ≡ tried.Own 0 → new.view.calls ≡ old.view.calls → new.view.arrivals ≡ old.view.arrivals → new.view.turns.leaves ≡ old.view.turns.leaves
-        → get_or before.names name None ≡ Some (holding.Lends lease) → after ≡ with_held (with_held before name None) name (Some (holding.Lends (drawn_with lease picture))) → IsLedger (ledger_of old) → IsLedger (ledger_of new)
+        → get_or before.names name None ≡ Some (holding.Lends lease) → after ≡ with_held (with_held before name None) name (Some (holding.Lends (drawn_with lease picture))) → IsLedger (ledger_of old) → Went (step.Draw name p) before (length tries.was.trace + 1) old new
     draws_lease lease picture came calls arrivals leaves there same is = rests_keeps pictures home place (step.Draw name p) came_to before after old new tries (record {
       calls = calls;
       leaves = leaves;
@@ -113,71 +117,74 @@ module _ {B : Type 0} (pictures : ℕ → Picture) (home : DeskHome) (place name
         drawn : Hands B
         drawn = with_held (with_held before name None) name (Some (holding.Lends (drawn_with lease picture)))
 
-        less : (w : Turn → ℕ) → sum_by w (rights_of (parts_of after)) ≤ sum_by w (rights_of (parts_of before))
+        less : (w : RightAt → ℕ) → sum_by w (places_held (parts_of after)) ≤ sum_by w (places_held (parts_of before))
         less w =
-            let none = set_none (λ (held : Option (Holding B)). sum_by w (right_of held)) before.names name (holding.Lends lease) there in
-            let most = set_most (λ (held : Option (Holding B)). sum_by w (right_of held)) (set before.names name None) name (Some (holding.Lends (drawn_with lease picture))) in
+            let none = set_none (λ (held : Option (Holding B)). sum_by w (place_of held)) before.names name (holding.Lends lease) there in
+            let most = set_most (λ (held : Option (Holding B)). sum_by w (place_of held)) (set before.names name None) name (Some (holding.Lends (drawn_with lease picture))) in
             let a = weight_is w before in
             let b = weight_is w drawn in
             let c = hands_weight w before in
             let d = hands_weight w drawn in
-            let e = ap (λ (hands : Hands B). sum_by w (rights_of (parts_of hands))) same in
+            let e = ap (λ (hands : Hands B). sum_by w (places_held (parts_of hands))) same in
             omega (arith, none, most, a, b, c, d, e)
 
         owes : Gets (hands_owe before) [] (hands_owe drawn)
-        owes = subst (λ (names : List (Option (Holding B))). Gets (hands_owe before) [] (flat_map write_owed names)) (sym (put_other before.names name (Some (holding.Lends (drawn_with lease picture)))))
-            (gets_set write_owed [] before.names name None (Some (holding.Lends (drawn_with lease picture))) (within before.names name (holding.Lends lease) there)
-            (subst (λ (xs : List Write). Gets xs [] []) (sym (ap write_owed there)) (gets_same [])))
+        owes = subst (λ (names : List (Option (Holding B))). Gets (hands_owe before) [] (flat_map place_owed names)) (sym (put_other before.names name (Some (holding.Lends (drawn_with lease picture)))))
+            (gets_set place_owed [] before.names name None (Some (holding.Lends (drawn_with lease picture))) (within before.names name (holding.Lends lease) there)
+            (subst (λ (xs : List WriteAt). Gets xs [] []) (sym (ap place_owed there)) (gets_same [])))
 
     -- what was owed is drawn
     draws_owed : (owing : OwingOf) (held : Held) → came_to ≡ tried.Own 0 → new.view.calls ≡ old.view.calls → new.view.arrivals ≡ old.view.arrivals → Gets old.view.turns.leaves (issued_turn owing.turn ∷ []) new.view.turns.leaves
-        → get_or before.names name None ≡ Some (holding.Owes owing held) → after ≡ with_held before name None → IsLedger (ledger_of old) → IsLedger (ledger_of new)
-    draws_owed owing held came calls arrivals left there same is = pay_keeps old new write (record {
-      marks = tries.marks_new ∙ sym tries.marks_old;
+        → get_or before.names name None ≡ Some (holding.Owes owing held) → after ≡ with_held before name None → IsLedger (ledger_of old) → Went (step.Draw name p) before (length tries.was.trace + 1) old new
+    draws_owed owing held came calls arrivals left there same is = rests_went (step.Draw name p) before (length tries.was.trace + 1) old new marks calls keeps lose.0 (pay_keeps old new write.write (record {
+      marks = marks;
       calls = calls;
-      held = keeps;
-      was_owed = owed_there pictures home place (step.Draw name p) came_to before after old new tries write was_owed;
-      owed = lose.0;
-      unpaid = lose.1;
+      held = rest_turns old new keeps;
+      was_owed = subst (λ (xs : List Write). Contains xs write.write) (owed_writes old) (has_map write_at (places_of old).owed write (owed_there pictures home place (step.Draw name p) came_to before after old new tries write was_owed));
+      owed = owed_in old new [] lose.0;
+      unpaid = owed_in new old (write ∷ []) lose.1;
       left = left;
-      written = written_get pictures home place (step.Draw name p) came_to before after old new tries (write.frame ∷ [])
-          (subst (λ (xs : List written.FrameNumber). Gets (written.written_in tries.was.trace) (write.frame ∷ []) xs) (sym writes) (gets_push (written.written_in tries.was.trace) write.frame));
-    }) is
+      written = written_get pictures home place (step.Draw name p) came_to before after old new tries (write.write.frame ∷ [])
+          (subst (λ (xs : List written.FrameNumber). Gets (written.written_in tries.was.trace) (write.write.frame ∷ []) xs) (sym writes) (gets_push (written.written_in tries.was.trace) write.write.frame));
+    }) is)
       where
-        write : Write
-        write = record { turn = issued_turn owing.turn; frame = (owing.queue, owing.frame) }
+        marks : new.marks ≡ old.marks
+        marks = tries.marks_new ∙ sym tries.marks_old
+
+        write : WriteAt
+        write = record { write = record { turn = issued_turn owing.turn; frame = (owing.queue, owing.frame) }; number = held.number }
 
         low : name < length before.names
         low = within before.names name (holding.Owes owing held) there
 
-        was_owed : Contains (owed_of (parts_of before)) write
-        was_owed = in_all write_owed before.names (get_or before.names name None) write (got_there before.names name None low) (subst (λ (xs : List Write). Contains xs write) (sym (ap write_owed there)) (first write []))
+        was_owed : Contains (places_owed (parts_of before)) write
+        was_owed = in_all place_owed before.names (get_or before.names name None) write (got_there before.names name None low) (subst (λ (xs : List WriteAt). Contains xs write) (sym (ap place_owed there)) (first write []))
 
-        loses : AreIn (flat_map write_owed (set before.names name None)) (flat_map write_owed before.names) × AreIn (flat_map write_owed before.names) ((write ∷ []) ++ flat_map write_owed (set before.names name None))
-        loses = loses_set write_owed (write ∷ []) before.names name None None low (λ x none. absurd (none_in x none))
-            (subst (λ (xs : List Write). AreIn xs ((write ∷ []) ++ [])) (sym (ap write_owed there)) (λ x there. there))
+        loses : AreIn (flat_map place_owed (set before.names name None)) (flat_map place_owed before.names) × AreIn (flat_map place_owed before.names) ((write ∷ []) ++ flat_map place_owed (set before.names name None))
+        loses = loses_set place_owed (write ∷ []) before.names name None None low (λ x none. absurd (none_in x none))
+            (subst (λ (xs : List WriteAt). AreIn xs ((write ∷ []) ++ [])) (sym (ap place_owed there)) (λ x there. there))
 
-        lose : AreIn (all_owed new) (all_owed old) × AreIn (all_owed old) ((write ∷ []) ++ all_owed new)
+        lose : AreIn (places_of new).owed (places_of old).owed × AreIn (places_of old).owed ((write ∷ []) ++ (places_of new).owed)
         lose = owed_lose pictures home place (step.Draw name p) came_to before after old new tries (write ∷ [])
-            (subst (λ (hands : Hands B). AreIn (owed_of (parts_of hands)) (owed_of (parts_of before))) (sym same) loses.0)
-            (subst (λ (hands : Hands B). AreIn (owed_of (parts_of before)) ((write ∷ []) ++ owed_of (parts_of hands))) (sym same) loses.1)
+            (subst (λ (hands : Hands B). AreIn (places_owed (parts_of hands)) (places_owed (parts_of before))) (sym same) loses.0)
+            (subst (λ (hands : Hands B). AreIn (places_owed (parts_of before)) ((write ∷ []) ++ places_owed (parts_of hands))) (sym same) loses.1)
 
-        keeps : HasAtMost (rights_held old) [] [] (rights_held new)
+        keeps : HasAtMost (places_out old) [] [] (places_out new)
         keeps w =
             let all = held_sum pictures home place (step.Draw name p) came_to before after old new tries w in
-            let nothing = ap (λ xs. sum_by w (flat_map rights_arrived xs)) (none_sent pictures home place (step.Draw name p) came_to before after old new tries arrivals) in
-            let none = set_none (λ (held : Option (Holding B)). sum_by w (right_of held)) before.names name (holding.Owes owing held) there in
+            let nothing = ap (λ xs. sum_by w (flat_map places_arrived xs)) (none_sent pictures home place (step.Draw name p) came_to before after old new tries arrivals) in
+            let none = set_none (λ (held : Option (Holding B)). sum_by w (place_of held)) before.names name (holding.Owes owing held) there in
             let a = weight_is w before in
             let b = weight_is w (with_held before name None) in
             let c = hands_weight w before in
             let d = hands_weight w (with_held before name None) in
-            let e = ap (λ (hands : Hands B). sum_by w (rights_of (parts_of hands))) same in
+            let e = ap (λ (hands : Hands B). sum_by w (places_held (parts_of hands))) same in
             omega (arith, all, nothing, none, a, b, c, d, e)
 
         told : (answer : Answered) × (written.written_in tries.is.trace ≡ written.written_in tries.was.trace ++ written.written_by (holdings_of before) (step.Draw name p) answer) × (answer ≡ answered.Own 0)
         told = own_told 0 came
 
-        writes : written.written_in tries.is.trace ≡ written.written_in tries.was.trace ++ write.frame ∷ []
+        writes : written.written_in tries.is.trace ≡ written.written_in tries.was.trace ++ write.write.frame ∷ []
         writes = told.1
             ∙ ap (λ (xs : List written.FrameNumber). written.written_in tries.was.trace ++ xs)
             (ap (written.written_by (holdings_of before) (step.Draw name p)) told.2 ∙ draw_writes before name p (holding.Owes owing held) there)
@@ -185,7 +192,7 @@ module _ {B : Type 0} (pictures : ℕ → Picture) (home : DeskHome) (place name
   -- a draw, by what came of it
   draws_done : (came_to : Tried) (before after : Hands B) (old new : State B) (tries : TriesIn pictures home place (step.Draw name p) came_to before after old new) (seen : Seen) (looked : DeskView B) (held : Holding B) (left : Option (Holding B)) (picture : Picture)
       → came_to ≡ tried.Own 0 → looked.calls ≡ old.view.calls → looked.arrivals ≡ old.view.arrivals → looked.turns.leaves ≡ old.view.turns.leaves → new.view ≡ record looked { turns = new.view.turns }
-      → get_or before.names name None ≡ Some held → DrawsHolding picture seen held left looked.turns new.view.turns → after ≡ filled (with_held before name None) name left → IsLedger (ledger_of old) → IsLedger (ledger_of new)
+      → get_or before.names name None ≡ Some held → DrawsHolding picture seen held left looked.turns new.view.turns → after ≡ filled (with_held before name None) name left → IsLedger (ledger_of old) → Went (step.Draw name p) before (length tries.was.trace + 1) old new
   draws_done came_to before after old new tries seen looked (holding.Lends lease) left picture came calls arrivals leaves turns there draws same is =
       draws_lease came_to before after old new tries lease picture came (ap (λ (view : DeskView B). view.calls) turns ∙ calls) (ap (λ (view : DeskView B). view.arrivals) turns ∙ arrivals)
       (enters_left lease.work lease.fence seen looked.turns new.view.turns draws.1.2 ∙ leaves) there
@@ -198,7 +205,7 @@ module _ {B : Type 0} (pictures : ℕ → Picture) (home : DeskHome) (place name
   draws_done came_to before after old new tries seen looked (holding.Frees queue loose) left picture came calls arrivals leaves turns there draws same is = absurd draws
 
   pub draws_keep : (came_to : Tried) (before after : Hands B) (old new : State B) (tries : TriesIn pictures home place (step.Draw name p) came_to before after old new)
-      → Draws home name (pictures p) before after old.view new.view came_to → IsLedger (ledger_of old) → IsLedger (ledger_of new)
+      → Draws home name (pictures p) before after old.view new.view came_to → IsLedger (ledger_of old) → Went (step.Draw name p) before (length tries.was.trace + 1) old new
   draws_keep (tried.Called status values) before after old new tries draws is = absurd draws.tries
   draws_keep (tried.Sent number) before after old new tries draws is = absurd draws.tries
   draws_keep (tried.Own status) before after old new tries draws is =

@@ -39,7 +39,7 @@ module _ {B : Type 0} where
   abbrev pub frames_in : QueueMark → List (Made B) → ℕ
   frames_in mark calls = frames_queued (events (told mark calls))
 
-  frames_more : (mark : QueueMark) (made : Made B) (earlier : List (Made B)) → frames_in mark earlier ≤ frames_in mark (made ∷ earlier)
+  pub frames_more : (mark : QueueMark) (made : Made B) (earlier : List (Made B)) → frames_in mark earlier ≤ frames_in mark (made ∷ earlier)
   frames_more mark made earlier = subst (λ (new : List Event). frames_in mark earlier ≤ frames_queued new) (sym (events_more mark made earlier))
       (frames_grow (events_of (events (told mark earlier)) (told mark earlier) (told_call mark.queue made.call.1) (told_reply mark earlier made.by made.call.1)) (events (told mark earlier)))
 
@@ -53,7 +53,7 @@ module _ {B : Type 0} where
   frame_is_next mark earlier by asked answered write is there = absurd (none_in write there)
 
   -- and then so many were queued at least
-  frame_counts : (mark : QueueMark) (earlier : List (Made B)) (by : ℕ) (asked : QCall B) (answered : PlainReply) (write : Write) → Contains (write_of mark.queue asked answered) write
+  pub frame_counts : (mark : QueueMark) (earlier : List (Made B)) (by : ℕ) (asked : QCall B) (answered : PlainReply) (write : Write) → Contains (write_of mark.queue asked answered) write
       → frames_in mark earlier + 1 ≤ frames_queued (happening (events_of (events (told mark earlier)) (told mark earlier) (told_call mark.queue asked) answered) (events (told mark earlier)))
   frame_counts mark earlier by (call.Queue lease picture time crop fence) (plain.Queued frame) write there =
       hand_counts _ (back_if (replaced_slot (items_after (events (told mark earlier))))) (events (told mark earlier))

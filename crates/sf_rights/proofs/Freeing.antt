@@ -26,9 +26,8 @@ use Rattle.sf_steps.specs.declared.hands.Hands.{Hands}
 use Rattle.sf_steps.specs.Forming.{FormsCall, Takes}
 use Rattle.sf_steps.specs.Hands.{holdings_of}
 use Rattle.sf_steps.proofs.HoldingLemmas.{name_in-held}
-use Rattle.sf_rights.specs.Ledgers.{Write}
+use Rattle.sf_rights.specs.Makers.{WriteAt, place_owed}
 use Rattle.sf_rights.specs.Moves.{Gets}
-use Rattle.sf_rights.specs.States.{write_owed}
 use Rattle.sf_rights.proofs.Owing.{AreFree, IsFreeAt, gets_same, gets_set, hands_owe}
 
 -- no test is met
@@ -56,7 +55,7 @@ module _ {B : Type 0} where
   taken_free : (before taken : Hands B) (name : ℕ) (held : Holding B) (filled : ℕ) → Takes before taken name held → length before.names ≡ 32 → name < 32 → filled < 32
       → (not (filled == name) && is_some (name_in (holdings_of before) filled)) ≡ false → IsFreeAt taken filled
   taken_free before taken name held filled takes wide low lower test = record {
-    free = subst (λ (hands : Hands B). write_owed (get_or hands.names filled None) ≡ []) (sym takes.rest) (by_name (cases_Bool (filled == name)));
+    free = subst (λ (hands : Hands B). place_owed (get_or hands.names filled None) ≡ []) (sym takes.rest) (by_name (cases_Bool (filled == name)));
     low = subst (λ (hands : Hands B). filled < length hands.names) (sym takes.rest) within;
   }
     where
@@ -69,14 +68,14 @@ module _ {B : Type 0} where
       apart : (filled == name) ≡ false → filled ≢ name
       apart unmet e = false≢true (sym unmet ∙ eq-eqb filled name e)
 
-      by_name : ((filled == name) ≡ true) ⊎ ((filled == name) ≡ false) → write_owed (get_or (set before.names name None) filled None) ≡ []
+      by_name : ((filled == name) ≡ true) ⊎ ((filled == name) ≡ false) → place_owed (get_or (set before.names name None) filled None) ≡ []
       by_name (inl met) =
           let same = eqb-true filled name met in
           let none : get_or (set before.names name None) filled None ≡ None = subst (λ (n : ℕ). get_or (set before.names name None) n None ≡ None) (sym same) (get_or-set_same before.names name None None inside) in
-          ap write_owed none
+          ap place_owed none
       by_name (inr unmet) =
           let empty : is_some (name_in (holdings_of before) filled) ≡ false = rw unmet at test in
-          ap write_owed (get_or-set_other before.names name filled None None (apart unmet) ∙ name_empty before filled empty)
+          ap place_owed (get_or-set_other before.names name filled None None (apart unmet) ∙ name_empty before filled empty)
 
   itself_free : (before taken : Hands B) (name : ℕ) (held : Holding B) → Takes before taken name held → length before.names ≡ 32 → name < 32 → IsFreeAt taken name
   itself_free before taken name held takes wide low = taken_free before taken name held name takes wide low low (rw (eq-eqb name name refl) refl)
@@ -84,7 +83,7 @@ module _ {B : Type 0} where
   -- hands that nothing was taken out of
   untaken_free : (before taken : Hands B) (name : ℕ) → taken.names ≡ before.names → length before.names ≡ 32 → name < 32 → is_some (name_in (holdings_of before) name) ≡ false → IsFreeAt taken name
   untaken_free before taken name same wide low test = record {
-    free = subst (λ (names : List (Option (Holding B))). write_owed (get_or names name None) ≡ []) (sym same) (ap write_owed (name_empty before name test));
+    free = subst (λ (names : List (Option (Holding B))). place_owed (get_or names name None) ≡ []) (sym same) (ap place_owed (name_empty before name test));
     low = subst (λ (names : List (Option (Holding B))). name < length names) (sym same) (omega (arith, wide, low));
   }
 
@@ -188,7 +187,7 @@ module _ {B : Type 0} where
   forms_free pictures other before taken asking forms none ranges wide = absurd forms
 
   -- what is taken out of the hands was no drawing that is owed
-  pub takes_owes : (before taken : Hands B) (name : ℕ) (held : Holding B) → Takes before taken name held → write_owed (Some held) ≡ [] → Gets (hands_owe before) [] (hands_owe taken)
+  pub takes_owes : (before taken : Hands B) (name : ℕ) (held : Holding B) → Takes before taken name held → place_owed (Some held) ≡ [] → Gets (hands_owe before) [] (hands_owe taken)
   takes_owes before taken name held takes none = subst (λ (hands : Hands B). Gets (hands_owe before) [] (hands_owe hands)) (sym takes.rest) (taken_out before.names name takes.held_there)
     where
       within : (names : List (Option (Holding B))) (i : ℕ) → get_or names i None ≡ Some held → i < length names
@@ -196,11 +195,11 @@ module _ {B : Type 0} where
       within (x ∷ names) zero there = omega arith
       within (x ∷ names) (suc i) there = let rest = within names i there in omega (arith, rest)
 
-      taken_out : (names : List (Option (Holding B))) (i : ℕ) → get_or names i None ≡ Some held → Gets (flat_map write_owed names) [] (flat_map write_owed (set names i None))
-      taken_out names i there = gets_set write_owed [] names i None None (within names i there) (subst (λ (xs : List Write). Gets xs [] []) (sym (ap write_owed there ∙ none)) (gets_same []))
+      taken_out : (names : List (Option (Holding B))) (i : ℕ) → get_or names i None ≡ Some held → Gets (flat_map place_owed names) [] (flat_map place_owed (set names i None))
+      taken_out names i there = gets_set place_owed [] names i None None (within names i there) (subst (λ (xs : List WriteAt). Gets xs [] []) (sym (ap place_owed there ∙ none)) (gets_same []))
 
   same_owes : (before taken : Hands B) → taken.names ≡ before.names → Gets (hands_owe before) [] (hands_owe taken)
-  same_owes before taken same = subst (λ (names : List (Option (Holding B))). Gets (hands_owe before) [] (flat_map write_owed names)) (sym same) (gets_same (hands_owe before))
+  same_owes before taken same = subst (λ (names : List (Option (Holding B))). Gets (hands_owe before) [] (flat_map place_owed names)) (sym same) (gets_same (hands_owe before))
 
   pub forms_owe : (pictures : ℕ → Picture) (s : Step) (before taken : Hands B) (asking : Asking B) → FormsCall pictures s before taken asking → Gets (hands_owe before) [] (hands_owe taken)
   forms_owe pictures (step.Connect q) before taken asking forms = same_owes before taken (ap (λ (hands : Hands B). hands.names) forms.0)

@@ -5,19 +5,23 @@ use Rattle.std.proofs.lemmas.List.Sums.{sum_by-cons}
 use Rattle.sf_picture.specs.declared.picture.Picture.{Picture}
 use Rattle.sf_scene.specs.declared.step.Step.{Step}
 use Rattle.sf_scene.specs.declared.step.Step.TheVariants as step
+use Rattle.sf_base.specs.declared.ids.QueueId.{QueueId}
 use Rattle.sf_surface.specs.declared.call.Gives.{Gives}
 use Rattle.sf_surface.specs.declared.call.Gives.TheVariants as gives
+use Rattle.sf_surface.specs.declared.call.QCall.{QCall}
+use Rattle.sf_surface.specs.declared.call.QCall.TheVariants as call
 use Rattle.sf_turns.specs.Views.{PermitView}
 use Rattle.sf_actor.specs.declared.holding.Holding.{Holding}
 use Rattle.sf_actor.specs.declared.holding.Holding.TheVariants as holding
-use Rattle.sf_actor.specs.Rights.{Turn}
+use Rattle.sf_actor.specs.Makers.{BufferOf}
+use Rattle.sf_actor.specs.Rights.{turn_by}
 use Rattle.sf_steps.specs.declared.asking.Asking.{Asking}
 use Rattle.sf_steps.specs.declared.asking.Homes.{Homes}
 use Rattle.sf_steps.specs.declared.hands.Hands.{Hands}
 use Rattle.sf_steps.specs.Calling.{placed, with_held, with_spare}
 use Rattle.sf_steps.specs.Forming.{FormsCall, Takes}
-use Rattle.sf_rights.specs.Calls.{brought_rights, given_rights}
-use Rattle.sf_rights.specs.States.{right_of}
+use Rattle.sf_rights.specs.MakerCalls.{brought_at, given_at, loose_from}
+use Rattle.sf_rights.specs.Makers.{RightAt, place_of}
 use Rattle.sf_rights.proofs.Summing.{sum-flat_map}
 
 module _ {A : Type 0} (f : A → ℕ) where
@@ -49,35 +53,53 @@ module _ {A : Type 0} (f : Option A → ℕ) where
       let b = sum_by-cons f x (set xs i None) in
       omega (arith, rest, a, b)
 
-module _ {B : Type 0} (w : Turn → ℕ) where
+module _ {B : Type 0} where
+  -- where a loose buffer was last that a call brings, by the name that held it
+  abbrev pub loose_in : QueueId → QCall B → BufferOf
+  loose_in last (call.Attach loose) = record { queue = last.0; number = loose.held.number }
+  loose_in last (call.AttachRead loose) = record { queue = last.0; number = loose.held.number }
+  loose_in last asked = record { queue = last.0; number = 0 }
+
+  abbrev pub from_of : Asking B → BufferOf
+  from_of asking = loose_in asking.homes.last asking.call
+
+  abbrev pub brings : Asking B → List RightAt
+  brings asking = brought_at (from_of asking) asking.call
+
+  -- a loose buffer that a reply gives is where its name tells
+  abbrev pub FitsLoose : Homes → BufferOf → QCall B → Gives B → Type 0
+  FitsLoose homes from asked (gives.Free loose) = record { queue = homes.last.0; number = loose.held.number } ≡ loose_from from asked
+  FitsLoose homes from asked given = Unit {0}
+
+module _ {B : Type 0} (w : RightAt → ℕ) where
   abbrev held_weight : Option (Holding B) → ℕ
-  held_weight held = sum_by w (right_of held)
+  held_weight held = sum_by w (place_of held)
 
   -- what is counted of the rights that names hold
   abbrev pub names_weight : Hands B → ℕ
-  names_weight hands = sum_by w (flat_map right_of hands.names)
+  names_weight hands = sum_by w (flat_map place_of hands.names)
 
   pub weight_is : (hands : Hands B) → names_weight hands ≡ sum_by held_weight hands.names
-  weight_is hands = sum-flat_map w right_of hands.names
+  weight_is hands = sum-flat_map w place_of hands.names
 
   -- what a call brings was taken out of the hands
   pub record FormsSum (before taken : Hands B) (asking : Asking B) : Type 0 where
-    pub names : names_weight taken + sum_by w (brought_rights asking.call) ≡ names_weight before
+    pub names : names_weight taken + sum_by w (brings asking) ≡ names_weight before
     pub transactions : taken.transactions ≡ before.transactions
 
-  brings_nothing : (before taken : Hands B) (asking exact : Asking B) → taken.names ≡ before.names → taken.transactions ≡ before.transactions → asking ≡ exact → sum_by w (brought_rights exact.call) ≡ 0 → FormsSum before taken asking
+  brings_nothing : (before taken : Hands B) (asking exact : Asking B) → taken.names ≡ before.names → taken.transactions ≡ before.transactions → asking ≡ exact → sum_by w (brings exact) ≡ 0 → FormsSum before taken asking
   brings_nothing before taken asking exact names transactions same none = record {
     names =
-        let a = ap (λ (x : Asking B). sum_by w (brought_rights x.call)) same in
-        let b = ap (λ (xs : List (Option (Holding B))). sum_by w (flat_map right_of xs)) names in
+        let a = ap (λ (x : Asking B). sum_by w (brings x)) same in
+        let b = ap (λ (xs : List (Option (Holding B))). sum_by w (flat_map place_of xs)) names in
         omega (arith, a, b, none);
     transactions = transactions;
   }
 
-  brings_held : (before taken : Hands B) (asking exact : Asking B) (name : ℕ) (held : Holding B) → Takes before taken name held → asking ≡ exact → sum_by w (brought_rights exact.call) ≡ held_weight (Some held) → FormsSum before taken asking
+  brings_held : (before taken : Hands B) (asking exact : Asking B) (name : ℕ) (held : Holding B) → Takes before taken name held → asking ≡ exact → sum_by w (brings exact) ≡ held_weight (Some held) → FormsSum before taken asking
   brings_held before taken asking exact name held takes same equal = record {
     names =
-        let a = ap (λ (x : Asking B). sum_by w (brought_rights x.call)) same in
+        let a = ap (λ (x : Asking B). sum_by w (brings x)) same in
         let b = ap (λ (hands : Hands B). names_weight hands) takes.rest in
         let c = weight_is (with_held before name None) in
         let d = weight_is before in
@@ -116,21 +138,26 @@ module _ {B : Type 0} (w : Turn → ℕ) where
       let c = set_most held_weight hands.names name (Some held) in
       omega (arith, a, b, c)
 
-  placed_most : (homes : Homes) (hands : Hands B) (given : Gives B) → names_weight (placed homes hands given) ≤ names_weight hands + sum_by w (given_rights given)
-  placed_most homes hands gives.Nothing = omega arith
-  placed_most homes hands (gives.Write lease) = held_most hands homes.lent (holding.Lends lease)
-  placed_most homes hands (gives.Owes owing) = held_most hands homes.lent (holding.Owes owing homes.held)
-  placed_most homes hands (gives.Read lease) = held_most hands homes.frame (holding.Reads lease)
-  placed_most homes hands (gives.Free loose) = held_most hands homes.free (holding.Frees homes.last loose)
+  placed_most : (homes : Homes) (hands : Hands B) (from : BufferOf) (asked : QCall B) (given : Gives B) → FitsLoose homes from asked given
+      → names_weight (placed homes hands given) ≤ names_weight hands + sum_by w (given_at from asked given)
+  placed_most homes hands from asked gives.Nothing fits = omega arith
+  placed_most homes hands from asked (gives.Write lease) fits = held_most hands homes.lent (holding.Lends lease)
+  placed_most homes hands from asked (gives.Owes owing) fits = held_most hands homes.lent (holding.Owes owing homes.held)
+  placed_most homes hands from asked (gives.Read lease) fits = held_most hands homes.frame (holding.Reads lease)
+  placed_most homes hands from asked (gives.Free loose) fits =
+      let most = held_most hands homes.free (holding.Frees homes.last loose) in
+      let same = ap (λ (at : BufferOf). sum_by w (record { turn = turn_by loose.turn; at = at } ∷ [])) fits in
+      omega (arith, most, same)
 
   spare_same : (hands : Hands B) (spare : Option PermitView) → (with_spare hands spare).names ≡ hands.names
   spare_same hands None = refl
   spare_same hands (Some permit) = refl
 
-  pub given_most : (homes : Homes) (hands : Hands B) (given : Gives B) (spare : Option PermitView) → names_weight (with_spare (placed homes hands given) spare) ≤ names_weight hands + sum_by w (given_rights given)
-  given_most homes hands given spare =
-      let a = placed_most homes hands given in
-      let b = ap (λ (xs : List (Option (Holding B))). sum_by w (flat_map right_of xs)) (spare_same (placed homes hands given) spare) in
+  pub given_most : (homes : Homes) (hands : Hands B) (from : BufferOf) (asked : QCall B) (given : Gives B) (spare : Option PermitView) → FitsLoose homes from asked given
+      → names_weight (with_spare (placed homes hands given) spare) ≤ names_weight hands + sum_by w (given_at from asked given)
+  given_most homes hands from asked given spare fits =
+      let a = placed_most homes hands from asked given fits in
+      let b = ap (λ (xs : List (Option (Holding B))). sum_by w (flat_map place_of xs)) (spare_same (placed homes hands given) spare) in
       omega (arith, a, b)
 
 module _ {B : Type 0} where

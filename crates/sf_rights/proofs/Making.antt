@@ -9,7 +9,6 @@ use Rattle.sf_scene.specs.declared.step.Step.{Step}
 use Rattle.sf_actor.specs.declared.holding.Holding.{Holding}
 use Rattle.sf_actor.specs.declared.holding.Holding.TheVariants as holding
 use Rattle.sf_actor.specs.Desks.{DeskHome, DeskView}
-use Rattle.sf_actor.specs.Rights.{Turn}
 use Rattle.sf_actor.specs.Tests.{refusal_of}
 use Rattle.sf_steps.specs.declared.hands.Hands.{Hands}
 use Rattle.sf_steps.specs.declared.tried.Tried.{Tried}
@@ -18,11 +17,13 @@ use Rattle.sf_steps.specs.Actors.{parts_of}
 use Rattle.sf_steps.specs.Doing.{MakesCall}
 use Rattle.sf_steps.specs.Hands.{holdings_of}
 use Rattle.sf_steps.specs.Leaving.{dropped_after, let_go_of, was_ok, without_lent}
-use Rattle.sf_rights.specs.Ledgers.{IsLedger, Write}
+use Rattle.sf_rights.specs.Ledgers.{IsLedger}
+use Rattle.sf_rights.specs.Makers.{RightAt, WriteAt, place_of, place_owed, places_held}
 use Rattle.sf_rights.specs.Moves.{Gets}
-use Rattle.sf_rights.specs.States.{State, ledger_of, right_of, rights_of, write_owed}
+use Rattle.sf_rights.specs.States.{State, ledger_of}
 use Rattle.sf_rights.specs.Tries.{TriesIn}
 use Rattle.sf_rights.proofs.Owing.{gets_same, hands_owe}
+use Rattle.sf_rights.proofs.Placing.{Went}
 use Rattle.sf_rights.proofs.Quiet.{waits_keeps}
 use Rattle.sf_rights.proofs.Trying.{FromHere, call_done, hands_weight}
 
@@ -33,8 +34,8 @@ module _ {B : Type 0} where
   -- a step's call, behind which something may be dropped
   pub makes_keep : (pictures : ℕ → Picture) (home : DeskHome) (place : ℕ) (s : Step) (came_to : Tried) (before after called : Hands B) (old new : State B) (tries : TriesIn pictures home place s came_to before after old new) (from : DeskView B)
       → FromHere pictures home place s came_to before after old new tries from → refusal_of pictures (holdings_of before) s ≡ None → MakesCall pictures home before.by.0 (length tries.was.trace + 1) s before called from new.view came_to
-      → ((w : Turn → ℕ) → sum_by w (rights_of (parts_of after)) ≤ sum_by w (rights_of (parts_of called))) → Gets (hands_owe called) [] (hands_owe after) → (came_to ≡ tried.NotYet → called ≡ after)
-      → IsLedger (ledger_of old) → IsLedger (ledger_of new)
+      → ((w : RightAt → ℕ) → sum_by w (places_held (parts_of after)) ≤ sum_by w (places_held (parts_of called))) → Gets (hands_owe called) [] (hands_owe after) → (came_to ≡ tried.NotYet → called ≡ after)
+      → IsLedger (ledger_of old) → Went s before (length tries.was.trace + 1) old new
   makes_keep pictures home place s (tried.Own status) before after called old new tries from here unrefused makes dropped owed waits is = absurd makes.tries
   makes_keep pictures home place s (tried.Sent number) before after called old new tries from here unrefused makes dropped owed waits is = absurd makes.tries
   makes_keep pictures home place s (tried.Called status values) before after called old new tries from here unrefused makes dropped owed waits is =
@@ -54,13 +55,13 @@ module _ {B : Type 0} where
 
   -- a step that makes its call and nothing else
   pub call_keeps : (pictures : ℕ → Picture) (home : DeskHome) (place : ℕ) (s : Step) (came_to : Tried) (before after : Hands B) (old new : State B) (tries : TriesIn pictures home place s came_to before after old new)
-      → refusal_of pictures (holdings_of before) s ≡ None → MakesCall pictures home before.by.0 (length tries.was.trace + 1) s before after old.view new.view came_to → IsLedger (ledger_of old) → IsLedger (ledger_of new)
+      → refusal_of pictures (holdings_of before) s ≡ None → MakesCall pictures home before.by.0 (length tries.was.trace + 1) s before after old.view new.view came_to → IsLedger (ledger_of old) → Went s before (length tries.was.trace + 1) old new
   call_keeps pictures home place s came_to before after old new tries unrefused makes is =
       makes_keep pictures home place s came_to before after after old new tries old.view (here_itself pictures home place s came_to before after old new tries) unrefused makes
       (λ w. omega arith) (gets_same (hands_owe after)) (λ e. refl) is
 
   -- leases that are let go
-  let_go_less : (w : Turn → ℕ) (queue : ℕ) (held : Option (Holding B)) → sum_by w (right_of (let_go_of queue held)) ≤ sum_by w (right_of held)
+  let_go_less : (w : RightAt → ℕ) (queue : ℕ) (held : Option (Holding B)) → sum_by w (place_of (let_go_of queue held)) ≤ sum_by w (place_of held)
   let_go_less w queue None = omega arith
   let_go_less w queue (Some (holding.Lends lease)) = elim (cases_Bool (lease.queue.0 == queue)) [
     | inl met ↦ rw met (omega arith)
@@ -70,7 +71,7 @@ module _ {B : Type 0} where
   let_go_less w queue (Some (holding.Reads lease)) = omega arith
   let_go_less w queue (Some (holding.Frees last loose)) = omega arith
 
-  let_go_owes : (queue : ℕ) (held : Option (Holding B)) → write_owed (let_go_of queue held) ≡ write_owed held
+  let_go_owes : (queue : ℕ) (held : Option (Holding B)) → place_owed (let_go_of queue held) ≡ place_owed held
   let_go_owes queue None = refl
   let_go_owes queue (Some (holding.Lends lease)) = elim (cases_Bool (lease.queue.0 == queue)) [
     | inl met ↦ rw met refl
@@ -80,30 +81,30 @@ module _ {B : Type 0} where
   let_go_owes queue (Some (holding.Reads lease)) = refl
   let_go_owes queue (Some (holding.Frees last loose)) = refl
 
-  all_less : (w : Turn → ℕ) (queue : ℕ) (names : List (Option (Holding B))) → sum_by w (flat_map right_of (map (let_go_of queue) names)) ≤ sum_by w (flat_map right_of names)
+  all_less : (w : RightAt → ℕ) (queue : ℕ) (names : List (Option (Holding B))) → sum_by w (flat_map place_of (map (let_go_of queue) names)) ≤ sum_by w (flat_map place_of names)
   all_less w queue [] = omega arith
   all_less w queue (held ∷ names) =
       let rest = all_less w queue names in
       let here = let_go_less w queue held in
-      let a = sum_by-append w (right_of held) (flat_map right_of names) in
-      let b = sum_by-append w (right_of (let_go_of queue held)) (flat_map right_of (map (let_go_of queue) names)) in
+      let a = sum_by-append w (place_of held) (flat_map place_of names) in
+      let b = sum_by-append w (place_of (let_go_of queue held)) (flat_map place_of (map (let_go_of queue) names)) in
       omega (arith, rest, here, a, b)
 
-  all_owe : (queue : ℕ) (names : List (Option (Holding B))) → flat_map write_owed (map (let_go_of queue) names) ≡ flat_map write_owed names
+  all_owe : (queue : ℕ) (names : List (Option (Holding B))) → flat_map place_owed (map (let_go_of queue) names) ≡ flat_map place_owed names
   all_owe queue [] = refl
-  all_owe queue (held ∷ names) = ap (λ (xs : List Write). xs ++ flat_map write_owed (map (let_go_of queue) names)) (let_go_owes queue held) ∙ ap (λ (xs : List Write). write_owed held ++ xs) (all_owe queue names)
+  all_owe queue (held ∷ names) = ap (λ (xs : List WriteAt). xs ++ flat_map place_owed (map (let_go_of queue) names)) (let_go_owes queue held) ∙ ap (λ (xs : List WriteAt). place_owed held ++ xs) (all_owe queue names)
 
-  without_less : (w : Turn → ℕ) (queue : ℕ) (hands : Hands B) → sum_by w (rights_of (parts_of (without_lent queue hands))) ≤ sum_by w (rights_of (parts_of hands))
+  without_less : (w : RightAt → ℕ) (queue : ℕ) (hands : Hands B) → sum_by w (places_held (parts_of (without_lent queue hands))) ≤ sum_by w (places_held (parts_of hands))
   without_less w queue hands =
       let names = all_less w queue hands.names in
       let a = hands_weight w hands in
       let b = hands_weight w (without_lent queue hands) in
       omega (arith, names, a, b)
 
-  pub dropped_less : (w : Turn → ℕ) (queue : ℕ) (came_to : Tried) (hands : Hands B) → sum_by w (rights_of (parts_of (dropped_after queue came_to hands))) ≤ sum_by w (rights_of (parts_of hands))
+  pub dropped_less : (w : RightAt → ℕ) (queue : ℕ) (came_to : Tried) (hands : Hands B) → sum_by w (places_held (parts_of (dropped_after queue came_to hands))) ≤ sum_by w (places_held (parts_of hands))
   dropped_less w queue came_to hands = by_ok (was_ok came_to)
     where
-      by_ok : (ok : Bool) → sum_by w (rights_of (parts_of (if ok then without_lent queue hands else hands))) ≤ sum_by w (rights_of (parts_of hands))
+      by_ok : (ok : Bool) → sum_by w (places_held (parts_of (if ok then without_lent queue hands else hands))) ≤ sum_by w (places_held (parts_of hands))
       by_ok true = without_less w queue hands
       by_ok false = omega arith
 
@@ -111,5 +112,5 @@ module _ {B : Type 0} where
   dropped_owes queue came_to hands = by_ok (was_ok came_to)
     where
       by_ok : (ok : Bool) → Gets (hands_owe hands) [] (hands_owe (if ok then without_lent queue hands else hands))
-      by_ok true = subst (λ (xs : List Write). Gets (hands_owe hands) [] xs) (sym (all_owe queue hands.names)) (gets_same (hands_owe hands))
+      by_ok true = subst (λ (xs : List WriteAt). Gets (hands_owe hands) [] xs) (sym (all_owe queue hands.names)) (gets_same (hands_owe hands))
       by_ok false = gets_same (hands_owe hands)

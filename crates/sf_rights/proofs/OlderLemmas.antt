@@ -1,5 +1,5 @@
 -- Where an earlier turn at pixels has not left, an older draw is owed.
-use Rattle.std.proofs.Common.{◌≡◌, ℕ, zero, suc, ◌<◌, ◌&&◌, Bool, true, false, List, [], ◌∷◌, map, get_or, Option, Some, None, refl, ap, sym, ◌∙◌, subst}
+use Rattle.std.proofs.Common.{◌≡◌, ℕ, zero, suc, ◌<◌, ◌&&◌, Bool, true, List, [], ◌∷◌, map, get_or, Option, Some, None, refl, ap, sym, ◌∙◌, subst}
 use Rattle.std.specs.Prelude.{Contains, option_to_list}
 use Rattle.std.specs.List.{flat_map}
 use Rattle.std.specs.Option.{option_map}
@@ -38,7 +38,7 @@ use Rattle.sf_rights.specs.Owed.{MayDraw}
 use Rattle.sf_rights.specs.Standing.{LedgerStands}
 
 -- what a place of names holds
-get_there : {X : Type 0} (xs : List (Option X)) (n : ℕ) (x : X) → get_or xs n None ≡ Some x → Contains xs (Some x)
+pub get_there : {X : Type 0} (xs : List (Option X)) (n : ℕ) (x : X) → get_or xs n None ≡ Some x → Contains xs (Some x)
 get_there [] n x e = absurd (cc (e))
 get_there (y ∷ ys) zero x e = has_first y (Some x) ys e
 get_there (y ∷ ys) (suc n) x e = has_later y (Some x) ys (get_there ys n x e)

@@ -1,5 +1,5 @@
 -- The drawings that are owed, where a call takes tokens out of an actor's hands and puts others into them.
-use Rattle.std.proofs.Common.{◌≡◌, ℕ, ◌<◌, ◌⊎◌, List, [], ◌∷◌, ◌++◌, suc, zero, arith, sym, refl, inl, inr, subst, get_or, length, set, Option, Some, None}
+use Rattle.std.proofs.Common.{◌≡◌, ℕ, ◌<◌, ◌⊎◌, List, [], ◌∷◌, ◌++◌, suc, zero, arith, sym, refl, inl, inr, subst, get_or, length, map, set, Option, Some, None}
 use Rattle.std.specs.Prelude.{Contains}
 use Rattle.std.specs.List.{flat_map}
 use Rattle.std.proofs.lemmas.List.Elements.{Contains-append_cases, Contains-append_left, Contains-append_right}
@@ -14,8 +14,9 @@ use Rattle.sf_steps.specs.declared.hands.Hands.{Hands}
 use Rattle.sf_steps.specs.Calling.{placed, with_held, with_spare}
 use Rattle.sf_rights.specs.Ledgers.{Write}
 use Rattle.sf_rights.specs.Moves.{AreIn, Gets}
-use Rattle.sf_rights.specs.States.{write_owed}
+use Rattle.sf_rights.specs.Makers.{WriteAt, place_owed}
 use Rattle.sf_rights.proofs.Counting.{first, in_front, later, none_in}
+use Rattle.sf_rights.proofs.MakersTurns.{write_at}
 use Rattle.sf_rights.proofs.Marking.{in_all, in_some}
 
 module _ {A : Type 0} where
@@ -151,16 +152,24 @@ loses_set {X} {A} f less xs i d y low fewer lost = (now, then)
 
 module _ {B : Type 0} where
   -- the writes that hands owe, and the one that a reply leaves owed
-  abbrev pub hands_owe : Hands B → List Write
-  hands_owe hands = flat_map write_owed hands.names
+  abbrev pub hands_owe : Hands B → List WriteAt
+  hands_owe hands = flat_map place_owed hands.names
 
   abbrev pub owes_by : Gives B → List Write
   owes_by (gives.Owes owing) = record { turn = issued_turn owing.turn; frame = (owing.queue, owing.frame) } ∷ []
   owes_by given = []
 
+  abbrev pub owes_at : Homes → Gives B → List WriteAt
+  owes_at homes (gives.Owes owing) = record { write = record { turn = issued_turn owing.turn; frame = (owing.queue, owing.frame) }; number = homes.held.number } ∷ []
+  owes_at homes given = []
+
+  pub owes_writes : (homes : Homes) (given : Gives B) → map write_at (owes_at homes given) ≡ owes_by given
+  owes_writes homes (gives.Owes owing) = refl
+  owes_writes homes given = refl
+
   -- a name of the hands owes nothing
   pub record IsFreeAt (hands : Hands B) (name : ℕ) : Type 0 where
-    pub free : write_owed (get_or hands.names name None) ≡ []
+    pub free : place_owed (get_or hands.names name None) ≡ []
     pub low : name < length hands.names
 
   pub record AreFree (hands : Hands B) (homes : Homes) : Type 0 where
@@ -168,15 +177,15 @@ module _ {B : Type 0} where
     pub frame : IsFreeAt hands homes.frame
     pub free : IsFreeAt hands homes.free
 
-  put_at : (hands : Hands B) (name : ℕ) (held : Option (Holding B)) → IsFreeAt hands name → Gets (hands_owe hands) (write_owed held) (hands_owe (with_held hands name held))
-  put_at hands name held at = gets_set write_owed (write_owed held) hands.names name None held at.low
-      (subst (λ (xs : List Write). Gets xs (write_owed held) (write_owed held)) (sym at.free) (record { no_others = λ x there. Contains-append_left (write_owed held) [] x there; all = λ x there. only x (Contains-append_cases (write_owed held) [] x there) }))
+  put_at : (hands : Hands B) (name : ℕ) (held : Option (Holding B)) → IsFreeAt hands name → Gets (hands_owe hands) (place_owed held) (hands_owe (with_held hands name held))
+  put_at hands name held at = gets_set place_owed (place_owed held) hands.names name None held at.low
+      (subst (λ (xs : List WriteAt). Gets xs (place_owed held) (place_owed held)) (sym at.free) (record { no_others = λ x there. Contains-append_left (place_owed held) [] x there; all = λ x there. only x (Contains-append_cases (place_owed held) [] x there) }))
     where
-      only : (x : Write) → Contains (write_owed held) x ⊎ Contains [] x → Contains (write_owed held) x
+      only : (x : WriteAt) → Contains (place_owed held) x ⊎ Contains [] x → Contains (place_owed held) x
       only x (inl there) = there
       only x (inr none) = absurd (none_in x none)
 
-  placed_owes : (homes : Homes) (hands : Hands B) (given : Gives B) → AreFree hands homes → Gets (hands_owe hands) (owes_by given) (hands_owe (placed homes hands given))
+  placed_owes : (homes : Homes) (hands : Hands B) (given : Gives B) → AreFree hands homes → Gets (hands_owe hands) (owes_at homes given) (hands_owe (placed homes hands given))
   placed_owes homes hands gives.Nothing free = gets_same (hands_owe hands)
   placed_owes homes hands (gives.Write lease) free = put_at hands homes.lent (Some (holding.Lends lease)) free.lent
   placed_owes homes hands (gives.Owes owing) free = put_at hands homes.lent (Some (holding.Owes owing homes.held)) free.lent
@@ -187,10 +196,10 @@ module _ {B : Type 0} where
   spare_owes hands None = refl
   spare_owes hands (Some permit) = refl
 
-  pub given_owes : (homes : Homes) (hands : Hands B) (given : Gives B) (spare : Option PermitView) → AreFree hands homes → Gets (hands_owe hands) (owes_by given) (hands_owe (with_spare (placed homes hands given) spare))
-  given_owes homes hands given spare free = subst (λ (xs : List Write). Gets (hands_owe hands) (owes_by given) xs) (sym (spare_owes (placed homes hands given) spare)) (placed_owes homes hands given free)
+  pub given_owes : (homes : Homes) (hands : Hands B) (given : Gives B) (spare : Option PermitView) → AreFree hands homes → Gets (hands_owe hands) (owes_at homes given) (hands_owe (with_spare (placed homes hands given) spare))
+  given_owes homes hands given spare free = subst (λ (xs : List WriteAt). Gets (hands_owe hands) (owes_at homes given) xs) (sym (spare_owes (placed homes hands given) spare)) (placed_owes homes hands given free)
 
-  pub nothing_owes : (homes : Homes) (hands : Hands B) (given : Gives B) (spare : Option PermitView) → given ≡ gives.Nothing → Gets (hands_owe hands) (owes_by given) (hands_owe (with_spare (placed homes hands given) spare))
+  pub nothing_owes : (homes : Homes) (hands : Hands B) (given : Gives B) (spare : Option PermitView) → given ≡ gives.Nothing → Gets (hands_owe hands) (owes_at homes given) (hands_owe (with_spare (placed homes hands given) spare))
   nothing_owes homes hands given spare none =
-      subst (λ (g : Gives B). Gets (hands_owe hands) (owes_by g) (hands_owe (with_spare (placed homes hands g) spare))) (sym none)
-      (subst (λ (xs : List Write). Gets (hands_owe hands) [] xs) (sym (spare_owes hands spare)) (gets_same (hands_owe hands)))
+      subst (λ (g : Gives B). Gets (hands_owe hands) (owes_at homes g) (hands_owe (with_spare (placed homes hands g) spare))) (sym none)
+      (subst (λ (xs : List WriteAt). Gets (hands_owe hands) [] xs) (sym (spare_owes hands spare)) (gets_same (hands_owe hands)))

@@ -27,7 +27,7 @@ use Rattle.sf_rights.proofs.Ordering.{places_late}
 use Rattle.sf_rights.proofs.Queuing.{queued_by_one}
 
 -- of a trace's steps one is at a place
-same_place : (place : ℕ) (past : Past) (trace : List Done) (one other : DoneAt) → Contains (places_from place past trace) one → Contains (places_from place past trace) other → one.place ≡ other.place → one ≡ other
+pub same_place : (place : ℕ) (past : Past) (trace : List Done) (one other : DoneAt) → Contains (places_from place past trace) one → Contains (places_from place past trace) other → one.place ≡ other.place → one ≡ other
 unfolding places_from
 same_place place past [] one other here there same = absurd (none_in one here)
 same_place place past (done ∷ trace) one other here there same =
@@ -90,33 +90,28 @@ wrote_or_paid holdings (step.Queue name picture time part points) (answered.Call
 wrote_or_paid holdings (step.Draw name picture) (answered.Own status) queue frame there = inr there
 wrote_or_paid holdings s answer queue frame there = absurd (none_in (queue, frame) there)
 
-abbrev name_queued : Step → ℕ
+abbrev pub name_queued : Step → ℕ
 name_queued (step.Queue name picture time part points) = name
 name_queued other = 0
 
 no_drawn : (queue : QueueId) (one two : WriteToken) (drawn : ℕ) → Some (Lent queue one None) ≡ Some (Lent queue two (Some drawn)) → ⊥
 no_drawn queue one two drawn same = absurd (cc same)
 
-module _ {B : Type 0} where
-  pub owed_was_paid : (pictures : ℕ → Picture) (home : DeskHome) (view : DeskView B) (ofs : List (ActorOf B)) → All (λ (o : ActorOf B). Keeps pictures home o view) ofs → IsStrictlyIncreasing (map number_of ofs)
-      → (of : ActorOf B) → Contains ofs of → (queue : QueueId) (frame : ℕ) (at : DoneAt) → (queues : QueuesFrame of.trace queue frame at) → queues.drawn ≡ None
-      → Contains (flat_map (λ (o : ActorOf B). written_in o.trace) ofs) (queue, frame) → WasPaidFor ofs (queue, frame)
-  owed_was_paid pictures home view ofs keep apart of there queue frame at queues undrawn wrote = by_way (wrote_or_paid too.0.past.holdings too.0.done.step too.0.done.answered queue frame too.2)
+module _ {B : Type 0} (pictures : ℕ → Picture) (home : DeskHome) (view : DeskView B) (ofs : List (ActorOf B)) where
+  -- what wrote a frame that was queued undrawn drew what was owed to it
+  pub wrote_paid : All (λ (o : ActorOf B). Keeps pictures home o view) ofs → IsStrictlyIncreasing (map number_of ofs) → (of : ActorOf B) → Contains ofs of → (queue : QueueId) (frame : ℕ) (at : DoneAt)
+      → (queues : QueuesFrame of.trace queue frame at) → queues.drawn ≡ None → (by : ActorOf B) → Contains ofs by → (too : DoneAt) → Contains (places_of by.trace) too → Contains (written_at too) (queue, frame)
+      → Contains (paid_at too) (queue, frame)
+  wrote_paid keep apart of there queue frame at queues undrawn by among too done wrote = by_way (wrote_or_paid too.past.holdings too.done.step too.done.answered queue frame wrote)
     where
-      by : (o : ActorOf B) × Contains ofs o × Contains (written_in o.trace) (queue, frame)
-      by = in_some (λ (o : ActorOf B). written_in o.trace) ofs (queue, frame) wrote
-
-      too : (too : DoneAt) × Contains (places_of by.0.trace) too × Contains (written_at too) (queue, frame)
-      too = in_some written_at (places_of by.0.trace) (queue, frame) by.2
-
       kept : (o : ActorOf B) → Contains ofs o → Keeps pictures home o view
-      kept o among = All-contains (λ (o : ActorOf B). Keeps pictures home o view) ofs o keep among
+      kept o is = All-contains (λ (o : ActorOf B). Keeps pictures home o view) ofs o keep is
 
-      by_way : WroteDrawn too.0.past.holdings (record { step = too.0.done.step; answered = too.0.done.answered }) queue frame ⊎ Contains (paid_at too.0) (queue, frame) → WasPaidFor ofs (queue, frame)
-      by_way (inr paid) = record { of = by.0; there = by.1; at = too.0; done = too.1; paid = paid }
+      by_way : WroteDrawn too.past.holdings (record { step = too.done.step; answered = too.done.answered }) queue frame ⊎ Contains (paid_at too) (queue, frame) → Contains (paid_at too) (queue, frame)
+      by_way (inr paid) = paid
       by_way (inl drew) =
-          let again : QueuesFrame by.0.trace queue frame too.0 = record {
-            there = too.1;
+          let again : QueuesFrame by.trace queue frame too = record {
+            there = done;
             name = drew.name;
             picture = drew.picture;
             time = drew.time;
@@ -127,9 +122,17 @@ module _ {B : Type 0} where
             drawn = Some drew.drawn;
             lent = drew.lent;
           } in
-          let same = queued_by_one pictures home view of by.0 (kept of there) (kept by.0 by.1) queue frame at too.0 queues again in
-          let traces : of.trace ≡ by.0.trace = sym (trace_here ofs of apart there) ∙ ap (trace_among ofs) same.0 ∙ trace_here ofs by.0 apart by.1 in
-          let one : at ≡ too.0 = same_place 1 no_past by.0.trace at too.0 (subst (λ (t : List Done). Contains (places_of t) at) traces queues.there) too.1 same.1 in
+          let same = queued_by_one pictures home view of by (kept of there) (kept by among) queue frame at too queues again in
+          let traces : of.trace ≡ by.trace = sym (trace_here ofs of apart there) ∙ ap (trace_among ofs) same.0 ∙ trace_here ofs by apart among in
+          let one : at ≡ too = same_place 1 no_past by.trace at too (subst (λ (t : List Done). Contains (places_of t) at) traces queues.there) done same.1 in
           let names : queues.name ≡ drew.name = ap (λ (d : Done). name_queued d.step) (sym queues.done ∙ ap (λ (a : DoneAt). a.done) one ∙ drew.is) in
           absurd (no_drawn queue queues.token drew.token drew.drawn
-          (sym (queues.lent ∙ ap (λ (d : Option ℕ). Some (Lent queue queues.token d)) undrawn) ∙ ap (λ (a : DoneAt). name_in a.past.holdings queues.name) one ∙ ap (name_in too.0.past.holdings) names ∙ drew.lent))
+          (sym (queues.lent ∙ ap (λ (d : Option ℕ). Some (Lent queue queues.token d)) undrawn) ∙ ap (λ (a : DoneAt). name_in a.past.holdings queues.name) one ∙ ap (name_in too.past.holdings) names ∙ drew.lent))
+
+  pub owed_was_paid : All (λ (o : ActorOf B). Keeps pictures home o view) ofs → IsStrictlyIncreasing (map number_of ofs)
+      → (of : ActorOf B) → Contains ofs of → (queue : QueueId) (frame : ℕ) (at : DoneAt) → (queues : QueuesFrame of.trace queue frame at) → queues.drawn ≡ None
+      → Contains (flat_map (λ (o : ActorOf B). written_in o.trace) ofs) (queue, frame) → WasPaidFor ofs (queue, frame)
+  owed_was_paid keep apart of there queue frame at queues undrawn wrote =
+      let by = in_some (λ (o : ActorOf B). written_in o.trace) ofs (queue, frame) wrote in
+      let too = in_some written_at (places_of by.0.trace) (queue, frame) by.2 in
+      record { of = by.0; there = by.1; at = too.0; done = too.1; paid = wrote_paid keep apart of there queue frame at queues undrawn by.0 by.1 too.0 too.1 too.2 }

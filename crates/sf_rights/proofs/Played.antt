@@ -17,6 +17,7 @@ use Rattle.sf_surface.specs.Tokens.{ReadLeaseOf}
 use Rattle.sf_token.specs.Pending.{Arrival}
 use Rattle.sf_turns.specs.Counts.{stock_at}
 use Rattle.sf_actor.specs.declared.done.Done.{Done}
+use Rattle.sf_actor.specs.declared.tried.Reply.{Reply}
 use Rattle.sf_actor.specs.declared.tried.Stepped.{Stepped}
 use Rattle.sf_actor.specs.declared.tried.Stepped.TheVariants as stepped
 use Rattle.sf_actor.specs.Desks.{DeskHome, DeskView, has_queue}
@@ -25,7 +26,7 @@ use Rattle.sf_actor.specs.Plain.{PlainOf, calls_among, home_of, is_queue, view_o
 use Rattle.sf_actor.specs.Scripts.{picture_at}
 use Rattle.sf_actor.specs.Tales.{step_done}
 use Rattle.sf_actor.specs.Tests.{refusal_of}
-use Rattle.sf_actor.specs.Tries.{ActorOf, Keeps, Tries, next_step}
+use Rattle.sf_actor.specs.Tries.{ActorOf, DoesStep, Keeps, Tries, next_step}
 use Rattle.sf_steps.specs.declared.actor.Actor.{Actor}
 use Rattle.sf_steps.specs.declared.hands.Hands.{Hands}
 use Rattle.sf_steps.specs.declared.tried.Tried.{Tried}
@@ -38,26 +39,27 @@ use Rattle.sf_cast.proofs.ArrivalLemmas.{waiting_many}
 use Rattle.sf_run.proofs.Members.{has_map}
 use Rattle.sf_rights.specs.Actors.{AreOver}
 use Rattle.sf_rights.specs.Ledgers.{IsLedger}
+use Rattle.sf_rights.specs.PlaceTries.{PlacesGo}
 use Rattle.sf_rights.specs.Standing.{LedgerStands, state_of, stock_of}
 use Rattle.sf_rights.specs.States.{State, ledger_of}
-use Rattle.sf_rights.specs.Tries.{WritesTry}
-use Rattle.sf_rights.proofs.Attempting.{try_keeps}
+use Rattle.sf_rights.specs.Tries.{TriesIn, WritesTry}
+use Rattle.sf_rights.proofs.Attempting.{try_keeps, try_places}
 use Rattle.sf_rights.proofs.Counting.{first, later}
 use Rattle.sf_rights.proofs.Stocking.{permits_unmade}
 use Rattle.sf_rights.proofs.Tracing.{Traced, draw_traced, queue_traced, refused, silent, step_is_next}
 
 module _ {A : Type 0} where
-  got_has : (xs : List A) (i : ℕ) (x : A) → slice_get xs i ≡ Some x → Contains xs x
+  pub got_has : (xs : List A) (i : ℕ) (x : A) → slice_get xs i ≡ Some x → Contains xs x
   got_has [] i x here = absurd (cc here)
   got_has (y ∷ xs) zero x here = let same : y ≡ x = cc in subst (λ (z : A). Contains (y ∷ xs) z) same (first y xs)
   got_has (y ∷ xs) (suc i) x here = later y x xs (got_has xs i x here)
 
-  got_set : (xs : List A) (i : ℕ) (x y : A) → slice_get xs i ≡ Some x → slice_get (slice_set xs i y) i ≡ Some y
+  pub got_set : (xs : List A) (i : ℕ) (x y : A) → slice_get xs i ≡ Some x → slice_get (slice_set xs i y) i ≡ Some y
   got_set [] i x y here = absurd (cc here)
   got_set (z ∷ xs) zero x y here = refl
   got_set (z ∷ xs) (suc i) x y here = got_set xs i x y here
 
-  set_same : (xs : List A) (i : ℕ) (x : A) → slice_get xs i ≡ Some x → slice_set xs i x ≡ xs
+  pub set_same : (xs : List A) (i : ℕ) (x : A) → slice_get xs i ≡ Some x → slice_set xs i x ≡ xs
   set_same [] i x here = refl
   set_same (z ∷ xs) zero x here = let same : z ≡ x = cc in ap (λ (y : A). y ∷ xs) (sym same)
   set_same (z ∷ xs) (suc i) x here = ap (λ (ys : List A). z ∷ ys) (set_same xs i x here)
@@ -71,7 +73,7 @@ joined_again : {A : Type 0} (xs ys zs : List A) → (xs ++ ys) ++ zs ≡ xs ++ (
 joined_again [] ys zs = refl
 joined_again (x ∷ xs) ys zs = ap (λ rest. x ∷ rest) (joined_again xs ys zs)
 
-zip_at : {X Y : Type 0} (R : X → Y → Type 0) (xs : List X) (ys : List Y) (i : ℕ) (x : X) (y : Y) → AllZip R xs ys → slice_get xs i ≡ Some x → slice_get ys i ≡ Some y → R x y
+pub zip_at : {X Y : Type 0} (R : X → Y → Type 0) (xs : List X) (ys : List Y) (i : ℕ) (x : X) (y : Y) → AllZip R xs ys → slice_get xs i ≡ Some x → slice_get ys i ≡ Some y → R x y
 zip_at R [] ys i x y all at here = absurd (cc at)
 zip_at R (a ∷ xs) [] i x y all at here = absurd (cc here)
 zip_at R (a ∷ xs) (b ∷ ys) zero x y all at here =
@@ -123,13 +125,16 @@ module _ {B : Type 0} where
     same_stock old new stepped.NotYet tries = ap (λ (a : ActorOf B). a.stock) tries.same
     same_stock old new stepped.Ended tries = ap (λ (a : ActorOf B). a.stock) tries.0
 
-    -- the next step, unless all are done
-    next_there : (old new : DeskView B) (st : Stepped) → Keeps pictures home is new → Tries pictures home was old is new st → (st ≡ stepped.Ended) ⊎ ((next : Step) × (next_step was ≡ Some next))
-    next_there old new stepped.Done keeps tries =
-        let does = tries.1 in
+    -- the step that was done was the next one
+    pub next_done : (old new : DeskView B) (reply : Reply) → Keeps pictures home is new → (does : DoesStep pictures home was old is new reply) → next_step was ≡ Some does.done.step
+    next_done old new reply keeps does =
         let script : is.script ≡ was.script = ap (λ (a : ActorOf B). a.script) does.same in
         let there = step_is_next was.trace does.done is.script.steps (subst (λ (t : List Done). map step_done t ≡ take (length t) is.script.steps) does.trace keeps.kept.kept.is.first) in
-        inr (does.done.step, sym (ap (λ (s : ActorScript). slice_get s.steps (length was.trace)) script) ∙ there)
+        sym (ap (λ (s : ActorScript). slice_get s.steps (length was.trace)) script) ∙ there
+
+    -- the next step, unless all are done
+    next_there : (old new : DeskView B) (st : Stepped) → Keeps pictures home is new → Tries pictures home was old is new st → (st ≡ stepped.Ended) ⊎ ((next : Step) × (next_step was ≡ Some next))
+    next_there old new stepped.Done keeps tries = inr (tries.1.done.step, next_done old new tries.0 keeps tries.1)
     next_there old new stepped.NotYet keeps tries = inr (tries.next, tries.step)
     next_there old new stepped.Ended keeps tries = inl refl
 
@@ -146,16 +151,16 @@ module _ {B : Type 0} where
     abbrev is : ActorOf B
     is = steps.new
 
-    abbrev old_state : State B
+    abbrev pub old_state : State B
     old_state = state_of (home_of before) (view_of before) ofs handler
 
-    abbrev new_state : State B
+    abbrev pub new_state : State B
     new_state = state_of (home_of before) (view_of after) (slice_set ofs place steps.new) handler
 
-    was_kept : KeepsAs table (picture_at pictures) (home_of before) (view_of before) steps.was_here steps.old
+    pub was_kept : KeepsAs table (picture_at pictures) (home_of before) (view_of before) steps.was_here steps.old
     was_kept = zip_at (KeepsAs table (picture_at pictures) (home_of before) (view_of before)) actors ofs place steps.was_here steps.old keep steps.was_at steps.here
 
-    is_kept : KeepsAs table (picture_at pictures) (home_of before) (view_of after) steps.now_here steps.new
+    pub is_kept : KeepsAs table (picture_at pictures) (home_of before) (view_of after) steps.now_here steps.new
     is_kept = subst (λ (h : DeskHome). KeepsAs table (picture_at pictures) h (view_of after) steps.now_here steps.new) same_home
         (zip_at (KeepsAs table (picture_at pictures) (home_of after) (view_of after)) nows (slice_set ofs place steps.new) place steps.now_here steps.new steps.keep steps.now_at (got_set ofs place steps.old steps.new steps.here))
 
@@ -169,8 +174,10 @@ module _ {B : Type 0} where
         ∙ ap (λ (xs : List (Arrival ReadLeaseOf)). handler.pending ++ xs) (drop_front (home_of before).taken (view_of before).arrivals sends.0 (omega (arith, many)))
         ∙ sym (joined_again handler.pending (drop (home_of before).taken (view_of before).arrivals) sends.0)
 
-    tries_in : (next : Step) → next_step steps.old ≡ Some next → IsLedger (ledger_of new_state)
-    tries_in next next_is = try_keeps (picture_at pictures) (home_of before) place next acts.came_to steps.was_here.hands steps.now_here.hands old_state new_state (record {
+    -- the try, as a change of the state
+    tried : (next : Step) (next_is : next_step steps.old ≡ Some next)
+        → TriesIn (picture_at pictures) (home_of before) place next (steps.acts next next_is).came_to steps.was_here.hands steps.now_here.hands old_state new_state
+    tried next next_is = record {
       was = steps.old;
       is = steps.new;
       here = steps.here;
@@ -193,7 +200,7 @@ module _ {B : Type 0} where
       unmade = λ number permit. permits_unmade (picture_at pictures) (home_of before) (view_of before) ofs over place number steps.old steps.here stands.once
           (subst (λ (parts : PartsOf B). Contains parts.stock number) (sym was_kept.is.parts) permit);
       attempts = acts.attempts;
-    }) stands.ledger
+    }
       where
         acts : Acts (picture_at pictures) (home_of before) next (length steps.old.trace + 1) steps.was_here.hands (view_of before) steps.now_here.hands (view_of after)
         acts = steps.acts next next_is
@@ -214,6 +221,16 @@ module _ {B : Type 0} where
         ranges : IsStep next
         ranges = (All-contains (IsPlayable (home_of before)) steps.was_here.script.steps next plays_here.playable
             (got_has steps.was_here.script.steps (length steps.old.trace) next (sym (ap (λ (s : ActorScript). slice_get s.steps (length steps.old.trace)) was_kept.is.script) ∙ next_is))).ranges
+
+    tries_in : (next : Step) → next_step steps.old ≡ Some next → IsLedger (ledger_of new_state)
+    tries_in next next_is =
+        try_keeps (picture_at pictures) (home_of before) place next (steps.acts next next_is).came_to steps.was_here.hands steps.now_here.hands old_state new_state (tried next next_is) stands.ledger
+
+    -- and what it does to places
+    pub step_goes : (next : Step) → next_step steps.old ≡ Some next → PlacesGo (holdings_of steps.was_here.hands) next steps.was_here.hands.by.0 (length steps.old.trace + 1) old_state new_state
+    unfolding tried
+    step_goes next next_is =
+        try_places (picture_at pictures) (home_of before) place next (steps.acts next next_is).came_to steps.was_here.hands steps.now_here.hands old_state new_state (tried next next_is) stands.ledger
 
     ended : st ≡ stepped.Ended → IsLedger (ledger_of new_state)
     ended same =

@@ -12,6 +12,7 @@ use Rattle.sf_scene.specs.declared.step.Step.TheVariants as step
 use Rattle.sf_slots.specs.declared.calls.Entry.{Entry}
 use Rattle.sf_slots.specs.declared.calls.PlainCall.TheVariants as call
 use Rattle.sf_slots.specs.declared.calls.PlainReply.TheVariants as reply
+use Rattle.sf_slots.specs.declared.calls.WriteToken.{WriteToken}
 use Rattle.sf_surface.specs.Histories.{told}
 use Rattle.sf_actor.specs.declared.done.Answered.TheVariants as answered
 use Rattle.sf_actor.specs.declared.done.Done.{Done}
@@ -39,17 +40,18 @@ zip_partner {X} {Y} R (a ∷ xs) (b ∷ ys) x all there = by_place (in_front a x
     by_place (inr rest) further = let found = further rest in (found.0, later b found.0 ys found.1, found.2)
 
 -- the entry of a step that queued a frame
-record EntryOf (log : List Entry) (actor frame place : ℕ) : Type 0 where
-  entry : Entry
-  there : Contains log entry
-  caller : entry.caller.0 ≡ actor
-  step : entry.step ≡ place
-  picture : ℕ
-  crop : Rect
-  queued : IsQueued entry frame picture crop
+pub record EntryOf (log : List Entry) (actor frame place : ℕ) (token : WriteToken) : Type 0 where
+  pub entry : Entry
+  pub there : Contains log entry
+  pub caller : entry.caller.0 ≡ actor
+  pub step : entry.step ≡ place
+  pub picture : ℕ
+  pub crop : Rect
+  pub queued : IsQueued entry frame picture crop
+  pub lease : queued.lease ≡ token
 
-entry_of : (pictures : ℕ → Picture) (trace : List Done) (actor : ℕ) (log : List Entry) (queue : QueueId) (frame : ℕ) (at : DoneAt) → QueuesFrame trace queue frame at
-    → AllZip IsMade (made_on queue.0 (made_by pictures trace)) (calls_of actor log) → EntryOf log actor frame at.place
+pub entry_of : (pictures : ℕ → Picture) (trace : List Done) (actor : ℕ) (log : List Entry) (queue : QueueId) (frame : ℕ) (at : DoneAt) (queues : QueuesFrame trace queue frame at)
+    → AllZip IsMade (made_on queue.0 (made_by pictures trace)) (calls_of actor log) → EntryOf log actor frame at.place queues.token
 entry_of pictures trace actor log queue frame at queues made = record {
   entry = partner.0;
   there = reverse_has log partner.0 own.0;
@@ -66,6 +68,7 @@ entry_of pictures trace actor log queue frame at queues made = record {
     call = partner.2.call;
     reply = sym partner.2.reply;
   };
+  lease = refl;
 }
   where
     asked : Asked

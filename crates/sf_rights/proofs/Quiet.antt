@@ -22,14 +22,16 @@ use Rattle.sf_steps.specs.Calling.{WaitsToCall, taken_back}
 use Rattle.sf_steps.specs.Forming.{FormsCall}
 use Rattle.sf_steps.specs.Hands.{holdings_of}
 use Rattle.sf_rights.specs.Ledgers.{IsLedger}
+use Rattle.sf_rights.specs.Makers.{RightAt, places_arrived, places_held, places_of, places_out}
 use Rattle.sf_rights.specs.Moves.{Gets, HasAtMost}
-use Rattle.sf_rights.specs.States.{State, ledger_of, rights_arrived, rights_held, rights_of}
+use Rattle.sf_rights.specs.States.{State, ledger_of}
 use Rattle.sf_rights.specs.Tries.{AnswersAs, TriesIn, WritesTry}
 use Rattle.sf_rights.proofs.Acting.{held_sum, none_sent, owed_get, written_get}
-use Rattle.sf_rights.proofs.Balancing.{refused_same}
+use Rattle.sf_rights.proofs.Fitting.{brought_back, brought_owes_none, fits_back}
 use Rattle.sf_rights.proofs.Freeing.{forms_free, forms_owe}
-use Rattle.sf_rights.proofs.Owing.{gets_more, gets_same, given_owes, hands_owe, nothing_owes, owes_by}
-use Rattle.sf_rights.proofs.Ending.{brought_owes}
+use Rattle.sf_rights.proofs.Owing.{gets_more, gets_same, given_owes, hands_owe, nothing_owes, owes_at}
+use Rattle.sf_rights.proofs.Handling.{from_of}
+use Rattle.sf_rights.proofs.Placing.{Went, owed_gets, rest_turns, rests_went}
 use Rattle.sf_rights.proofs.Resting.{quiet_keeps}
 use Rattle.sf_rights.proofs.Trying.{FromHere, forms_then}
 
@@ -56,42 +58,48 @@ module _ {B : Type 0} (pictures : ℕ → Picture) (home : DeskHome) (place : �
   pub record Rests : Type 0 where
     pub calls : new.view.calls ≡ old.view.calls
     pub leaves : new.view.turns.leaves ≡ old.view.turns.leaves
-    pub held : (w : Turn → ℕ) → sum_by w (rights_of (parts_of after)) + sum_by w (flat_map rights_arrived tries.sends) ≤ sum_by w (rights_of (parts_of before))
+    pub held : (w : RightAt → ℕ) → sum_by w (places_held (parts_of after)) + sum_by w (flat_map places_arrived tries.sends) ≤ sum_by w (places_held (parts_of before))
     pub owed : Gets (hands_owe before) [] (hands_owe after)
     pub answers : (answer : Answered) → AnswersAs home before.by.0 number s (holdings_of before) old new came_to answer → written.written_by (holdings_of before) s answer ≡ []
 
-  pub rests_keeps : Rests → IsLedger (ledger_of old) → IsLedger (ledger_of new)
-  rests_keeps rests is = quiet_keeps old new (record {
-    marks = tries.marks_new ∙ sym tries.marks_old;
+  pub rests_keeps : Rests → IsLedger (ledger_of old) → Went s before number old new
+  rests_keeps rests is = rests_went s before number old new marks rests.calls held owed.no_others (quiet_keeps old new (record {
+    marks = marks;
     calls = rests.calls;
-    held = held;
-    owed = owed_get pictures home place s came_to before after old new tries [] rests.owed;
+    held = rest_turns old new held;
+    owed = owed_gets old new [] owed;
     left = subst (λ (xs : List Turn). Gets old.view.turns.leaves [] xs) (sym rests.leaves) (gets_same old.view.turns.leaves);
     written = written_get pictures home place s came_to before after old new tries []
         (subst (λ (xs : List written.FrameNumber). Gets (written.written_in tries.was.trace) [] xs) (sym (nothing_written rests.answers)) (gets_same (written.written_in tries.was.trace)));
-  }) is
+  }) is)
     where
-      held : HasAtMost (rights_held old) [] [] (rights_held new)
+      marks : new.marks ≡ old.marks
+      marks = tries.marks_new ∙ sym tries.marks_old
+
+      owed : Gets (places_of old).owed [] (places_of new).owed
+      owed = owed_get pictures home place s came_to before after old new tries [] rests.owed
+
+      held : HasAtMost (places_out old) [] [] (places_out new)
       held w =
           let all = held_sum pictures home place s came_to before after old new tries w in
           let hands = rests.held w in
           omega (arith, all, hands)
 
   -- where nothing arrived, only hands count
-  pub hands_only : new.view.arrivals ≡ old.view.arrivals → ((w : Turn → ℕ) → sum_by w (rights_of (parts_of after)) ≤ sum_by w (rights_of (parts_of before)))
-      → (w : Turn → ℕ) → sum_by w (rights_of (parts_of after)) + sum_by w (flat_map rights_arrived tries.sends) ≤ sum_by w (rights_of (parts_of before))
+  pub hands_only : new.view.arrivals ≡ old.view.arrivals → ((w : RightAt → ℕ) → sum_by w (places_held (parts_of after)) ≤ sum_by w (places_held (parts_of before)))
+      → (w : RightAt → ℕ) → sum_by w (places_held (parts_of after)) + sum_by w (flat_map places_arrived tries.sends) ≤ sum_by w (places_held (parts_of before))
   hands_only same less w =
-      let none = ap (λ (xs : List (Arrival ReadLeaseOf)). sum_by w (flat_map rights_arrived xs)) (none_sent pictures home place s came_to before after old new tries same) in
+      let none = ap (λ (xs : List (Arrival ReadLeaseOf)). sum_by w (flat_map places_arrived xs)) (none_sent pictures home place s came_to before after old new tries same) in
       let one = less w in
       omega (arith, none, one)
 
   -- nothing changed at all
   pub same_hands : new.view.calls ≡ old.view.calls → new.view.turns.leaves ≡ old.view.turns.leaves → new.view.arrivals ≡ old.view.arrivals → after ≡ before
-      → ((answer : Answered) → AnswersAs home before.by.0 number s (holdings_of before) old new came_to answer → written.written_by (holdings_of before) s answer ≡ []) → IsLedger (ledger_of old) → IsLedger (ledger_of new)
+      → ((answer : Answered) → AnswersAs home before.by.0 number s (holdings_of before) old new came_to answer → written.written_by (holdings_of before) s answer ≡ []) → IsLedger (ledger_of old) → Went s before number old new
   same_hands calls leaves arrivals same answers = rests_keeps (record {
     calls = calls;
     leaves = leaves;
-    held = hands_only arrivals (λ w. let e = ap (λ (hands : Hands B). sum_by w (rights_of (parts_of hands))) same in omega (arith, e));
+    held = hands_only arrivals (λ w. let e = ap (λ (hands : Hands B). sum_by w (places_held (parts_of hands))) same in omega (arith, e));
     owed = subst (λ (hands : Hands B). Gets (hands_owe before) [] (hands_owe hands)) (sym same) (gets_same (hands_owe before));
     answers = answers;
   })
@@ -99,7 +107,7 @@ module _ {B : Type 0} (pictures : ℕ → Picture) (home : DeskHome) (place : �
   -- a call that waits
   pub waits_keeps : (from : DeskView B) (taken : Hands B) (asking : Asking B) → FromHere pictures home place s came_to before after old new tries from → FormsCall pictures s before taken asking → refusal_of pictures (holdings_of before) s ≡ None
       → WaitsToCall home before.by.0 number asking taken after from new.view
-      → ((answer : Answered) → AnswersAs home before.by.0 number s (holdings_of before) old new came_to answer → written.written_by (holdings_of before) s answer ≡ []) → IsLedger (ledger_of old) → IsLedger (ledger_of new)
+      → ((answer : Answered) → AnswersAs home before.by.0 number s (holdings_of before) old new came_to answer → written.written_by (holdings_of before) s answer ≡ []) → IsLedger (ledger_of old) → Went s before number old new
   waits_keeps from taken asking here forms unrefused waits answers = rests_keeps (record {
     calls = (λ i queue. same_calls queue i) ∙ here.calls;
     leaves = ap (λ (view : DeskView B). view.turns.leaves) waits.waits.changes.same ∙ here.leaves;
@@ -117,13 +125,13 @@ module _ {B : Type 0} (pictures : ℕ → Picture) (home : DeskHome) (place : �
           apart : queue ≡ asking.queue.0 → (queue == asking.queue.0) ≡ false → ⊥
           apart e unmet = false≢true (sym unmet ∙ eq-eqb queue asking.queue.0 e)
 
-      less : (w : Turn → ℕ) → sum_by w (rights_of (parts_of after)) ≤ sum_by w (rights_of (parts_of before))
+      less : (w : RightAt → ℕ) → sum_by w (places_held (parts_of after)) ≤ sum_by w (places_held (parts_of before))
       less w =
-          let hands = forms_then w pictures s before taken after asking (brought asking.call) (permit_of asking.call) forms waits.hands in
-          let same = ap (sum_by w) (refused_same asking.call) in
+          let hands = forms_then w pictures s before taken after asking (brought asking.call) (permit_of asking.call) forms (fits_back asking.homes asking.call) waits.hands in
+          let same = ap (sum_by w) (brought_back (from_of asking) asking.call) in
           omega (arith, hands, same)
 
-      back : Gets (hands_owe taken) (owes_by (brought asking.call)) (hands_owe (taken_back asking.homes taken asking.call))
+      back : Gets (hands_owe taken) (owes_at asking.homes (brought asking.call)) (hands_owe (taken_back asking.homes taken asking.call))
       back = elim (forms_free pictures s before taken asking forms unrefused tries.ranges tries.wide) [
         | inl quiet ↦ nothing_owes asking.homes taken (brought asking.call) (permit_of asking.call) quiet.1
         | inr free ↦ given_owes asking.homes taken (brought asking.call) (permit_of asking.call) free
@@ -131,4 +139,4 @@ module _ {B : Type 0} (pictures : ℕ → Picture) (home : DeskHome) (place : �
 
       owes : Gets (hands_owe before) [] (hands_owe (taken_back asking.homes taken asking.call))
       owes = gets_more (hands_owe before) [] (hands_owe taken) (hands_owe (taken_back asking.homes taken asking.call)) (forms_owe pictures s before taken asking forms)
-          (subst (λ xs. Gets (hands_owe taken) xs (hands_owe (taken_back asking.homes taken asking.call))) (brought_owes asking.call) back)
+          (subst (λ xs. Gets (hands_owe taken) xs (hands_owe (taken_back asking.homes taken asking.call))) (brought_owes_none asking.homes asking.call) back)

@@ -7,6 +7,7 @@ use Rattle.std.proofs.lemmas.List.Sums.{sum_by-append, sum_by-cons}
 use Rattle.sf_surface.specs.Tokens.{Issued, ReadLeaseOf}
 use Rattle.sf_token.specs.Pending.{Arrival}
 use Rattle.sf_turns.specs.Views.{SeatView}
+use Rattle.sf_txn.specs.Leases.{IsLooked}
 use Rattle.sf_txn.specs.declared.lease.Lease.{Ghosts}
 use Rattle.sf_commit.specs.Handlers.{HandlerOf}
 use Rattle.sf_commit.specs.Leases.{HandsBack, IsReleaseOf}
@@ -21,10 +22,17 @@ use Rattle.sf_rights.specs.Ledgers.{IsLedger}
 use Rattle.sf_rights.specs.Moves.{Gets, HasAtMost, turn_after}
 use Rattle.sf_rights.specs.States.{State, all_owed, all_written, lease_turn, ledger_of, rights_arrived, rights_held, rights_of}
 use Rattle.sf_rights.specs.Vsyncs.{DecidesIn, IsOfTurns, lease_back, lease_on}
-use Rattle.sf_rights.proofs.Committing.{leads_sum, looked_arrivals, on_turn, on_weight, waiting_weight}
+use Rattle.sf_rights.proofs.Committing.{leads_sum, looked_arrivals, on_weight, waiting_weight}
 use Rattle.sf_rights.proofs.Counting.{first}
 use Rattle.sf_rights.proofs.Owing.{gets_push, gets_same}
 use Rattle.sf_rights.proofs.Resting.{end_keeps, quiet_keeps}
+
+abbrev on_turn : OnLayer ReadLeaseOf → Turn
+on_turn one = lease_turn one.lease
+
+-- a looked lease has the turn that it had
+pub looked_turn : (lease : Ghosts ReadLeaseOf SeatView ReadLeaseOf Issued) → IsOfTurns lease → (old new : ReadLeaseOf) → IsLooked lease old new → lease_turn new ≡ lease_turn old
+looked_turn lease turns old new looked = sym (turns.end new) ∙ looked.end ∙ turns.end old
 
 abbrev ends : Ghosts ReadLeaseOf SeatView ReadLeaseOf Issued → List (OnLayer ReadLeaseOf) → List Turn
 ends lease gone = ends_of lease (reads_of gone)
@@ -47,7 +55,7 @@ turned w (r ∷ releases) back base =
     let d = sum_by-cons w (turn_by back.turn) (map lease_turn (map lease_back releases ++ base)) in
     omega (arith, rest, a, b, c, d)
 
-shown_same : (w : Turn → ℕ) (on : List (OnLayer ReadLeaseOf)) → sum_by w (map lease_turn (map lease_on (map shown_on on))) ≡ on_weight w on
+shown_same : (w : Turn → ℕ) (on : List (OnLayer ReadLeaseOf)) → sum_by w (map lease_turn (map lease_on (map shown_on on))) ≡ on_weight lease_turn w on
 shown_same w [] = refl
 shown_same w (one ∷ on) =
     let rest = shown_same w on in
@@ -55,7 +63,7 @@ shown_same w (one ∷ on) =
     let b = sum_by-cons w (on_turn one) (map on_turn on) in
     omega (arith, rest, a, b)
 
-on_same : (w : Turn → ℕ) (on : List (OnLayer ReadLeaseOf)) (base : List ReadLeaseOf) → sum_by w (map lease_turn (map lease_on on ++ base)) ≡ on_weight w on + sum_by w (map lease_turn base)
+on_same : (w : Turn → ℕ) (on : List (OnLayer ReadLeaseOf)) (base : List ReadLeaseOf) → sum_by w (map lease_turn (map lease_on on ++ base)) ≡ on_weight lease_turn w on + sum_by w (map lease_turn base)
 on_same w [] base = omega arith
 on_same w (one ∷ on) base =
     let rest = on_same w on base in
@@ -63,7 +71,7 @@ on_same w (one ∷ on) base =
     let b = sum_by-cons w (on_turn one) (map on_turn on) in
     omega (arith, rest, a, b)
 
-plain_same : (w : Turn → ℕ) (on : List (OnLayer ReadLeaseOf)) → sum_by w (map lease_turn (map lease_on on)) ≡ on_weight w on
+plain_same : (w : Turn → ℕ) (on : List (OnLayer ReadLeaseOf)) → sum_by w (map lease_turn (map lease_on on)) ≡ on_weight lease_turn w on
 plain_same w [] = refl
 plain_same w (one ∷ on) =
     let rest = plain_same w on in
@@ -179,9 +187,9 @@ module _ {B : Type 0} (lease : Ghosts ReadLeaseOf SeatView ReadLeaseOf Issued) w
 
       decided_held : HasAtMost (rights_held old) [] [] (rights_held decided)
       decided_held w =
-          let commits = leads_sum w lease.shown vsync.seen vsync.expected _ vsync.decides.decided.taken end vsync.decides.decided.leads in
-          let looks = ap (sum_by w) (looked_arrivals lease vsync.of_turns (vsync.handler.pending ++ vsync.arrived) vsync.decides.looked vsync.decides.looks) in
-          let waits = ap (λ (xs : List (Arrival ReadLeaseOf)). waiting_weight w xs) vsync.waiting_old in
+          let commits = leads_sum lease_turn w lease.shown vsync.seen vsync.expected _ vsync.decides.decided.taken end vsync.decides.decided.leads in
+          let looks = ap (sum_by w) (looked_arrivals lease_turn lease (looked_turn lease vsync.of_turns) (vsync.handler.pending ++ vsync.arrived) vsync.decides.looked vsync.decides.looks) in
+          let waits = ap (λ (xs : List (Arrival ReadLeaseOf)). waiting_weight lease_turn w xs) vsync.waiting_old in
           let on = ap (λ (xs : List ReadLeaseOf). sum_by w (map lease_turn xs)) vsync.on_old in
           let plain = plain_same w vsync.handler.on in
           let a = sum_by-append w (flat_map (λ (x : ActorOf B). rights_of x.parts) old.actors ++ flat_map rights_arrived old.waiting) (map lease_turn old.on) in

@@ -14,11 +14,14 @@ use Rattle.sf_txn.specs.declared.lease.Lease.{Ghosts}
 use Rattle.sf_actor.specs.Desks.{DeskHome, DeskView, MadeCall, has_queue}
 use Rattle.sf_actor.specs.Tries.{ActorOf}
 use Rattle.sf_rights.specs.Ledgers.{IsLedger}
+use Rattle.sf_rights.specs.PlaceTries.{ReturnAll, ReturnsIn, TellsPlaces}
 use Rattle.sf_rights.specs.Standing.{GiveAll, LedgerStands, VsyncIn, home_taken, state_of}
 use Rattle.sf_rights.specs.States.{AreApart, State, ledger_of}
-use Rattle.sf_rights.specs.Vsyncs.{lease_back, lease_on}
+use Rattle.sf_rights.specs.Vsyncs.{DecidesIn, lease_back, lease_on}
+use Rattle.sf_rights.proofs.Deciding.{decides_rests}
 use Rattle.sf_rights.proofs.Reading.{vsync_keeps}
-use Rattle.sf_rights.proofs.Returning.{returns_keep}
+use Rattle.sf_rights.proofs.Returning.{return_places}
+use Rattle.sf_rights.proofs.Releasing.{returned_keeps}
 
 drop_all : {A : Type 0} (xs : List A) → drop (length xs) xs ≡ []
 drop_all [] = refl
@@ -49,11 +52,17 @@ module _ {B : Type 0} (home : DeskHome) (number : ℕ) where
           omega (arith, rest, e)
 
   -- the frames that go were given back
-  gives_keep : (releases : List (ReleaseOf ReadLeaseOf)) (st : State B) (on : List ReadLeaseOf) (new : DeskView B) → home.is_exact ≡ true → AreApart home.marks → st.marks ≡ home.marks → ((queue : ℕ) → has_queue home queue ≡ false → new.calls queue ≡ [])
-      → GiveAll home number releases st.view new → IsLedger (ledger_of (record st { on = map lease_back releases ++ on })) → IsLedger (ledger_of (record st { view = new; on = on }))
-  gives_keep [] st on new exact apart marks not_called gives is = subst (λ (view : DeskView B). IsLedger (ledger_of (record st { view = view; on = on }))) (sym gives) is
-  gives_keep (release ∷ later) st on new exact apart marks not_called gives is =
-      gives_keep later (record st { view = mid }) on new exact apart marks not_called gives.2 (returns_keep home (record st { on = release.lease ∷ map lease_back later ++ on }) (record st { view = mid; on = map lease_back later ++ on }) (record {
+  gives_return : (releases : List (ReleaseOf ReadLeaseOf)) (st : State B) (on : List ReadLeaseOf) (new : DeskView B) → home.is_exact ≡ true → AreApart home.marks → st.marks ≡ home.marks
+      → ((queue : ℕ) → has_queue home queue ≡ false → new.calls queue ≡ []) → GiveAll home number releases st.view new
+      → ReturnAll 0 number (map lease_back releases) (record st { on = map lease_back releases ++ on }) (record st { view = new; on = on })
+  gives_return [] st on new exact apart marks not_called gives = ap (λ (view : DeskView B). record st { view = view; on = on }) gives
+  gives_return (release ∷ later) st on new exact apart marks not_called gives = (
+    record st { view = mid; on = map lease_back later ++ on },
+    record {
+      queue = release.queue.0;
+      fence = release.fence;
+      reply = gives.1.reply;
+      made = return_places home (record st { on = release.lease ∷ map lease_back later ++ on }) (record st { view = mid; on = map lease_back later ++ on }) (record {
         exact = exact;
         apart = apart;
         marks = marks;
@@ -67,7 +76,10 @@ module _ {B : Type 0} (home : DeskHome) (number : ℕ) where
         made = made;
         held = refl;
         same = refl;
-      }) is)
+      });
+    },
+    gives_return later (record st { view = mid }) on new exact apart marks not_called gives.2,
+  )
     where
       mid : DeskView B
       mid = gives.0
@@ -91,46 +103,61 @@ module _ {B : Type 0} where
   arrivals_stay home number (release ∷ later) old new gives =
       arrivals_stay home number later gives.0 new gives.2 ∙ ap (λ (view : DeskView B). view.arrivals) gives.1.made.changes.same
 
-  pub vsync_stands : (lease : Ghosts ReadLeaseOf SeatView ReadLeaseOf Issued) (buffers : ℕ) (home : DeskHome) (ofs : List (ActorOf B)) (old new : DeskView B) (handler after : HandlerOf ReadLeaseOf) → VsyncIn lease home old handler new after
-      → LedgerStands buffers home old ofs handler → LedgerStands buffers (home_taken home old) new ofs after
-  vsync_stands lease buffers home ofs old new handler after vsync stands = record { ledger = given; exact = stands.exact; apart = stands.apart; once = stands.once; below = stands.below }
-    where
-      decided : State B
-      decided = record {
-        marks = home.marks;
-        view = vsync.decided;
-        actors = ofs;
-        waiting = after.pending;
-        on = map lease_back vsync.told.releases ++ map lease_on after.on;
-      }
+  module _ (lease : Ghosts ReadLeaseOf SeatView ReadLeaseOf Issued) (buffers : ℕ) (home : DeskHome) (ofs : List (ActorOf B)) (old new : DeskView B) (handler after : HandlerOf ReadLeaseOf) (vsync : VsyncIn lease home old handler new after)
+      (stands : LedgerStands buffers home old ofs handler) where
+    -- what was decided: what goes has yet to be given back
+    abbrev decided : State B
+    decided = record {
+      marks = home.marks;
+      view = vsync.decided;
+      actors = ofs;
+      waiting = after.pending;
+      on = map lease_back vsync.told.releases ++ map lease_on after.on;
+    }
 
-      was_decided : IsLedger (ledger_of decided)
-      was_decided = vsync_keeps lease (state_of home old ofs handler) decided (record {
-        of_turns = vsync.of_turns;
-        handler = handler;
-        after = after;
-        arrived = vsync.arrived;
-        seen = vsync.seen;
-        expected = vsync.expected;
-        told = vsync.told;
-        unlent = vsync.unlent;
-        decides = vsync.decides;
-        same = refl;
-        calls = vsync.calls;
-        waiting_old = ap (λ (xs : List (Arrival ReadLeaseOf)). handler.pending ++ xs) (sym vsync.all);
-        waiting_new = refl;
-        on_old = refl;
-        on_new = refl;
-      }) stands.ledger
+    decides_in : DecidesIn lease (state_of home old ofs handler) decided
+    decides_in = record {
+      of_turns = vsync.of_turns;
+      handler = handler;
+      after = after;
+      arrived = vsync.arrived;
+      seen = vsync.seen;
+      expected = vsync.expected;
+      told = vsync.told;
+      unlent = vsync.unlent;
+      decides = vsync.decides;
+      same = refl;
+      calls = vsync.calls;
+      waiting_old = ap (λ (xs : List (Arrival ReadLeaseOf)). handler.pending ++ xs) (sym vsync.all);
+      waiting_new = refl;
+      on_old = refl;
+      on_new = refl;
+    }
 
-      was_given : IsLedger (ledger_of (record decided { view = new; on = map lease_on after.on }))
-      was_given = gives_keep (home_taken home old) vsync.number vsync.told.releases decided (map lease_on after.on) new stands.exact stands.apart refl vsync.not_called vsync.gives was_decided
+    was_decided : IsLedger (ledger_of decided)
+    was_decided = vsync_keeps lease (state_of home old ofs handler) decided decides_in stands.ledger
 
-      same_arrivals : new.arrivals ≡ old.arrivals
-      same_arrivals = arrivals_stay (home_taken home old) vsync.number vsync.told.releases vsync.decided new vsync.gives ∙ vsync.arrivals
+    same_arrivals : new.arrivals ≡ old.arrivals
+    same_arrivals = arrivals_stay (home_taken home old) vsync.number vsync.told.releases vsync.decided new vsync.gives ∙ vsync.arrivals
 
-      none_waits : after.pending ≡ after.pending ++ drop (length old.arrivals) new.arrivals
-      none_waits = sym (ap (λ (xs : List (Arrival ReadLeaseOf)). after.pending ++ drop (length old.arrivals) xs) same_arrivals ∙ ap (λ (xs : List (Arrival ReadLeaseOf)). after.pending ++ xs) (drop_all old.arrivals) ∙ append-nil after.pending)
+    none_waits : after.pending ≡ after.pending ++ drop (length old.arrivals) new.arrivals
+    none_waits = sym (ap (λ (xs : List (Arrival ReadLeaseOf)). after.pending ++ drop (length old.arrivals) xs) same_arrivals ∙ ap (λ (xs : List (Arrival ReadLeaseOf)). after.pending ++ xs) (drop_all old.arrivals) ∙ append-nil after.pending)
 
-      given : IsLedger (ledger_of (state_of (home_taken home old) new ofs after))
-      given = subst (λ (waiting : List (Arrival ReadLeaseOf)). IsLedger (ledger_of (record decided { view = new; waiting = waiting; on = map lease_on after.on }))) none_waits was_given
+    returns : ReturnAll 0 vsync.number (map lease_back vsync.told.releases) decided (state_of (home_taken home old) new ofs after)
+    returns = subst (λ (waiting : List (Arrival ReadLeaseOf)). ReturnAll 0 vsync.number (map lease_back vsync.told.releases) decided (record decided { view = new; waiting = waiting; on = map lease_on after.on })) none_waits
+        (gives_return (home_taken home old) vsync.number vsync.told.releases decided (map lease_on after.on) new stands.exact stands.apart refl vsync.not_called vsync.gives)
+
+    given : IsLedger (ledger_of (state_of (home_taken home old) new ofs after))
+    given = returned_keeps 0 vsync.number (map lease_back vsync.told.releases) decided (state_of (home_taken home old) new ofs after) returns was_decided
+
+    pub vsync_stands : LedgerStands buffers (home_taken home old) new ofs after
+    vsync_stands = record { ledger = given; exact = stands.exact; apart = stands.apart; once = stands.once; below = stands.below }
+
+    -- the rights rest where they were, and what goes goes back
+    pub vsync_returns : TellsPlaces lease → ReturnsIn 0 vsync.number (state_of home old ofs handler) (state_of (home_taken home old) new ofs after)
+    vsync_returns tells = record {
+      mid = decided;
+      rests = record { marks = refl; calls = vsync.calls; places = decides_rests lease tells (state_of home old ofs handler) decided decides_in; ledger = was_decided };
+      leases = map lease_back vsync.told.releases;
+      returns = returns;
+    }

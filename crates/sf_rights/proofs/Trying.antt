@@ -1,8 +1,9 @@
 -- A try of a step that makes a call keeps the ledger.
-use Rattle.std.proofs.Common.{◌≡◌, ◌≢◌, ℕ, ◌+◌, ◌≤◌, true, List, [], ◌∷◌, ◌++◌, arith, ap, ◌∙◌, sym, inl, inr, subst, length, Option, None}
+use Rattle.std.proofs.Common.{◌≡◌, ◌≢◌, ℕ, ◌+◌, ◌≤◌, ◌⊎◌, true, List, [], ◌∷◌, ◌++◌, arith, ap, ◌∙◌, sym, inl, inr, subst, length, Option, None}
+use Rattle.std.specs.Prelude.{Contains}
 use Rattle.std.specs.List.{flat_map, list_any, sum_by}
 use Rattle.std.proofs.lemmas.Bool.{cases_Bool}
-use Rattle.std.proofs.lemmas.List.Elements.{Contains-append_left}
+use Rattle.std.proofs.lemmas.List.Elements.{Contains-append_cases, Contains-append_left, Contains-append_right}
 use Rattle.std.proofs.lemmas.List.Sums.{sum_by-append}
 use Rattle.sf_calls.specs.Histories.{IsLegal, entry}
 use Rattle.sf_picture.specs.declared.picture.Picture.{Picture}
@@ -29,19 +30,23 @@ use Rattle.sf_steps.specs.Actors.{parts_of}
 use Rattle.sf_steps.specs.Calling.{Calls, placed, with_spare}
 use Rattle.sf_steps.specs.Forming.{FormsCall}
 use Rattle.sf_steps.specs.Hands.{holdings_of}
-use Rattle.sf_rights.specs.Calls.{brought_rights, given_rights, move_of}
+use Rattle.sf_rights.specs.Calls.{move_of}
 use Rattle.sf_rights.specs.Ledgers.{IsLedger, Write}
+use Rattle.sf_rights.specs.MakerCalls.{given_at}
+use Rattle.sf_rights.specs.Makers.{RightAt, WriteAt, place_of, place_written, places_arrived, places_held, places_in, places_of, places_out}
 use Rattle.sf_rights.specs.Moves.{AreIn, Gets, HasAtMost, ended_by, owed_by, written_by}
-use Rattle.sf_rights.specs.States.{CallsOnce, State, all_owed, all_written, is_queue, ledger_of, move_on, right_of, rights_arrived, rights_held, rights_in, rights_of}
+use Rattle.sf_rights.specs.States.{CallsOnce, State, all_owed, all_written, is_queue, ledger_of, move_on}
 use Rattle.sf_rights.specs.Steps.{CallStep}
 use Rattle.sf_rights.specs.Tries.{TriesIn}
 use Rattle.sf_rights.proofs.Acting.{held_sum, held_there, none_sent, owed_get, written_get}
-use Rattle.sf_rights.proofs.Counting.{counted, found, is_turn}
 use Rattle.sf_rights.proofs.Ending.{ending_left, ends_are, owes_are, turns_of}
+use Rattle.sf_rights.proofs.Fitting.{Fits, attaches, fits_reply, forms_lease}
 use Rattle.sf_rights.proofs.Freeing.{forms_free, forms_owe}
-use Rattle.sf_rights.proofs.Handling.{forms_sum, given_most, given_transactions, names_weight}
+use Rattle.sf_rights.proofs.Handling.{FitsLoose, brings, forms_sum, from_of, given_most, given_transactions, names_weight}
+use Rattle.sf_rights.proofs.MakersStepping.{counted_at, found_right, is_right}
 use Rattle.sf_rights.proofs.Marking.{mark_there}
-use Rattle.sf_rights.proofs.Owing.{gets_end, gets_more, given_owes, hands_owe, nothing_owes, owes_by}
+use Rattle.sf_rights.proofs.Owing.{gets_end, gets_more, given_owes, hands_owe, nothing_owes, owes_at, owes_writes}
+use Rattle.sf_rights.proofs.Placing.{Went, brought_held, held_turns, owed_gets}
 use Rattle.sf_rights.proofs.Stepping.{call_keeps}
 use Rattle.sf_rights.proofs.Telling.{calls_make, calls_write}
 
@@ -50,30 +55,31 @@ cons_apart x xs same = cc
 
 module _ {B : Type 0} where
   -- what is counted of the rights in hands
-  pub hands_weight : (w : Turn → ℕ) (hands : Hands B) → sum_by w (rights_of (parts_of hands)) ≡ names_weight w hands + sum_by w (flat_map rights_in hands.transactions)
-  hands_weight w hands = sum_by-append w (flat_map right_of hands.names) (flat_map rights_in hands.transactions)
+  pub hands_weight : (w : RightAt → ℕ) (hands : Hands B) → sum_by w (places_held (parts_of hands)) ≡ names_weight w hands + sum_by w (flat_map places_in hands.transactions)
+  hands_weight w hands = sum_by-append w (flat_map place_of hands.names) (flat_map places_in hands.transactions)
 
   -- what a call brings was in the hands
-  forms_brought : (pictures : ℕ → Picture) (s : Step) (before taken : Hands B) (asking : Asking B) → FormsCall pictures s before taken asking → AreIn (brought_rights asking.call) (rights_of (parts_of before))
-  forms_brought pictures s before taken asking forms turn there =
-      let counts = counted turn (brought_rights asking.call) there in
-      let sum = (forms_sum (is_turn turn) pictures s before taken asking forms).names in
-      Contains-append_left (flat_map right_of before.names) (flat_map rights_in before.transactions) turn
-      (found turn (flat_map right_of before.names) (omega (arith, counts, sum)))
+  forms_brought : (pictures : ℕ → Picture) (s : Step) (before taken : Hands B) (asking : Asking B) → FormsCall pictures s before taken asking → AreIn (brings asking) (places_held (parts_of before))
+  forms_brought pictures s before taken asking forms right there =
+      let counts = counted_at right (brings asking) there in
+      let sum = (forms_sum (is_right right) pictures s before taken asking forms).names in
+      Contains-append_left (flat_map place_of before.names) (flat_map places_in before.transactions) right
+      (found_right right (flat_map place_of before.names) (omega (arith, counts, sum)))
 
   -- what hands hold after a call's tokens were taken out and others put in
-  pub forms_then : (w : Turn → ℕ) (pictures : ℕ → Picture) (s : Step) (before taken after : Hands B) (asking : Asking B) (given : Gives B) (spare : Option PermitView) → FormsCall pictures s before taken asking
-      → after ≡ with_spare (placed asking.homes taken given) spare → sum_by w (rights_of (parts_of after)) + sum_by w (brought_rights asking.call) ≤ sum_by w (rights_of (parts_of before)) + sum_by w (given_rights given)
-  forms_then w pictures s before taken after asking given spare forms same =
+  pub forms_then : (w : RightAt → ℕ) (pictures : ℕ → Picture) (s : Step) (before taken after : Hands B) (asking : Asking B) (given : Gives B) (spare : Option PermitView) → FormsCall pictures s before taken asking
+      → FitsLoose asking.homes (from_of asking) asking.call given → after ≡ with_spare (placed asking.homes taken given) spare
+      → sum_by w (places_held (parts_of after)) + sum_by w (brings asking) ≤ sum_by w (places_held (parts_of before)) + sum_by w (given_at (from_of asking) asking.call given)
+  forms_then w pictures s before taken after asking given spare forms fits same =
       let sum = forms_sum w pictures s before taken asking forms in
       let names = sum.names in
-      let most = given_most w asking.homes taken given spare in
+      let most = given_most w asking.homes taken (from_of asking) asking.call given spare fits in
       let a = hands_weight w before in
       let b = hands_weight w after in
       let c = ap (names_weight w) same in
-      let d = ap (λ (hands : Hands B). sum_by w (flat_map rights_in hands.transactions)) same in
-      let e = ap (λ xs. sum_by w (flat_map rights_in xs)) (given_transactions asking.homes taken given spare) in
-      let f = ap (λ xs. sum_by w (flat_map rights_in xs)) sum.transactions in
+      let d = ap (λ (hands : Hands B). sum_by w (flat_map places_in hands.transactions)) same in
+      let e = ap (λ xs. sum_by w (flat_map places_in xs)) (given_transactions asking.homes taken given spare) in
+      let f = ap (λ xs. sum_by w (flat_map places_in xs)) sum.transactions in
       omega (arith, names, most, a, b, c, d, e, f)
 
 module _ {B : Type 0} (pictures : ℕ → Picture) (home : DeskHome) (place : ℕ) (s : Step) (came_to : Tried) (before after : Hands B) (old new : State B) (tries : TriesIn pictures home place s came_to before after old new) where
@@ -137,12 +143,27 @@ module _ {B : Type 0} (pictures : ℕ → Picture) (home : DeskHome) (place : �
     pub forms : FormsCall pictures s before taken asking
     pub unrefused : refusal_of pictures (holdings_of before) s ≡ None
     pub calls : Calls home by number asking taken called from new.view reply
-    pub dropped : (w : Turn → ℕ) → sum_by w (rights_of (parts_of after)) ≤ sum_by w (rights_of (parts_of called))
+    pub dropped : (w : RightAt → ℕ) → sum_by w (places_held (parts_of after)) ≤ sum_by w (places_held (parts_of called))
     pub owed : Gets (hands_owe called) [] (hands_owe after)
     pub tells : TellsCall
 
-  pub call_done : (from : DeskView B) (taken called : Hands B) (asking : Asking B) (reply : QReply B) → CallsFrom from taken called asking reply → IsLedger (ledger_of old) → IsLedger (ledger_of new)
-  call_done from taken called asking reply made is = call_keeps old new by asking.queue.0 number asking.call reply step is
+  pub call_done : (from : DeskView B) (taken called : Hands B) (asking : Asking B) (reply : QReply B) → CallsFrom from taken called asking reply → IsLedger (ledger_of old) → Went s before number old new
+  call_done from taken called asking reply made is = record {
+    ledger = call_keeps old new by asking.queue.0 number asking.call reply step is;
+    places = inl (record {
+      queue = asking.queue.0;
+      asked = asking.call;
+      reply = reply;
+      from = from_of asking;
+      made = record {
+        call = step;
+        brought = brought;
+        held = held;
+        owed = λ write there. written_first write (Contains-append_cases (owes_at asking.homes reply.gives) (places_of old).owed write (owes.no_others write there));
+      };
+      attached = λ stay attached. attaches pictures s before taken asking made.forms (fits.attach attached) stay;
+    });
+  }
     where
       once : CallsOnce home.marks old.view.calls new.view.calls by asking.queue.0 number asking.call reply
       once = calls_once from asking reply taken called made.here made.calls
@@ -169,32 +190,45 @@ module _ {B : Type 0} (pictures : ℕ → Picture) (home : DeskHome) (place : �
       none = none_sent pictures home place s came_to before after old new tries
           (ended.2 ∙ ap (λ (view : DeskView B). view.arrivals) made.calls.made.changes.same ∙ made.here.arrivals)
 
-      held : HasAtMost (rights_held old ++ given_rights reply.gives) (brought_rights asking.call) [] (rights_held new)
+      fits : Fits asking.homes mark.queue asking.call told reply.gives
+      fits = fits_reply asking.homes mark.queue asking.call told reply once_old.replied.answer (forms_lease pictures s before taken asking made.forms)
+
+      brought : AreIn (brings asking) (places_out old)
+      brought right there = held_there pictures home place s came_to before after old new tries right (forms_brought pictures s before taken asking made.forms right there)
+
+      held : HasAtMost (places_out old ++ given_at (from_of asking) asking.call reply.gives) (brings asking) [] (places_out new)
       held w =
           let all = held_sum pictures home place s came_to before after old new tries w in
-          let nothing = ap (λ (xs : List (Arrival ReadLeaseOf)). sum_by w (flat_map rights_arrived xs)) none in
-          let hands = forms_then w pictures s before taken called asking reply.gives reply.spare made.forms made.calls.hands in
+          let nothing = ap (λ (xs : List (Arrival ReadLeaseOf)). sum_by w (flat_map places_arrived xs)) none in
+          let hands = forms_then w pictures s before taken called asking reply.gives reply.spare made.forms fits.loose made.calls.hands in
           let less = made.dropped w in
-          let joined = sum_by-append w (rights_held old) (given_rights reply.gives) in
+          let joined = sum_by-append w (places_out old) (given_at (from_of asking) asking.call reply.gives) in
           omega (arith, all, nothing, hands, less, joined)
 
-      called_owes : Gets (hands_owe taken) (owes_by reply.gives) (hands_owe called)
-      called_owes = subst (λ (hands : Hands B). Gets (hands_owe taken) (owes_by reply.gives) (hands_owe hands)) (sym made.calls.hands)
+      called_owes : Gets (hands_owe taken) (owes_at asking.homes reply.gives) (hands_owe called)
+      called_owes = subst (λ (hands : Hands B). Gets (hands_owe taken) (owes_at asking.homes reply.gives) (hands_owe hands)) (sym made.calls.hands)
           (elim (forms_free pictures s before taken asking made.forms made.unrefused tries.ranges tries.wide) [
             | inl quiet ↦ nothing_owes asking.homes taken reply.gives reply.spare (quiet.0 mark.queue told reply once_old.replied.answer)
             | inr free ↦ given_owes asking.homes taken reply.gives reply.spare free
           ])
 
-      after_called : (more : List Write) → Gets (hands_owe taken) more (hands_owe called) → Gets (hands_owe taken) more (hands_owe after)
+      after_called : (more : List WriteAt) → Gets (hands_owe taken) more (hands_owe called) → Gets (hands_owe taken) more (hands_owe after)
       after_called more gets = record {
         no_others = λ x there. gets.no_others x (made.owed.no_others x there);
         all = λ x there. made.owed.all x (gets.all x there);
       }
 
+      owes : Gets (places_of old).owed (owes_at asking.homes reply.gives) (places_of new).owed
+      owes = owed_get pictures home place s came_to before after old new tries (owes_at asking.homes reply.gives)
+          (gets_more (hands_owe before) (owes_at asking.homes reply.gives) (hands_owe taken) (hands_owe after) (forms_owe pictures s before taken asking made.forms) (after_called (owes_at asking.homes reply.gives) called_owes))
+
       owed : Gets (all_owed old) (owed_by (move_on old.marks old.view.calls by asking.queue.0 asking.call)) (all_owed new)
-      owed = subst (λ (more : List Write). Gets (all_owed old) more (all_owed new)) (owes_are mark.queue asking.call told reply once_old.replied.answer)
-          (owed_get pictures home place s came_to before after old new tries (owes_by reply.gives)
-          (gets_more (hands_owe before) (owes_by reply.gives) (hands_owe taken) (hands_owe after) (forms_owe pictures s before taken asking made.forms) (after_called (owes_by reply.gives) called_owes)))
+      owed = subst (λ (more : List Write). Gets (all_owed old) more (all_owed new)) (owes_writes asking.homes reply.gives ∙ owes_are mark.queue asking.call told reply once_old.replied.answer)
+          (owed_gets old new (owes_at asking.homes reply.gives) owes)
+
+      written_first : (write : WriteAt) → Contains (owes_at asking.homes reply.gives) write ⊎ Contains (places_of old).owed write → Contains (place_written mark.queue asking.call told ++ (places_of old).owed) write
+      written_first write (inl now) = Contains-append_left (place_written mark.queue asking.call told) (places_of old).owed write (fits.owed write now)
+      written_first write (inr was) = Contains-append_right (place_written mark.queue asking.call told) (places_of old).owed write was
 
       left : Gets old.view.turns.leaves (ended_by (move_on old.marks old.view.calls by asking.queue.0 asking.call)) new.view.turns.leaves
       left = subst (λ (xs : List Turn). Gets xs (ended_by (move_on old.marks old.view.calls by asking.queue.0 asking.call)) new.view.turns.leaves)
@@ -221,8 +255,8 @@ module _ {B : Type 0} (pictures : ℕ → Picture) (home : DeskHome) (place : �
       step = record {
         marks = tries.marks_new ∙ sym tries.marks_old;
         once = once_old;
-        brought = λ turn there. held_there pictures home place s came_to before after old new tries turn (forms_brought pictures s before taken asking made.forms turn there);
-        held = held;
+        brought = brought_held old (from_of asking) asking.call brought;
+        held = held_turns old new (from_of asking) asking.call reply.gives held;
         owed = owed;
         left = left;
         written = wrote;

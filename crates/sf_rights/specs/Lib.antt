@@ -1,10 +1,17 @@
 pub mod Actors
 pub mod Calls
+pub mod InTurn
 pub mod Ledgers
 pub mod Looks
+pub mod MakerCalls
+pub mod MakerRuns
+pub mod MakerSteps
+pub mod Makers
 pub mod Moves
 pub mod Older
 pub mod Owed
+pub mod PlaceTries
+pub mod Places
 pub mod Queuing
 pub mod Slots
 pub mod Stays

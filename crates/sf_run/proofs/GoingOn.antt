@@ -112,7 +112,7 @@ module _ {L : Type 0} where
 
 module _ (scene : SceneValue) where
   -- each turn can be taken
-  turn_taken : (pick : ℕ) (world : World) → (turn : Turn) × TakesTurn scene pick world turn
+  pub turn_taken : (pick : ℕ) (world : World) → (turn : Turn) × TakesTurn scene pick world turn
   turn_taken zero world =
       let r = round_now scene world in
       let end = decides (is_written (written_in scene world.run)) (final_values scene world.run) ((world.vsyncs + 1) * scene.period) (length r.pending) r (omega arith) in

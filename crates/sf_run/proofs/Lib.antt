@@ -7,6 +7,7 @@ pub mod Computed
 pub mod DecidingLemmas
 pub mod Desking
 pub mod EndLemmas
+pub mod Ending
 pub mod Fitting
 pub mod FramingLemmas
 pub mod Freedom
@@ -38,3 +39,5 @@ pub mod Stopping
 pub mod Taking
 pub mod Tracing
 pub mod VsyncLemmas
+pub mod Weighing
+pub mod Working

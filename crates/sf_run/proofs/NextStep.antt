@@ -1,9 +1,10 @@
 -- A step that an actor does over an exact desk is one step more of the run that is told.
-use Rattle.std.proofs.Common.{◌≡◌, ◌≢◌, ℕ, zero, suc, ◌+◌, ◌<◌, ◌≤◌, ◌==◌, Bool, true, false, List, [], ◌∷◌, ◌++◌, length, set, map, filter, Option, Some, None, refl, sym, ap, ◌∙◌, subst, true≢false, inl, inr, arith}
+use Rattle.std.proofs.Common.{◌≡◌, ◌≢◌, ℕ, zero, suc, ◌+◌, ◌<◌, ◌≤◌, ◌==◌, Bool, true, false, ◌||◌, List, [], ◌∷◌, ◌++◌, length, set, map, filter, Option, Some, None, refl, sym, ap, ◌∙◌, subst, true≢false, inl, inr, arith}
 use Rattle.std.specs.Prelude.{◌⊎◌, All, Contains, if◌then◌else◌, slice_get}
 use Rattle.std.specs.List.{find, list_any, range_with_len}
 use Rattle.std.specs.List.Sorted.{IsPermutation, IsStrictlyIncreasing}
-use Rattle.std.specs.Option.{option_map_or}
+use Rattle.std.specs.Option.{option_map, option_map_or}
+use Rattle.std.proofs.Math.ListN.{get_or-map}
 use Rattle.std.proofs.lemmas.Bool.{cases_eq, eq-eqb, eqb-true, ne_eqb, or_parts}
 use Rattle.std.proofs.lemmas.List.{append_cancel_left, length-map, map-append}
 use Rattle.std.proofs.lemmas.List.Elements.{All-cons, All-contains, All-head, All-map, All-nil, All-tail, All-weaker}
@@ -19,7 +20,11 @@ use Rattle.sf_slots.specs.declared.calls.PlainReply.TheVariants as reply'
 use Rattle.sf_slots.specs.declared.calls.Entry.{Entry}
 use Rattle.sf_surface.specs.Calls.{told_call}
 use Rattle.sf_surface.specs.Histories.{Made, told, told_entry}
-use Rattle.sf_surface.specs.Tokens.{ReadLeaseOf}
+use Rattle.sf_surface.specs.Drawing.{MayEnter}
+use Rattle.sf_surface.specs.Calls.{write_token}
+use Rattle.sf_surface.specs.Tokens.{ReadLeaseOf, WriteLeaseOf, turn_of}
+use Rattle.sf_surface.specs.declared.work.Work.{Work}
+use Rattle.sf_surface.specs.declared.work.Work.TheVariants as work
 use Rattle.sf_surface.specs.declared.call.QCall.TheVariants as call
 use Rattle.sf_surface.specs.declared.call.QReply.{QReply}
 use Rattle.sf_surface.specs.declared.mark.QueueMark.{QueueMark}
@@ -28,16 +33,23 @@ use Rattle.sf_scene.specs.Limits.{IsWithinLimits}
 use Rattle.sf_scene.specs.Scene.{SceneValue, has_queue}
 use Rattle.sf_scene.specs.declared.declarations.QueueDecl.{QueueDecl}
 use Rattle.sf_scene.specs.declared.step.ActorScript.{ActorScript}
+use Rattle.sf_scene.specs.declared.step.Step.{Step}
+use Rattle.sf_scene.specs.declared.step.Step.TheVariants as step
 use Rattle.sf_actor.specs.declared.done.Done.{Done}
 use Rattle.sf_actor.specs.declared.tried.Reply.{Reply as Told}
+use Rattle.sf_actor.specs.declared.done.Answered.TheVariants as answered
+use Rattle.sf_actor.specs.declared.holding.Holding.{Holding}
+use Rattle.sf_actor.specs.declared.holding.Holding.TheVariants as holding
 use Rattle.sf_actor.specs.Desks.{DeskHome, DeskView, KnowsAll, MadeCall, known_of, mark_among}
 use Rattle.sf_actor.specs.Known.{AreAmong, GoesOn, frame_of, is_sent_by, plain_arrival}
-use Rattle.sf_actor.specs.Names.{FrameOf, Holdings}
-use Rattle.sf_actor.specs.Points.{detached_fence}
+use Rattle.sf_actor.specs.Names.{FrameOf, Holdings, Lent, Token, name_in}
+use Rattle.sf_actor.specs.Parts.{drawn_picture, token_of}
+use Rattle.sf_actor.specs.Points.{detached_fence, undrawn_fence}
+use Rattle.sf_actor.specs.Rights.{turn_by}
 use Rattle.sf_actor.specs.Scripts.{picture_at}
 use Rattle.sf_actor.specs.Tests.{refusal_of}
 use Rattle.sf_actor.specs.Traces.{past_after}
-use Rattle.sf_actor.specs.Tries.{ActorOf, DoesStep}
+use Rattle.sf_actor.specs.Tries.{ActorOf, DoesStep, DrawsHeld, DrawsIn, Keeps, SeesSignalled, held_in}
 use Rattle.sf_actor.specs.Values.{reply_at}
 use Rattle.sf_record.specs.declared.event.Event.TheVariants as event
 use Rattle.sf_record.specs.declared.event.VsyncReport.{VsyncReport}
@@ -45,15 +57,16 @@ use Rattle.sf_run.specs.Actors.{AreActors, AreCalls, arrivals_of, mark_declared,
 use Rattle.sf_run.specs.Arrivals.{number_of as number_shown}
 use Rattle.sf_run.specs.Histories.{Released}
 use Rattle.sf_run.specs.Runs.{IsTraced, final_values, signals_in}
-use Rattle.sf_run.specs.Stepping.{CallsMore, DoesOneMore, DrawsInTime, KnowsRun, RefusesOpen}
+use Rattle.sf_run.specs.Stepping.{CallsMore, DoesOneMore, DrawsInTime, KnowsRun, RefusesOpen, TellsFirst}
 use Rattle.sf_run.specs.Telling.{AreNumbered, place_of}
 use Rattle.sf_run.specs.Replies.{reply_shown}
-use Rattle.sf_run.specs.Worlds.{World, actor_turn, at_now, release_asked, reply_now, reply_on, with_call, with_list}
+use Rattle.sf_run.specs.Stuck.{draw_waits, has_older, has_open_point, holdings_at_end}
+use Rattle.sf_run.specs.Worlds.{World, actor_turn, answer_tested, at_now, done_now, release_asked, reply_now, reply_on, with_call, with_list}
 use Rattle.sf_run.proofs.Advancing.{released_token}
 use Rattle.sf_run.proofs.AsQueued.{one_passes}
 use Rattle.sf_run.proofs.Keeping.{got_has, set_has}
 use Rattle.sf_run.proofs.Members.{has_cases, has_first, has_found, has_map, has_none}
-use Rattle.sf_run.proofs.SteppingLemmas.{in_time, turn_is}
+use Rattle.sf_run.proofs.SteppingLemmas.{done_is, in_time, none_open, turn_is}
 use Rattle.sf_run.proofs.Stopping.{final_is}
 use Rattle.sf_run.proofs.Tracing.{are_traced, head_apart, played_by, rising_later, told_legal, trace_here}
 
@@ -156,6 +169,10 @@ script_of_number {B} scene ofs home view old actors there =
     let same = same_member ofs by.of old actors.apart by.there there (ap (λ (s : ActorScript). s.number) by.is ∙ eqb-true found.one.number number found.passes) in
     found.found ∙ ap (λ (s : ActorScript). Some s) (sym by.is ∙ ap (λ (of : ActorOf B). of.script) same)
 
+-- a buffer that is lent, with what was drawn
+abbrev token_with : WriteLeaseOf → Work → Token
+token_with lease w = Lent lease.queue (write_token lease.queue lease) (drawn_picture w)
+
 module _ {B : Type 0} (scene : SceneValue) (ofs : List (ActorOf B)) (home : DeskHome) (before after : DeskView B) (place : ℕ) (old new : ActorOf B) (reply : Told) (reports : List VsyncReport) (vsyncs : ℕ)
     (limits : IsWithinLimits scene) (exact : home.is_exact ≡ true) (here : slice_get ofs place ≡ Some old) (does : DoesStep (picture_at scene.pictures) home old before new after reply)
     (was : KnowsRun scene ofs home before) (is : KnowsRun scene (set ofs place new) home after) (calls : AreCalls scene (set ofs place new) home after) (numbered : AreNumbered after.arrivals) where
@@ -254,12 +271,59 @@ module _ {B : Type 0} (scene : SceneValue) (ofs : List (ActorOf B)) (home : Desk
   reply_is : reply_at number (at_now world old.script does.done) ≡ reply
   reply_is = ap (λ (t : List Done). reply_at number (record { place = length t + 1; past = past_after t; done = does.done })) traced ∙ sym does.replied
 
+  -- a draw that is done: its fence was signalled
+  answered_zero : (name picture : ℕ) → does.done.step ≡ step.Draw name picture → refusal_of (picture_at scene.pictures) (holdings_at_end world.run old.script) (step.Draw name picture) ≡ None
+      → does.done.answered ≡ answered.Own 0
+  unfolding done_now
+  answered_zero name picture is unrefused =
+      sym (ap (λ (d : Done). d.answered) (done_is scene world old.script does.done (run_of (set ofs place new) home after) since does_one_more))
+      ∙ ((λ i. answer_tested scene world old.script (is i) (refusal_of (picture_at scene.pictures) (holdings_at_end world.run old.script) (is i)))
+      ∙ ap (answer_tested scene world old.script (step.Draw name picture)) unrefused)
+
+  closed : (fence : Fence) → SeesSignalled home before after fence → has_open_point (final_values scene world.run) fence ≡ false
+  closed fence sees =
+      let final = final_is scene ofs home before sees.0 limits was.actors was.signals sees.1.all (sees.1.exact exact) in
+      ap (λ (seen : Seen). has_open_point seen fence) final ∙ none_open fence sees.0 sees.1.all sees.2
+
+  in_turn : (fence : Fence) (token : Token) → SeesSignalled home before after fence → has_older scene world.run token ≡ false
+      → (has_open_point (final_values scene world.run) fence || has_older scene world.run token) ≡ false
+  in_turn fence token sees none = λ i. closed fence sees i || none i
+
+  module _ (first : TellsFirst scene (run_of ofs home before) old before) where
+    by_held : (name : ℕ) (o : Option (Holding B)) → held_in old.parts name ≡ o → DrawsHeld home before after o
+        → draw_waits scene world.run (option_map token_of o) (undrawn_fence (option_map token_of o)) ≡ false
+    by_held name (Some (holding.Lends lease)) here draws = by_work lease.work refl draws
+      where
+        by_work : (w : Work) → lease.work ≡ w → DrawsIn home before after lease.fence w → draw_waits scene world.run (Some (token_with lease w)) (undrawn_fence (Some (token_with lease w))) ≡ false
+        by_work (work.Fresh turn) same draws =
+            in_turn lease.fence (token_with lease (work.Fresh turn)) draws.0
+            (ap (λ (w : Work). has_older scene world.run (token_with lease w)) (sym same)
+            ∙ first.none name (holding.Lends lease) after.turns here
+            (subst (λ (w : Work). MayEnter (turn_by (turn_of w)).0 (turn_by (turn_of w)).1 before.turns after.turns) (sym same) draws.1))
+        by_work (work.Drawn inside pixels) same draws = refl
+    by_held name (Some (holding.Owes owing held)) here draws =
+        in_turn owing.fence (token_of {B = B} (holding.Owes owing held)) draws.0 (first.none name (holding.Owes owing held) draws.1.0 here draws.1.1)
+    by_held name other here draws = absurd draws
+
+    pub draws_now : DrawsInTime scene world old.script does.done.step
+    draws_now = by_step does.done.step refl
+      where
+        by_step : (s : Step) → does.done.step ≡ s → DrawsInTime scene world old.script s
+        by_step (step.Draw name picture) is = λ unrefused.
+            let keeps = All-contains (λ (of : ActorOf B). Keeps (picture_at scene.pictures) home of before) ofs old was.actors.keep there in
+            let named : name_in (holdings_at_end world.run old.script) name ≡ option_map token_of (held_in old.parts name) =
+            ap (λ (t : List Done). name_in (past_after t).holdings name) traced
+            ∙ (ap (λ (h : Holdings). name_in h name) (sym keeps.kept.has) ∙ get_or-map (option_map token_of) old.parts.names name None) in
+            subst (λ (o : Option Token). draw_waits scene world.run o (undrawn_fence o) ≡ false) (sym named)
+            (by_held name (held_in old.parts name) refl (does.entered name picture is (answered_zero name picture is unrefused)))
+        by_step s is = tt
+
   -- so it is the actor's next turn of the play
-  pub desk_turn : DrawsInTime scene world old.script does.done.step
+  pub desk_turn : TellsFirst scene (run_of ofs home before) old before
       → actor_turn scene number world ≡ record { events = event.Reply (reply_shown reply) ∷ []; world = record world { run = run_of (set ofs place new) home after; arrivals = arrivals_of after } }
-  desk_turn draws =
+  desk_turn first =
       turn_is scene world old.script does.done (run_of (set ofs place new) home after) since does_one_more script_found
-      (in_time scene world old.script does.done (run_of (set ofs place new) home after) since does_one_more draws)
+      (in_time scene world old.script does.done (run_of (set ofs place new) home after) since does_one_more (draws_now first))
       ∙ (λ i. record { events = event.Reply (reply_shown (reply_is i)) ∷ []; world = record world { run = run_of (set ofs place new) home after; arrivals = arrivals_are i } })
 
 -- a release by the compositor is a call that is made now

@@ -50,7 +50,7 @@ module _ (scene : SceneValue) where
   on_same playing [] None next other on also = on ∙ sym also
   on_same playing [] (Some before) next other on also = on.1 ∙ sym also.1
 
-  over_stays : (playing next : Playing) → IsOver scene playing → GoesOnTo scene playing next → ⊥
+  pub over_stays : (playing next : Playing) → IsOver scene playing → GoesOnTo scene playing next → ⊥
   over_stays playing next over on =
       let by_round = subst (λ o. GoesOnWith scene playing playing.left o next) over.round on in
       let ended = subst (λ left. GoesOnWith scene playing left (Some over.before) next) over.none_left by_round in

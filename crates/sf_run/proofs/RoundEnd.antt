@@ -24,7 +24,7 @@ use Rattle.sf_run.specs.Progress.{is_time, released_by}
 use Rattle.sf_run.specs.Runs.{final_values, written_in}
 use Rattle.sf_run.specs.Worlds.{IsPlaysVsync, World, after_vsync, release_asked, report_of, reports_if, reports_of, round_now, with_calls}
 
-begins_bare : (scene : SceneValue) (world : World) → (round_now scene world).stage.commits ≡ []
+pub begins_bare : (scene : SceneValue) (world : World) → (round_now scene world).stage.commits ≡ []
 unfolding round_now
 begins_bare scene world = refl
 
@@ -33,7 +33,7 @@ unfolding round_now
 begins_whole scene world = refl
 
 -- it reads the arrivals and the reports alone
-round_same : (scene : SceneValue) (world : World) (number : ℕ) → round_now scene (record world { vsyncs = number }) ≡ round_now scene world
+pub round_same : (scene : SceneValue) (world : World) (number : ℕ) → round_now scene (record world { vsyncs = number }) ≡ round_now scene world
 unfolding round_now
 round_same scene world number = refl
 

@@ -119,6 +119,22 @@ not_open fence seen long signalled =
     (let at : k + 1 - 1 ≡ k = omega arith in
     subst (λ n. get_or fence.values n 0 ≤ get_or seen.values n 0) at (signalled (k + 1) (omega arith) (omega (arith, long, in'))))))
 
+-- nor has one, where 64 values are seen
+none_seen : (t : ℕ) (vs ss : List ℕ) → ((k : ℕ) → k < length ss → get_or vs k 0 ≤ get_or ss k 0) → open_from t vs ss ≡ None
+unfolding open_from
+none_seen t [] ss less = refl
+none_seen t (v ∷ vs) [] less = refl
+none_seen t (v ∷ vs) (s ∷ ss) less =
+    let here : v ≤ s = less 0 (omega arith) in
+    rw (le-leb v s here) (none_seen (t + 1) vs ss (λ k in'. less (suc k) (omega (arith, in'))))
+
+pub none_open : (fence : Fence) (seen : Seen) → length seen.values ≡ 64 → IsSignalled fence seen → has_open_point seen fence ≡ false
+unfolding first_open_of
+none_open fence seen long signalled =
+    ap (λ o. is_some o) (none_seen 1 fence.values seen.values (λ k in'.
+    (let at : k + 1 - 1 ≡ k = omega arith in
+    subst (λ n. get_or fence.values n 0 ≤ get_or seen.values n 0) at (signalled (k + 1) (omega arith) (omega (arith, long, in'))))))
+
 one_long : (t v : ℕ) → length (with_point no_points t v).values ≡ 64
 unfolding with_point no_points
 one_long t v = length-set (replicate 64 0) (t - 1) (max (get_or (replicate 64 0) (t - 1) 0) v)

@@ -4,6 +4,7 @@ pub mod Arrivals
 pub mod Brought
 pub mod Buffers
 pub mod Commits
+pub mod Ends
 pub mod Examples
 pub mod Frames
 pub mod Framing

@@ -5,7 +5,9 @@ use Rattle.sf_base.specs.Fences.{IsSignalled}
 use Rattle.sf_base.specs.declared.fences.Fence.{Fence}
 use Rattle.sf_slots.specs.Tells.{AreReplies}
 use Rattle.sf_slots.specs.declared.calls.Entry.{Entry}
+use Rattle.sf_surface.specs.Drawing.{MayEnter}
 use Rattle.sf_token.specs.Pending.{Arrival}
+use Rattle.sf_turns.specs.Views.{SeatView}
 use Rattle.sf_scene.specs.Scene.{SceneValue, has_queue}
 use Rattle.sf_scene.specs.declared.declarations.QueueDecl.{QueueDecl}
 use Rattle.sf_scene.specs.declared.step.ActorScript.{ActorScript}
@@ -13,18 +15,20 @@ use Rattle.sf_scene.specs.declared.step.Step.{Step}
 use Rattle.sf_scene.specs.declared.step.Step.TheVariants as step
 use Rattle.sf_actor.specs.declared.done.Answered.TheVariants as answered
 use Rattle.sf_actor.specs.declared.done.Done.{Done}
+use Rattle.sf_actor.specs.declared.holding.Holding.{Holding}
 use Rattle.sf_actor.specs.Desks.{DeskHome, DeskView, KnowsAll}
 use Rattle.sf_actor.specs.Known.{AreAmong}
 use Rattle.sf_actor.specs.Makers.{Run}
 use Rattle.sf_actor.specs.Names.{FrameOf, name_in}
+use Rattle.sf_actor.specs.Parts.{token_of, turn_held}
 use Rattle.sf_actor.specs.Points.{detached_fence, undrawn_fence}
 use Rattle.sf_actor.specs.Scripts.{picture_at}
 use Rattle.sf_actor.specs.Tests.{bad_value, refusal_of}
-use Rattle.sf_actor.specs.Tries.{ActorOf}
+use Rattle.sf_actor.specs.Tries.{ActorOf, held_in}
 use Rattle.sf_run.specs.Actors.{AreActors, run_of}
 use Rattle.sf_run.specs.Arrivals.{number_of}
 use Rattle.sf_run.specs.Runs.{IsTraced, final_values, signals_in}
-use Rattle.sf_run.specs.Stuck.{draw_waits, holdings_at_end}
+use Rattle.sf_run.specs.Stuck.{draw_waits, has_older, holdings_at_end}
 use Rattle.sf_run.specs.Worlds.{World, with_list}
 
 -- the calls on a queue are more, and the later ones are all of this caller
@@ -66,3 +70,8 @@ pub record KnowsRun {B : Type 0} (scene : SceneValue) (ofs : List (ActorOf B)) (
   pub actors : AreActors scene ofs home view
   pub knows : KnowsAll view
   pub signals : AreAmong view.times.signals (signals_in scene (run_of ofs home view))
+
+-- where a look shows that all earlier turns at the pixels have left, no older draw is owed
+pub record TellsFirst {B : Type 0} (scene : SceneValue) (run : Run) (of : ActorOf B) (view : DeskView B) : Type 0 where
+  pub none : (name : ℕ) (held : Holding B) (now : SeatView) → held_in of.parts name ≡ Some held
+      → MayEnter (turn_held held).0 (turn_held held).1 view.turns now → has_older scene run (token_of held) ≡ false

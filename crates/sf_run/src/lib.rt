@@ -26,7 +26,9 @@ pub use handlers::{
 pub use laws::{
     a_queue_is_told, replaced_frames_go_back, the_least_run_is_played, the_order_of_replies_is_free,
 };
-pub use ongoing::a_play_goes_on;
+pub use ongoing::{
+    a_play_ends, a_play_goes_on, a_play_has_records, a_scene_has_a_play, play_records_are_one,
+};
 pub use plays::{
     a_done_step_is_a_turn, a_release_is_the_plays, a_scene_has_one_play,
     a_step_is_the_next_of_a_play, a_vsync_is_the_next_of_a_play, the_least_scene_has_a_play,

@@ -32,7 +32,7 @@ ghost use Rattle.sf_run.specs.Plays.{Comes, GoesOnTo, IsBegun, IsPlay, Playing};
 ghost use Rattle.sf_run.specs.Progress.{HasPlayed, ShowsWhatIsWritten};
 ghost use Rattle.sf_run.specs.Replies.{reply_shown};
 ghost use Rattle.sf_run.specs.Runs.{final_values, written_in};
-ghost use Rattle.sf_run.specs.Stepping.{DoesOneMore, DrawsInTime, KnowsRun};
+ghost use Rattle.sf_run.specs.Stepping.{DoesOneMore, DrawsInTime, KnowsRun, TellsFirst};
 ghost use Rattle.sf_run.specs.Stuck.{IsNotReady, next_step};
 ghost use Rattle.sf_run.specs.Telling.{AreNumbered};
 ghost use Rattle.sf_run.specs.Worlds.{IsPlaysVsync, World, actor_turn, at_now, idle, release_asked, with_call};
@@ -84,17 +84,17 @@ pub fn a_step_is_the_next_of_a_play()
         → IsNotReady scene world.run script (Some s) → actor_turn scene script.number world ≡ idle world }
 {}
 
-/// Over an exact desk a step that an actor does is its next turn of the play, where the turn of a draw
-/// has come.
+/// Over an exact desk a step that an actor does is its next turn of the play, where a buffer whose
+/// earlier turns have all left has no older draw that is owed.
 pub fn a_done_step_is_a_turn<B: TableName>()
     ensures { (scene : SceneValue) (ofs : List (ActorOf B)) (home : DeskHome) (before after : DeskView B) (place : ℕ) (old new : ActorOf B) (reply : ReplyValue)
         (reports : List ReportValue) (vsyncs : ℕ)
-        → IsWithinLimits scene → home.is_exact ≡ true → slice_get ofs place ≡ Some old → (does : DoesStep (picture_at scene.pictures) home old before new after reply)
+        → IsWithinLimits scene → home.is_exact ≡ true → slice_get ofs place ≡ Some old → DoesStep (picture_at scene.pictures) home old before new after reply
         → KnowsRun scene ofs home before → KnowsRun scene (slice_set ofs place new) home after → AreCalls scene (slice_set ofs place new) home after
         → AreNumbered after.arrivals
+        → TellsFirst scene (run_of ofs home before) old before
         → let world : World = record { run = run_of ofs home before; arrivals = arrivals_of before; reports = reports; vsyncs = vsyncs } in
-        DrawsInTime scene world old.script does.done.step
-        → actor_turn scene old.script.number world ≡ record {
+        actor_turn scene old.script.number world ≡ record {
           events = event.Reply (reply_shown reply) ∷ [];
           world = record world { run = run_of (slice_set ofs place new) home after; arrivals = arrivals_of after };
         } }
