@@ -1,6 +1,6 @@
 ghost use Rattle.std.specs.Prelude.{◌≡◌, IfOk, if◌then◌else◌, is_ok, length};
 ghost use Rattle.std.specs.Io.{ReadsAtMost, WritesAtMost};
-ghost use Rattle.std.specs.Io.KnownBytes.{ReadConsumes, WriteAppends};
+ghost use Rattle.std.specs.Io.KnownBytes.{Keeps, ReadConsumes, WriteAppends};
 ghost use Rattle.sf_io.specs.Causes.{HasCause};
 ghost use Rattle.sf_io.specs.Memory.{next_count};
 
@@ -35,6 +35,20 @@ fn write_through<T: Write>(writer: &mut T, piece: &[u8]) -> Result<usize, Failed
             Ok(count) if count > 0 || piece.is_empty() => return Ok(count),
             Err(error) if error.kind() == ErrorKind::Interrupted => {}
             _ => return Err(Failed),
+        }
+    }
+    Err(Failed)
+}
+
+// One flush, tried again while signals interrupt it.
+fn flush_through<T: Write>(writer: &mut T) -> Result<(), Failed>
+    ensures bytes { Keeps (T.contents writer.old) (T.contents writer.new) }
+{
+    'tries: for _ in 0..u64::MAX {
+        match writer.flush() {
+            Ok(()) => return Ok(()),
+            Err(error) if error.kind() == ErrorKind::Interrupted => {}
+            Err(_) => return Err(Failed),
         }
     }
     Err(Failed)
@@ -115,6 +129,22 @@ impl<T: Write> WriteSink<T> {
         ensures { result ≡ record { bytes = T.contents inner; faults = 0 } }
     {
         WriteSink { inner, faults: 0 }
+    }
+
+    /// Has the writer hand on what it took and has not handed on yet, as a writer with a buffer does.
+    /// The count rises by one where that fails, and not else.
+    pub fn flush(&mut self) -> Result<(), Failed>
+        ensures bytes { Keeps self.old.bytes self.new.bytes }
+        ensures cause { HasCause self.old.faults self.new.faults result }
+        ensures counted { self.new.faults ≡ (if is_ok result then self.old.faults else next_count self.old.faults) }
+    {
+        match flush_through(&mut self.inner) {
+            Ok(()) => Ok(()),
+            Err(fault) => {
+                self.faults = self.faults.saturating_add(1);
+                Err(fault)
+            }
+        }
     }
 }
 

@@ -1,7 +1,6 @@
 -- The records of what a run shows, in order.
 use Rattle.std.specs.Prelude.{ℕ, List, [], ◌∷◌, ◌++◌, map, Option, None, Some}
 use Rattle.std.specs.List.{flat_map}
-use Rattle.first_script.specs.Scene.{SceneValue}
 use Rattle.sf_record.specs.declared.event.Event.{Event}
 use Rattle.sf_record.specs.declared.event.Event.TheVariants as event
 use Rattle.sf_record.specs.declared.event.VsyncReport.{VsyncReport}
@@ -31,13 +30,6 @@ event_records (event.Vsync report) = vsync_records report
 unfoldable pub events_records : List Event → List Record
 events_records events = flat_map event_records events
 
-abbrev pub opening : SceneValue → Record
-opening scene = rec.Scen (record { version = scene.version; width = scene.width; height = scene.height; period = scene.period })
-
 -- the records that end a run: the arrivals, the history of each queue, what is held and who is stuck
 abbrev pub closing : List ArrivalEntry → List QueueHistory → List HeldEntry → List StuckEntry → List Record
 closing arrivals histories held stuck = rec.Arrv arrivals ∷ (map rec.Hist histories ++ (rec.Hold held ∷ rec.Stuk stuck ∷ rec.Done ∷ []))
-
--- the records of a run: the scene's, those of replies and vsyncs as they come, and last those that end it
-abbrev pub run_records : SceneValue → List Event → List ArrivalEntry → List QueueHistory → List HeldEntry → List StuckEntry → List Record
-run_records scene events arrivals histories held stuck = (opening scene ∷ events_records events) ++ closing arrivals histories held stuck

@@ -1,5 +1,5 @@
 -- The bytes of records. All numbers are written with their highest byte first.
-use Rattle.std.specs.Prelude.{ℕ, ◌≤◌, List, [], ◌∷◌, ◌++◌, Option, length, codes, take}
+use Rattle.std.specs.Prelude.{ℕ, ◌≤◌, List, [], ◌∷◌, ◌++◌, Option, length, codes, drop, take}
 use Rattle.std.specs.Io.KnownBytes.{Appends}
 use Rattle.std.specs.List.{flat_map}
 use Rattle.byteorder.specs.Endian.{big_bytes}
@@ -90,6 +90,10 @@ body_of (rec.Sflt f) = u32_bytes f.line ++ u32_bytes f.word ++ u32_bytes f.cause
 -- the bytes of a record: its tag, the length of its body, and the body
 unfoldable pub record_bytes : Record → List ℕ
 record_bytes r = framed (tag_of r) (body_of r)
+
+-- the record of a frame by its body, which begins with its number
+abbrev pub frame_in : ℕ → List ℕ → Record
+frame_in number body = rec.Fram (record { number = number; pixels = drop 4 body })
 
 unfoldable pub bytes_of : List Record → List ℕ
 bytes_of records = flat_map record_bytes records

@@ -1,11 +1,11 @@
-ghost use Rattle.std.specs.Prelude.{◌≡◌, ◌<◌, ◌≤◌, ◌^◌, ◌++◌, ◌∷◌, [], All, List, ℕ, length, OnOk, OnErr, IfOk, IsErrOf};
+ghost use Rattle.std.specs.Prelude.{◌≡◌, ◌<◌, ◌≤◌, ◌^◌, ◌++◌, ◌∷◌, [], All, List, ℕ, length, take, OnOk, OnErr, IfOk, IsErrOf};
 ghost use Rattle.std.specs.Io.KnownBytes.{Appends};
 ghost use Rattle.std.specs.List.{flat_map};
 ghost use Rattle.sf_io.specs.Causes.{Rose};
 ghost use Rattle.sf_io.specs.Streams.{TookPrefix};
 ghost use Rattle.sf_record.specs.Fitting.{ArrivalFits, BufferFits, CallFits, CommitFits, FaultFits, Fits32, Fits64, FrameFits, HeldFits};
 ghost use Rattle.sf_record.specs.Fitting.{HistoryFits, ListFits, RecordFits, ReplyFits, SceneFits, StuckFits, TimelineFits, VsyncFits};
-ghost use Rattle.sf_record.specs.Records.{AppendsFirst, arrival_bytes, body_of, buffer_bytes, bytes_of, commit_bytes, held_bytes, history_entry_bytes, list_bytes};
+ghost use Rattle.sf_record.specs.Records.{AppendsFirst, arrival_bytes, body_of, buffer_bytes, bytes_of, commit_bytes, frame_in, held_bytes, history_entry_bytes, list_bytes};
 ghost use Rattle.sf_record.specs.Records.{record_bytes, reply_bytes, scene_bytes, stuck_bytes, tag_of, timeline_bytes, u32_bytes, u64_bytes, vsync_bytes};
 
 use crate::record::{
@@ -308,6 +308,27 @@ pub fn write_record<K: Sink>(alloc: Global, sink: &mut K, shown: &Record) -> Res
         return Err(RunFault::NoMemory);
     }
     match put(sink, tag(shown), &body) {
+        Ok(()) => Ok(()),
+        Err(_) => Err(RunFault::WriteFault),
+    }
+}
+
+/// Writes the record of a frame from its body, without a copy: the number of its vsync in four bytes,
+/// highest first, and then the pixels. Else it is as [`write_record`].
+#[tactic(auto, unfolding(crate::specs::Records::record_bytes, crate::specs::Records::body_of))]
+pub fn write_frame<K: Sink>(sink: &mut K, number: u32, body: &[u8]) -> Result<(), RunFault>
+    requires begins { take 4 body.now ≡ u32_bytes number }
+    ensures ok { OnOk result (Appends (K.taken sink.old) (K.taken sink.new) (record_bytes (frame_in number body.now))) }
+    ensures fits { OnOk result (RecordFits (frame_in number body.now)) }
+    ensures err { OnErr result (TookPrefix (K.taken sink.old) (K.taken sink.new) (record_bytes (frame_in number body.now))) }
+    ensures nothing { IsErrOf result RunFault.NoMemory → sink.new ≡ sink.old }
+    ensures later { K.faults sink.old ≤ K.faults sink.new }
+    ensures failed { IsErrOf result RunFault.WriteFault → Rose (K.faults sink.old) (K.faults sink.new) }
+{
+    if body.len() > u32::MAX as usize {
+        return Err(RunFault::NoMemory);
+    }
+    match put(sink, *b"FRAM", body) {
         Ok(()) => Ok(()),
         Err(_) => Err(RunFault::WriteFault),
     }

@@ -7,7 +7,7 @@ mod event;
 mod laws;
 mod record;
 
-pub use encode::{RunFault, write_all, write_record};
+pub use encode::{RunFault, write_all, write_frame, write_record};
 pub use event::{Event, VsyncReport, records};
 pub use laws::{bytes_determine_records, records_are_read_back};
 pub use record::{

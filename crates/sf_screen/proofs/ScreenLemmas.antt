@@ -1,5 +1,7 @@
 -- Frames of views, whole and composed again.
-use Rattle.std.proofs.Common.{◌≡◌, ℕ, ℤ, Ok, Err, Result, List, OnOk, pos, ◌∙◌}
+use Rattle.std.proofs.Common.{◌≡◌, ℕ, ◌-◌, ◌≤◌, ℤ, Ok, Err, Result, List, [], ◌++◌, OnOk, ap, arith, drop, length, length-append, length-drop, length-take, pos, take, ◌∙◌}
+use Rattle.std.proofs.lemmas.List.{append-nil, drop_all, drop_at, length-take-le, take_all, take_at}
+use borrow.Rule.Slice.PartMut.{post_of, put_mid}
 use Rattle.sf_base.specs.Geometry.{covers}
 use Rattle.sf_base.specs.declared.geometry.Rect.{Rect}
 use Rattle.sf_compose.specs.Again.{ShowsView}
@@ -50,3 +52,31 @@ pub shown_bytes : (picture : ℕ → Picture) (view : ViewOf) (frame : List ℕ)
 unfolding image_bytes
 shown_bytes picture view frame whole shown =
     frame-from frame (λ x y. view_image picture view (pos x) (pos y)) view.width view.height whole shown.pixels
+
+-- what is put behind the first four bytes, to the end
+pub put_behind : (xs ys : List ℕ) → 4 ≤ length xs → length ys ≡ length xs - 4 → put_mid 4 (length xs - 4) xs ys ≡ take 4 xs ++ ys
+put_behind xs ys room len =
+    let rest : post_of 4 (length xs - 4) xs ≡ [] = drop_all (length xs - 4) (drop 4 xs) (omega (arith, length-drop 4 xs)) in
+    ap (λ (l : List ℕ). take 4 xs ++ (ys ++ l)) rest ∙ ap (λ (l : List ℕ). take 4 xs ++ l) (append-nil ys)
+
+-- is there
+pub behind : (xs ys : List ℕ) → 4 ≤ length xs → length ys ≡ length xs - 4 → drop 4 (put_mid 4 (length xs - 4) xs ys) ≡ ys
+behind xs ys room len = ap (λ (l : List ℕ). drop 4 l) (put_behind xs ys room len) ∙ drop_at (take 4 xs) ys 4 (length-take-le 4 xs room)
+
+-- as many bytes as there were
+pub again_long : (xs ys : List ℕ) → length ys ≡ length (take (length xs - 4) (drop 4 xs)) → length ys ≡ length xs - 4
+again_long xs ys long = omega (arith, long, length-drop 4 xs, length-take (length xs - 4) (drop 4 xs))
+
+-- a part that goes to the end is all that is behind its beginning
+pub all_behind : (xs : List ℕ) → take (length xs - 4) (drop 4 xs) ≡ drop 4 xs
+all_behind xs = take_all (length xs - 4) (drop 4 xs) (omega (arith, length-drop 4 xs))
+
+-- what was composed behind the first four bytes of a block is there when the block is written back
+pub composed_behind : (xs ys old : List ℕ) (len : ℕ) → length xs ≡ len → 4 ≤ len → length ys ≡ len - 4
+    → drop 4 (take len (put_mid 4 (length xs - 4) xs ys ++ drop (length (put_mid 4 (length xs - 4) xs ys)) old)) ≡ ys
+composed_behind xs ys old len long room part =
+    let there = put_behind xs ys (omega (arith, long, room)) (omega (arith, long, part)) in
+    let put : length (put_mid 4 (length xs - 4) xs ys) ≡ len =
+    ap length there ∙ omega (arith, length-append (take 4 xs) ys, length-take-le 4 xs (omega (arith, long, room)), part, room) in
+    ap (λ (l : List ℕ). drop 4 l) (take_at (put_mid 4 (length xs - 4) xs ys) _ len put)
+    ∙ behind xs ys (omega (arith, long, room)) (omega (arith, long, part))

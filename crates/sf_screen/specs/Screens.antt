@@ -1,15 +1,20 @@
 -- What a display shows.
-use Rattle.std.specs.Prelude.{◌≡◌, ℕ, ◌*◌, List, length, pos, Option, IfSome}
+use Rattle.std.specs.Prelude.{◌≡◌, ℕ, ◌*◌, ◌≤◌, List, length, pos, Option, IfSome}
 use Rattle.sf_picture.specs.declared.picture.Picture.{Picture}
 use Rattle.sf_view.specs.Stacks.{view_image}
 use Rattle.sf_view.specs.Views.{ViewOf}
 use Rattle.sf_compose.specs.Again.{ShowsView}
 use Rattle.sf_compose.specs.Frames.{frame_bytes}
 
--- the view that was shown last, if one was, and its frame
+-- the view that was shown last, if one was, the number in front of its frame, and the frame
 pub record ScreenOf : Type 0 where
   pub view : Option ViewOf
+  pub number : List ℕ
   pub frame : List ℕ
+
+-- what is kept of a frame has room for its number in front, once a view was shown
+abbrev pub HasRoom : Option ViewOf → List ℕ → Type 0
+HasRoom view body = IfSome view (λ _. 4 ≤ length body)
 
 -- the bytes of a view's image, for the pictures that numbers stand for
 unfoldable pub image_bytes : (ℕ → Picture) → ViewOf → List ℕ

@@ -1,4 +1,5 @@
-ghost use Rattle.std.specs.Prelude.{◌≡◌, ℕ, ℤ, pos, OnErr, OnOk, IfOk, length, map};
+ghost use Rattle.std.specs.Prelude.{◌≡◌, ◌≤◌, ℕ, ℤ, pos, OnErr, OnOk, IfOk, drop, length, map, take};
+ghost use Rattle.byteorder.specs.Endian.{big_bytes};
 ghost use Rattle.sf_base.specs.Geometry.{covers};
 ghost use Rattle.sf_compose.specs.Again.{ShowsView};
 ghost use Rattle.sf_compose.specs.Readings.{AreReadable};
@@ -7,6 +8,7 @@ ghost use Rattle.sf_picture.specs.declared.picture.Picture.{Picture};
 ghost use Rattle.sf_region.specs.Points.{has};
 ghost use Rattle.sf_screen.specs.Screens.{IsSameSize, IsWhole};
 
+use byteorder::{BigEndian, ByteOrder};
 use sf_base::{NoMemory, Rect};
 use sf_compose::{Pixels, compose_one, compose_seen};
 use sf_damage::{dirty, visible};
@@ -21,15 +23,23 @@ use std::marker::Model;
 pub struct Screen {
     alloc: Global,
     view: Option<View>,
-    frame: Vec<u8>,
+    /// The body of the frame's record: room for a number, and the frame behind it, so that the record
+    /// is written from where the frame was composed. Empty before the first view.
+    body: Vec<u8>,
 }
 
+/// How many bytes the number of a frame has in front of it.
+const NUMBER: usize = 4;
+
 impl Model for Screen {
-    ghost use Rattle.sf_screen.specs.Screens.{ScreenOf};
+    ghost use Rattle.std.specs.Prelude.{drop, take};
+    ghost use Rattle.sf_screen.specs.Screens.{HasRoom, ScreenOf};
 
     ghost Value = { ScreenOf };
 
-    ghost view = { λ s. record { view = s.view; frame = s.frame.items } };
+    ghost view = { λ s. record { view = s.view; number = take 4 s.body.items; frame = drop 4 s.body.items } };
+
+    ghost invariant = { λ s. HasRoom s.view s.body.items };
 }
 
 /// The points of a display.
@@ -45,7 +55,7 @@ fn display(alloc: Global, view: &View) -> Result<Region, NoMemory>
     Region::rect(alloc, rect)
 }
 
-/// Composes a view.
+/// Composes a view, behind room for the number of its frame.
 fn compose_first<C: Pixels>(
     alloc: Global,
     view: &View,
@@ -53,15 +63,16 @@ fn compose_first<C: Pixels>(
     sources: &[u32],
 ) -> Result<Vec<u8>, NoMemory>
     requires readable { AreReadable (map C.picture contents.now) view.now.drawn sources.now }
-    ensures whole { IfOk result (λ frame. IsWhole view.now frame.items) }
-    ensures shows { IfOk result (λ frame. (picture : ℕ → Picture) → HasSources picture view.now (map C.picture contents.now) sources.now
-        → ShowsView picture view.now frame.items) }
+    ensures room { IfOk result (λ body. NUMBER ≤ length body.items) }
+    ensures whole { IfOk result (λ body. IsWhole view.now (drop 4 body.items)) }
+    ensures shows { IfOk result (λ body. (picture : ℕ → Picture) → HasSources picture view.now (map C.picture contents.now) sources.now
+        → ShowsView picture view.now (drop 4 body.items)) }
 {
     let size = 4 * (view.width as usize * view.height as usize);
-    let mut frame = vec![in alloc; 0u8; size]?;
+    let mut body = vec![in alloc; 0u8; NUMBER + size]?;
     let part = display(alloc, view)?;
-    compose_one(alloc, view, contents, sources, &part, &mut frame)?;
-    Ok(frame)
+    compose_one(alloc, view, contents, sources, &part, &mut body[NUMBER..])?;
+    Ok(body)
 }
 
 /// Composes a view over the frame of an older one, where they differ.
@@ -85,8 +96,39 @@ fn compose_again<C: Pixels>(
     compose_seen(alloc, view, contents, sources, &shows, &part, frame)
 }
 
+/// The same behind room for the number of the frame.
+fn compose_behind<C: Pixels>(
+    alloc: Global,
+    old: &View,
+    view: &View,
+    contents: &[C],
+    sources: &[u32],
+    body: &mut [u8],
+) -> Result<(), NoMemory>
+    requires room { NUMBER ≤ length body.old }
+    requires same { IsSameSize (drop 4 body.old) view.now old.now }
+    requires readable { AreReadable (map C.picture contents.now) view.now.drawn sources.now }
+    ensures size { length body.new ≡ length body.old }
+    ensures shows { OnOk result ((picture : ℕ → Picture) → HasSources picture view.now (map C.picture contents.now) sources.now
+        → ShowsView picture old.now (drop 4 body.old) → ShowsView picture view.now (drop 4 body.new)) }
+    ensures err { OnErr result (body.new ≡ body.old) }
+{
+    compose_again(alloc, old, view, contents, sources, &mut body[NUMBER..])
+}
+
+/// Puts a number in front of a frame.
+fn put_number(body: &mut [u8], number: u32)
+    requires room { NUMBER ≤ length body.old }
+    ensures number { take 4 body.new ≡ big_bytes 4 number }
+    ensures rest { drop 4 body.new ≡ drop 4 body.old }
+    ensures long { length body.new ≡ length body.old }
+{
+    BigEndian::write_u32(&mut body[..NUMBER], number);
+}
+
 impl Screen {
-    ghost use Rattle.std.specs.Prelude.{◌≡◌, ℕ, [], None, Some, OnErr, OnOk, map};
+    ghost use Rattle.std.specs.Prelude.{◌≡◌, ◌++◌, ℕ, [], None, Some, OnErr, OnOk, is_some, map, true};
+    ghost use Rattle.byteorder.specs.Endian.{big_bytes};
     ghost use Rattle.sf_compose.specs.Readings.{AreReadable};
     ghost use Rattle.sf_compose.specs.Sources.{HasSources};
     ghost use Rattle.sf_picture.specs.declared.picture.Picture.{Picture};
@@ -95,12 +137,12 @@ impl Screen {
 
     /// A display that showed nothing yet.
     pub fn new(alloc: Global) -> Screen
-        ensures { result ≡ record { view = None; frame = [] } }
+        ensures { result ≡ record { view = None; number = []; frame = [] } }
     {
         Screen {
             alloc,
             view: None,
-            frame: Vec::new(alloc),
+            body: Vec::new(alloc),
         }
     }
 
@@ -122,19 +164,30 @@ impl Screen {
         ensures err { OnErr result (self.new ≡ self.old) }
     {
         match &self.view {
-            Some(old) => compose_again(self.alloc, old, &view, contents, sources, &mut self.frame)?,
-            None => self.frame = compose_first(self.alloc, &view, contents, sources)?,
+            Some(old) => {
+                compose_behind(self.alloc, old, &view, contents, sources, &mut self.body)?
+            }
+            None => self.body = compose_first(self.alloc, &view, contents, sources)?,
         }
         self.view = Some(view);
         Ok(())
     }
 
-    /// The frame of the view that was shown last: its bytes, row by row from the top.
-    pub fn frame(&self) -> &[u8]
-        ensures same { result.now ≡ self.now.frame }
-        ensures image { (picture : ℕ → Picture) (view : ViewOf) → self.now.view ≡ Some view → IsWhole view self.now.frame → IsShown picture self.now
-            → result.now ≡ image_bytes picture view }
+    /// Puts a number in front of the frame of the view that was shown last.
+    pub fn number(&mut self, number: u32)
+        requires shows { is_some self.old.view ≡ true }
+        ensures { self.new ≡ record self.old { number = big_bytes 4 number } }
     {
-        &self.frame
+        put_number(&mut self.body, number);
+    }
+
+    /// The body of the frame's record: the number in four bytes, highest first, and the frame of the
+    /// view that was shown last, row by row from the top. Empty before the first view.
+    pub fn body(&self) -> &[u8]
+        ensures same { result.now ≡ self.now.number ++ self.now.frame }
+        ensures image { (picture : ℕ → Picture) (view : ViewOf) → self.now.view ≡ Some view → IsWhole view self.now.frame → IsShown picture self.now
+            → result.now ≡ self.now.number ++ image_bytes picture view }
+    {
+        &self.body
     }
 }
