@@ -32,9 +32,6 @@ const MOST_TURNS: u32 = 10000;
 /// Does the turns of a play up to its end, and prints them.
 fn play<B: TableName, R: Print>(rt: &R, player: &mut Player<B>) -> io::Result<()> {
     for _ in 0..MOST_TURNS {
-        if player.vsyncs() == u32::MAX {
-            break;
-        }
         match player.next() {
             Ok(Turn::End) => return tell::end(rt, player.held()),
             Ok(turn) => tell::turn(rt, &turn)?,

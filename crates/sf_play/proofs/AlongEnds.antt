@@ -10,11 +10,10 @@ use Rattle.sf_turns.specs.Views.{SeatView}
 use Rattle.sf_scene.specs.Scene.{SceneValue}
 use Rattle.sf_scene.specs.declared.declarations.QueueDecl.{QueueDecl}
 use Rattle.sf_scene.specs.declared.step.ActorScript.{ActorScript}
-use Rattle.sf_actor.specs.declared.done.Done.{Done}
 use Rattle.sf_actor.specs.Desks.{mark_among}
 use Rattle.sf_actor.specs.Known.{plain_arrival}
-use Rattle.sf_actor.specs.Plain.{calls_among, home_of, is_queue, view_of}
-use Rattle.sf_actor.specs.Tries.{ActorOf, dequeues_in}
+use Rattle.sf_actor.specs.Plain.{calls_among, home_of, is_queue}
+use Rattle.sf_actor.specs.Tries.{dequeues_in}
 use Rattle.sf_cast.specs.Casts.{Opens}
 use Rattle.sf_cast.specs.Opening.{new_actors, new_queue}
 use Rattle.sf_run.specs.Actors.{trace_among}

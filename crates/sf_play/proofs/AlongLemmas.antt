@@ -1,8 +1,8 @@
 -- A player's place and the play of its scene go on together.
-use Rattle.std.proofs.Common.{◌≡◌, ℕ, zero, suc, ◌+◌, ◌-◌, ◌<◌, ◌≤◌, Bool, true, false, not, ◌&&◌, ◌||◌, List, [], ◌∷◌, ◌++◌, drop, length, map, replicate, Option, Some, None, refl, ap, sym, ◌∙◌, subst, true≢false, inl, inr, arith}
-use Rattle.std.specs.Prelude.{◌==◌, ◌⊎◌, if◌then◌else◌, nat_lt, slice_get, Contains}
+use Rattle.std.proofs.Common.{◌≡◌, ℕ, zero, suc, ◌+◌, ◌-◌, ◌<◌, ◌≤◌, Bool, true, false, not, ◌&&◌, ◌||◌, List, [], ◌∷◌, ◌++◌, drop, length, map, replicate, Option, Some, None, refl, ap, sym, ◌∙◌, subst, inl, inr, arith}
+use Rattle.std.specs.Prelude.{◌==◌, if◌then◌else◌, nat_lt, slice_get, Contains}
 use Rattle.std.specs.List.{flat_map, list_all, list_any}
-use Rattle.std.proofs.lemmas.Bool.{cases_Bool, eq-eqb, ltb-false, ltb-true, ne_eqb}
+use Rattle.std.proofs.lemmas.Bool.{eq-eqb, ltb-false, ne_eqb}
 use Rattle.std.proofs.lemmas.List.{append-nil}
 use Rattle.sf_ready.specs.declared.hold.Hold.{Hold}
 use Rattle.sf_tree.specs.Trees.{TreeOf}
@@ -17,10 +17,10 @@ use Rattle.sf_run.proofs.Members.{has_cases, has_none}
 use Rattle.sf_run.proofs.PlayLemmas.{comes_on}
 use Rattle.sf_run.proofs.RoundEnd.{quiet_bare, quiet_some}
 use Rattle.sf_run.specs.Progress.{is_time}
-use Rattle.sf_run.specs.Plays.{Comes, GoesOnTo, GoesOnWith, IsBegun, IsOver, Playing, TakesPick, TakesTurn, first_playing, is_quiet, picks_of, round_picks, with_round}
+use Rattle.sf_run.specs.Plays.{Comes, GoesOnTo, GoesOnWith, IsBegun, Playing, TakesTurn, first_playing, is_quiet, picks_of, with_round}
 use Rattle.sf_run.specs.Runs.{actor_number, rising_actors}
-use Rattle.sf_run.specs.Worlds.{IsPlaysVsync, Turn, VsyncTurn, World, after_vsync, first_world, idle}
-use Rattle.sf_play.specs.Alongs.{IsInRound, IsPlace, PlaysTo, behind_round, left_in, left_of_round, none_stepped}
+use Rattle.sf_run.specs.Worlds.{IsPlaysVsync, Turn, World, after_vsync, first_world, idle}
+use Rattle.sf_play.specs.Alongs.{IsInRound, PlaysTo, behind_round, left_in, left_of_round, none_stepped}
 use Rattle.sf_play.specs.Places.{behind, settled, settled_at}
 use Rattle.sf_play.specs.declared.place.Place.{Place}
 use Rattle.sf_play.specs.declared.place.Place.TheVariants as at

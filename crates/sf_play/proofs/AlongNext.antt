@@ -1,9 +1,8 @@
 -- The next turn of a player is that of the play of its scene.
-use Rattle.std.proofs.Common.{◌≡◌, ◌≢◌, ℕ, zero, suc, ◌+◌, ◌<◌, ◌≤◌, ◌==◌, Bool, true, false, ◌||◌, List, [], ◌∷◌, ◌++◌, length, map, set, get_or, Option, Some, None, refl, sym, ap, ◌∙◌, subst, inl, inr, arith}
-use Rattle.std.specs.Prelude.{All, Contains, find, if◌then◌else◌, nat_lt, slice_get}
+use Rattle.std.proofs.Common.{◌≡◌, ℕ, zero, suc, ◌+◌, ◌<◌, ◌≤◌, ◌==◌, Bool, true, false, ◌||◌, List, [], ◌∷◌, length, map, get_or, Option, Some, None, refl, sym, ap, ◌∙◌, subst, inl, inr, arith}
+use Rattle.std.specs.Prelude.{All, Contains, if◌then◌else◌, nat_lt, pos, slice_get, ◌*◌}
 use Rattle.std.specs.List.{list_any, position, position_or_len}
-use Rattle.std.specs.List.Sorted.{IsPermutation}
-use Rattle.std.proofs.lemmas.Bool.{eq-eqb, eqb-true, false≢true, ne_eqb}
+use Rattle.std.proofs.lemmas.Bool.{eq-eqb, eqb-true, ne_eqb}
 use Rattle.std.proofs.lemmas.Grind.{common_steps}
 use Rattle.std.proofs.lemmas.List.Elements.{All-contains, All-weaker}
 use Rattle.std.proofs.lemmas.List.Folds.{find_at}
@@ -13,10 +12,20 @@ use Rattle.std.proofs.lemmas.Option.{slice_get-get_or, slice_get_within}
 use Rattle.atomic_table.specs.Seated.{TableId}
 use Rattle.sf_picture.specs.declared.picture.Picture.{Picture}
 use Rattle.sf_ready.specs.declared.hold.Hold.{Hold}
-use Rattle.sf_surface.specs.Tokens.{ReadLeaseOf}
+use Rattle.sf_surface.specs.Tokens.{Issued, ReadLeaseOf}
+use Rattle.sf_surface.specs.declared.mark.QueueMark.{QueueMark}
 use Rattle.sf_turns.specs.Views.{SeatView}
+use Rattle.sf_txn.specs.Buffers.{Shows}
 use Rattle.sf_txn.specs.declared.lease.Lease.{Ghosts}
-use Rattle.sf_commit.specs.declared.vsync.Commit.{Commit}
+use Rattle.sf_commit.specs.Leases.{ShowsLease}
+use Rattle.sf_commit.specs.OnLayers.{OnLayer}
+use Rattle.sf_commit.specs.Releases.{VsyncOf}
+use Rattle.sf_commit.specs.declared.vsync.Commit.{Commit as Decided}
+use Rattle.sf_compose.specs.Frames.{frame_bytes}
+use Rattle.sf_compose.specs.Readings.{AreReadable}
+use Rattle.sf_compose.specs.Sources.{HasSources}
+use Rattle.sf_view.specs.Stacks.{view_image}
+use Rattle.sf_view.specs.Views.{ViewOf}
 use Rattle.sf_scene.specs.Limits.{IsPick}
 use Rattle.sf_scene.specs.Scene.{SceneValue, has_actor}
 use Rattle.sf_scene.specs.declared.declarations.Pick.{Pick}
@@ -24,37 +33,44 @@ use Rattle.sf_scene.specs.declared.step.ActorScript.{ActorScript}
 use Rattle.sf_steps.specs.declared.actor.Actor.{Actor}
 use Rattle.sf_actor.specs.declared.tried.Stepped.{Stepped}
 use Rattle.sf_actor.specs.declared.tried.Stepped.TheVariants as stepped
-use Rattle.sf_actor.specs.Desks.{DeskHome, DeskView, KnowsAll}
+use Rattle.sf_actor.specs.Desks.{DeskHome, DeskView}
 use Rattle.sf_actor.specs.Known.{frame_of}
 use Rattle.sf_actor.specs.Plain.{home_of, view_of}
 use Rattle.sf_actor.specs.Scripts.{picture_at}
 use Rattle.sf_actor.specs.Tries.{ActorOf}
 use Rattle.sf_cast.specs.Casts.{KeepAs, StepsAt, number_of}
-use Rattle.sf_record.specs.declared.event.Event.TheVariants as event
-use Rattle.sf_run.specs.Actors.{number_of as number_told, script_of}
-use Rattle.sf_run.specs.Progress.{ShowsWhatIsWritten, WroteWhatShows}
-use Rattle.sf_run.specs.Replies.{reply_shown}
-use Rattle.sf_run.specs.Stepping.{DrawsInTime}
+use Rattle.sf_run.specs.Actors.{script_of}
+use Rattle.sf_run.specs.Ends.{held_in}
+use Rattle.sf_run.specs.Frames.{frame_of_layers}
+use Rattle.sf_run.specs.Progress.{ShowsWhatIsWritten, is_time}
+use Rattle.sf_run.specs.Runs.{rising_actors}
+use Rattle.sf_run.specs.Stepping.{TellsFirst}
+use Rattle.sf_run.specs.Stopping.{TellsOlder}
+use Rattle.sf_rights.specs.Vsyncs.{IsOfTurns}
 use Rattle.sf_run.proofs.AsQueued.{one_passes}
-use Rattle.sf_run.proofs.Desking.{desk_legal}
 use Rattle.sf_run.proofs.Keeping.{got_has}
 use Rattle.sf_run.proofs.Members.{has_cases, has_found, has_here, has_later, has_none, map_has}
 use Rattle.sf_play.proofs.AlongLemmas.{plays_settled}
 use Rattle.sf_play.proofs.AlongTurns.{pick_done, pick_ended, pick_waits, round_done, round_ended, round_waits}
-use Rattle.sf_play.proofs.AlongVsyncs.{all_had, pick_shown, pick_silent, round_shown, round_silent}
-use Rattle.sf_play.proofs.Compositing.{stands_shown, stands_silent}
-use Rattle.sf_play.proofs.Ending.{AreLegal}
+use Rattle.sf_play.proofs.AlongVsyncs.{all_had, holds_silent, pick_shown, pick_silent, round_shown, round_silent}
+use Rattle.sf_play.proofs.Composing.{frame_due_is, has_sources, is_high, is_wide, readable}
 use Rattle.sf_play.proofs.Lasting.{settled_has}
 use Rattle.sf_play.proofs.Leasing.{OfFrames}
-use Rattle.sf_play.proofs.Stepping.{stands_done, stands_ended, stands_waiting}
-use Rattle.sf_play.specs.Alongs.{DeskKnows, PlaysOn, PlaysSo, PlaysTo, behind_round, world_so}
-use Rattle.sf_play.specs.Ending.{LooksTell, has_shown}
+use Rattle.sf_play.proofs.Ledging.{TellsAll}
+use Rattle.sf_play.proofs.Makers.{first_told, older_told}
+use Rattle.sf_play.proofs.Together.{StandsWith, done_with, ended_with, left_with, nothing_with, shown_with, shows_written, silent_with}
+use Rattle.sf_play.specs.Alongs.{DeskKnows, PlaysSo, behind_round, world_so}
+use Rattle.sf_play.specs.Going.{TellsFrame}
 use Rattle.sf_play.specs.Places.{settled}
-use Rattle.sf_play.specs.Players.{PlayOf, PlayerOf, SoFar, Stands, written_so}
+use Rattle.sf_play.specs.Players.{PlayOf, PlayerOf, SoFar, Stands, home_in, run_so, view_in, written_so}
+use Rattle.sf_play.specs.Playing.{KeepsItself, KeepsRights, expected_by}
+use Rattle.sf_play.specs.Standing.{HoldsAt}
 use Rattle.sf_report.specs.Reports.{has_commits}
-use Rattle.sf_play.specs.Turning.{Picks, Rounds, RoundsIf, TakesPick, TriesIf, TriesStep, Turns, TurnsAt, TurnsVsync, is_step, turn_by}
+use Rattle.sf_report.specs.declared.report.VsyncReport.{VsyncReport}
+use Rattle.sf_play.specs.Turning.{Picks, RoundsIf, TriesIf, TriesStep, Turns, TurnsAt, TurnsVsync, is_step, turn_by}
 use Rattle.sf_play.specs.declared.place.Place.{Place}
 use Rattle.sf_play.specs.declared.place.Place.TheVariants as at
+use Rattle.sf_play.specs.Vsyncing.{MakesVsync}
 use Rattle.sf_play.specs.declared.turn.Turn.{Turn}
 use Rattle.sf_play.specs.declared.turn.Turn.TheVariants as turn
 
@@ -105,134 +121,216 @@ module _ {B : Type 0} where
       let some : position p actors ≡ Some (position_or_len p actors) = grind (arith, common_steps) in
       cc (none, some)
 
-  -- what a desk of one thread keeps, from what its queues keep
-  pub desk_knows : (play : PlayOf B) → KnowsAll (view_of play.cast.desk) → AreLegal play.cast.desk → DeskKnows play
-  desk_knows play knows legal = record { knows = knows; legal = desk_legal play.cast.desk legal }
+module _ {B : Type 0} where
+  abbrev pub FrameTold : SceneValue → Turn → PlayOf B → Type 0
+  FrameTold scene (turn.Vsync report) play = TellsFrame scene report play
+  FrameTold scene other play = Unit {0}
 
-  module _ {R C : Type 0} (lease : Ghosts ReadLeaseOf SeatView R C) (frames : OfFrames lease) (table : TableId) (scene : SceneValue) (so : SoFar B) (old new : PlayerOf B) (came_to : Turn)
-      (stands : Stands table scene so old.play) (knows : DeskKnows old.play) (known : DeskKnows new.play) (looks : LooksTell lease table scene so old.play new.play)
-      (draws : (place : ℕ) (s : StepsAt table (picture_at scene.pictures) place old.play.cast.actors so.actors old.play.cast.desk new.play.cast.actors new.play.cast.desk stepped.Done)
-      → DrawsInTime scene (world_so so old.play) s.old.script s.tries.1.done.step) where
+  -- after a turn a player stands, along with the play of its scene
+  pub record PlaysOn (table : TableId) (scene : SceneValue) (marks : List QueueMark) (so : SoFar B) (came_to : Turn) (new : PlayerOf B) (place : Place) : Type 0 where
+    pub kept : StandsWith table scene marks so came_to new.play
+    pub along : PlaysSo scene kept.later new.play place
+    pub holds : HoldsAt scene kept.later new place
+    pub frame : FrameTold scene came_to new.play
+
+  module _ (lease : Ghosts ReadLeaseOf SeatView ReadLeaseOf Issued) (frames : OfFrames lease) (of_turns : IsOfTurns lease) (tells : TellsAll lease) (table : TableId) (scene : SceneValue) (so : SoFar B)
+      (old new : PlayerOf B) (came_to : Turn) (marks : List QueueMark) (stands : Stands table scene so old.play) (rights : KeepsRights table scene so old.play) (marked : (home_in old.play).marks ≡ marks)
+      (keeps : KeepsItself lease table old.play) (keeps_now : KeepsItself lease table new.play) where
     -- the play with the new cast
     abbrev with_cast : PlayOf B
     with_cast = record old.play { cast = new.play.cast }
 
     known_cast : DeskKnows with_cast
-    known_cast = record { knows = known.knows; legal = known.legal }
+    known_cast = record { knows = keeps_now.desk.knows; legal = keeps_now.desk.legal }
 
     abbrev On : Place → Type 0
-    On place = PlaysOn table scene so new.play place (has_shown came_to)
+    On place = PlaysOn table scene marks so came_to new place
+
+    firsts : (of : ActorOf B) → Contains so.actors of → TellsFirst scene (world_so so old.play).run of (view_of old.play.cast.desk)
+    firsts = first_told table scene so old.play stands rights keeps.desk.legal keeps.desk.knows keeps.own
 
     -- what a try comes to is the same for the new player
-    comes : (later : SoFar B) (place next : Place) → new.play ≡ with_cast → Stands table scene later with_cast → PlaysSo scene later with_cast place → place ≡ next → (has_shown came_to ≡ false → later ≡ so) → On next
-    comes later place next rest standing along is same = record {
-      later = later;
-      stands = subst (Stands table scene later) (sym rest) standing;
-      along = subst (PlaysSo scene later new.play) is (subst (λ (p : PlayOf B). PlaysSo scene later p place) (sym rest) along);
-      same = same;
-    }
+    comes : (came : Turn) (place next : Place) → came_to ≡ came → new.play ≡ with_cast → place ≡ next → PlaysOn table scene marks so came (record new { play = with_cast }) place → On next
+    comes came place next is rest there on =
+        subst On there
+        (subst (λ (c : Turn). PlaysOn table scene marks so c new place) (sym is) (subst (λ (p : PlayOf B). PlaysOn table scene marks so came (record new { play = p }) place) (sym rest) on))
 
     as_scene : (place : ℕ) (st : Stepped) → StepsAt table (picture_at old.play.cast.pictures) place old.play.cast.actors so.actors old.play.cast.desk new.play.cast.actors new.play.cast.desk st
         → StepsAt table (picture_at scene.pictures) place old.play.cast.actors so.actors old.play.cast.desk new.play.cast.actors new.play.cast.desk st
     as_scene place st = subst (λ (ps : List Picture). StepsAt table (picture_at ps) place old.play.cast.actors so.actors old.play.cast.desk new.play.cast.actors new.play.cast.desk st) stands.of_scene.pictures
 
-    tried_round : (place : ℕ) (was : Bool) → PlaysSo scene so old.play (at.Round place was) → TriesStep table place so.actors old.play new.play came_to → On (at.Round (place + 1) (was || is_step came_to))
-    tried_round place was plays t = by_stepped t.stepped t.is (as_scene place t.stepped t.steps)
-      where
-        by_stepped : (st : Stepped) → came_to ≡ turn_by place st
-            → StepsAt table (picture_at scene.pictures) place old.play.cast.actors so.actors old.play.cast.desk new.play.cast.actors new.play.cast.desk st → On (at.Round (place + 1) (was || is_step came_to))
-        by_stepped stepped.Done is s =
-            comes (record { actors = set so.actors place s.new; events = so.events ++ event.Reply (reply_shown s.tries.0) ∷ [] }) (at.Round (place + 1) true) (at.Round (place + 1) (was || is_step came_to)) t.rest
-            (stands_done table scene so old.play place new.play.cast stands t.same t.acts s)
-            (round_done table scene so old.play stands place new.play.cast t.same t.acts s knows known_cast (draws place s) was plays)
-            (ap (λ (b : Bool). at.Round (place + 1) b) (sym (or_true was) ∙ ap (λ (x : Turn). was || is_step x) (sym is)))
-            (λ none. absurd (false≢true (sym none ∙ ap has_shown is)))
-        by_stepped stepped.NotYet is s =
-            comes so (at.Round (place + 1) was) (at.Round (place + 1) (was || is_step came_to)) t.rest
-            (stands_waiting table scene so old.play place new.play.cast stands t.same t.acts s)
-            (round_waits table scene so old.play stands place new.play.cast t.same t.acts s known_cast (looks.older s.old (got_has so.actors place s.old s.here)) was plays)
-            (ap (λ (b : Bool). at.Round (place + 1) b) (sym (or_none was) ∙ ap (λ (x : Turn). was || is_step x) (sym is)))
-            (λ none. refl)
-        by_stepped stepped.Ended is s =
-            comes so (at.Round (place + 1) was) (at.Round (place + 1) (was || is_step came_to)) t.rest
-            (stands_ended table scene so old.play place new.play.cast stands t.same t.acts s)
-            (round_ended table scene so old.play stands place new.play.cast t.same t.acts s was plays)
-            (ap (λ (b : Bool). at.Round (place + 1) b) (sym (or_none was) ∙ ap (λ (x : Turn). was || is_step x) (sym is)))
-            (λ none. refl)
+    -- the actor at a place was tried
+    module _ (place : ℕ) (t : TriesStep table place so.actors old.play new.play came_to) where
+      abbrev did : (s : StepsAt table (picture_at scene.pictures) place old.play.cast.actors so.actors old.play.cast.desk new.play.cast.actors new.play.cast.desk stepped.Done) → StandsWith table scene marks so (turn.Step place) with_cast
+      did s = done_with table scene marks so old.play stands rights marked keeps.desk.legal keeps.desk.knows keeps.own new.play.cast place t.same t.acts s
 
-    tried_pick : (at' done place : ℕ) (pick : Pick) → PlaysSo scene so old.play (at.Order at' done) → slice_get scene.order at' ≡ Some pick → done < pick.times
-        → ((of : ActorOf B) → slice_get so.actors place ≡ Some of → pick.actor ≡ of.script.number) → TriesStep table place so.actors old.play new.play came_to → On (at.Order at' (done + 1))
-    tried_pick at' done place pick plays there less number t = by_stepped t.stepped t.is (as_scene place t.stepped t.steps)
-      where
-        by_stepped : (st : Stepped) → came_to ≡ turn_by place st
-            → StepsAt table (picture_at scene.pictures) place old.play.cast.actors so.actors old.play.cast.desk new.play.cast.actors new.play.cast.desk st → On (at.Order at' (done + 1))
-        by_stepped stepped.Done is s =
-            comes (record { actors = set so.actors place s.new; events = so.events ++ event.Reply (reply_shown s.tries.0) ∷ [] }) (at.Order at' (done + 1)) (at.Order at' (done + 1)) t.rest
-            (stands_done table scene so old.play place new.play.cast stands t.same t.acts s)
-            (pick_done table scene so old.play stands place new.play.cast t.same t.acts s knows known_cast (draws place s) at' done pick plays there less (number s.old s.here))
-            refl
-            (λ none. absurd (false≢true (sym none ∙ ap has_shown is)))
-        by_stepped stepped.NotYet is s =
-            comes so (at.Order at' (done + 1)) (at.Order at' (done + 1)) t.rest
-            (stands_waiting table scene so old.play place new.play.cast stands t.same t.acts s)
-            (pick_waits table scene so old.play stands place new.play.cast t.same t.acts s known_cast (looks.older s.old (got_has so.actors place s.old s.here)) at' done pick plays there less (number s.old s.here))
-            refl
-            (λ none. refl)
-        by_stepped stepped.Ended is s =
-            comes so (at.Order at' (done + 1)) (at.Order at' (done + 1)) t.rest
-            (stands_ended table scene so old.play place new.play.cast stands t.same t.acts s)
-            (pick_ended table scene so old.play stands place new.play.cast t.same t.acts s at' done pick plays there less (number s.old s.here))
-            refl
-            (λ none. refl)
+      abbrev left : (s : StepsAt table (picture_at scene.pictures) place old.play.cast.actors so.actors old.play.cast.desk new.play.cast.actors new.play.cast.desk stepped.NotYet) → StandsWith table scene marks so turn.Idle with_cast
+      left s = left_with table scene marks so old.play stands rights marked keeps.desk.legal keeps.desk.knows keeps.own new.play.cast place t.same t.acts s
+
+      abbrev ended : (s : StepsAt table (picture_at scene.pictures) place old.play.cast.actors so.actors old.play.cast.desk new.play.cast.actors new.play.cast.desk stepped.Ended) → StandsWith table scene marks so turn.Idle with_cast
+      ended s = ended_with table scene marks so old.play stands rights marked keeps.desk.legal keeps.desk.knows keeps.own new.play.cast place t.same t.acts s
+
+      -- an earlier turn that it waits for is an older draw
+      older : (s : StepsAt table (picture_at scene.pictures) place old.play.cast.actors so.actors old.play.cast.desk new.play.cast.actors new.play.cast.desk stepped.NotYet)
+          → TellsOlder scene (run_so so with_cast) s.old (view_in old.play) (view_in with_cast)
+      older s =
+          let kept = left s in
+          older_told table scene so old.play stands rights keeps.desk.legal keeps.desk.knows keeps.own with_cast kept.stands kept.rights s.old (got_has so.actors place s.old s.here)
+
+      tried_round : (was : Bool) → PlaysSo scene so old.play (at.Round place was) → On (at.Round (place + 1) (was || is_step came_to))
+      tried_round was plays = by_stepped t.stepped t.is (as_scene place t.stepped t.steps)
+        where
+          by_stepped : (st : Stepped) → came_to ≡ turn_by place st
+              → StepsAt table (picture_at scene.pictures) place old.play.cast.actors so.actors old.play.cast.desk new.play.cast.actors new.play.cast.desk st → On (at.Round (place + 1) (was || is_step came_to))
+          by_stepped stepped.Done is s =
+              comes (turn.Step place) (at.Round (place + 1) true) (at.Round (place + 1) (was || is_step came_to)) is t.rest
+              (ap (λ (b : Bool). at.Round (place + 1) b) (sym (or_true was) ∙ ap (λ (x : Turn). was || is_step x) (sym is)))
+              (record {
+                kept = did s;
+                along = round_done table scene so old.play stands place new.play.cast t.same t.acts s keeps.desk known_cast (firsts s.old (got_has so.actors place s.old s.here)) was plays;
+                holds = tt;
+                frame = tt;
+              })
+          by_stepped stepped.NotYet is s =
+              comes turn.Idle (at.Round (place + 1) was) (at.Round (place + 1) (was || is_step came_to)) is t.rest
+              (ap (λ (b : Bool). at.Round (place + 1) b) (sym (or_none was) ∙ ap (λ (x : Turn). was || is_step x) (sym is)))
+              (record {
+                kept = left s;
+                along = round_waits table scene so old.play stands place new.play.cast t.same t.acts s known_cast (older s) was plays;
+                holds = tt;
+                frame = tt;
+              })
+          by_stepped stepped.Ended is s =
+              comes turn.Idle (at.Round (place + 1) was) (at.Round (place + 1) (was || is_step came_to)) is t.rest
+              (ap (λ (b : Bool). at.Round (place + 1) b) (sym (or_none was) ∙ ap (λ (x : Turn). was || is_step x) (sym is)))
+              (record { kept = ended s; along = round_ended table scene so old.play stands place new.play.cast t.same t.acts s was plays; holds = tt; frame = tt })
+
+      tried_pick : (at' done : ℕ) (pick : Pick) → PlaysSo scene so old.play (at.Order at' done) → slice_get scene.order at' ≡ Some pick → done < pick.times
+          → ((of : ActorOf B) → slice_get so.actors place ≡ Some of → pick.actor ≡ of.script.number) → On (at.Order at' (done + 1))
+      tried_pick at' done pick plays there less number = by_stepped t.stepped t.is (as_scene place t.stepped t.steps)
+        where
+          by_stepped : (st : Stepped) → came_to ≡ turn_by place st
+              → StepsAt table (picture_at scene.pictures) place old.play.cast.actors so.actors old.play.cast.desk new.play.cast.actors new.play.cast.desk st → On (at.Order at' (done + 1))
+          by_stepped stepped.Done is s =
+              comes (turn.Step place) (at.Order at' (done + 1)) (at.Order at' (done + 1)) is t.rest refl
+              (record {
+                kept = did s;
+                along = pick_done table scene so old.play stands place new.play.cast t.same t.acts s keeps.desk known_cast (firsts s.old (got_has so.actors place s.old s.here)) at' done pick plays there less
+                    (number s.old s.here);
+                holds = tt;
+                frame = tt;
+              })
+          by_stepped stepped.NotYet is s =
+              comes turn.Idle (at.Order at' (done + 1)) (at.Order at' (done + 1)) is t.rest refl
+              (record {
+                kept = left s;
+                along = pick_waits table scene so old.play stands place new.play.cast t.same t.acts s known_cast (older s) at' done pick plays there less (number s.old s.here);
+                holds = tt;
+                frame = tt;
+              })
+          by_stepped stepped.Ended is s =
+              comes turn.Idle (at.Order at' (done + 1)) (at.Order at' (done + 1)) is t.rest refl
+              (record {
+                kept = ended s;
+                along = pick_ended table scene so old.play stands place new.play.cast t.same t.acts s at' done pick plays there less (number s.old s.here);
+                holds = tt;
+                frame = tt;
+              })
 
     -- a vsync, in the order or behind a round
     module _ (v : TurnsVsync lease table so.actors old new came_to) where
-      abbrev commits : List Commit
-      commits = v.makes.told.commits
+      abbrev told : VsyncOf ReadLeaseOf
+      told = v.makes.told
 
-      shows : ShowsWhatIsWritten frame_of lease.shown (written_so scene so old.play) v.makes.makes.decides.looked
-      shows = looks.written v.report.seen v.makes.told v.makes.makes
+      abbrev report : VsyncReport
+      report = v.report
 
-      wrote : WroteWhatShows frame_of lease.shown (written_so scene so old.play) v.makes.makes.decides.looked
-      wrote k a h j b g drawn = sym (shows k a h j b g) ∙ drawn
+      makes : MakesVsync lease table old.play report.seen told new.play
+      makes = v.makes.makes
 
-      shown_so : has_shown came_to ≡ has_commits commits
-      shown_so = ap has_shown v.is ∙ ap has_commits v.makes.commits
+      shows : ShowsWhatIsWritten frame_of lease.shown (written_so scene so old.play) makes.decides.looked
+      shows = shows_written table scene marks so old.play stands rights marked keeps.desk.legal keeps.desk.knows keeps.own lease frames of_turns tells new.play report told makes v.makes.commits
+
+      abbrev silent : told.commits ≡ [] → StandsWith table scene marks so (turn.Vsync report) new.play
+      silent none = silent_with table scene marks so old.play stands rights marked keeps.desk.legal keeps.desk.knows keeps.own lease frames of_turns tells new.play report told makes v.makes.commits none
+
+      abbrev some : (c : Decided) (cs : List Decided) → told.commits ≡ c ∷ cs → StandsWith table scene marks so (turn.Vsync report) new.play
+      some c cs are =
+          shown_with table scene marks so old.play stands rights marked keeps.desk.legal keeps.desk.knows keeps.own lease frames of_turns tells new.play report told makes v.makes.commits c cs are v.makes.number v.makes.expected
+
+      -- what is composed
+      framed : (later : SoFar B) → Stands table scene later new.play → TellsFrame scene report new.play
+      framed later now =
+          let handler = keeps_now.handler now.of_scene.decides in
+          let shown = All-weaker (ShowsLease lease) (λ (one : OnLayer ReadLeaseOf). Shows one.shown one.lease.turn.expects) tells.shows new.play.handler.on handler.crops in
+          let sources = has_sources lease table scene later new.play now keeps_now.desk.legal old.play.handler makes.took.desk.turns makes.decided.desk.turns makes.arrived report.seen ((old.play.vsyncs + 1) * old.play.period) told
+          makes.decides handler.stands shown in
+          let readable = readable lease table scene later new.play now keeps_now.desk.legal old.play.handler makes.took.desk.turns makes.decided.desk.turns makes.arrived report.seen ((old.play.vsyncs + 1) * old.play.period) told
+          makes.decides handler.stands shown in
+          let due = frame_due_is lease table scene later new.play now keeps_now.desk.legal old.play.handler makes.took.desk.turns makes.decided.desk.turns makes.arrived report.seen ((old.play.vsyncs + 1) * old.play.period) told
+          makes.decides handler.stands shown in
+          let wide = is_wide lease table scene later new.play now keeps_now.desk.legal old.play.handler makes.took.desk.turns makes.decided.desk.turns makes.arrived report.seen ((old.play.vsyncs + 1) * old.play.period) told
+          makes.decides handler.stands shown in
+          let high = is_high lease table scene later new.play now keeps_now.desk.legal old.play.handler makes.took.desk.turns makes.decided.desk.turns makes.arrived report.seen ((old.play.vsyncs + 1) * old.play.period) told
+          makes.decides handler.stands shown in
+          record {
+            sources = subst (λ (w : ViewOf). HasSources (picture_at scene.pictures) w (map expected_by new.play.handler.on) report.sources) (sym v.makes.view)
+                (subst (HasSources (picture_at scene.pictures) told.view (map expected_by new.play.handler.on)) (sym v.makes.sources) sources);
+            readable = subst (λ (w : ViewOf). AreReadable (map expected_by new.play.handler.on) w.drawn report.sources) (sym v.makes.view)
+                (subst (AreReadable (map expected_by new.play.handler.on) told.view.drawn) (sym v.makes.sources) readable);
+            frame = subst (λ (w : ViewOf). frame_of_layers (picture_at scene.pictures) new.play.handler.tree.layers scene.width scene.height
+                ≡ frame_bytes (λ x y. view_image (picture_at scene.pictures) w (pos x) (pos y)) w.width w.height) (sym v.makes.view) due;
+            wide = ap (λ (w : ViewOf). w.width) v.makes.view ∙ wide;
+            high = ap (λ (w : ViewOf). w.height) v.makes.view ∙ high;
+          }
 
       vsync_pick : (place done : ℕ) (pick : Pick) → PlaysSo scene so old.play (at.Order place done) → slice_get scene.order place ≡ Some pick → done < pick.times → pick.actor ≡ 0 → On (at.Order place (done + 1))
-      vsync_pick place done pick plays there less is = by_commits commits refl
+      vsync_pick place done pick plays there less is = subst (λ (c : Turn). PlaysOn table scene marks so c new (at.Order place (done + 1))) (sym v.is) (by_commits told.commits refl)
         where
-          by_commits : (cs : List Commit) → commits ≡ cs → On (at.Order place (done + 1))
+          by_commits : (cs : List Decided) → told.commits ≡ cs → PlaysOn table scene marks so (turn.Vsync report) new (at.Order place (done + 1))
           by_commits [] e = record {
-            later = so;
-            stands = stands_silent lease frames table scene so old.play new.play v.report.seen v.makes.told stands v.makes.makes e;
-            along = pick_silent lease frames table scene so old.play new.play v.report.seen v.makes.told stands v.makes.makes shows e place done pick plays there less is;
-            same = λ none. refl;
+            kept = silent e;
+            along = pick_silent lease frames table scene so old.play new.play report.seen told stands makes shows e place done pick plays there less is;
+            holds = tt;
+            frame = framed so (silent e).stands;
           }
           by_commits (c ∷ cs) e = record {
-            later = _;
-            stands = stands_shown lease frames table scene so old.play new.play v.report.seen v.makes.told stands v.makes.makes (λ none. cc (e, none)) wrote;
-            along = pick_shown lease frames table scene so old.play new.play v.report.seen v.makes.told stands v.makes.makes shows c cs e place done pick plays there less is;
-            same = λ none. absurd (false≢true (sym none ∙ (shown_so ∙ ap has_commits e)));
+            kept = some c cs e;
+            along = pick_shown lease frames table scene so old.play new.play report.seen told stands makes shows c cs e place done pick plays there less is;
+            holds = tt;
+            frame = framed (some c cs e).later (some c cs e).stands;
           }
 
-      vsync_round : (place : ℕ) (was : Bool) → PlaysSo scene so old.play (at.Round place was) → nat_lt place (length old.play.cast.actors) ≡ false → On (behind_round was v.report.commits new.held)
-      vsync_round place was plays past = subst On (λ i. behind_round was (sym v.makes.commits i) (sym v.makes.held i)) (by_commits commits refl)
+      vsync_round : (place : ℕ) (was : Bool) → PlaysSo scene so old.play (at.Round place was) → nat_lt place (length old.play.cast.actors) ≡ false → On (behind_round was report.commits new.held)
+      vsync_round place was plays past =
+          subst (λ (c : Turn). PlaysOn table scene marks so c new (behind_round was report.commits new.held)) (sym v.is)
+          (subst (PlaysOn table scene marks so (turn.Vsync report) new) (λ i. behind_round was (sym v.makes.commits i) (sym v.makes.held i)) (by_commits told.commits refl))
         where
-          by_commits : (cs : List Commit) → commits ≡ cs → On (behind_round was commits v.makes.told.held)
+          had : length (rising_actors scene) ≤ place
+          had = all_had lease frames table scene so old.play new.play report.seen told stands makes place past
+
+          -- at the end
+          ends : (later : SoFar B) (b : Bool) → new.held ≡ held_in scene (world_so later new.play) → HoldsAt scene later new (if b then at.Round 0 false else at.End)
+          ends later true is = tt
+          ends later false is = is
+
+          goes_on : (later : SoFar B) (was : Bool) → HoldsAt scene later new (if was || true then at.Round 0 false else at.End)
+          goes_on later true = tt
+          goes_on later false = tt
+
+          by_commits : (cs : List Decided) → told.commits ≡ cs → PlaysOn table scene marks so (turn.Vsync report) new (behind_round was told.commits told.held)
           by_commits [] e = record {
-            later = so;
-            stands = stands_silent lease frames table scene so old.play new.play v.report.seen v.makes.told stands v.makes.makes e;
-            along = round_silent lease frames table scene so old.play new.play v.report.seen v.makes.told stands v.makes.makes shows e place was plays
-                (all_had lease frames table scene so old.play new.play v.report.seen v.makes.told stands v.makes.makes place past);
-            same = λ none. refl;
+            kept = silent e;
+            along = round_silent lease frames table scene so old.play new.play report.seen told stands makes shows e place was plays had;
+            holds = ends so (was || (has_commits told.commits || list_any (λ (h : ℕ × Hold). is_time h.1) told.held))
+                (v.makes.held ∙ sym (holds_silent lease frames table scene so old.play new.play report.seen told stands makes shows e));
+            frame = framed so (silent e).stands;
           }
           by_commits (c ∷ cs) e = record {
-            later = _;
-            stands = stands_shown lease frames table scene so old.play new.play v.report.seen v.makes.told stands v.makes.makes (λ none. cc (e, none)) wrote;
-            along = round_shown lease frames table scene so old.play new.play v.report.seen v.makes.told stands v.makes.makes shows c cs e place was plays
-                (all_had lease frames table scene so old.play new.play v.report.seen v.makes.told stands v.makes.makes place past);
-            same = λ none. absurd (false≢true (sym none ∙ (shown_so ∙ ap has_commits e)));
+            kept = some c cs e;
+            along = round_shown lease frames table scene so old.play new.play report.seen told stands makes shows c cs e place was plays had;
+            holds = subst (λ (ds : List Decided). HoldsAt scene (some c cs e).later new (behind_round was ds told.held)) (sym e) (goes_on (some c cs e).later was);
+            frame = framed (some c cs e).later (some c cs e).stands;
           }
 
     -- the turn of a pick
@@ -259,7 +357,7 @@ module _ {B : Type 0} where
             let there' = number_there table (picture_at scene.pictures) (home_of old.play.cast.desk) (view_of old.play.cast.desk) old.play.cast.actors so.actors of.0 stands.keep of.1 in
             absurd (no_position is_it old.play.cast.actors there'.actor there'.there
             (eq-eqb (number_of there'.actor) (suc n) (there'.is ∙ (ap (λ (s : ActorScript). s.number) of.2 ∙ eqb-true script.0.number (suc n) script.2))) e)
-        by_place (Some at') e tries = tried_pick place done at' pick plays there less number tries
+        by_place (Some at') e tries = tried_pick at' tries place done pick plays there less number
           where
             number : (of : ActorOf B) → slice_get so.actors at' ≡ Some of → pick.actor ≡ of.script.number
             number of here = by_actors old.play.cast.actors refl
@@ -272,8 +370,9 @@ module _ {B : Type 0} where
                     ∙ number_kept table (picture_at scene.pictures) (home_of old.play.cast.desk) (view_of old.play.cast.desk) old.play.cast.actors so.actors at' (get_or old.play.cast.actors at' d) of stands.keep
                     (slice_get-get_or old.play.cast.actors at' d found.0) here)
 
-    turn_on : (from : Place) → settled old.play.order old.place ≡ from → TurnsAt lease table so.actors from old new came_to → PlaysSo scene so old.play from → PlaysSo scene so old.play old.place → On new.place
-    turn_on (at.Order place done) e turns plays here =
+    turn_on : (from : Place) → settled old.play.order old.place ≡ from → TurnsAt lease table so.actors from old new came_to → PlaysSo scene so old.play from → PlaysSo scene so old.play old.place
+        → HoldsAt scene so old old.place → On new.place
+    turn_on (at.Order place done) e turns plays here held =
         let times : All (λ (pick : Pick). 1 ≤ pick.times) old.play.order =
         subst (All (λ (pick : Pick). 1 ≤ pick.times)) (sym stands.of_scene.order)
         (All-weaker (IsPick scene.actors) (λ (pick : Pick). 1 ≤ pick.times) (λ pick is. is.low) scene.order stands.of_scene.limits.order.picks) in
@@ -285,20 +384,18 @@ module _ {B : Type 0} where
       where
         one_pick : (a b : Pick) → Some a ≡ Some b → a ≡ b
         one_pick a b e = cc
-    turn_on (at.Round place was) e turns plays here = by_test (nat_lt place (length old.play.cast.actors)) refl turns
+    turn_on (at.Round place was) e turns plays here held = by_test (nat_lt place (length old.play.cast.actors)) refl turns
       where
         by_test : (b : Bool) → nat_lt place (length old.play.cast.actors) ≡ b → RoundsIf lease table so.actors b place was old new came_to → On new.place
-        by_test true low goes = subst On (sym goes.next) (tried_round place was plays goes.tries)
+        by_test true low goes = subst On (sym goes.next) (tried_round place goes.tries was plays)
         by_test false past ends = subst On (sym ends.next) (vsync_round ends.vsync place was plays past)
-    turn_on at.End e turns plays here = record {
-      later = so;
-      stands = subst (λ (p : PlayerOf B). Stands table scene so p.play) (sym turns.1) stands;
-      along = subst (λ (p : PlayerOf B). PlaysSo scene so p.play p.place) (sym turns.1) here;
-      same = λ none. refl;
-    }
+    turn_on at.End e turns plays here held =
+        subst (λ (c : Turn). PlaysOn table scene marks so c new new.place) (sym turns.0)
+        (subst (λ (p : PlayerOf B). PlaysOn table scene marks so turn.End p p.place) (sym turns.1)
+        (record { kept = nothing_with table scene marks so old.play stands rights marked keeps.desk.legal keeps.desk.knows keeps.own turn.End refl; along = here; holds = held; frame = tt }))
 
     -- each turn
-    pub turns_on : Turns lease table so.actors old new came_to → PlaysSo scene so old.play old.place → On new.place
-    turns_on turns plays =
+    pub turns_on : Turns lease table so.actors old new came_to → PlaysSo scene so old.play old.place → HoldsAt scene so old old.place → On new.place
+    turns_on turns plays held =
         turn_on (settled old.play.order old.place) refl turns
-        (subst (λ (order : List Pick). PlaysSo scene so old.play (settled order old.place)) (sym stands.of_scene.order) (plays_settled scene so.events (world_so so old.play) old.place plays)) plays
+        (subst (λ (order : List Pick). PlaysSo scene so old.play (settled order old.place)) (sym stands.of_scene.order) (plays_settled scene so.events (world_so so old.play) old.place plays)) plays held

@@ -1,29 +1,22 @@
 -- A try of a player's actor is a turn of the play of its scene.
-use Rattle.std.proofs.Common.{◌≡◌, ◌≢◌, ℕ, zero, suc, ◌+◌, ◌<◌, ◌≤◌, ◌==◌, Bool, true, false, List, [], ◌∷◌, ◌++◌, length, map, set, Option, Some, None, refl, sym, ap, ◌∙◌, subst, inl, inr, arith, length-append}
-use Rattle.std.specs.Prelude.{All, Contains, find, slice_get}
+use Rattle.std.proofs.Common.{◌≡◌, ◌≢◌, ℕ, zero, suc, ◌+◌, ◌<◌, ◌≤◌, ◌==◌, Bool, true, false, List, [], ◌∷◌, ◌++◌, length, map, set, Some, refl, sym, ap, ◌∙◌, subst, inl, inr, arith, length-append}
+use Rattle.std.specs.Prelude.{Contains, find, slice_get}
 use Rattle.std.specs.List.{flat_map}
-use Rattle.std.specs.List.Sorted.{IsPermutation}
 use Rattle.std.proofs.lemmas.Bool.{cases_Bool, eq-eqb, eqb-true}
 use Rattle.std.proofs.lemmas.List.{append-nil}
 use Rattle.std.proofs.lemmas.List.Concat.{flat_map-append}
 use Rattle.std.proofs.lemmas.List.Elements.{All-contains}
 use Rattle.std.proofs.lemmas.List.Sorted.{Contains-permutation, IsPermutation-sym}
 use Rattle.atomic_table.specs.Seated.{TableId}
-use Rattle.sf_calls.specs.Histories.{IsLegal}
-use Rattle.sf_surface.specs.Histories.{Answers, Made}
+use Rattle.sf_surface.specs.Histories.{Made}
 use Rattle.sf_surface.specs.declared.mark.QueueMark.{QueueMark}
-use Rattle.sf_token.specs.Pending.{Arrival}
-use Rattle.sf_surface.specs.Tokens.{ReadLeaseOf}
 use Rattle.sf_scene.specs.Scene.{SceneValue, has_queue}
 use Rattle.sf_scene.specs.declared.declarations.Pick.{Pick}
 use Rattle.sf_scene.specs.declared.step.ActorScript.{ActorScript}
-use Rattle.sf_scene.specs.declared.step.Step.{Step}
 use Rattle.sf_actor.specs.declared.done.Done.{Done}
-use Rattle.sf_actor.specs.declared.tried.Reply.{Reply}
 use Rattle.sf_actor.specs.declared.tried.Stepped.TheVariants as stepped
-use Rattle.sf_actor.specs.Desks.{DeskHome, DeskView, KnowsAll, mark_among}
-use Rattle.sf_actor.specs.Known.{AreAmong, plain_arrival}
-use Rattle.sf_actor.specs.Names.{FrameOf}
+use Rattle.sf_actor.specs.Desks.{DeskHome, DeskView}
+use Rattle.sf_actor.specs.Known.{plain_arrival}
 use Rattle.sf_actor.specs.Plain.{home_of, view_of}
 use Rattle.sf_actor.specs.Scripts.{picture_at}
 use Rattle.sf_actor.specs.Tries.{ActorOf, DoesStep, LeavesStep}
@@ -31,11 +24,11 @@ use Rattle.sf_cast.specs.Casts.{CastOf, IsSameCast, StepsAt}
 use Rattle.sf_record.specs.declared.event.Event.{Event}
 use Rattle.sf_record.specs.declared.event.Event.TheVariants as event
 use Rattle.sf_record.specs.declared.event.VsyncReport.{VsyncReport}
-use Rattle.sf_run.specs.Actors.{AreActors, AreCalls, arrivals_of, number_of, run_of, script_of, trace_among}
+use Rattle.sf_run.specs.Actors.{AreCalls, arrivals_of, number_of, run_of, script_of, trace_among}
 use Rattle.sf_run.specs.Plays.{TakesTurn}
 use Rattle.sf_run.specs.Replies.{reply_shown}
-use Rattle.sf_run.specs.Runs.{rising_actors, signals_in}
-use Rattle.sf_run.specs.Stepping.{DrawsInTime, KnowsRun}
+use Rattle.sf_run.specs.Runs.{rising_actors}
+use Rattle.sf_run.specs.Stepping.{KnowsRun, TellsFirst}
 use Rattle.sf_run.specs.Stopping.{TellsOlder}
 use Rattle.sf_run.specs.Stuck.{IsNotReady, next_step}
 use Rattle.sf_run.specs.Vsyncs.{vsync_in, vsyncs_in}
@@ -54,7 +47,6 @@ use Rattle.sf_play.proofs.AlongLemmas.{plays_idle, plays_pick, plays_step}
 use Rattle.sf_play.proofs.Stepping.{stands_done, stands_waiting}
 use Rattle.sf_play.specs.Alongs.{DeskKnows, PlaysSo, PlaysTo, world_so}
 use Rattle.sf_play.specs.Players.{PlayOf, SoFar, Stands}
-use Rattle.sf_play.specs.declared.place.Place.{Place}
 use Rattle.sf_play.specs.declared.place.Place.TheVariants as at
 
 -- where one trace has one step more, none is shorter
@@ -213,7 +205,7 @@ module _ {B : Type 0} where
 
     -- the step is done
     module _ (s : StepsAt table (picture_at scene.pictures) place play.cast.actors so.actors play.cast.desk cast.actors cast.desk stepped.Done) (knows : DeskKnows play) (known : DeskKnows new_play)
-        (draws : DrawsInTime scene (world_so so play) s.old.script s.tries.1.done.step) where
+        (first : TellsFirst scene (world_so so play).run s.old (view_of play.cast.desk)) where
       abbrev later_so : SoFar B
       later_so = record { actors = set so.actors place s.new; events = so.events ++ event.Reply (reply_shown s.tries.0) ∷ [] }
 
@@ -238,7 +230,7 @@ module _ {B : Type 0} where
       turn_now : actor_turn scene s.old.script.number (world_so so play) ≡ turn
       turn_now =
           desk_turn scene so.actors (home_of play.cast.desk) (view_of play.cast.desk) (view_of cast.desk) place s.old s.new s.tries.0 (vsyncs_in so.events) play.vsyncs stands.of_scene.limits refl s.here s.tries.1
-          (knows_so table scene so play stands knows) runs_now calls_now (sent_numbered cast.desk.arrivals) draws
+          (knows_so table scene so play stands knows) runs_now calls_now (sent_numbered cast.desk.arrivals) first
           ∙ (λ i. record {
             events = event.Reply (reply_shown s.tries.0) ∷ [];
             world = record {

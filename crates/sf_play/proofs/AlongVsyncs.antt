@@ -1,5 +1,5 @@
 -- A vsync of a player is a turn of the play of its scene.
-use Rattle.std.proofs.Common.{◌≡◌, ℕ, suc, ◌+◌, ◌*◌, ◌<◌, ◌≤◌, Bool, true, false, List, [], ◌∷◌, ◌++◌, length, map, take, Option, Some, None, refl, sym, ap, ◌∙◌, subst, arith}
+use Rattle.std.proofs.Common.{◌≡◌, ℕ, suc, ◌+◌, ◌*◌, ◌<◌, ◌≤◌, Bool, true, false, List, [], ◌∷◌, ◌++◌, length, map, take, Some, refl, sym, ap, ◌∙◌, subst, arith}
 use Rattle.std.specs.Prelude.{Contains, nat_lt, slice_get}
 use Rattle.std.specs.List.{All, AllZip}
 use Rattle.std.proofs.lemmas.Bool.{ltb-false}
@@ -40,6 +40,7 @@ use Rattle.sf_record.specs.declared.event.Event.TheVariants as event
 use Rattle.sf_record.specs.declared.event.VsyncReport.{VsyncReport}
 use Rattle.sf_run.specs.Actors.{mark_declared, run_of, script_of, trace_among}
 use Rattle.sf_run.specs.Commits.{commit_shown}
+use Rattle.sf_run.specs.Ends.{held_in}
 use Rattle.sf_run.specs.Framing.{framed_arrival, framed_on}
 use Rattle.sf_run.specs.Histories.{Released}
 use Rattle.sf_run.specs.Plays.{TakesTurn}
@@ -56,13 +57,13 @@ use Rattle.sf_run.proofs.Stopping.{final_is}
 use Rattle.sf_play.proofs.AlongLemmas.{plays_pick, plays_round}
 use Rattle.sf_play.proofs.AlongTurns.{calls_declared}
 use Rattle.sf_play.proofs.Compositing.{arrived_is, arrivals_now, calls_same, gives_now, goes, home_now, plain, rises, vsyncs_in_more}
+use Rattle.sf_play.proofs.Holding.{held_bare}
 use Rattle.sf_play.proofs.Leasing.{IsOnLent, OfFrames}
 use Rattle.sf_play.specs.Alongs.{PlaysSo, PlaysTo, behind_round, world_so}
 use Rattle.sf_play.specs.Giving.{GivesFrame, GivesFrames}
 use Rattle.sf_play.specs.Players.{PlayOf, SoFar, Stands, arrived_at, run_so, taken_at, written_so}
 use Rattle.sf_play.specs.Showing.{vsync_shown}
 use Rattle.sf_play.specs.Vsyncing.{MakesVsync}
-use Rattle.sf_play.specs.declared.place.Place.{Place}
 use Rattle.sf_play.specs.declared.place.Place.TheVariants as at
 
 -- the frames that a vsync of this number releases
@@ -233,6 +234,10 @@ module _ {B : Type 0} where
         world_none : turn.world ≡ world_so so new
         world_none = world_now ∙ ap (λ (rs : List VsyncReport). record { run = run_so so new; arrivals = arrived_at new; reports = rs; vsyncs = new.vsyncs })
             (ap (λ (rs : List VsyncReport). vsyncs_in so.events ++ rs) reports_none ∙ append-nil (vsyncs_in so.events))
+
+        -- it holds what the play's last vsync held
+        pub holds_silent : held_in scene (world_so so new) ≡ told.held
+        holds_silent = ap (held_in scene) (sym world_none) ∙ held_bare scene (world_so so old) told.commits new.handler.tree gone told.held next_vsync none
 
         pub pick_silent : (place done : ℕ) (pick : Pick) → PlaysSo scene so old (at.Order place done) → slice_get scene.order place ≡ Some pick → done < pick.times → pick.actor ≡ 0
             → PlaysSo scene so new (at.Order place (done + 1))

@@ -7,9 +7,6 @@ use Rattle.std.proofs.lemmas.List.Elements.{All-contains}
 use Rattle.atomic_table.specs.Seated.{TableId}
 use Rattle.sf_base.specs.declared.fences.Seen.{Seen}
 use Rattle.sf_ready.specs.declared.hold.Hold.{Hold}
-use Rattle.sf_calls.specs.Histories.{IsLegal}
-use Rattle.sf_surface.specs.Histories.{Answers}
-use Rattle.sf_surface.specs.Objects.{ObjectOf, mark_of}
 use Rattle.sf_surface.specs.Tokens.{Issued, ReadLeaseOf}
 use Rattle.sf_surface.specs.declared.mark.QueueMark.{QueueMark}
 use Rattle.sf_token.specs.Arrivals.{Calls, waiting}
@@ -50,10 +47,6 @@ use Rattle.sf_play.specs.Players.{PlayOf, PlayerOf, SoFar, Stands, arrived_at, h
 use Rattle.sf_play.specs.Vsyncing.{MakesVsync}
 
 module _ {B : Type 0} where
-  -- each object of a desk has legal calls
-  abbrev pub AreLegal : PlainOf B → Type 0
-  AreLegal desk = All (λ (object : ObjectOf B). IsLegal (Answers (mark_of object)) object.calls) desk.queues
-
   module _ (table : TableId) (scene : SceneValue) (so : SoFar B) (play : PlayOf B) (stands : Stands table scene so play) where
     -- the calls that a play's desk knows are those of its queues
     pub calls_stand : IsLegalDesk play.cast.desk → AreCalls scene so.actors (home_in play) (view_in play)

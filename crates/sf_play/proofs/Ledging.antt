@@ -15,9 +15,11 @@ use Rattle.sf_token.specs.Arrivals.{Calls, sent, waiting}
 use Rattle.sf_token.specs.Pending.{Arrival}
 use Rattle.sf_turns.specs.Counts.{IsExact}
 use Rattle.sf_turns.specs.Views.{SeatView}
-use Rattle.sf_txn.specs.Buffers.{Buffer}
+use Rattle.sf_txn.specs.Buffers.{Buffer, Shows}
 use Rattle.sf_txn.specs.declared.lease.Lease.{Ghosts}
 use Rattle.sf_commit.specs.Handlers.{Decides}
+use Rattle.sf_commit.specs.Leases.{ShowsLease}
+use Rattle.sf_commit.specs.OnLayers.{OnLayer}
 use Rattle.sf_commit.specs.Releases.{ReleaseOf, VsyncOf}
 use Rattle.sf_scene.specs.Limits.{IsWithinLimits}
 use Rattle.sf_scene.specs.Scene.{SceneValue}
@@ -41,6 +43,7 @@ use Rattle.sf_run.specs.Runs.{written_in}
 use Rattle.sf_rights.specs.Actors.{AreOver}
 use Rattle.sf_rights.specs.Looks.{WasAcquired}
 use Rattle.sf_rights.specs.Standing.{GiveAll, LedgerStands, VsyncIn, home_taken}
+use Rattle.sf_rights.specs.PlaceTries.{TellsPlaces}
 use Rattle.sf_rights.specs.States.{is_queue}
 use Rattle.sf_rights.specs.Vsyncs.{IsOfTurns}
 use Rattle.sf_rights.proofs.Standing.{vsync_stands}
@@ -110,8 +113,10 @@ module _ {B : Type 0} where
   gives_all home number [] old new gives = gives
   gives_all home number (release ∷ later) old new gives = (gives.0, record { reply = gives.1.reply; made = gives.1.made }, gives_all home number later gives.0 new gives.2)
 
--- what the ghosts of a lease tell of turns that are all known
+-- what the ghosts of a lease tell of turns that are all known, of where it is, and of what it expects
 pub record TellsAll (lease : Ghosts ReadLeaseOf SeatView ReadLeaseOf Issued) : Type 0 where
+  pub places : TellsPlaces lease
+  pub shows : (one : OnLayer ReadLeaseOf) → ShowsLease lease one → Shows one.shown one.lease.turn.expects
   pub exact : (eye : SeatView) → eye.is_first ≡ true → eye.out ≡ 0 → lease.is_exact (lease.mark eye) ≡ true
   pub tells : (eye : SeatView) (l : ReadLeaseOf) → lease.tells (lease.ends eye) (lease.end l) ≡ has_left eye.leaves (turn_by l.turn)
 
@@ -166,10 +171,10 @@ module _ {B : Type 0} (lease : Ghosts ReadLeaseOf SeatView ReadLeaseOf Issued) (
       low : taken_in arrivals ≤ length (sent arrivals)
       low = let many = waiting_many arrivals in omega (arith, many)
 
-  home_then : home_of new.cast.desk ≡ home_taken (home_of before) (view_of before)
+  pub home_then : home_of new.cast.desk ≡ home_taken (home_of before) (view_of before)
   home_then = home_now lease frames table scene so old new seen told stands v ∙ ap (λ (n : ℕ). record (home_of before) { taken = n }) (taken_all lease frames table scene so old new seen told stands v)
 
-  vsync_in : VsyncIn lease (home_of before) (view_of before) old.handler (view_of new.cast.desk) new.handler
+  pub vsync_in : VsyncIn lease (home_of before) (view_of before) old.handler (view_of new.cast.desk) new.handler
   vsync_in = record {
     of_turns = of_turns;
     unlent = stands.of_scene.unlent;

@@ -10,11 +10,15 @@ pub mod Compositing
 pub mod Emptying
 pub mod Ending
 pub mod Fueling
+pub mod Going
 pub mod Happening
+pub mod Holding
 pub mod Lasting
 pub mod Leasing
 pub mod Ledging
 pub mod Lessening
+pub mod Makers
+pub mod Nexting
 pub mod Picking
 pub mod Releasing
 pub mod Resting
@@ -22,6 +26,6 @@ pub mod Rights
 pub mod Seeing
 pub mod Stepping
 pub mod Stocks
+pub mod Together
 pub mod Turning
 pub mod Waiting
-pub mod Watching

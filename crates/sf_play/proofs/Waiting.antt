@@ -1,5 +1,5 @@
 -- A vsync lessens what is left to be committed, where it commits something or something waits for its time.
-use Rattle.std.proofs.Common.{◌≡◌, ◌≢◌, ℕ, ◌+◌, ◌-◌, ◌<◌, ◌≤◌, ◌==◌, Bool, true, false, List, [], ◌∷◌, ◌++◌, length, map, Option, Some, None, refl, sym, ap, ◌∙◌, subst, inl, inr, arith}
+use Rattle.std.proofs.Common.{◌≡◌, ◌≢◌, ℕ, ◌+◌, ◌<◌, ◌≤◌, ◌==◌, Bool, true, false, List, [], ◌∷◌, ◌++◌, length, map, Option, Some, None, refl, sym, ap, ◌∙◌, subst, inl, inr, arith}
 use Rattle.std.specs.Prelude.{◌⊎◌, ◌&&◌, Result, Ok, Err, Contains, filter_map, find, is_none, nat_le, nat_lt}
 use Rattle.std.specs.List.{AllZip, cons_option, list_any, sum_by}
 use Rattle.std.specs.Option.{option_map, option_map_or, option_or}
@@ -23,7 +23,7 @@ use Rattle.sf_commit.specs.declared.vsync.Commit.{Commit}
 use Rattle.sf_commit.specs.Releases.{VsyncOf}
 use Rattle.sf_tree.specs.Changes.{Rejection, after}
 use Rattle.sf_tree.specs.Trees.{TreeOf}
-use Rattle.sf_commit.specs.Rounds.{Leads, Round, commit_of, committed, facts_of, head_hold, held, hold_at, ready_if, stage_with}
+use Rattle.sf_commit.specs.Rounds.{Leads, Round, commit_of, committed, facts_of, head_hold, hold_at, ready_if, stage_with}
 use Rattle.sf_run.specs.Progress.{is_time}
 use Rattle.sf_run.proofs.Members.{has_cases, has_here, has_later, has_none}
 use Rattle.sf_play.specs.Fuel.{to_commit, wait_left}

@@ -1,8 +1,7 @@
 -- Where a player stands, told by how far the play of its scene has come.
-use Rattle.std.specs.Prelude.{◌≡◌, ℕ, ◌-◌, ◌≤◌, ◌==◌, Bool, true, false, not, ◌||◌, if◌then◌else◌}
-use Rattle.std.specs.Prelude.{List, [], ◌∷◌, ◌++◌, drop, length, map, replicate, Option, Some, None}
+use Rattle.std.specs.Prelude.{◌≡◌, ℕ, ◌-◌, ◌≤◌, ◌==◌, Bool, false, not, ◌||◌, if◌then◌else◌}
+use Rattle.std.specs.Prelude.{List, [], ◌∷◌, ◌++◌, drop, length, map, replicate, Some, None}
 use Rattle.std.specs.List.{flat_map, list_all, list_any}
-use Rattle.atomic_table.specs.Seated.{TableId}
 use Rattle.sf_calls.specs.Histories.{IsLegal}
 use Rattle.sf_ready.specs.declared.hold.Hold.{Hold}
 use Rattle.sf_commit.specs.declared.vsync.Commit.{Commit}
@@ -19,7 +18,7 @@ use Rattle.sf_run.specs.Runs.{actor_number, rising_actors}
 use Rattle.sf_run.specs.Vsyncs.{vsyncs_in}
 use Rattle.sf_run.specs.Worlds.{World}
 use Rattle.sf_report.specs.Reports.{has_commits}
-use Rattle.sf_play.specs.Players.{PlayOf, SoFar, Stands, arrived_at, run_so}
+use Rattle.sf_play.specs.Players.{PlayOf, SoFar, arrived_at, run_so}
 use Rattle.sf_play.specs.declared.place.Place.{Place}
 use Rattle.sf_play.specs.declared.place.Place.TheVariants as at
 
@@ -75,10 +74,3 @@ module _ {B : Type 0} where
 
   abbrev pub PlaysSo : SceneValue → SoFar B → PlayOf B → Place → Type 0
   PlaysSo scene so play place = PlaysTo scene so.events (world_so so play) place
-
-  -- a player stands, along with the play of its scene, after a turn; what was shown is as it was, where the turn showed nothing
-  pub record PlaysOn (table : TableId) (scene : SceneValue) (so : SoFar B) (play : PlayOf B) (place : Place) (has_shown : Bool) : Type 0 where
-    pub later : SoFar B
-    pub stands : Stands table scene later play
-    pub along : PlaysSo scene later play place
-    pub same : has_shown ≡ false → later ≡ so

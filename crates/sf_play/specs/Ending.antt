@@ -50,7 +50,8 @@ module _ {B : Type 0} where
   -- at the end of a play all that arrived was taken, what the last vsync held is truly held, and each actor rests
   pub record IsAtEnd (scene : SceneValue) (so : SoFar B) (player : PlayerOf B) : Type 0 where
     pub taken : (home_in player.play).taken ≡ length (arrived_at player.play)
-    pub held : AreHeld (end_of scene (run_so so player.play) (told_at scene so player.play)) (uncommitted (taken_at player.play) (commits_in (vsyncs_in so.events))) (map held_shown player.held)
+    pub held : AreHeld (end_of scene (run_so so player.play) (told_at scene so player.play))
+        (uncommitted (taken_at player.play) (commits_in (vsyncs_in so.events))) (map held_shown player.held)
     pub rest : All (Rests scene (run_so so player.play)) so.actors
 
   -- in a round in which no step was done each actor that was tried rests
@@ -61,6 +62,8 @@ module _ {B : Type 0} where
 
   -- looks tell what is owed and what is written: an earlier turn at pixels is an older draw, and a write has ended exactly
   -- where it is done
-  pub record LooksTell {R C : Type 0} (lease : Ghosts ReadLeaseOf SeatView R C) (table : TableId) (scene : SceneValue) (so : SoFar B) (old new : PlayOf B) : Type 0 where
+  pub record LooksTell {R C : Type 0} (lease : Ghosts ReadLeaseOf SeatView R C) (table : TableId) (scene : SceneValue) (so : SoFar B)
+      (old new : PlayOf B) : Type 0 where
     pub older : (of : ActorOf B) → Contains so.actors of → TellsOlder scene (run_so so new) of (view_in old) (view_in new)
-    pub written : (seen : Seen) (told : VsyncOf ReadLeaseOf) (v : MakesVsync lease table old seen told new) → ShowsWhatIsWritten frame_of lease.shown (written_so scene so old) v.decides.looked
+    pub written : (seen : Seen) (told : VsyncOf ReadLeaseOf) (v : MakesVsync lease table old seen told new)
+        → ShowsWhatIsWritten frame_of lease.shown (written_so scene so old) v.decides.looked

@@ -1,9 +1,10 @@
 -- What happened by a turn of a play, and what stands then.
-use Rattle.std.specs.Prelude.{◌≡◌, ℕ, ◌+◌, ◌<◌, Bool, true, false, [], ◌∷◌, ◌++◌, slice_set}
+use Rattle.std.specs.Prelude.{◌≡◌, ℕ, ◌+◌, ◌<◌, Bool, true, false, List, [], ◌∷◌, ◌++◌, Some, slice_get, slice_set}
 use Rattle.atomic_table.specs.Seated.{TableId}
 use Rattle.sf_scene.specs.Scene.{SceneValue}
 use Rattle.sf_actor.specs.declared.tried.Reply.{Reply}
 use Rattle.sf_actor.specs.Tries.{ActorOf}
+use Rattle.sf_steps.specs.declared.actor.Actor.{Actor}
 use Rattle.sf_record.specs.declared.event.Event.TheVariants as event
 use Rattle.sf_run.specs.Replies.{reply_shown}
 use Rattle.sf_play.specs.Ending.{RestsAt}
@@ -16,10 +17,14 @@ use Rattle.sf_play.specs.declared.turn.Turn.{Turn}
 use Rattle.sf_play.specs.declared.turn.Turn.TheVariants as turn
 
 module _ {B : Type 0} where
-  -- the actor at a place did a step, and its reply is shown
-  pub record DidStep (place : ℕ) (so later : SoFar B) : Type 0 where
+  -- the actor at a place did a step, and its reply is shown, which is its last one
+  pub record DidStep (place : ℕ) (play : PlayOf B) (so later : SoFar B) : Type 0 where
     pub of : ActorOf B
     pub reply : Reply
+    pub actor : Actor B
+    pub there : slice_get play.cast.actors place ≡ Some actor
+    pub earlier : List Reply
+    pub replies : actor.replies.items ≡ earlier ++ reply ∷ []
     pub is : later ≡ record { actors = slice_set so.actors place of; events = so.events ++ event.Reply (reply_shown reply) ∷ [] }
 
   -- a vsync is shown if something was committed in it, or rejected as a whole
@@ -29,7 +34,7 @@ module _ {B : Type 0} where
   VsyncHappens scene false report play so later = later ≡ so
 
   abbrev pub Happens : SceneValue → Turn → PlayOf B → SoFar B → SoFar B → Type 0
-  Happens scene (turn.Step place) play so later = DidStep place so later
+  Happens scene (turn.Step place) play so later = DidStep place play so later
   Happens scene (turn.Vsync report) play so later = VsyncHappens scene (has_commits report.commits) report play so later
   Happens scene other play so later = later ≡ so
 
@@ -38,9 +43,3 @@ module _ {B : Type 0} where
     pub stands : Stands table scene so player.play
     pub rests : RestsAt scene so player player.place
     pub early : player.play.vsyncs + vsyncs_left player.play.order player.play player.place < 4294967295
-
-  -- after a turn it stands still, and this much has happened since
-  pub record StandsAfter (table : TableId) (scene : SceneValue) (so : SoFar B) (came_to : Turn) (new : PlayOf B) : Type 0 where
-    pub later : SoFar B
-    pub happens : Happens scene came_to new so later
-    pub stands : Stands table scene later new

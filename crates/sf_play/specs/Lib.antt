@@ -2,10 +2,12 @@ pub mod Alongs
 pub mod Ending
 pub mod Fuel
 pub mod Giving
+pub mod Going
 pub mod Happening
 pub mod Places
 pub mod Players
 pub mod Playing
 pub mod Showing
+pub mod Standing
 pub mod Turning
 pub mod Vsyncing

@@ -1,7 +1,8 @@
 -- What a player is, and what its turns do.
-use Rattle.std.specs.Prelude.{◌≡◌, ◌+◌, ◌*◌, false, [], None, All}
+use Rattle.std.specs.Prelude.{◌≡◌, ◌+◌, ◌*◌, ◌<◌, false, All}
 use Rattle.atomic_table.specs.Seated.{TableId}
 use Rattle.sf_picture.specs.declared.picture.Picture.{Picture}
+use Rattle.sf_commit.specs.Handlers.{IsHandler}
 use Rattle.sf_commit.specs.OnLayers.{OnLayer}
 use Rattle.sf_commit.specs.Releases.{VsyncOf}
 use Rattle.sf_surface.specs.Tokens.{ReadLeaseOf}
@@ -10,7 +11,10 @@ use Rattle.sf_txn.specs.declared.lease.Lease.{Ghosts}
 use Rattle.sf_scene.specs.Scene.{SceneValue}
 use Rattle.sf_steps.specs.Playable.{MayPlay}
 use Rattle.sf_cast.specs.Casts.{scripts_of}
+use Rattle.sf_rights.specs.InTurn.{DrawsStand}
+use Rattle.sf_rights.specs.MakerRuns.{MakersPlay}
 use Rattle.sf_rights.specs.Standing.{LedgerStands}
+use Rattle.sf_play.specs.Alongs.{DeskKnows}
 use Rattle.sf_play.specs.Players.{PlayOf, PlayerOf, SoFar, Stands, home_in, view_in}
 use Rattle.sf_play.specs.Vsyncing.{MakesVsync}
 use Rattle.sf_report.specs.declared.report.VsyncReport.{VsyncReport}
@@ -20,33 +24,28 @@ abbrev pub expected_by : OnLayer ReadLeaseOf → Picture
 expected_by on = on.lease.turn.expects
 
 module _ {B : Type 0} where
-  -- the ledger of the rights stands, and each actor may play
+  -- the ledger of the rights stands, the makers of buffers are followed through the run, what draws entered is in turn, and each
+  -- actor may play
   pub record KeepsRights (table : TableId) (scene : SceneValue) (so : SoFar B) (play : PlayOf B) : Type 0 where
     pub ledger : LedgerStands table.slots (home_in play) (view_in play) so.actors play.handler
+    pub makers : MakersPlay scene (home_in play) (view_in play) so.actors play.handler
+    pub draws : DrawsStand scene (home_in play) (view_in play) so.actors play.handler
     pub plays : All (MayPlay (home_in play) scene.pictures) (scripts_of play.cast.actors)
 
-  -- a play that stands, of some scene
-  pub record IsStanding (table : TableId) (play : PlayOf B) : Type 0 where
+  -- a play that stands, of some scene, and the number of its next vsync fits its field
+  pub record MayMakeVsync (table : TableId) (play : PlayOf B) : Type 0 where
     pub scene : SceneValue
     pub so : SoFar B
     pub stands : Stands table scene so play
-    pub rights : KeepsRights table scene so play
-
-  -- what a player keeps of itself
-  pub record IsPlayer (table : TableId) (player : PlayerOf B) : Type 0 where
-    pub unlent : player.play.handler.lent ≡ None
-    pub stands : player.is_spent ≡ false → IsStanding table player.play
-
-  -- the play of a scene, where nothing happened yet
-  pub record Begins (table : TableId) (scene : SceneValue) (player : PlayerOf B) : Type 0 where
-    pub so : SoFar B
-    pub nothing : so.events ≡ []
-    pub stands : Stands table scene so player.play
-    pub rights : KeepsRights table scene so player.play
-    pub held : player.held ≡ []
-    pub unspent : player.is_spent ≡ false
+    pub early : play.vsyncs < 4294967295
 
 module _ {B : Type 0} {R C : Type 0} (lease : Ghosts ReadLeaseOf SeatView R C) where
+  -- what the desk and the compositor of a play keep of themselves: all is known, and the seat is at the table
+  pub record KeepsItself (table : TableId) (play : PlayOf B) : Type 0 where
+    pub desk : DeskKnows play
+    pub own : play.cast.desk.turns.table ≡ table
+    pub handler : play.handler.is_spent ≡ false → IsHandler lease play.handler
+
   -- a vsync was made, and this is its report
   pub record MakesReport (table : TableId) (old new : PlayerOf B) (report : VsyncReport) : Type 0 where
     pub told : VsyncOf ReadLeaseOf

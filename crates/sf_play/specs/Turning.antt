@@ -1,5 +1,6 @@
 -- What a turn of a player does.
-use Rattle.std.specs.Prelude.{◌≡◌, ℕ, zero, suc, ◌+◌, ◌==◌, nat_lt, Bool, true, false, ◌||◌, if◌then◌else◌, List, [], length, Option, Some, None, slice_get}
+use Rattle.std.specs.Prelude.{◌≡◌, ℕ, zero, suc, ◌+◌, ◌==◌, nat_lt, Bool, true, false, ◌||◌, if◌then◌else◌}
+use Rattle.std.specs.Prelude.{List, length, Option, Some, None, slice_get}
 use Rattle.std.specs.List.{list_any, position}
 use Rattle.atomic_table.specs.Seated.{TableId}
 use Rattle.sf_ready.specs.declared.hold.Hold.{Hold}
@@ -34,10 +35,6 @@ turn_by place other = turn.Idle
 abbrev pub is_step : Turn → Bool
 is_step (turn.Step place) = true
 is_step other = false
-
--- the other parts of a player are as they were
-abbrev pub with_place : {B : Type 0} → PlayerOf B → PlayOf B → Place → PlayerOf B
-with_place player play place = record player { play = play; place = place }
 
 module _ {B : Type 0} where
   -- these actors keep what they keep

@@ -7,7 +7,8 @@ ghost use Rattle.sf_commit.specs.Releases.{ReleaseOf};
 ghost use Rattle.sf_surface.specs.Tokens.{ReadLeaseOf};
 ghost use Rattle.sf_turns.specs.Counts.{range};
 ghost use Rattle.sf_play.specs.Giving.{GivesFrames};
-ghost use Rattle.sf_play.specs.Playing.{Begins, IsStanding, MakesReport, expected_by};
+ghost use Rattle.sf_play.specs.Playing.{KeepsItself, MakesReport, MayMakeVsync, expected_by};
+ghost use Rattle.sf_play.specs.Standing.{Begins};
 
 use crate::place::Place;
 use sf_base::{Items, NoMemory};
@@ -39,8 +40,8 @@ pub struct Player<B: TableName> {
 }
 
 impl<B: TableName> Model for Player<B> {
-    ghost use Rattle.sf_play.specs.Playing.{IsPlayer};
     ghost use Rattle.sf_play.specs.Players.{PlayerOf};
+    ghost use Rattle.sf_play.specs.Standing.{IsPlayer};
 
     ghost Value = { PlayerOf B };
 
@@ -160,11 +161,20 @@ impl<B: TableName> Player<B> {
         handler.finish();
     }
 
+    /// Tells what the desk and the compositor keep of themselves. It changes nothing.
+    pub(crate) fn tells(&self)
+        ensures { KeepsItself ⟦<ReadLease<B> as Lease>⟧ B.table self.now.play }
+    {
+        self.cast.exact();
+        self.cast.legal();
+        self.cast.owns();
+        self.handler.contents();
+    }
+
     /// Does a vsync.
     pub(crate) fn vsync(&mut self) -> Result<VsyncReport, NoMemory>
         requires spent { self.old.is_spent ≡ true }
-        requires stands { IsStanding B.table self.old.play }
-        requires early { self.old.play.vsyncs < 4294967295 }
+        requires may { MayMakeVsync B.table self.old.play }
         ensures makes { IfOk result (λ report. MakesReport ⟦<ReadLease<B> as Lease>⟧ B.table self.old self.new report) }
         ensures spent { self.new.is_spent ≡ true }
         ensures place { self.new.place ≡ self.old.place }

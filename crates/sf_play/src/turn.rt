@@ -3,8 +3,12 @@ ghost use Rattle.std.specs.List.{list_any};
 ghost use Rattle.sf_ready.specs.declared.hold.Hold.{Hold as HoldValue};
 ghost use Rattle.sf_run.specs.Progress.{is_time};
 ghost use Rattle.sf_actor.specs.Tries.{ActorOf};
-ghost use Rattle.sf_play.specs.Playing.{IsStanding};
+ghost use Rattle.sf_scene.specs.Scene.{SceneValue};
+ghost use Rattle.sf_play.specs.Going.{GoesAlong, LeavesLess};
 ghost use Rattle.sf_play.specs.Places.{settled};
+ghost use Rattle.sf_play.specs.Players.{SoFar};
+ghost use Rattle.sf_play.specs.Playing.{MayMakeVsync};
+ghost use Rattle.sf_play.specs.Standing.{StandsAlong};
 ghost use Rattle.sf_play.specs.declared.place.Place.TheVariants as at;
 ghost use Rattle.sf_report.specs.Reports.{has_commits};
 ghost use Rattle.sf_play.specs.Turning.{KeepsCast, Picks, Rounds, TriesStep, Turns, TurnsAt, is_step, turn_by};
@@ -87,7 +91,8 @@ impl<B: TableName> Player<B> {
     fn step(&mut self, place: usize) -> Result<Turn, NoMemory>
         requires spent { self.old.is_spent ≡ true }
         requires there { place < length self.old.play.cast.actors }
-        ensures tries { (ofs : List (ActorOf B)) → KeepsCast B.table self.old.play ofs → IfOk result (TriesStep B.table place ofs self.old.play self.new.play) }
+        ensures tries { (ofs : List (ActorOf B)) → KeepsCast B.table self.old.play ofs
+            → IfOk result (TriesStep B.table place ofs self.old.play self.new.play) }
         ensures rest { self.new ≡ record self.old { play = record self.old.play { cast = self.new.play.cast } } }
     {
         let stepped = self.cast.try_step(place)?;
@@ -97,9 +102,9 @@ impl<B: TableName> Player<B> {
     /// Does the turn of a pick: a vsync for 0, else the next step of the actor of this number.
     fn pick(&mut self, number: u32) -> Result<Turn, NoMemory>
         requires spent { self.old.is_spent ≡ true }
-        requires stands { IsStanding B.table self.old.play }
-        requires early { self.old.play.vsyncs < 4294967295 }
-        ensures picks { (ofs : List (ActorOf B)) → KeepsCast B.table self.old.play ofs → IfOk result (Picks ⟦<ReadLease<B> as Lease>⟧ B.table ofs number self.old self.new) }
+        requires may { MayMakeVsync B.table self.old.play }
+        ensures picks { (ofs : List (ActorOf B)) → KeepsCast B.table self.old.play ofs
+            → IfOk result (Picks ⟦<ReadLease<B> as Lease>⟧ B.table ofs number self.old self.new) }
         ensures spent { self.new.is_spent ≡ true }
         ensures place { self.new.place ≡ self.old.place }
     {
@@ -115,9 +120,9 @@ impl<B: TableName> Player<B> {
     /// Does a turn of a round, in which the actors before this place were tried.
     fn round(&mut self, place: usize, stepped: bool) -> Result<Turn, NoMemory>
         requires spent { self.old.is_spent ≡ true }
-        requires stands { IsStanding B.table self.old.play }
-        requires early { self.old.play.vsyncs < 4294967295 }
-        ensures rounds { (ofs : List (ActorOf B)) → KeepsCast B.table self.old.play ofs → IfOk result (Rounds ⟦<ReadLease<B> as Lease>⟧ B.table ofs place stepped self.old self.new) }
+        requires may { MayMakeVsync B.table self.old.play }
+        ensures rounds { (ofs : List (ActorOf B)) → KeepsCast B.table self.old.play ofs
+            → IfOk result (Rounds ⟦<ReadLease<B> as Lease>⟧ B.table ofs place stepped self.old self.new) }
         ensures spent { self.new.is_spent ≡ true }
     {
         if place < self.cast.actors().len() {
@@ -135,10 +140,10 @@ impl<B: TableName> Player<B> {
     /// Does the next turn, from this place on.
     fn turn_at(&mut self, place: Place) -> Result<Turn, NoMemory>
         requires spent { self.old.is_spent ≡ true }
-        requires stands { IsStanding B.table self.old.play }
-        requires early { self.old.play.vsyncs < 4294967295 }
+        requires may { MayMakeVsync B.table self.old.play }
         requires settled { place ≡ settled self.old.play.order self.old.place }
-        ensures turns { (ofs : List (ActorOf B)) → KeepsCast B.table self.old.play ofs → IfOk result (TurnsAt ⟦<ReadLease<B> as Lease>⟧ B.table ofs place self.old self.new) }
+        ensures turns { (ofs : List (ActorOf B)) → KeepsCast B.table self.old.play ofs
+            → IfOk result (TurnsAt ⟦<ReadLease<B> as Lease>⟧ B.table ofs place self.old self.new) }
         ensures spent { self.new.is_spent ≡ true }
     {
         match place {
@@ -154,8 +159,11 @@ impl<B: TableName> Player<B> {
 
     /// Does the next turn of the play. A player that found no memory does nothing any more.
     pub fn next(&mut self) -> Result<Turn, NoMemory>
-        requires early { self.old.is_spent ≡ false → self.old.play.vsyncs < 4294967295 }
-        ensures turns { (ofs : List (ActorOf B)) → KeepsCast B.table self.old.play ofs → IfOk result (Turns ⟦<ReadLease<B> as Lease>⟧ B.table ofs self.old self.new) }
+        ensures turns { (ofs : List (ActorOf B)) → KeepsCast B.table self.old.play ofs
+            → IfOk result (Turns ⟦<ReadLease<B> as Lease>⟧ B.table ofs self.old self.new) }
+        ensures on { (scene : SceneValue) (so : SoFar B) → StandsAlong B.table scene so self.old
+            → IfOk result (λ turn. GoesAlong B.table scene so turn self.new) }
+        ensures less { IfOk result (λ turn. LeavesLess turn self.old self.new) }
         ensures no_memory { IfErr result (λ _. self.new.is_spent ≡ true) }
         ensures ok { IfOk result (λ _. self.new.is_spent ≡ false) }
         ensures spent { self.old.is_spent ≡ true → IsErr result }
@@ -164,11 +172,10 @@ impl<B: TableName> Player<B> {
             return Err(NoMemory);
         }
         self.is_spent = true;
-        self.cast.exact();
-        self.cast.legal();
-        self.cast.owns();
+        self.tells();
         let place = self.place.settled(self.order.as_slice());
         let turn = self.turn_at(place)?;
+        self.tells();
         self.is_spent = false;
         Ok(turn)
     }

@@ -12,17 +12,17 @@ use Rattle.sf_play.proofs.player.Player.vsync.Goals as goal
 pub vsync-requires : goal.vsync-requires
 vsync-requires g c =
     let play : PlayOf g.row.B.Denot = record { period = c.self.inside.period; order = c.self.inside.order; cast = c.self.inside.cast; handler = c.self.inside.handler; vsyncs = c.self.inside.vsyncs } in
-    let stands = subst (λ (p : PlayerOf g.row.B.Denot). Stands g.B.TableName.table c.requires.stands.scene c.requires.stands.so p.play) (sym c.self.view_is) c.requires.stands.stands in
-    record { rising = λ alive. rises_then _ c.requires.stands.scene c.requires.stands.so play stands c.see-seen.new.self c.see-seen.ensures.times c.in_ok-arrived.arrived.items c.take.new.self.desk.arrivals c.in_ok-arrived.ensures.taken }
+    let stands = subst (λ (p : PlayerOf g.row.B.Denot). Stands g.B.TableName.table c.requires.may.scene c.requires.may.so p.play) (sym c.self.view_is) c.requires.may.stands in
+    record { rising = λ alive. rises_then _ c.requires.may.scene c.requires.may.so play stands c.see-seen.new.self c.see-seen.ensures.times c.in_ok-arrived.arrived.items c.take.new.self.desk.arrivals c.in_ok-arrived.ensures.taken }
 
 pub release_all-requires : goal.release_all-requires
 release_all-requires g c =
     let play : PlayOf g.row.B.Denot = record { period = c.self.inside.period; order = c.self.inside.order; cast = c.self.inside.cast; handler = c.self.inside.handler; vsyncs = c.self.inside.vsyncs } in
-    let stands = subst (λ (p : PlayerOf g.row.B.Denot). Stands g.B.TableName.table c.requires.stands.scene c.requires.stands.so p.play) (sym c.self.view_is) c.requires.stands.stands in
+    let stands = subst (λ (p : PlayerOf g.row.B.Denot). Stands g.B.TableName.table c.requires.may.scene c.requires.may.so p.play) (sym c.self.view_is) c.requires.may.stands in
     let taken = taken_in c.take.new.self.desk.arrivals in
     let home : home_of c.vsync.new.self.desk ≡ record (home_of c.self.inside.cast.desk) { taken = taken } =
     c.vsync.ensures.only.home ∙ ap (λ (h : DeskHome). record h { taken = taken }) (c.take.ensures.only.home ∙ ap (λ (h : DeskHome). record h { taken = taken }) c.see-seen.ensures.only.home) in
-    let there = queues_there _ c.requires.stands.scene c.requires.stands.so play stands c.see-seen.new.self c.see-seen.ensures.times c.in_ok-arrived.arrived.items c.take.new.self.desk.arrivals c.in_ok-arrived.ensures.taken
+    let there = queues_there _ c.requires.may.scene c.requires.may.so play stands c.see-seen.new.self c.see-seen.ensures.times c.in_ok-arrived.arrived.items c.take.new.self.desk.arrivals c.in_ok-arrived.ensures.taken
     _ c.vsync.new.handler c.take.new.self.desk.turns c.vsync.new.self.desk.turns c.see-seen.result (c.from.result * c.self.inside.period) c.in_ok-commits.field-0 c.in_ok-commits.ensures.decides
     (record { plain = λ a b e. e; picture = λ a b e. e; number = λ a b e. ap (λ (p : ℕ × ℕ). p.1) e }) taken (home_of c.vsync.new.self.desk) home in
     record { there = subst (λ (rs : List (ReleaseOf ReadLeaseOf)). All (λ (r : ReleaseOf ReadLeaseOf). has_queue (home_of c.vsync.new.self.desk) r.queue.0 ≡ true) rs) (sym (c.into_vec.ensures ∙ ap (λ (v : VsyncOf ReadLeaseOf). v.releases) c.commits.view_is)) there }

@@ -1,0 +1,196 @@
+-- Each turn of a player goes along with the play of its scene, up to its end.
+use Rattle.std.proofs.Common.{◌≡◌, ◌≢◌, ℕ, zero, suc, ◌+◌, ◌<◌, ◌==◌, Bool, true, false, List, length, map, Option, Some, None, refl, ap, sym, ◌∙◌, subst, arith}
+use Rattle.std.specs.Prelude.{nat_lt, slice_get, if◌then◌else◌}
+use Rattle.std.specs.List.{position}
+use Rattle.atomic_table.specs.Seated.{TableId}
+use Rattle.sf_surface.specs.Tokens.{Issued, ReadLeaseOf}
+use Rattle.sf_turns.specs.Views.{SeatView}
+use Rattle.sf_txn.specs.declared.lease.Lease.{Ghosts}
+use Rattle.sf_scene.specs.Scene.{SceneValue}
+use Rattle.sf_scene.specs.declared.declarations.Pick.{Pick}
+use Rattle.sf_actor.specs.declared.tried.Stepped.{Stepped}
+use Rattle.sf_actor.specs.declared.tried.Stepped.TheVariants as stepped
+use Rattle.sf_actor.specs.Tries.{ActorOf}
+use Rattle.sf_cast.specs.Casts.{number_of}
+use Rattle.sf_steps.specs.declared.actor.Actor.{Actor}
+use Rattle.sf_run.proofs.Stopping.{are_stuck}
+use Rattle.sf_run.specs.Actors.{mark_declared}
+use Rattle.sf_run.specs.Arrivals.{entry_of}
+use Rattle.sf_run.specs.Ends.{shows_of}
+use Rattle.sf_run.specs.Histories.{history_shown, rising_queues}
+use Rattle.sf_run.specs.Played.{records_of}
+use Rattle.sf_run.specs.Progress.{held_shown}
+use Rattle.sf_run.specs.Stopping.{stuck_among}
+use Rattle.sf_rights.specs.Vsyncs.{IsOfTurns}
+use Rattle.sf_report.specs.declared.report.VsyncReport.{VsyncReport}
+use Rattle.sf_play.proofs.AlongEnds.{ends_play}
+use Rattle.sf_play.proofs.AlongNext.{FrameTold, PlaysOn, turns_on}
+use Rattle.sf_play.proofs.Happening.{may_turn, nothing_happens, shows_fit}
+use Rattle.sf_play.proofs.Leasing.{OfFrames}
+use Rattle.sf_play.proofs.Ledging.{TellsAll, looks_written}
+use Rattle.sf_play.proofs.Lessening.{turns_lessen, vsyncs_last}
+use Rattle.sf_play.proofs.Makers.{draws_came, older_told}
+use Rattle.sf_play.proofs.Resting.{turns_rest}
+use Rattle.sf_play.specs.Alongs.{PlaysSo, world_so}
+use Rattle.sf_play.specs.Ending.{IsAtEnd, LooksTell, RestsAt, has_shown, shows_at_end}
+use Rattle.sf_play.specs.Fuel.{fuel, vsyncs_left}
+use Rattle.sf_play.specs.Going.{EndsPlay, GoesAlong, LeavesLess, Tells}
+use Rattle.sf_play.specs.Happening.{StandsAt}
+use Rattle.sf_play.specs.Places.{behind, settled, settled_at}
+use Rattle.sf_play.specs.Players.{PlayerOf, SoFar, Stands, arrived_at, home_in, run_so, view_in}
+use Rattle.sf_play.specs.Playing.{KeepsItself, KeepsRights}
+use Rattle.sf_play.specs.Standing.{HoldsAt, StandsAlong}
+use Rattle.sf_play.specs.Turning.{Picks, RoundsIf, TriesIf, Turns, TurnsAt, turn_by}
+use Rattle.sf_play.specs.declared.place.Place.{Place}
+use Rattle.sf_play.specs.declared.place.Place.TheVariants as at
+use Rattle.sf_play.specs.declared.turn.Turn.{Turn}
+use Rattle.sf_play.specs.declared.turn.Turn.TheVariants as turn
+
+-- a next turn is done up to the end
+behind_on : (order : List Pick) (place : ℕ) → behind order place ≡ at.End → ⊥
+behind_on order place = by_more (nat_lt (place + 1) (length order))
+  where
+    by_more : (b : Bool) → (if b then at.Order (place + 1) 0 else at.Round 0 false) ≡ at.End → ⊥
+    by_more true e = cc
+    by_more false e = cc
+
+settled_on : (order : List Pick) (place done : ℕ) (found : Option Pick) → settled_at order place done found ≡ at.End → ⊥
+settled_on order place done None e = cc
+settled_on order place done (Some pick) e = by_times (nat_lt done pick.times) e
+  where
+    by_times : (b : Bool) → (if b then at.Order place done else behind order place) ≡ at.End → ⊥
+    by_times true e = cc
+    by_times false e = behind_on order place e
+
+settled_end : (order : List Pick) (place : Place) → settled order place ≡ at.End → place ≡ at.End
+settled_end order (at.Order place done) e = absurd (settled_on order place done (slice_get order place) e)
+settled_end order (at.Round place was) e = e
+settled_end order at.End e = refl
+
+not_end : (place : ℕ) (st : Stepped) → turn_by place st ≡ turn.End → ⊥
+not_end place stepped.Done e = cc
+not_end place stepped.NotYet e = cc
+not_end place stepped.Ended e = cc
+
+not_vsync : (came_to : Turn) (report : VsyncReport) → came_to ≡ turn.Vsync report → came_to ≡ turn.End → ⊥
+not_vsync came_to report is e = cc
+
+module _ {B : Type 0} {R C : Type 0} (lease : Ghosts ReadLeaseOf SeatView R C) (table : TableId) (ofs : List (ActorOf B)) (old new : PlayerOf B) (came_to : Turn) where
+  tried_on : (found : Option ℕ) → TriesIf lease table ofs found old.play new.play came_to → came_to ≡ turn.End → ⊥
+  tried_on None t e = cc (t.0, e)
+  tried_on (Some place) t e = not_end place t.stepped (sym t.is ∙ e)
+
+  picked_on : (number : ℕ) → Picks lease table ofs number old new came_to → came_to ≡ turn.End → ⊥
+  picked_on zero t e = not_vsync came_to t.report t.is e
+  picked_on (suc n) t e = tried_on (position (λ (actor : Actor B). number_of actor == suc n) old.play.cast.actors) t.0 e
+
+  round_on : (more : Bool) (place : ℕ) (was : Bool) → RoundsIf lease table ofs more place was old new came_to → came_to ≡ turn.End → ⊥
+  round_on true place was t e = not_end place t.tries.stepped (sym t.tries.is ∙ e)
+  round_on false place was t e = not_vsync came_to t.vsync.report t.vsync.is e
+
+  -- a turn at the end does nothing
+  ended : (from : Place) → settled old.play.order old.place ≡ from → TurnsAt lease table ofs from old new came_to → came_to ≡ turn.End → (new ≡ old) × (new.place ≡ at.End)
+  ended (at.Order place done) is t e = absurd (picked_on t.pick.actor t.picks e)
+  ended (at.Round place was) is t e = absurd (round_on (nat_lt place (length old.play.cast.actors)) place was t e)
+  ended at.End is t e = (t.1, ap (λ (p : PlayerOf B). p.place) t.1 ∙ settled_end old.play.order old.place is)
+
+  pub ends_there : Turns lease table ofs old new came_to → came_to ≡ turn.End → (new ≡ old) × (new.place ≡ at.End)
+  ends_there turns e = ended (settled old.play.order old.place) refl turns e
+
+module _ {B : Type 0} {R C : Type 0} (lease : Ghosts ReadLeaseOf SeatView R C) (table : TableId) (scene : SceneValue) (so : SoFar B) (old new : PlayerOf B) (stands : Stands table scene so old.play) (same : new.play.order ≡ old.play.order) where
+  lessened : (came_to : Turn) → came_to ≢ turn.End → Turns lease table so.actors old new came_to → fuel new.play.order new.play new.place < fuel old.play.order old.play old.place
+  lessened came_to goes turns =
+      let less = turns_lessen lease table so.actors old new came_to (may_turn lease table scene so old.play stands) goes turns in
+      subst (λ (order : List Pick). fuel order new.play new.place < fuel old.play.order old.play old.place) (sym same) less.fuel
+
+  -- each turn leaves less, up to the end
+  pub leaves_less : (came_to : Turn) → Turns lease table so.actors old new came_to → LeavesLess came_to old new
+  leaves_less (turn.Step place) turns = lessened (turn.Step place) (λ e. cc (e)) turns
+  leaves_less turn.Idle turns = lessened turn.Idle (λ e. cc (e)) turns
+  leaves_less (turn.Vsync report) turns = lessened (turn.Vsync report) (λ e. cc (e)) turns
+  leaves_less turn.End turns = ends_there lease table so.actors old new turn.End turns refl
+
+module _ {B : Type 0} (lease : Ghosts ReadLeaseOf SeatView ReadLeaseOf Issued) (table : TableId) (scene : SceneValue) (so : SoFar B) (player : PlayerOf B) (is : StandsAlong table scene so player) (keeps : KeepsItself lease table player.play)
+    (ended : player.place ≡ at.End) where
+  at_end : IsAtEnd scene so player
+  at_end = subst (RestsAt scene so player) ended is.stands.rests
+
+  -- what it shows is what the play of the scene shows
+  shows_same : shows_at_end scene so player ≡ shows_of scene so.events (world_so so player.play)
+  shows_same =
+      let held = subst (HoldsAt scene so player) ended is.holds in
+      let stuck = are_stuck scene so.actors (home_in player.play) (view_in player.play) (stuck_among so.actors) is.stands.stands.of_scene.limits is.stands.stands.tell.actors refl at_end.rest in
+      λ i. record {
+        events = so.events;
+        arrived = map entry_of (arrived_at player.play);
+        histories = map (history_shown (run_so so player.play)) (rising_queues scene);
+        held = map held_shown (held i);
+        stuck = stuck.exactly i;
+      }
+
+  -- the records at the end are those of the play of the scene
+  pub ends_told : EndsPlay scene so player
+  ends_told = record {
+    are = record {
+      events = so.events;
+      world = world_so so player.play;
+      is_play = ends_play scene so player.play (subst (PlaysSo scene so player.play) ended is.along);
+      are = ap (records_of scene) shows_same;
+    };
+    means = λ fit. record {
+      shows = shows_at_end scene so player;
+      order = refl;
+      fit = fit;
+      run = run_so so player.play;
+      arrivals = arrived_at player.play;
+      fits = shows_fit table scene so player is.stands ended keeps.desk.knows keeps.desk.legal
+          (draws_came table scene so player.play is.stands.stands is.rights keeps.desk.legal keeps.desk.knows keeps.own);
+    };
+  }
+
+module _ {B : Type 0} (lease : Ghosts ReadLeaseOf SeatView ReadLeaseOf Issued) (frames : OfFrames lease) (of_turns : IsOfTurns lease) (tells : TellsAll lease) (table : TableId) (scene : SceneValue) (so : SoFar B)
+    (old new : PlayerOf B) (came_to : Turn) (was : StandsAlong table scene so old) (keeps : KeepsItself lease table old.play) (keeps_now : KeepsItself lease table new.play)
+    (turns : Turns lease table so.actors old new came_to) where
+  on : PlaysOn table scene (map mark_declared (rising_queues scene)) so came_to new new.place
+  on = turns_on lease frames of_turns tells table scene so old new came_to (map mark_declared (rising_queues scene)) was.stands.stands was.rights was.marks keeps keeps_now turns was.along was.holds
+
+  abbrev later : SoFar B
+  later = on.kept.later
+
+  -- where nothing was shown, looks tell what is owed and what is written
+  looks : has_shown came_to ≡ false → LooksTell lease table scene so old.play new.play
+  looks none =
+      let same : later ≡ so = nothing_happens scene came_to new.play so later none on.kept.happens in
+      record {
+        older = older_told table scene so old.play was.stands.stands was.rights keeps.desk.legal keeps.desk.knows keeps.own new.play
+            (subst (λ (s : SoFar B). Stands table scene s new.play) same on.kept.stands) (subst (λ (s : SoFar B). KeepsRights table scene s new.play) same on.kept.rights);
+        written = λ seen told v. looks_written lease frames of_turns tells table scene so old.play new.play seen told was.stands.stands was.rights.ledger v keeps.desk.legal keeps.desk.knows keeps.own;
+      }
+
+  pub same_order : new.play.order ≡ old.play.order
+  same_order = on.kept.stands.of_scene.order ∙ sym was.stands.stands.of_scene.order
+
+  stands_now : StandsAt table scene later new
+  stands_now =
+      let last = vsyncs_last lease table so.actors old new came_to (may_turn lease table scene so old.play was.stands.stands) turns in
+      let early = was.stands.early in
+      let left = ap (λ (order : List Pick). vsyncs_left order new.play new.place) same_order in
+      record {
+        stands = on.kept.stands;
+        rests = turns_rest lease frames table scene so old new later came_to was.stands.stands on.kept.stands keeps_now.desk.legal (λ none. nothing_happens scene came_to new.play so later none on.kept.happens) looks turns
+            was.stands.rests;
+        early = omega (arith, early, left, last);
+      }
+
+  along_now : StandsAlong table scene later new
+  along_now = record { stands = stands_now; rights = on.kept.rights; along = on.along; holds = on.holds; marks = on.kept.queues }
+
+  told : (came : Turn) → came_to ≡ came → Tells scene came later new
+  told (turn.Step place) e = tt
+  told turn.Idle e = tt
+  told (turn.Vsync report) e = subst (λ (c : Turn). FrameTold scene c new.play) e on.frame
+  told turn.End e = ends_told lease table scene later new along_now keeps_now (ends_there lease table so.actors old new came_to turns e).1
+
+  -- each turn goes along with the play of the scene
+  pub goes_along : GoesAlong table scene so came_to new
+  goes_along = record { later = later; happens = on.kept.happens; tells = told came_to refl; stands = along_now }

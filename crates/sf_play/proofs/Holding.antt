@@ -1,0 +1,36 @@
+-- What the last vsync of a play held, where it committed nothing.
+use Rattle.std.proofs.Common.{◌≡◌, ℕ, ◌+◌, ◌*◌, List, [], ◌∷◌, ◌++◌, ap, sym, ◌∙◌}
+use Rattle.sf_ready.specs.declared.hold.Hold.{Hold}
+use Rattle.sf_token.specs.Pending.{Arrival}
+use Rattle.sf_tree.specs.Trees.{TreeOf}
+use Rattle.sf_commit.specs.OnLayers.{OnLayer}
+use Rattle.sf_commit.specs.Rounds.{Leads, held}
+use Rattle.sf_commit.specs.declared.vsync.Commit.{Commit as Decided}
+use Rattle.sf_scene.specs.Scene.{SceneValue}
+use Rattle.sf_actor.specs.Names.{FrameOf}
+use Rattle.sf_run.proofs.PathLemmas.{commits_along, told_along}
+use Rattle.sf_run.proofs.RoundEnd.{begins_bare, round_same, world_bare}
+use Rattle.sf_run.specs.Commits.{is_written}
+use Rattle.sf_run.specs.Ends.{held_in}
+use Rattle.sf_run.specs.Runs.{final_values, written_in}
+use Rattle.sf_run.specs.Worlds.{IsPlaysVsync, World, after_vsync, round_now}
+
+module _ (scene : SceneValue) (world : World) (commits : List Decided) (tree : TreeOf) (gone : List (OnLayer FrameOf)) (holds : List (ℕ × Hold)) (v : IsPlaysVsync scene world commits tree gone holds) where
+  nothing_told : (taken : List (Arrival FrameOf)) → told_along (round_now scene world) taken ≡ []
+      → Leads (is_written (written_in scene world.run)) (final_values scene world.run) ((world.vsyncs + 1) * scene.period) (round_now scene world) taken v.end → v.end ≡ round_now scene world
+  nothing_told [] none leads = leads
+  nothing_told (arrival ∷ taken) none leads = absurd (some_told none)
+    where
+      some_told : told_along (round_now scene world) (arrival ∷ taken) ≡ [] → ⊥
+      some_told e = cc
+
+  ends_bare : commits ≡ [] → v.end ≡ round_now scene world
+  ends_bare none = nothing_told v.decides.taken (sym (ap (λ cs. cs ++ told_along (round_now scene world) v.decides.taken) (begins_bare scene world))
+      ∙ (sym (commits_along (is_written (written_in scene world.run)) (final_values scene world.run) ((world.vsyncs + 1) * scene.period) (round_now scene world) v.end v.decides.taken v.decides.leads)
+      ∙ (v.commits_are ∙ none))) v.decides.leads
+
+  pub held_bare : commits ≡ [] → held_in scene (after_vsync scene world v.end).world ≡ holds
+  held_bare none =
+      ap (held_in scene) (world_bare scene world commits tree gone holds v none)
+      ∙ (ap (held (is_written (written_in scene world.run)) (final_values scene world.run) ((world.vsyncs + 1) * scene.period)) (round_same scene world (world.vsyncs + 1) ∙ sym (ends_bare none))
+      ∙ v.holds_are)

@@ -1,0 +1,66 @@
+-- What the next turn of a player tells, from what its parts ensure.
+use Rattle.std.proofs.Common.{◌≡◌, true, false, List, sym, subst, arith}
+use Rattle.atomic_table.specs.Seated.{TableId}
+use Rattle.sf_picture.specs.declared.picture.Picture.{Picture}
+use Rattle.sf_surface.specs.Tokens.{Issued, ReadLeaseOf}
+use Rattle.sf_turns.specs.Views.{SeatView}
+use Rattle.sf_txn.specs.declared.lease.Lease.{Ghosts}
+use Rattle.sf_scene.specs.Scene.{SceneValue}
+use Rattle.sf_actor.specs.Plain.{home_of, view_of}
+use Rattle.sf_actor.specs.Scripts.{picture_at}
+use Rattle.sf_actor.specs.Tries.{ActorOf}
+use Rattle.sf_cast.specs.Casts.{KeepAs}
+use Rattle.sf_rights.specs.Vsyncs.{IsOfTurns}
+use Rattle.sf_play.proofs.Going.{goes_along, leaves_less, same_order}
+use Rattle.sf_play.proofs.Leasing.{OfFrames}
+use Rattle.sf_play.proofs.Ledging.{TellsAll}
+use Rattle.sf_play.proofs.Picking.{turns_freed}
+use Rattle.sf_play.specs.Going.{GoesAlong, LeavesLess}
+use Rattle.sf_play.specs.Places.{settled}
+use Rattle.sf_play.specs.Players.{PlayerOf, SoFar}
+use Rattle.sf_play.specs.Playing.{KeepsItself, MayMakeVsync}
+use Rattle.sf_play.specs.Standing.{IsPlayer, IsStanding, StandsAlong}
+use Rattle.sf_play.specs.Turning.{KeepsCast, Turns, TurnsAt}
+use Rattle.sf_play.specs.declared.place.Place.{Place}
+use Rattle.sf_play.specs.declared.turn.Turn.{Turn}
+
+module _ {B : Type 0} {R C : Type 0} (lease : Ghosts ReadLeaseOf SeatView R C) (table : TableId) where
+  -- what the parts of one player keep, those of the same one do
+  pub keeps_as : (one other : PlayerOf B) → one ≡ other → KeepsItself lease table other.play → KeepsItself lease table one.play
+  keeps_as one other same keeps = subst (λ (p : PlayerOf B). KeepsItself lease table p.play) (sym same) keeps
+
+module _ {B : Type 0} (table : TableId) (player : PlayerOf B) where
+  -- the number of its next vsync fits
+  pub may_make : IsStanding table player → MayMakeVsync table player.play
+  may_make is = record { scene = is.scene; so = is.so; stands = is.stands.stands.stands; early = (let early = is.stands.stands.early in omega (arith, early)) }
+
+module _ {B : Type 0} (lease : Ghosts ReadLeaseOf SeatView ReadLeaseOf Issued) (table : TableId) (inside later : PlayerOf B) (came_to : Turn) (place : Place) (there : place ≡ settled inside.play.order inside.place) (free : inside.is_spent ≡ false)
+    (turns : (ofs : List (ActorOf B)) → KeepsCast table inside.play ofs → TurnsAt lease table ofs place (record inside { is_spent = true }) later came_to) where
+  abbrev pub freed : PlayerOf B
+  freed = record later { is_spent = false }
+
+  -- it was not spent, and is not
+  pub turned : (ofs : List (ActorOf B)) → KeepsCast table inside.play ofs → Turns lease table ofs inside freed came_to
+  turned ofs keep =
+      turns_freed lease table ofs (settled inside.play.order inside.place) inside later true false came_to free
+      (subst (λ (p : Place). TurnsAt lease table ofs p (record inside { is_spent = true }) later came_to) there (turns ofs keep))
+
+  module _ (frames : OfFrames lease) (of_turns : IsOfTurns lease) (tells : TellsAll lease) (keeps : KeepsItself lease table inside.play) (keeps_now : KeepsItself lease table later.play) where
+    keep_of : (scene : SceneValue) (so : SoFar B) → StandsAlong table scene so inside → KeepsCast table inside.play so.actors
+    keep_of scene so was =
+        subst (λ (pictures : List Picture). KeepAs table (picture_at pictures) (home_of inside.play.cast.desk) (view_of inside.play.cast.desk) inside.play.cast.actors so.actors)
+        (sym was.stands.stands.of_scene.pictures) was.stands.stands.keep
+
+    pub goes : (scene : SceneValue) (so : SoFar B) → StandsAlong table scene so inside → GoesAlong table scene so came_to freed
+    goes scene so was = goes_along lease frames of_turns tells table scene so inside freed came_to was keeps keeps_now (turned so.actors (keep_of scene so was))
+
+    pub less : IsStanding table inside → LeavesLess came_to inside freed
+    less is =
+        let turn = turned is.so.actors (keep_of is.scene is.so is.stands) in
+        leaves_less lease table is.scene is.so inside freed is.stands.stands.stands
+        (same_order lease frames of_turns tells table is.scene is.so inside freed came_to is.stands keeps keeps_now turn) came_to turn
+
+    pub stays : IsStanding table inside → IsPlayer table freed
+    stays is =
+        let on = goes is.scene is.so is.stands in
+        record { unlent = on.stands.stands.stands.of_scene.unlent; stands = λ unspent. record { scene = is.scene; so = on.later; stands = on.stands } }

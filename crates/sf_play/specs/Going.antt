@@ -1,0 +1,67 @@
+-- What a turn of a player tells who shows it: it goes along with the play of the scene, up to its end.
+use Rattle.std.specs.Prelude.{◌≡◌, ℕ, ◌<◌, pos, List, map, All}
+use Rattle.atomic_table.specs.Seated.{TableId}
+use Rattle.sf_compose.specs.Frames.{frame_bytes}
+use Rattle.sf_compose.specs.Readings.{AreReadable}
+use Rattle.sf_compose.specs.Sources.{HasSources}
+use Rattle.sf_view.specs.Stacks.{view_image}
+use Rattle.sf_scene.specs.Scene.{SceneValue}
+use Rattle.sf_actor.specs.Scripts.{picture_at}
+use Rattle.sf_record.specs.Fitting.{RecordFits}
+use Rattle.sf_record.specs.declared.record.Record.{Record}
+use Rattle.sf_run.specs.Ends.{ArePlayRecords}
+use Rattle.sf_run.specs.Frames.{frame_of_layers}
+use Rattle.sf_run.specs.Played.{Played, records_of}
+use Rattle.sf_report.specs.declared.report.VsyncReport.{VsyncReport}
+use Rattle.sf_play.specs.Ending.{shows_at_end}
+use Rattle.sf_play.specs.Fuel.{fuel}
+use Rattle.sf_play.specs.Happening.{Happens}
+use Rattle.sf_play.specs.Players.{PlayOf, PlayerOf, SoFar}
+use Rattle.sf_play.specs.Playing.{expected_by}
+use Rattle.sf_play.specs.Standing.{StandsAlong}
+use Rattle.sf_play.specs.declared.place.Place.TheVariants as at
+use Rattle.sf_play.specs.declared.turn.Turn.{Turn}
+use Rattle.sf_play.specs.declared.turn.Turn.TheVariants as turn
+
+module _ {B : Type 0} where
+  -- What a vsync reports is what its frame is composed from: each drawn layer finds its picture among the contents, and the
+  -- frame that is due is the image of the view, which has the display's size.
+  pub record TellsFrame (scene : SceneValue) (report : VsyncReport) (play : PlayOf B) : Type 0 where
+    pub sources : HasSources (picture_at scene.pictures) report.view (map expected_by play.handler.on) report.sources
+    pub readable : AreReadable (map expected_by play.handler.on) report.view.drawn report.sources
+    pub frame : frame_of_layers (picture_at scene.pictures) play.handler.tree.layers scene.width scene.height
+        ≡ frame_bytes (λ x y. view_image (picture_at scene.pictures) report.view (pos x) (pos y)) report.view.width report.view.height
+    pub wide : report.view.width ≡ scene.width
+    pub high : report.view.height ≡ scene.height
+
+  -- the records of a player that has shown this much and is at its end
+  abbrev pub records_so : SceneValue → SoFar B → PlayerOf B → List Record
+  records_so scene so player = records_of scene (shows_at_end scene so player)
+
+  -- At its end the records of a player are those of the scene's play, and mean what a played run means where their numbers fit
+  -- their fields.
+  pub record EndsPlay (scene : SceneValue) (so : SoFar B) (player : PlayerOf B) : Type 0 where
+    pub are : ArePlayRecords scene (records_so scene so player)
+    pub means : All RecordFits (records_so scene so player) → Played scene (records_so scene so player)
+
+  -- what a turn tells beside what happened
+  abbrev pub Tells : SceneValue → Turn → SoFar B → PlayerOf B → Type 0
+  Tells scene (turn.Vsync report) so player = TellsFrame scene report player.play
+  Tells scene turn.End so player = EndsPlay scene so player
+  Tells scene other so player = Unit {0}
+
+  -- a turn goes along with the play of the scene: this much has happened since, and the player stands along with it
+  pub record GoesAlong (table : TableId) (scene : SceneValue) (so : SoFar B) (came_to : Turn) (new : PlayerOf B) : Type 0 where
+    pub later : SoFar B
+    pub happens : Happens scene came_to new.play so later
+    pub tells : Tells scene came_to later new
+    pub stands : StandsAlong table scene later new
+
+  -- how much is left of a player's play
+  abbrev pub fuel_of : PlayerOf B → ℕ
+  fuel_of player = fuel player.play.order player.play player.place
+
+  -- each turn leaves less of a play, up to its end, at which a turn does nothing
+  abbrev pub LeavesLess : Turn → PlayerOf B → PlayerOf B → Type 0
+  LeavesLess turn.End old new = (new ≡ old) × (new.place ≡ at.End)
+  LeavesLess other old new = fuel_of new < fuel_of old
