@@ -1,2 +1,5 @@
 pub mod WritingLemmas
 pub mod VsyncLemmas
+pub mod ClosingLemmas
+pub mod TurnLemmas
+pub mod RunLemmas

@@ -1,12 +1,14 @@
 -- The records of a vsync, piece by piece.
-use Rattle.std.proofs.Common.{◌≡◌, ℕ, Bool, true, false, if◌then◌else◌, List, [], ◌∷◌, ◌++◌, map, Option, Some, None, Result, Ok, Err, refl, ap, ◌∙◌, sym, subst, OnErr, OnOk}
-use Rattle.std.specs.Prelude.{IfOk, IfSome}
+use Rattle.std.proofs.Common.{◌≡◌, ℕ, Bool, true, false, if◌then◌else◌, List, [], ◌∷◌, ◌++◌, drop, map, take, Option, Some, None, Result, Ok, Err, refl, ap, ◌∙◌, sym, subst, OnErr, OnOk}
+use Rattle.std.specs.Prelude.{IfSome}
+use Rattle.byteorder.specs.Endian.{big_bytes}
 use Rattle.std.proofs.lemmas.Bool.{false≢true}
-use Rattle.sf_base.specs.declared.memory.NoMemory.{NoMemory}
+use Rattle.std.proofs.lemmas.List.{drop_at, take_at}
 use Rattle.sf_commit.specs.declared.vsync.Commit.{Commit as Decided}
 use Rattle.sf_compose.specs.Again.{ShowsView}
 use Rattle.sf_picture.specs.declared.picture.Picture.{Picture}
 use Rattle.sf_record.specs.Events.{frame_records, vsync_records}
+use Rattle.sf_record.specs.Records.{frame_in, u32_bytes}
 use Rattle.sf_record.specs.declared.encode.RunFault.{RunFault}
 use Rattle.sf_record.specs.declared.event.VsyncReport.{VsyncReport as Told}
 use Rattle.sf_record.specs.declared.record.Record.{Record}
@@ -25,14 +27,18 @@ pub with_more : (A B : Type 0) (r : Result (Unit {0}) RunFault) → OnOk r A →
 with_more A B (Ok u) a b = (a, b)
 with_more A B (Err e) a b = tt
 
--- the record of the frame has the bytes of the view's image
-pub frame_made : (pictures : ℕ → Picture) (view : ViewOf) (screen : ScreenOf) (number : ℕ) (made : Result Record NoMemory)
-    → screen.view ≡ Some view → IsWhole view screen.frame → IsShown pictures screen
-    → IfOk made (λ it. it ≡ rec.Fram (record { number = number; pixels = screen.frame }))
-    → IfOk made (λ it. it ≡ rec.Fram (record { number = number; pixels = image_bytes pictures view }))
-frame_made pictures view screen number made is whole shown made_is =
-    subst (λ (pixels : List ℕ). IfOk made (λ it. it ≡ rec.Fram (record { number = number; pixels = pixels })))
-    (shown_bytes pictures view screen.frame whole (subst (λ (o : Option ViewOf). IfSome o (λ v. ShowsView pictures v screen.frame)) is shown)) made_is
+-- what a screen shows are the bytes of its view's image
+pub frame_bytes_are : (pictures : ℕ → Picture) (view : ViewOf) (screen : ScreenOf) → screen.view ≡ Some view → IsWhole view screen.frame → IsShown pictures screen → screen.frame ≡ image_bytes pictures view
+frame_bytes_are pictures view screen is whole shown =
+    shown_bytes pictures view screen.frame whole (subst (λ (o : Option ViewOf). IfSome o (λ v. ShowsView pictures v screen.frame)) is shown)
+
+-- the record of a frame by its body
+pub framed_is : (number : ℕ) (body frame : List ℕ) → body ≡ big_bytes 4 number ++ frame → frame_in number body ≡ rec.Fram (record { number = number; pixels = frame })
+framed_is number body frame is = ap (λ (pixels : List ℕ). rec.Fram (record { number = number; pixels = pixels })) (ap (drop 4) is ∙ drop_at (big_bytes 4 number) frame 4 refl)
+
+pub frame_begins : (number : ℕ) (body frame : List ℕ) → body ≡ big_bytes 4 number ++ frame → take 4 body ≡ u32_bytes number
+unfolding u32_bytes
+frame_begins number body frame is = ap (take 4) is ∙ take_at (big_bytes 4 number) frame 4 refl
 
 -- one that commits something has its records, and one that commits nothing has none
 pub its_records : (commits : List Decided) (told : Told) → has_commits commits ≡ true → vsync_records told ≡ records_if commits told

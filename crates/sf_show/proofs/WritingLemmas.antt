@@ -11,9 +11,6 @@ use Rattle.sf_record.specs.declared.encode.RunFault.{RunFault}
 use Rattle.sf_record.specs.Fitting.{RecordFits}
 use Rattle.sf_record.specs.Records.{bytes_of, record_bytes}
 use Rattle.sf_record.specs.declared.record.Record.{Record}
-use Rattle.sf_record.specs.declared.record.Record.TheVariants as rec
-use Rattle.sf_commit.specs.declared.vsync.Commit.{Commit as Decided}
-use Rattle.sf_run.specs.Commits.{commit_shown}
 use Rattle.sf_show.specs.Writing.{Writes, WritesPart}
 
 pub one_record : (r : Record) → record_bytes r ≡ bytes_of (r ∷ [])
@@ -59,41 +56,46 @@ pub one_part : (r : Result (Unit {0}) RunFault) (a b : Option (List ℕ)) (made 
 one_part (Ok u) a b made expected is part = tt
 one_part (Err e) a b made expected is part = subst (λ (x : Record). WritesPart a b (x ∷ [])) is (subst (TookPrefix a b) (one_record made) part)
 
--- one more of a list
-pub map_next : {X : Type 0} (f : X → Record) (xs : List X) (i : ℕ) (d : X) → i < length xs → map f (take (i + 1) xs) ≡ map f (take i xs) ++ f (get_or xs i d) ∷ []
-map_next f xs i d below = ap (map f) (take_more xs i d below) ∙ map-append f (take i xs) (get_or xs i d ∷ [])
+-- the last of several records was written, or a part of it
+pub last_written : (r : Result (Unit {0}) RunFault) (a b c : Option (List ℕ)) (rs ss : List Record) → Writes a b rs → OnOk r (Writes b c ss) → OnOk r (Writes a c (rs ++ ss))
+last_written (Ok u) a b c rs ss first second = writes_more a b c rs ss first second
+last_written (Err e) a b c rs ss first second = tt
 
-pub map_split : {X : Type 0} (f : X → Record) (xs : List X) (i : ℕ) → map f (take i xs) ++ map f (drop i xs) ≡ map f xs
-map_split f xs i = sym (map-append f (take i xs) (drop i xs)) ∙ ap (map f) (take-append-drop i xs)
+pub last_cut : (r : Result (Unit {0}) RunFault) (a b c : Option (List ℕ)) (rs ss : List Record) → Writes a b rs → OnErr r (WritesPart b c ss) → OnErr r (WritesPart a c (rs ++ ss))
+last_cut (Ok u) a b c rs ss first second = tt
+last_cut (Err e) a b c rs ss first second = part_more a b c rs ss first second
 
-pub commits_next : (xs : List Decided) (i : ℕ) (d : Decided) → i < length xs
-    → map rec.Comm (map commit_shown (take (i + 1) xs)) ≡ map rec.Comm (map commit_shown (take i xs)) ++ rec.Comm (commit_shown (get_or xs i d)) ∷ []
-commits_next xs i d below = ap (map rec.Comm) (ap (map commit_shown) (take_more xs i d below) ∙ map-append commit_shown (take i xs) (get_or xs i d ∷ [])) ∙ map-append rec.Comm (map commit_shown (take i xs)) (commit_shown (get_or xs i d) ∷ [])
+-- one more of what is made of a list
+each_next : {X Y : Type 0} (f : X → Y) (r : Y → Record) (xs : List X) (i : ℕ) (d : X) → i < length xs
+    → map r (map f (take (i + 1) xs)) ≡ map r (map f (take i xs)) ++ r (f (get_or xs i d)) ∷ []
+each_next f r xs i d below =
+    ap (map r) (ap (map f) (take_more xs i d below) ∙ map-append f (take i xs) (get_or xs i d ∷ []))
+    ∙ map-append r (map f (take i xs)) (f (get_or xs i d) ∷ [])
 
-pub commits_split : (xs : List Decided) (i : ℕ) → map rec.Comm (map commit_shown (take i xs)) ++ map rec.Comm (map commit_shown (drop i xs)) ≡ map rec.Comm (map commit_shown xs)
-commits_split xs i = sym (map-append rec.Comm (map commit_shown (take i xs)) (map commit_shown (drop i xs))) ∙ ap (map rec.Comm) (sym (map-append commit_shown (take i xs) (drop i xs)) ∙ ap (map commit_shown) (take-append-drop i xs))
+each_split : {X Y : Type 0} (f : X → Y) (r : Y → Record) (xs : List X) (i : ℕ) → map r (map f (take i xs)) ++ map r (map f (drop i xs)) ≡ map r (map f xs)
+each_split f r xs i =
+    sym (map-append r (map f (take i xs)) (map f (drop i xs)))
+    ∙ ap (map r) (sym (map-append f (take i xs) (drop i xs)) ∙ ap (map f) (take-append-drop i xs))
 
-commits_front : (xs : List Decided) (i : ℕ) (d : Decided) → i < length xs
-    → map rec.Comm (map commit_shown (drop i xs)) ≡ rec.Comm (commit_shown (get_or xs i d)) ∷ map rec.Comm (map commit_shown (drop (i + 1) xs))
-commits_front xs i d below = ap (λ (l : List Decided). map rec.Comm (map commit_shown l)) (drop_more xs i d below)
+each_front : {X Y : Type 0} (f : X → Y) (r : Y → Record) (xs : List X) (i : ℕ) (d : X) → i < length xs
+    → map r (map f (drop i xs)) ≡ r (f (get_or xs i d)) ∷ map r (map f (drop (i + 1) xs))
+each_front {X} f r xs i d below = ap (λ (l : List X). map r (map f l)) (drop_more xs i d below)
 
--- one more commit was written
-pub commits_more : (a b c : Option (List ℕ)) (xs : List Decided) (i : ℕ) (x : Decided) → i < length xs → x ≡ get_or xs i x
-    → Writes a b (map rec.Comm (map commit_shown (take i xs))) → Writes b c (rec.Comm (commit_shown x) ∷ []) → Writes a c (map rec.Comm (map commit_shown (take (i + 1) xs)))
-commits_more a b c xs i x below is before now =
-    subst (Writes a c) (sym (commits_next xs i x below))
-    (writes_more a b c (map rec.Comm (map commit_shown (take i xs))) (rec.Comm (commit_shown (get_or xs i x)) ∷ []) before
-    (subst (λ (d : Decided). Writes b c (rec.Comm (commit_shown d) ∷ [])) is now))
+-- one more record was written
+pub each_more : {X Y : Type 0} (f : X → Y) (r : Y → Record) (a b c : Option (List ℕ)) (xs : List X) (i : ℕ) (x : X) → i < length xs → x ≡ get_or xs i x
+    → Writes a b (map r (map f (take i xs))) → Writes b c (r (f x) ∷ []) → Writes a c (map r (map f (take (i + 1) xs)))
+each_more {X} f r a b c xs i x below is before now =
+    subst (Writes a c) (sym (each_next f r xs i x below))
+    (writes_more a b c (map r (map f (take i xs))) (r (f (get_or xs i x)) ∷ []) before (subst (λ (d : X). Writes b c (r (f d) ∷ [])) is now))
 
--- a part of the next commit was written
-pub commits_part : (a b c : Option (List ℕ)) (xs : List Decided) (i : ℕ) (x : Decided) → i < length xs → x ≡ get_or xs i x
-    → Writes a b (map rec.Comm (map commit_shown (take i xs))) → WritesPart b c (rec.Comm (commit_shown x) ∷ []) → WritesPart a c (map rec.Comm (map commit_shown xs))
-commits_part a b c xs i x below is before now =
-    subst (WritesPart a c) (commits_split xs i)
-    (part_more a b c (map rec.Comm (map commit_shown (take i xs))) (map rec.Comm (map commit_shown (drop i xs))) before
-    (subst (WritesPart b c) (sym (commits_front xs i x below))
-    (part_front b c (rec.Comm (commit_shown (get_or xs i x)) ∷ []) (map rec.Comm (map commit_shown (drop (i + 1) xs)))
-    (subst (λ (d : Decided). WritesPart b c (rec.Comm (commit_shown d) ∷ [])) is now))))
+-- a part of the next record was written
+pub each_part : {X Y : Type 0} (f : X → Y) (r : Y → Record) (a b c : Option (List ℕ)) (xs : List X) (i : ℕ) (x : X) → i < length xs → x ≡ get_or xs i x
+    → Writes a b (map r (map f (take i xs))) → WritesPart b c (r (f x) ∷ []) → WritesPart a c (map r (map f xs))
+each_part {X} f r a b c xs i x below is before now =
+    subst (WritesPart a c) (each_split f r xs i)
+    (part_more a b c (map r (map f (take i xs))) (map r (map f (drop i xs))) before
+    (subst (WritesPart b c) (sym (each_front f r xs i x below))
+    (part_front b c (r (f (get_or xs i x)) ∷ []) (map r (map f (drop (i + 1) xs))) (subst (λ (d : X). WritesPart b c (r (f d) ∷ [])) is now))))
 
 pub still_later : (a b c : ℕ) → a ≤ b → b ≤ c → a ≤ c
 still_later a b c p q = omega arith

@@ -1,2 +1,5 @@
+pub mod Closings
+pub mod Runs
+pub mod Turns
 pub mod Vsyncs
 pub mod Writing

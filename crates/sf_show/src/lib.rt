@@ -1,6 +1,10 @@
 //! A play as bytes: the records of what a player does, one after another, are written to a sink.
 #![tactic(auto)]
 
+mod closing;
+mod play;
 mod vsync;
+mod writing;
 
+pub use play::show_play;
 pub use vsync::show_vsync;

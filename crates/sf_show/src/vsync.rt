@@ -1,10 +1,10 @@
-ghost use Rattle.std.specs.Prelude.{◌≡◌, ◌≤◌, ◌∷◌, [], ℕ, All, IfOk, IsErrOf, OnErr, OnOk, None, Some, map, true};
+ghost use Rattle.std.specs.Prelude.{◌≡◌, ◌≤◌, ◌∷◌, [], ℕ, All, IsErrOf, OnErr, OnOk, Some, is_some, map, true};
 ghost use Rattle.std.specs.List.{list_any};
+ghost use Rattle.byteorder.specs.Endian.{big_bytes};
 ghost use Rattle.sf_compose.specs.Readings.{AreReadable};
 ghost use Rattle.sf_compose.specs.Sources.{HasSources};
 ghost use Rattle.sf_io.specs.Causes.{Rose};
 ghost use Rattle.sf_picture.specs.declared.picture.Picture.{Picture};
-ghost use Rattle.sf_record.specs.declared.record.Record.{Record as RecordValue};
 ghost use Rattle.sf_record.specs.declared.record.Record.TheVariants as rec;
 ghost use Rattle.sf_run.specs.Commits.{commit_shown};
 ghost use Rattle.sf_run.specs.Seeing.{value_shown};
@@ -12,32 +12,15 @@ ghost use Rattle.sf_screen.specs.Screens.{IsShown, IsWhole, MayShow, image_bytes
 ghost use Rattle.sf_show.specs.Vsyncs.{IsSized, MayCompose, is_accepted, shows_frame, vsync_shown};
 ghost use Rattle.sf_show.specs.Writing.{Writes, WritesPart};
 
-use sf_base::{Items, NoMemory};
+use crate::writing::write_made;
 use sf_commit::Commit;
 use sf_compose::Pixels;
 use sf_io::Sink;
-use sf_record::{Frame, Record, RunFault, write_record};
+use sf_record::{RunFault, write_frame};
 use sf_report::{VsyncReport, commit_record, vsync_record};
 use sf_screen::Screen;
 use sf_view::View;
 use std::alloc::Global;
-
-/// Writes a record that was made, if memory allowed.
-fn write_made<K: Sink>(
-    alloc: Global,
-    sink: &mut K,
-    made: Result<Record, NoMemory>,
-) -> Result<(), RunFault>
-    ensures ok { (shown : RecordValue) → IfOk made (λ it. it ≡ shown) → OnOk result (Writes (K.taken sink.old) (K.taken sink.new) (shown ∷ [])) }
-    ensures err { (shown : RecordValue) → IfOk made (λ it. it ≡ shown) → OnErr result (WritesPart (K.taken sink.old) (K.taken sink.new) (shown ∷ [])) }
-    ensures later { K.faults sink.old ≤ K.faults sink.new }
-    ensures failed { IsErrOf result RunFault.WriteFault → Rose (K.faults sink.old) (K.faults sink.new) }
-{
-    match made {
-        Ok(record) => write_record(alloc, sink, &record),
-        Err(_) => Err(RunFault::NoMemory),
-    }
-}
 
 /// Writes the records of commits, one after another.
 fn write_commits<K: Sink>(alloc: Global, sink: &mut K, commits: &[Commit]) -> Result<(), RunFault>
@@ -56,16 +39,17 @@ fn write_commits<K: Sink>(alloc: Global, sink: &mut K, commits: &[Commit]) -> Re
     Ok(())
 }
 
-/// The record of the frame that the screen has.
-fn frame_record(alloc: Global, screen: &Screen, number: u32) -> Result<Record, NoMemory>
-    ensures { IfOk result (λ shown. shown ≡ rec.Fram (record { number = number; pixels = screen.now.frame })) }
+/// Writes the record of the frame of the view that the screen showed last.
+fn write_shown<K: Sink>(sink: &mut K, screen: &mut Screen, number: u32) -> Result<(), RunFault>
+    requires { is_some screen.old.view ≡ true }
+    ensures ok { OnOk result (Writes (K.taken sink.old) (K.taken sink.new) (rec.Fram (record { number = number; pixels = screen.old.frame }) ∷ [])) }
+    ensures err { OnErr result (WritesPart (K.taken sink.old) (K.taken sink.new) (rec.Fram (record { number = number; pixels = screen.old.frame }) ∷ [])) }
+    ensures same { screen.new ≡ record screen.old { number = big_bytes 4 number } }
+    ensures later { K.faults sink.old ≤ K.faults sink.new }
+    ensures failed { IsErrOf result RunFault.WriteFault → Rose (K.faults sink.old) (K.faults sink.new) }
 {
-    let mut pixels = Vec::new(alloc);
-    pixels.extend_from_slice(screen.frame())?;
-    Ok(Record::Fram(Frame {
-        number,
-        pixels: Items::new(pixels),
-    }))
+    screen.number(number);
+    write_frame(sink, number, screen.body())
 }
 
 fn is_accepted(commit: &Commit) -> bool
@@ -82,7 +66,6 @@ fn shows_frame(commits: &[Commit]) -> bool
 
 /// Shows the view of a vsync, and writes the record of its frame.
 fn show_frame<K: Sink, C: Pixels>(
-    alloc: Global,
     sink: &mut K,
     screen: &mut Screen,
     contents: &[C],
@@ -103,7 +86,7 @@ fn show_frame<K: Sink, C: Pixels>(
     ensures failed { IsErrOf result RunFault.WriteFault → Rose (K.faults sink.old) (K.faults sink.new) }
 {
     match screen.show(view, contents, sources) {
-        Ok(()) => write_made(alloc, sink, frame_record(alloc, screen, number)),
+        Ok(()) => write_shown(sink, screen, number),
         Err(_) => Err(RunFault::NoMemory),
     }
 }
@@ -120,11 +103,12 @@ pub fn show_vsync<K: Sink, C: Pixels>(
 ) -> Result<(), RunFault>
     requires timelines { All (λ timeline. (1 ≤ timeline) × (timeline ≤ 64)) timelines.now }
     requires may { shows_frame report ≡ true → MayCompose screen.old (map C.picture contents.now) report }
-    ensures ok { (pictures : ℕ → Picture) → (shows_frame report ≡ true → HasSources pictures report.view (map C.picture contents.now) report.sources) → IsShown pictures screen.old
-        → OnOk result (Writes (K.taken sink.old) (K.taken sink.new) (vsync_shown pictures timelines.now report) × IsShown pictures screen.new) }
-    ensures err { (pictures : ℕ → Picture) → (shows_frame report ≡ true → HasSources pictures report.view (map C.picture contents.now) report.sources) → IsShown pictures screen.old
-        → OnErr result (WritesPart (K.taken sink.old) (K.taken sink.new) (vsync_shown pictures timelines.now report)) }
-    ensures sized { (width height : ℕ) → (report.view.width ≡ width) × (report.view.height ≡ height) → IsSized width height screen.old → OnOk result (IsSized width height screen.new) }
+    ensures ok { (pictures : ℕ → Picture) → (shows_frame report ≡ true → HasSources pictures report.view (map C.picture contents.now) report.sources)
+        → IsShown pictures screen.old → OnOk result (Writes (K.taken sink.old) (K.taken sink.new) (vsync_shown pictures timelines.now report) × IsShown pictures screen.new) }
+    ensures err { (pictures : ℕ → Picture) → (shows_frame report ≡ true → HasSources pictures report.view (map C.picture contents.now) report.sources)
+        → IsShown pictures screen.old → OnErr result (WritesPart (K.taken sink.old) (K.taken sink.new) (vsync_shown pictures timelines.now report)) }
+    ensures sized { (width height : ℕ) → (report.view.width ≡ width) × (report.view.height ≡ height) → IsSized width height screen.old
+        → OnOk result (IsSized width height screen.new) }
     ensures later { K.faults sink.old ≤ K.faults sink.new }
     ensures failed { IsErrOf result RunFault.WriteFault → Rose (K.faults sink.old) (K.faults sink.new) }
 {
@@ -149,15 +133,7 @@ pub fn show_vsync<K: Sink, C: Pixels>(
         Err(fault) => return Err(fault),
     }
     if shows_frame(commits.as_slice()) {
-        show_frame(
-            alloc,
-            sink,
-            screen,
-            contents,
-            number,
-            view,
-            sources.as_slice(),
-        )
+        show_frame(sink, screen, contents, number, view, sources.as_slice())
     } else {
         Ok(())
     }

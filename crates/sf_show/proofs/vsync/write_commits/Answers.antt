@@ -1,7 +1,7 @@
 use Rattle.std.proofs.Common.{arith}
 use Rattle.sf_record.specs.declared.record.Record.TheVariants as rec
 use Rattle.sf_run.specs.Commits.{commit_shown}
-use Rattle.sf_show.proofs.WritingLemmas.{writes_none, still_later, commits_more, commits_part}
+use Rattle.sf_show.proofs.WritingLemmas.{each_more, each_part, still_later, writes_none}
 use Rattle.sf_show.proofs.vsync.write_commits.Goals as goal
 
 pub loop-commit-init : goal.loop-commit-init
@@ -9,12 +9,12 @@ loop-commit-init g c = (writes_none (g.K.Sink.taken c.args.sink.now), omega arit
 
 pub returns-in-Err-clause-err : goal.returns-in-Err-clause-err
 returns-in-Err-clause-err g c =
-    commits_part _ _ _ c.args.commits.now c.loop-commit.commit-index c.commit-item.result c.loop-commit-test.true c.commit-item.is c.loop-commit.invariant.0
+    each_part commit_shown rec.Comm _ _ _ c.args.commits.now c.loop-commit.commit-index c.commit-item.result c.loop-commit-test.true c.commit-item.is c.loop-commit.invariant.0
     (c.in-Err.ensures.err (rec.Comm (commit_shown c.commit-item.result)) c.commit_record-made.ensures)
 
 pub loop-commit-preserved : goal.loop-commit-preserved
 loop-commit-preserved g c = (
-  commits_more _ _ _ c.args.commits.now c.loop-commit.commit-index c.commit-item.result c.loop-commit-test.true c.commit-item.is c.loop-commit.invariant.0
+  each_more commit_shown rec.Comm _ _ _ c.args.commits.now c.loop-commit.commit-index c.commit-item.result c.loop-commit-test.true c.commit-item.is c.loop-commit.invariant.0
       (c.in-Ok.ensures.ok (rec.Comm (commit_shown c.commit-item.result)) c.commit_record-made.ensures),
   still_later _ _ _ c.loop-commit.invariant.1 c.write_made.ensures.later,
 )

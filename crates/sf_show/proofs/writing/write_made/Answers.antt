@@ -1,7 +1,7 @@
 use Rattle.std.proofs.Common.{◌≡◌, subst}
 use Rattle.std.specs.Prelude.{IfOk}
 use Rattle.sf_show.proofs.WritingLemmas.{one_part, one_written}
-use Rattle.sf_show.proofs.vsync.write_made.Goals as goal
+use Rattle.sf_show.proofs.writing.write_made.Goals as goal
 
 pub returns-in-Ok-clause-ok : goal.returns-in-Ok-clause-ok
 returns-in-Ok-clause-ok g c = λ shown is. one_written c.write_record.result _ _ _ shown (subst (λ m. IfOk m (λ it. it ≡ shown)) c.in-Ok.is is) c.write_record.ensures.ok c.write_record.ensures.fits

@@ -1,0 +1,37 @@
+use Rattle.std.proofs.Common.{refl}
+use Rattle.sf_show.proofs.ClosingLemmas.{few_steps}
+use Rattle.sf_show.proofs.RunLemmas.{first_cut, has_begun, run_cut, run_written}
+use Rattle.sf_show.proofs.play.write_play.Goals as goal
+
+pub returns-in-Err-clause-err : goal.returns-in-Err-clause-err
+returns-in-Err-clause-err g c = λ scene ready. first_cut g.B.TableName.table scene c.args.first c.args.timelines.now c.args.player.now ready _ _ (c.in-Err.ensures.err c.args.first refl)
+
+pub show_turns-requires : goal.show_turns-requires
+show_turns-requires g c = (
+  c.requires.0,
+  g.K.Sink.taken c.args.sink.now,
+  has_begun g.B.TableName.table c.requires.0 c.args.first c.args.timelines.now c.args.player.now c.requires.1 _ _ (c.in-Ok.ensures.ok c.args.first refl),
+)
+
+pub returns-in-Err-show_turns-clause-err : goal.returns-in-Err-show_turns-clause-err
+returns-in-Err-show_turns-clause-err g c = λ scene ready.
+    c.in-Err-show_turns.ensures.err scene (g.K.Sink.taken c.args.sink.now)
+    (has_begun g.B.TableName.table scene c.args.first c.args.timelines.now c.args.player.now ready _ _ (c.in-Ok.ensures.ok c.args.first refl))
+
+pub write_closing-requires : goal.write_closing-requires
+write_closing-requires g c =
+    let has = c.in-Ok-show_turns.ensures.ok c.requires.0 (g.K.Sink.taken c.args.sink.now)
+    (has_begun g.B.TableName.table c.requires.0 c.args.first c.args.timelines.now c.args.player.now c.requires.1 _ _ (c.in-Ok.ensures.ok c.args.first refl)) in
+    few_steps g.B.TableName.table c.requires.0 has.so c.show_turns.new.player has.stands
+
+pub returns-clause-ok : goal.returns-clause-ok
+returns-clause-ok g c = λ scene ready.
+    let has = c.in-Ok-show_turns.ensures.ok scene (g.K.Sink.taken c.args.sink.now)
+    (has_begun g.B.TableName.table scene c.args.first c.args.timelines.now c.args.player.now ready _ _ (c.in-Ok.ensures.ok c.args.first refl)) in
+    run_written g.B.TableName.table scene _ _ _ c.show_turns.new.player has c.write_closing.result c.write_closing.ensures.ok
+
+pub returns-clause-err : goal.returns-clause-err
+returns-clause-err g c = λ scene ready.
+    let has = c.in-Ok-show_turns.ensures.ok scene (g.K.Sink.taken c.args.sink.now)
+    (has_begun g.B.TableName.table scene c.args.first c.args.timelines.now c.args.player.now ready _ _ (c.in-Ok.ensures.ok c.args.first refl)) in
+    run_cut g.B.TableName.table scene _ _ _ c.show_turns.new.player has c.write_closing.result c.write_closing.ensures.err

@@ -1,0 +1,224 @@
+ghost use Rattle.std.specs.Prelude.{◌≡◌, ◌∷◌, ◌+◌, ◌<◌, ◌≤◌, [], ℕ, All, IfErr, IfOk, IsErrOf, List, OnErr, OnOk, Option, true};
+ghost use Rattle.sf_actor.specs.Scripts.{picture_at};
+ghost use Rattle.sf_cast.specs.Opening.{IsSortedFrom};
+ghost use Rattle.sf_cast.specs.Scripts.{are_playable, permits_of};
+ghost use Rattle.sf_io.specs.Causes.{Rose};
+ghost use Rattle.sf_play.specs.Going.{fuel_of};
+ghost use Rattle.sf_run.specs.Played.{opening};
+ghost use Rattle.sf_scene.specs.Scene.{SceneValue};
+ghost use Rattle.sf_screen.specs.Screens.{IsShown};
+ghost use Rattle.sf_show.specs.Runs.{CutRun, WroteRun};
+ghost use Rattle.sf_show.specs.Turns.{HasWritten, IsReady, IsWriting, MayShowTurn, TurnsOn, bare_screen, is_end, newest_shown, turn_shown};
+ghost use Rattle.sf_show.specs.Vsyncs.{IsSized};
+ghost use Rattle.sf_show.specs.Writing.{Writes, WritesPart};
+ghost use Rattle.sf_turns.specs.Counts.{range};
+
+use crate::closing::write_closing;
+use crate::vsync::show_vsync;
+use crate::writing::write_made;
+use sf_actor::Reply;
+use sf_base::NoMemory;
+use sf_io::Sink;
+use sf_picture::Painted;
+use sf_play::{Player, Turn};
+use sf_record::{Record, RunFault, SceneHeader};
+use sf_report::reply_record;
+use sf_scene::Scene;
+use sf_screen::Screen;
+use sf_turns::{Stock, TableName, TurnSeat};
+use std::alloc::Global;
+
+/// The record that a play begins with.
+fn opening(scene: &Scene) -> Record
+    ensures { result ≡ opening scene.now }
+{
+    Record::Scen(SceneHeader {
+        version: scene.version,
+        width: scene.width,
+        height: scene.height,
+        period: scene.period,
+    })
+}
+
+/// Timelines by rising number.
+fn rising_timelines(alloc: Global, timelines: &[u32]) -> Result<Vec<u32>, NoMemory>
+    ensures { IfOk result (λ rising. IsSortedFrom (λ timeline. timeline) timelines.now rising.items) }
+{
+    let mut rising = Vec::new(alloc);
+    rising.extend_from_slice(timelines)?;
+    rising.sort_unstable();
+    Ok(rising)
+}
+
+/// Writes the record of the newest of these replies, if there is one.
+fn write_newest<K: Sink>(alloc: Global, sink: &mut K, replies: &[Reply]) -> Result<(), RunFault>
+    ensures ok { OnOk result (Writes (K.taken sink.old) (K.taken sink.new) (newest_shown replies.now)) }
+    ensures err { OnErr result (WritesPart (K.taken sink.old) (K.taken sink.new) (newest_shown replies.now)) }
+    ensures later { K.faults sink.old ≤ K.faults sink.new }
+    ensures failed { IsErrOf result RunFault.WriteFault → Rose (K.faults sink.old) (K.faults sink.new) }
+{
+    match replies {
+        [.., newest] => write_made(alloc, sink, reply_record(alloc, newest)),
+        [] => Ok(()),
+    }
+}
+
+fn is_end(turn: &Turn) -> bool
+    ensures { result ≡ is_end turn.now }
+{
+    match turn {
+        Turn::End => true,
+        _ => false,
+    }
+}
+
+/// Writes what a turn shows: the reply to a step, or what a vsync committed, with its frame.
+fn write_turn<K: Sink, B: TableName>(
+    alloc: Global,
+    sink: &mut K,
+    timelines: &[u32],
+    screen: &mut Screen,
+    player: &Player<B>,
+    turn: Turn,
+) -> Result<(), RunFault>
+    requires timelines { All (λ timeline. (1 ≤ timeline) × (timeline ≤ 64)) timelines.now }
+    requires may { (scene : SceneValue) × MayShowTurn scene turn player.now × IsSized scene.width scene.height screen.old }
+    ensures ok { (scene : SceneValue) → MayShowTurn scene turn player.now → IsShown (picture_at scene.pictures) screen.old → OnOk result
+        (Writes (K.taken sink.old) (K.taken sink.new) (turn_shown (picture_at scene.pictures) timelines.now player.now.play.cast.actors turn)
+        × IsShown (picture_at scene.pictures) screen.new) }
+    ensures err { (scene : SceneValue) → MayShowTurn scene turn player.now → IsShown (picture_at scene.pictures) screen.old → OnErr result
+        (WritesPart (K.taken sink.old) (K.taken sink.new) (turn_shown (picture_at scene.pictures) timelines.now player.now.play.cast.actors turn)) }
+    ensures sized { (scene : SceneValue) → MayShowTurn scene turn player.now → IsSized scene.width scene.height screen.old
+        → OnOk result (IsSized scene.width scene.height screen.new) }
+    ensures later { K.faults sink.old ≤ K.faults sink.new }
+    ensures failed { IsErrOf result RunFault.WriteFault → Rose (K.faults sink.old) (K.faults sink.new) }
+{
+    match turn {
+        Turn::Step(place) => write_newest(alloc, sink, player.cast().actors()[place].replies()),
+        Turn::Vsync(report) => show_vsync(
+            alloc,
+            sink,
+            timelines,
+            screen,
+            player.contents(),
+            report,
+        ),
+        Turn::Idle => Ok(()),
+        Turn::End => Ok(()),
+    }
+}
+
+/// Does the next turn of a play and writes what it shows; whether it was not the end.
+fn show_turn<K: Sink, B: TableName>(
+    alloc: Global,
+    sink: &mut K,
+    timelines: &[u32],
+    screen: &mut Screen,
+    player: &mut Player<B>,
+) -> Result<bool, RunFault>
+    requires { (scene : SceneValue) × (start : Option (List ℕ)) × IsWriting B.table scene timelines.now start (K.taken sink.old) screen.old player.old }
+    ensures on { (scene : SceneValue) (start : Option (List ℕ)) → IsWriting B.table scene timelines.now start (K.taken sink.old) screen.old player.old
+        → IfOk result (λ goes_on. TurnsOn goes_on B.table scene timelines.now start (K.taken sink.new) screen.new player.new) }
+    ensures err { (scene : SceneValue) (start : Option (List ℕ)) → IsWriting B.table scene timelines.now start (K.taken sink.old) screen.old player.old
+        → OnErr result (CutRun scene start (K.taken sink.new)) }
+    ensures less { IfOk result (λ goes_on. goes_on ≡ true → fuel_of player.new < fuel_of player.old) }
+    ensures later { K.faults sink.old ≤ K.faults sink.new }
+    ensures failed { IsErrOf result RunFault.WriteFault → Rose (K.faults sink.old) (K.faults sink.new) }
+{
+    let turn = match player.next() {
+        Ok(turn) => turn,
+        Err(_) => return Err(RunFault::NoMemory),
+    };
+    let goes_on = !is_end(&turn);
+    match write_turn(alloc, sink, timelines, screen, player, turn) {
+        Ok(()) => Ok(goes_on),
+        Err(fault) => Err(fault),
+    }
+}
+
+/// Does the turns of a play up to its end, and writes what they show.
+fn show_turns<K: Sink, B: TableName>(
+    alloc: Global,
+    sink: &mut K,
+    timelines: &[u32],
+    player: &mut Player<B>,
+) -> Result<(), RunFault>
+    requires { (scene : SceneValue) × (start : Option (List ℕ)) × IsWriting B.table scene timelines.now start (K.taken sink.old) bare_screen player.old }
+    ensures ok { (scene : SceneValue) (start : Option (List ℕ)) → IsWriting B.table scene timelines.now start (K.taken sink.old) bare_screen player.old
+        → OnOk result (HasWritten B.table scene start (K.taken sink.new) player.new) }
+    ensures err { (scene : SceneValue) (start : Option (List ℕ)) → IsWriting B.table scene timelines.now start (K.taken sink.old) bare_screen player.old
+        → OnErr result (CutRun scene start (K.taken sink.new)) }
+    ensures later { K.faults sink.old ≤ K.faults sink.new }
+    ensures failed { IsErrOf result RunFault.WriteFault → Rose (K.faults sink.old) (K.faults sink.new) }
+{
+    let mut screen = Screen::new(alloc);
+    'turns: loop {
+        match show_turn(alloc, sink, timelines, &mut screen, player) {
+            Ok(true) => {}
+            Ok(false) => return Ok(()),
+            Err(fault) => return Err(fault),
+        }
+    }
+}
+
+/// Writes the record that a play begins with, does its turns, and writes its closing records.
+fn write_play<K: Sink, B: TableName>(
+    alloc: Global,
+    sink: &mut K,
+    first: Record,
+    timelines: &[u32],
+    player: &mut Player<B>,
+) -> Result<(), RunFault>
+    requires { (scene : SceneValue) × IsReady B.table scene first timelines.now player.old }
+    ensures ok { (scene : SceneValue) → IsReady B.table scene first timelines.now player.old → OnOk result (WroteRun scene (K.taken sink.old) (K.taken sink.new)) }
+    ensures err { (scene : SceneValue) → IsReady B.table scene first timelines.now player.old → OnErr result (CutRun scene (K.taken sink.old) (K.taken sink.new)) }
+    ensures later { K.faults sink.old ≤ K.faults sink.new }
+    ensures failed { IsErrOf result RunFault.WriteFault → Rose (K.faults sink.old) (K.faults sink.new) }
+{
+    match write_made(alloc, sink, Ok(first)) {
+        Ok(()) => {}
+        Err(fault) => return Err(fault),
+    }
+    match show_turns(alloc, sink, timelines, player) {
+        Ok(()) => {}
+        Err(fault) => return Err(fault),
+    }
+    write_closing(alloc, sink, player)
+}
+
+/// Plays a scene of version 1 over buffers of the table that B names, and writes the records of its
+/// play. It takes the seat and the whole stock of the turns, with a permit for each dequeue. After a
+/// fault of the sink, or want of memory, the sink has a prefix of these records.
+pub fn show_play<K: Sink, B: TableName>(
+    alloc: Global,
+    sink: &mut K,
+    scene: Scene,
+    seat: TurnSeat<Painted>,
+    stock: Stock<Painted>,
+) -> Result<(), RunFault>
+    requires version { scene.version ≡ 1 }
+    requires playable { are_playable scene.actors ≡ true }
+    requires own { (seat.table ≡ B.table) × (stock.table ≡ B.table) }
+    requires first { (seat.is_first ≡ true) × (seat.out ≡ 0) }
+    requires fresh { seat.leaves ≡ [] }
+    requires whole { stock.buffers ≡ range 0 (permits_of scene.actors) }
+    requires sized { permits_of scene.actors ≤ B.table.slots }
+    ensures ok { OnOk result (WroteRun scene (K.taken sink.old) (K.taken sink.new)) }
+    ensures err { OnErr result (CutRun scene (K.taken sink.old) (K.taken sink.new)) }
+    ensures later { K.faults sink.old ≤ K.faults sink.new }
+    ensures failed { IsErrOf result RunFault.WriteFault → Rose (K.faults sink.old) (K.faults sink.new) }
+{
+    let timelines = match rising_timelines(alloc, scene.timelines.as_slice()) {
+        Ok(timelines) => timelines,
+        Err(_) => return Err(RunFault::NoMemory),
+    };
+    let first = opening(&scene);
+    match Player::<B>::new(alloc, scene, seat, stock) {
+        Ok(mut player) => {
+            let written = write_play(alloc, sink, first, &timelines, &mut player);
+            player.finish();
+            written
+        }
+        Err(_) => Err(RunFault::NoMemory),
+    }
+}
