@@ -1,15 +1,17 @@
 -- The histories of a played run have calls of the compositor and of the scene's actors alone.
-use Rattle.std.proofs.Common.{◌≡◌, ℕ, ◌<◌, List, [], ◌∷◌, ◌++◌, true, Option, None, Some, All, length, map, reverse, refl, sym, ap, subst, ◌∙◌, arith, lit<}
+use Rattle.std.proofs.Common.{◌≡◌, ℕ, ◌==◌, Bool, false, if◌then◌else◌, List, [], ◌∷◌, ◌++◌, true, Option, None, Some, All, map, reverse, refl, sym, ap, subst, ◌∙◌}
 use mathlib.Core.List.{reverse-cons}
 use Rattle.std.proofs.lemmas.List.{append-nil}
 use Rattle.std.proofs.lemmas.List.Concat.{flat_map-append}
-use Rattle.std.proofs.lemmas.List.Elements.{All-cons, All-head, All-nil, All-push, All-tail}
-use Rattle.first_script.specs.Scene.{SceneValue}
+use Rattle.std.proofs.lemmas.List.Elements.{All-append, All-cons, All-head, All-nil, All-push, All-tail}
+use Rattle.std.specs.List.{flat_map, range_with_len}
+use Rattle.std.specs.Prelude.{filter}
 use Rattle.sf_slots.specs.declared.calls.Entry.{Entry}
-use Rattle.first_actor.specs.Pasts.{Past}
+use Rattle.sf_scene.specs.Scene.{SceneValue}
+use Rattle.sf_scene.specs.declared.declarations.QueueDecl.{QueueDecl}
+use Rattle.sf_record.specs.Events.{closing, event_records, events_records, frame_records}
 use Rattle.sf_record.specs.declared.event.Event.{Event}
 use Rattle.sf_record.specs.declared.event.Event.TheVariants as event
-use Rattle.sf_record.specs.declared.record.ArrivalEntry.{ArrivalEntry}
 use Rattle.sf_record.specs.declared.record.Commit.{Commit}
 use Rattle.sf_record.specs.declared.record.HeldEntry.{HeldEntry}
 use Rattle.sf_record.specs.declared.record.HistoryEntry.{HistoryEntry}
@@ -17,11 +19,10 @@ use Rattle.sf_record.specs.declared.record.QueueHistory.{QueueHistory}
 use Rattle.sf_record.specs.declared.record.Record.{Record}
 use Rattle.sf_record.specs.declared.record.Record.TheVariants as rec
 use Rattle.sf_record.specs.declared.record.StuckEntry.{StuckEntry}
-use Rattle.sf_record.specs.Events.{closing, event_records, events_records, frame_records, opening, run_records}
-use Rattle.sf_app.specs.Callers.{CallersAreKnown, histories_in, history_in}
-use Rattle.sf_app.specs.Histories.{no_slot, shown_entry, shown_past}
-use Rattle.sf_app.specs.Played.{IsHistory, Played, may_call, released_from, vsyncs_in}
-use Rattle.sf_app.specs.Worlds.{bare_stage}
+use Rattle.sf_actor.specs.Makers.{Run}
+use Rattle.sf_run.specs.Histories.{IsCaller, IsHistory, entry_shown, history_shown, queue_number, released_in, rising_queues}
+use Rattle.sf_run.specs.Played.{Shows, opening, records_of, vsyncs_told}
+use Rattle.sf_app.specs.Callers.{CallersAreKnown, IsKnown, histories_in, history_in}
 
 histories_in-append : (rs ss : List Record) → histories_in (rs ++ ss) ≡ histories_in rs ++ histories_in ss
 unfolding histories_in
@@ -62,60 +63,58 @@ none_at_end : (holds : List HeldEntry) (stuck : List StuckEntry) → histories_i
 unfolding histories_in
 none_at_end holds stuck = refl
 
-histories_of_run : (scene : SceneValue) (events : List Event) (arrivals : List ArrivalEntry) (histories : List QueueHistory) (holds : List HeldEntry) (stuck : List StuckEntry)
-    → histories_in (run_records scene events arrivals histories holds stuck) ≡ histories
-histories_of_run scene events arrivals histories holds stuck =
-    let end : List Record = rec.Hold holds ∷ rec.Stuk stuck ∷ rec.Done ∷ [] in
-    histories_in-append (opening scene ∷ events_records events) (closing arrivals histories holds stuck)
-    ∙ ap (λ (l : List QueueHistory). l ++ histories_in (closing arrivals histories holds stuck)) (behind (opening scene) (events_records events) refl ∙ none_of_events events)
-    ∙ behind (rec.Arrv arrivals) (map rec.Hist histories ++ end) refl ∙ histories_in-append (map rec.Hist histories) end
-    ∙ ap (λ (l : List QueueHistory). histories_in (map rec.Hist histories) ++ l) (none_at_end holds stuck) ∙ append-nil (histories_in (map rec.Hist histories)) ∙ all_histories histories
+histories_of_run : (scene : SceneValue) (shows : Shows) → histories_in (records_of scene shows) ≡ shows.histories
+histories_of_run scene shows =
+    let end : List Record = rec.Hold shows.held ∷ rec.Stuk shows.stuck ∷ rec.Done ∷ [] in
+    let last = closing shows.arrived shows.histories shows.held shows.stuck in
+    histories_in-append (opening scene ∷ events_records shows.events) last
+    ∙ ap (λ (l : List QueueHistory). l ++ histories_in last) (behind (opening scene) (events_records shows.events) refl ∙ none_of_events shows.events)
+    ∙ behind (rec.Arrv shows.arrived) (map rec.Hist shows.histories ++ end) refl ∙ histories_in-append (map rec.Hist shows.histories) end
+    ∙ ap (λ (l : List QueueHistory). histories_in (map rec.Hist shows.histories) ++ l) (none_at_end shows.held shows.stuck)
+    ∙ append-nil (histories_in (map rec.Hist shows.histories)) ∙ all_histories shows.histories
 
-map-push : (es : List Entry) (e : Entry) → map shown_entry (es ++ e ∷ []) ≡ map shown_entry es ++ shown_entry e ∷ []
+map-push : (es : List Entry) (e : Entry) → map entry_shown (es ++ e ∷ []) ≡ map entry_shown es ++ entry_shown e ∷ []
 map-push [] e = refl
-map-push (x ∷ es) e = ap (λ (l : List HistoryEntry). shown_entry x ∷ l) (map-push es e)
+map-push (x ∷ es) e = ap (λ (l : List HistoryEntry). entry_shown x ∷ l) (map-push es e)
 
-shown_caller : (e : Entry) → (shown_entry e).caller ≡ e.caller.0
-unfolding shown_entry
-shown_caller e = refl
+known_call : (scene : SceneValue) (e : Entry) → IsCaller scene e → IsKnown scene (entry_shown e)
+unfolding entry_shown
+known_call scene e h = h
 
-known_calls : (scene : SceneValue) (es : List Entry) → All (λ (e : Entry). may_call scene e.caller.0 ≡ true) es → All (λ (c : HistoryEntry). may_call scene c.caller ≡ true) (map shown_entry (reverse es))
-known_calls scene [] h = All-nil (λ (c : HistoryEntry). may_call scene c.caller ≡ true)
+known_calls : (scene : SceneValue) (es : List Entry) → All (IsCaller scene) es → All (IsKnown scene) (map entry_shown (reverse es))
+known_calls scene [] h = All-nil (IsKnown scene)
 known_calls scene (e ∷ es) h =
-    subst (All (λ (c : HistoryEntry). may_call scene c.caller ≡ true)) (sym (ap (map shown_entry) (reverse-cons e es) ∙ map-push (reverse es) e))
-    (All-push (λ (c : HistoryEntry). may_call scene c.caller ≡ true) (map shown_entry (reverse es)) (shown_entry e)
-    (known_calls scene es (All-tail (λ (x : Entry). may_call scene x.caller.0 ≡ true) e es h))
-    (subst (λ (k : ℕ). may_call scene k ≡ true) (sym (shown_caller e)) (All-head (λ (x : Entry). may_call scene x.caller.0 ≡ true) e es h)))
+    subst (All (IsKnown scene)) (sym (ap (map entry_shown) (reverse-cons e es) ∙ map-push (reverse es) e))
+    (All-push (IsKnown scene) (map entry_shown (reverse es)) (entry_shown e) (known_calls scene es (All-tail (IsCaller scene) e es h)) (known_call scene e (All-head (IsCaller scene) e es h)))
 
 -- each call of a history is of the compositor or of an actor
 abbrev AreKnown : SceneValue → QueueHistory → Type 0
-AreKnown scene history = All (λ (c : HistoryEntry). may_call scene c.caller ≡ true) history.entries
+AreKnown scene history = All (IsKnown scene) history.entries
 
-known_pasts : (scene : SceneValue) (P : Past → Type 0) → ((past : Past) → P past → All (λ (e : Entry). may_call scene e.caller.0 ≡ true) past.calls) → (pasts : List Past) → All P pasts
-    → All (AreKnown scene) (map shown_past pasts)
-known_pasts scene P each [] h = All-nil (AreKnown scene)
-known_pasts scene P each (past ∷ pasts) h =
-    All-cons (AreKnown scene) (shown_past past) (map shown_past pasts) (known_calls scene past.calls (each past (All-head P past pasts h))) (known_pasts scene P each pasts (All-tail P past pasts h))
+-- what holds of all holds of those that are picked out
+picked_one : {X : Type 0} (P : X → Type 0) (picked : Bool) (x : X) (xs : List X) → P x → All P xs → All P (if picked then x ∷ xs else xs)
+picked_one P true x xs h all = All-cons P x xs h all
+picked_one P false x xs h all = all
+
+picked : {X : Type 0} (P : X → Type 0) (p : X → Bool) (xs : List X) → All P xs → All P (filter p xs)
+picked P p [] all = all
+picked P p (x ∷ xs) all = picked_one P (p x) x (filter p xs) (All-head P x xs all) (picked P p xs (All-tail P x xs all))
+
+joined : {X : Type 0} (P : X → Type 0) (f : ℕ → List X) → ((n : ℕ) → All P (f n)) → (ns : List ℕ) → All P (flat_map f ns)
+joined P f each [] = All-nil P
+joined P f each (n ∷ ns) = All-append P (f n) (flat_map f ns) (each n) (joined P f each ns)
+
+known_queues : (scene : SceneValue) (run : Run) (P : QueueDecl → Type 0) → ((queue : QueueDecl) → P queue → All (IsCaller scene) (run.calls queue.number)) → (queues : List QueueDecl) → All P queues
+    → All (AreKnown scene) (map (history_shown run) queues)
+known_queues scene run P each [] h = All-nil (AreKnown scene)
+known_queues scene run P each (queue ∷ queues) h =
+    All-cons (AreKnown scene) (history_shown run queue) (map (history_shown run) queues) (known_calls scene (run.calls queue.number) (each queue (All-head P queue queues h)))
+    (known_queues scene run P each queues (All-tail P queue queues h))
 
 pub callers_known : CallersAreKnown
+unfolding rising_queues
 callers_known scene records h =
-    subst (All (AreKnown scene)) (sym (ap histories_in h.order ∙ histories_of_run scene h.events h.arrived h.histories h.holds h.stuck_at ∙ h.calls.shown))
-    (known_pasts scene (IsHistory scene (released_from h.transactions bare_stage (vsyncs_in h.events))) (λ past one. one.by_none_else) h.pasts h.calls.of_each)
-
--- a scene with a queue and no actor
-abbrev without_actors : SceneValue
-without_actors = record { version = 1; width = 1; height = 1; period = 1000000; timelines = []; queues = record { number = 1; width = 1; height = 1 } ∷ []; pictures = []; actors = []; order = [] }
-
--- a call of an actor 7
-abbrev stranger : QueueHistory
-stranger = record { queue = 1; entries = record { caller = 7; step = 1; kind = 1; status = 0; slot = no_slot; frame = 0 } ∷ [] }
-
--- records that show the call as one of the scene without actors are none of a played run
-pub stranger_refused : Played without_actors (opening without_actors ∷ rec.Arrv [] ∷ rec.Hist stranger ∷ rec.Hold [] ∷ rec.Stuk [] ∷ rec.Done ∷ []) → ⊥
-unfolding histories_in
-stranger_refused h =
-    let known = callers_known without_actors _ h in
-    let one = All-head (AreKnown without_actors) stranger [] known in
-    let call : HistoryEntry = record { caller = 7; step = 1; kind = 1; status = 0; slot = no_slot; frame = 0 } in
-    let yes = All-head (λ (c : HistoryEntry). may_call without_actors c.caller ≡ true) call [] one in
-    cc
+    let IsOne : QueueDecl → Type 0 = IsHistory scene h.run (released_in (vsyncs_told scene h.arrivals h.shows.events)) in
+    subst (All (AreKnown scene)) (sym (ap histories_in h.order ∙ histories_of_run scene h.shows ∙ h.fits.calls.shown))
+    (known_queues scene h.run IsOne (λ queue one. one.by_none_else) (rising_queues scene)
+    (joined IsOne (λ n. filter (λ queue. queue_number queue == n) scene.queues) (λ n. picked IsOne (λ queue. queue_number queue == n) scene.queues h.fits.calls.of_each) (range_with_len 1 16)))

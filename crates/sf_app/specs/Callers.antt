@@ -1,11 +1,12 @@
 -- Who calls a queue in a played run, told from its records alone.
-use Rattle.std.specs.Prelude.{◌≡◌, true, List, [], ◌∷◌, All}
+use Rattle.std.specs.Prelude.{◌≡◌, ◌==◌, ◌||◌, true, List, [], ◌∷◌, All}
 use Rattle.std.specs.List.{flat_map}
-use Rattle.first_script.specs.Scene.{SceneValue}
+use Rattle.sf_scene.specs.Scene.{SceneValue, has_actor}
+use Rattle.sf_record.specs.declared.record.HistoryEntry.{HistoryEntry}
 use Rattle.sf_record.specs.declared.record.QueueHistory.{QueueHistory}
 use Rattle.sf_record.specs.declared.record.Record.{Record}
 use Rattle.sf_record.specs.declared.record.Record.TheVariants as rec
-use Rattle.sf_app.specs.Played.{Played, may_call}
+use Rattle.sf_run.specs.Played.{Played}
 
 -- the histories among records
 abbrev pub history_in : Record → List QueueHistory
@@ -15,7 +16,11 @@ history_in _ = []
 unfoldable pub histories_in : List Record → List QueueHistory
 histories_in records = flat_map history_in records
 
+-- the compositor called, which is 0, or an actor of the scene
+abbrev pub IsKnown : SceneValue → HistoryEntry → Type 0
+IsKnown scene called = (called.caller == 0 || has_actor scene.actors called.caller) ≡ true
+
 -- the histories of a played run have calls of the compositor and of the scene's actors alone, also where the scene has no actor
 abbrev pub CallersAreKnown : Type 0
 CallersAreKnown = (scene : SceneValue) (records : List Record) → Played scene records
-    → All (λ history. All (λ call. may_call scene call.caller ≡ true) history.entries) (histories_in records)
+    → All (λ (history : QueueHistory). All (IsKnown scene) history.entries) (histories_in records)

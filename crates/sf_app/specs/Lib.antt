@@ -1,15 +1,4 @@
-pub mod Transactions
-pub mod Commits
-pub mod Worlds
-pub mod Histories
-pub mod Turns
-pub mod Play
-pub mod Played
-pub mod Bounds
-pub mod Queues
-pub mod States
-pub mod Committing
-pub mod Runs
+pub mod Scripts
 pub mod Statuses
 pub mod Callers
 pub use Rattle.sf_io.specs.Causes

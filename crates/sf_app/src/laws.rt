@@ -1,12 +1,12 @@
 ghost use Rattle.std.specs.Prelude.{◌≡◌, List};
-ghost use Rattle.first_script.specs.Scene.{SceneValue};
+ghost use Rattle.sf_scene.specs.Scene.{SceneValue};
 ghost use Rattle.sf_record.specs.declared.record.Record.{Record};
+ghost use Rattle.sf_run.specs.Ends.{ArePlayRecords};
 ghost use Rattle.sf_app.specs.Callers.{CallersAreKnown};
-ghost use Rattle.sf_app.specs.Play.{IsPlay};
 
 /// The law that a scene has one play: its records are determined by the scene alone.
 pub fn one_play()
-    ensures { (scene : SceneValue) (first second : List Record) → IsPlay scene first → IsPlay scene second → first ≡ second }
+    ensures { (scene : SceneValue) (first second : List Record) → ArePlayRecords scene first → ArePlayRecords scene second → first ≡ second }
 {}
 
 /// The law that the histories of a played run show calls of the compositor and of the scene's actors

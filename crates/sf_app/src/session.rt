@@ -2,13 +2,13 @@ ghost use Rattle.std.specs.Prelude.{◌≡◌, ◌≢◌, ◌≤◌, ◌⊎◌, 
 ghost use Rattle.std.specs.Io.KnownBytes.{Appends};
 ghost use Rattle.sf_io.specs.Causes.{Rose};
 ghost use Rattle.sf_io.specs.Streams.{TookPrefix};
-ghost use Rattle.first_script.specs.Parse.{parsed_of};
-ghost use Rattle.first_script.specs.Scene.{SceneValue};
+ghost use Rattle.sf_scene.specs.Scene.{SceneValue};
 ghost use Rattle.sf_script.specs.declared.fault.ScriptFault.{ScriptFault};
+ghost use Rattle.sf_app.specs.Scripts.{asked_of};
 ghost use Rattle.sf_app.specs.Statuses.{MeansScript, PlayedScript, RefusedScript, WritesPrefix, fault_bytes};
 
 use crate::play::play;
-use first_script::parse;
+use crate::script::{at_no_place, scene_of};
 use sf_io::{Gate, ReadFault, Sink, Source, read_all};
 use sf_record::{Record, RunFault, write_record};
 use sf_script::{LONGEST_SCRIPT, ParseFault, ScriptFault};
@@ -78,16 +78,11 @@ fn read_and_play<S: Source, K: Sink>(
         Err(ReadFault::Failed) => return READ_FAILED,
         Err(ReadFault::NoMemory) => return NO_MEMORY,
         Err(ReadFault::TooLong) => {
-            let fault = ScriptFault {
-                line: 0,
-                word: 0,
-                cause: 9,
-            };
-            return refuse(alloc, sink, fault);
+            return refuse(alloc, sink, at_no_place(9));
         }
     };
-    match parse(alloc, &bytes) {
-        Ok(scene) => match play(alloc, &scene, sink) {
+    match scene_of(alloc, &bytes) {
+        Ok(scene) => match play(alloc, sink, scene) {
             Ok(()) => DONE,
             Err(RunFault::WriteFault) => WRITE_FAILED,
             Err(RunFault::NoMemory) => NO_MEMORY,
@@ -104,7 +99,7 @@ fn read_and_play<S: Source, K: Sink>(
 /// |---|---|
 /// | 0 | the script was read to its end and is a scene, and the records of its play were written |
 /// | 1 | there are words; so far a run takes none. Nothing is read or written |
-/// | 2 | the bytes are no scene, or they are more than 1,048,576; the record SFLT was written |
+/// | 2 | the bytes are no scene, or one that is not played yet, or they are more than 1,048,576; the record SFLT was written |
 /// | 3 | the source failed; nothing is written |
 /// | 4 | the sink failed |
 /// | 5 | want of memory |
@@ -135,9 +130,9 @@ pub fn run<R: Threads + Wait + Sync, S: Source, K: Sink, G: Gate + Sync>(
     ensures prefix { WritesPrefix (S.left source.old) (K.taken sink.old) (K.taken sink.new) }
 
     // Right words, a script that is told, and no count of faults that rose: the run is whole, or the script refused, but for want of memory.
-    ensures complete { (bytes : List ℕ) (scene : SceneValue) → length words.now ≡ 0 → S.left source.old ≡ Some bytes → parsed_of bytes ≡ Ok scene
+    ensures complete { (bytes : List ℕ) (scene : SceneValue) → length words.now ≡ 0 → S.left source.old ≡ Some bytes → asked_of bytes ≡ Ok scene
         → ¬ Rose (S.faults source.old) (S.faults source.new) → ¬ Rose (K.faults sink.old) (K.faults sink.new) → (result ≡ 0) ⊎ (result ≡ 5) }
-    ensures complete_refusal { (bytes : List ℕ) (fault : ScriptFault) → length words.now ≡ 0 → S.left source.old ≡ Some bytes → parsed_of bytes ≡ Err fault
+    ensures complete_refusal { (bytes : List ℕ) (fault : ScriptFault) → length words.now ≡ 0 → S.left source.old ≡ Some bytes → asked_of bytes ≡ Err fault
         → ¬ Rose (S.faults source.old) (S.faults source.new) → ¬ Rose (K.faults sink.old) (K.faults sink.new) → (result ≡ 2) ⊎ (result ≡ 5) }
 {
     read_and_play(alloc, words, source, sink)

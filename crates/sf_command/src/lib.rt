@@ -4,7 +4,7 @@
 
 use sf_app::run;
 use sf_io::{OpenGate, ReadSource, WriteSink};
-use std::io::ErrorKind;
+use std::io::{BufWriter, ErrorKind};
 use std::sync::Wait;
 use std::thread::Threads;
 use std::{env, io};
@@ -88,6 +88,32 @@ fn words(rt: &HostRuntime) -> io::Result<Vec<String>> {
     Ok(words)
 }
 
+// A run from standard input to standard output, which is written through a buffer. A flush that fails
+// at the end is a write that failed.
+fn run_over_streams<R: Threads + Wait + Sync>(
+    rt: &HostRuntime,
+    threads: &R,
+    words: &[String],
+) -> u8 {
+    let Ok(output) = BufWriter::new(rt.alloc(), io::writer(rt)) else {
+        return NO_MEMORY;
+    };
+    let mut source = ReadSource::new(rt.reader());
+    let mut sink = WriteSink::new(output);
+    let status = run(
+        threads,
+        rt.alloc(),
+        words,
+        &mut source,
+        &mut sink,
+        &OpenGate,
+    );
+    match sink.flush() {
+        Ok(()) => status,
+        Err(_) => WRITE_FAILED,
+    }
+}
+
 /// Does what the words of the program ask, and answers its status: 0 where it was done. Threads are
 /// started through the second handle, which is the runtime's own in `main`.
 pub fn command<R: Threads + Wait + Sync>(rt: &HostRuntime, threads: &R) -> u8 {
@@ -97,18 +123,7 @@ pub fn command<R: Threads + Wait + Sync>(rt: &HostRuntime, threads: &R) -> u8 {
                 Ok(()) => 0,
                 Err(_) => WRITE_FAILED,
             },
-            None => {
-                let mut source = ReadSource::new(rt.reader());
-                let mut sink = WriteSink::new(io::writer(rt));
-                run(
-                    threads,
-                    rt.alloc(),
-                    &words,
-                    &mut source,
-                    &mut sink,
-                    &OpenGate,
-                )
-            }
+            None => run_over_streams(rt, threads, &words),
         },
         Err(error) => status_without_words(&error),
     };

@@ -10,6 +10,8 @@ pub struct Case {
     pub failing_writes: Vec<u64>,
     /// It goes through a reader and a writer of std that are often interrupted.
     pub in_pieces: bool,
+    /// Of its records only counts are printed.
+    pub is_counted: bool,
 }
 
 /// The names of the scripts in this folder, sorted.
@@ -106,6 +108,7 @@ fn case_with(rt: &HostRuntime, name: &str, line: &str, failing: &str) -> io::Res
         failing_reads: number_after(rt, failing, "read")?,
         failing_writes: number_after(rt, failing, "write")?,
         in_pieces: has_beside(rt, name, "pieces")?,
+        is_counted: has_beside(rt, name, "counts")?,
     })
 }
 

@@ -26,6 +26,11 @@ fn described(head: &'static [Width], tail: Tail) -> Option<Layout> {
     Some(Layout { head, tail })
 }
 
+/// The tags of the records of a run that is no summary, in the order of their first records.
+pub const TAGS: [&str; 11] = [
+    "SCEN", "REPL", "VSYN", "COMM", "FRAM", "ARRV", "HIST", "HOLD", "STUK", "DONE", "SFLT",
+];
+
 /// The layout of the records with this tag.
 pub fn layout_of(tag: &str) -> Option<Layout> {
     match tag {

@@ -1,4 +1,4 @@
-use crate::layout::{Layout, Tail, Width, layout_of};
+use crate::layout::{Layout, TAGS, Tail, Width, layout_of};
 use std::io;
 
 // The bytes of a record's body that are not read yet.
@@ -123,6 +123,40 @@ fn split_record(bytes: &[u8]) -> Option<(&str, &[u8], &[u8])> {
     Some((str::from_utf8(tag).ok()?, body, rest))
 }
 
+// How many records with this tag there are.
+fn count(bytes: &[u8], tag: &str) -> u64 {
+    let mut rest = bytes;
+    let mut count = 0u64;
+    for _ in 0..bytes.len() {
+        let Some((first, _, after)) = split_record(rest) else {
+            break;
+        };
+        if first == tag {
+            count = count.wrapping_add(1);
+        }
+        rest = after;
+    }
+    count
+}
+
+// The sum of the bytes of all frames' pixels.
+fn pixel_sum(bytes: &[u8]) -> u64 {
+    let mut rest = bytes;
+    let mut sum = 0u64;
+    for _ in 0..bytes.len() {
+        let Some((tag, body, after)) = split_record(rest) else {
+            break;
+        };
+        if tag == "FRAM" {
+            for byte in body.iter().skip(4) {
+                sum = sum.wrapping_add(u64::from(*byte));
+            }
+        }
+        rest = after;
+    }
+    sum
+}
+
 /// Appends the records as lines: the tag and the numbers of each; behind a bar each entry of a list;
 /// of a timeline its value behind `=`; of a frame's pixels the runs of equal ones, as `2*ff0000ff`.
 /// What is left of a cut record is `CUT` and its bytes.
@@ -143,4 +177,17 @@ pub fn push_records(text: &mut String, bytes: &[u8]) -> io::Result<()> {
     } else {
         push_cut(text, rest)
     }
+}
+
+/// Appends how many records of each kind there are, and the sum of the bytes of all frames' pixels.
+pub fn push_counts(text: &mut String, bytes: &[u8]) -> io::Result<()> {
+    for tag in TAGS {
+        let count = count(bytes, tag);
+        if count > 0 {
+            writeln!(text, "{count} {tag}")?;
+        }
+    }
+    let sum = pixel_sum(bytes);
+    writeln!(text, "pixels {sum}")?;
+    Ok(())
 }

@@ -7,7 +7,9 @@
 //! - `NAME.words`: the words of the run, one a line;
 //! - `NAME.length`: how many bytes the script has, with a comment at its end;
 //! - `NAME.pieces`: the run reads and writes through a reader and a writer of std that move a few
-//!   bytes in a call and are often interrupted.
+//!   bytes in a call and are often interrupted;
+//! - `NAME.counts`: of the records only how many of each kind there are is printed, and the sum of
+//!   the bytes of all frames' pixels.
 //!
 //! Last it prints how many bytes the record of a long history has.
 #![tactic(auto)]
@@ -19,7 +21,7 @@ mod pieces;
 mod sizes;
 
 use case::{Case, cases, names};
-use lines::push_records;
+use lines::{push_counts, push_records};
 use pieces::Halting;
 use sf_app::run;
 use sf_io::{Gate, MemSink, MemSource, OpenGate, ReadSource, WriteSink};
@@ -33,9 +35,19 @@ use std::thread::Threads;
 const LONG_HISTORY: u32 = 65_536;
 
 // What is printed of a run.
-fn shown(alloc: Global, title: &str, status: u8, records: &[u8]) -> io::Result<String> {
+fn shown(
+    alloc: Global,
+    title: &str,
+    status: u8,
+    records: &[u8],
+    is_counted: bool,
+) -> io::Result<String> {
     let mut text = format!(in alloc; "== {title} status {status}\n")?;
-    push_records(&mut text, records)?;
+    if is_counted {
+        push_counts(&mut text, records)?;
+    } else {
+        push_records(&mut text, records)?;
+    }
     Ok(text)
 }
 
@@ -46,12 +58,13 @@ fn in_memory<R: AllocGlobal + Threads + Wait + Sync>(rt: &R, case: Case) -> io::
         words,
         failing_reads,
         failing_writes,
+        is_counted,
         ..
     } = case;
     let mut source = MemSource::new(script, failing_reads);
     let mut sink = MemSink::new(rt.alloc(), failing_writes);
     let status = run(rt, rt.alloc(), &words, &mut source, &mut sink, &OpenGate);
-    shown(rt.alloc(), title.as_str(), status, sink.bytes())
+    shown(rt.alloc(), title.as_str(), status, sink.bytes(), is_counted)
 }
 
 fn in_pieces<R: AllocGlobal + Threads + Wait + Sync>(rt: &R, case: Case) -> io::Result<String> {
@@ -67,7 +80,13 @@ fn in_pieces<R: AllocGlobal + Threads + Wait + Sync>(rt: &R, case: Case) -> io::
         &OpenGate,
     );
     drop(sink);
-    shown(rt.alloc(), case.title.as_str(), status, &records)
+    shown(
+        rt.alloc(),
+        case.title.as_str(),
+        status,
+        &records,
+        case.is_counted,
+    )
 }
 
 fn main(rt: HostRuntime) -> io::Result<()> {

@@ -30,5 +30,5 @@ returns-clause-means g c = λ done.
       spelled = p.spelled;
       records = p.run.records;
       played = p.run.means;
-      written = p.run.written;
+      written = p.run.written.bytes;
     }

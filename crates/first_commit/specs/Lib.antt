@@ -1,5 +1,0 @@
-pub mod Stages
-pub mod Leases
-pub mod Commits
-pub mod Sources
-pub mod Frames

@@ -1,3 +1,0 @@
-pub mod Scene
-pub mod Played
-pub mod Parse

@@ -1,4 +1,0 @@
-mod FitLemmas
-mod DoesLemmas
-mod CountLemmas
-mod ObjectLemmas

@@ -1,4 +1,0 @@
-pub mod Leases
-pub mod Calls
-pub mod Inside
-pub mod Objects
