@@ -5,16 +5,20 @@
     records.py lines [FILE]         the numbers of each record, a line each, for programs to compare
     records.py png FOLDER [FILE]    each frame as FOLDER/frame-NUMBER.png
     records.py trace [FILE]         a timeline as JSON, for chrome://tracing or Perfetto
-    records.py summary [FILE]       what the run comes to: frames, commits and rejects, what waits and why, each queue
-    records.py explain SCRIPT [FILE]  the fault of a script: its line, the word, the cause, and what would be right
+    records.py summary [--script SCRIPT] [FILE]
+                                    what the run comes to: frames, commits and rejects, what waits and who is
+                                    stuck, and why, each queue; with the script, which lines that are
+    records.py explain SCRIPT [FILE]
+                                    the fault of a script that is no scene: its line, the word, the cause,
+                                    and what would be right there; or that it has none
     records.py --help               this page
 
 FILE is standard input if it is not given. The layout of records is in docs/RECORDS.md. Only Python's
 standard library is needed.
 
-status: 0 the stream is right; 1 something is wrong with it (what can be read is told, and what is
-wrong stands on standard error), or the reader of the output went away; 2 wrong words, or a file
-cannot be read or written.
+status: 0 the stream is right, and for explain the script has no fault; 1 something is wrong with the
+stream (what can be read is told, and what is wrong stands on standard error), or the reader of the
+output went away; 2 wrong words, or a file cannot be read or written; 3 explain has shown a fault.
 """
 
 import json
@@ -23,23 +27,31 @@ import sys
 
 from explaining import explained
 from pictures import write_frames
-from stream import faults, read
+from scripts import read_script
+from stream import LAST, faults, read
 from summing import summed
 from timeline import trace
 from wording import plain, sentence
 
 COMMANDS = ("dump", "lines", "png", "trace", "summary", "explain")
-# Commands with a word of their own before the file: a folder to write to, or a script to look into.
+# Commands with a path of their own before the file: a folder to write to, or a script to look into.
 WITH_PATH = ("png", "explain")
+FAULT_SHOWN = 3
 
 
-def script_faults(script, records):
-    """The fault of a script, shown at its place; a sentence where the stream tells none."""
-    told = [record.fields for record in records if record.tag == "SFLT" and record.fields is not None]
-    if not told:
-        yield "the script has no fault: it was played"
-    for fault in told:
-        yield from explained(script, contents(script), fault)
+def script_fault(records):
+    """The fault that a stream tells of its script, or None."""
+    return next((record.fields for record in records if record.tag == "SFLT" and record.fields is not None), None)
+
+
+def explanation(script, records):
+    """The lines that show the fault of a script, or say that it has none."""
+    fault = script_fault(records)
+    if fault is not None:
+        return explained(script, contents(script), fault)
+    if records and records[-1].tag in LAST and records[-1].fields is not None:
+        return [f"{script}: no fault: the script is a scene, and it was played to its end"]
+    return [f"{script}: no fault is told, but the stream was cut off"]
 
 
 def told(records, command, path):
@@ -51,9 +63,9 @@ def told(records, command, path):
     elif command == "png":
         yield from write_frames(path, records)
     elif command == "summary":
-        yield from summed(records)
+        yield from summed(records, read_script(contents(path)) if path else None)
     elif command == "explain":
-        yield from script_faults(path, records)
+        yield from explanation(path, records)
     else:
         yield json.dumps(trace(records), indent=1)
 
@@ -61,8 +73,17 @@ def told(records, command, path):
 def arguments(words):
     """The command, its own path and its file, or None where the words are wrong."""
     command, *names = words or [""]
-    path = names.pop(0) if command in WITH_PATH and names else None
-    if command not in COMMANDS or len(names) > 1 or (command in WITH_PATH) != (path is not None):
+    path = None
+    if command in WITH_PATH:
+        if not names:
+            return None
+        path = names.pop(0)
+    elif command == "summary" and names[:1] == ["--script"]:
+        if len(names) < 2:
+            return None
+        path = names[1]
+        names = names[2:]
+    if command not in COMMANDS or len(names) > 1:
         return None
     return command, path, names[0] if names else None
 
@@ -90,7 +111,9 @@ def run(command, path, name):
     wrong = faults(records, of_stream)
     for line in wrong:
         complain(line)
-    return 1 if wrong else 0
+    if wrong:
+        return 1
+    return FAULT_SHOWN if command == "explain" and script_fault(records) is not None else 0
 
 
 def main(words):

@@ -4,8 +4,10 @@ import os
 import re
 import unittest
 
-from stream import faults, read
-from wording import plain
+from grammar import CHANGES, LINES, SECOND, STEPS, form_text
+from stream import FORMS, faults, read
+from test_scenes import of_some_form
+from wording import CALLS, HOLDS, REJECTS, STATUSES, plain
 
 TOP = os.path.dirname(os.path.dirname(os.path.abspath(__file__)))
 DOCUMENTS = ["README.md"] + sorted(os.path.join("docs", name) for name in os.listdir(os.path.join(TOP, "docs")) if name.endswith(".md"))
@@ -43,9 +45,34 @@ class Documents(unittest.TestCase):
         script, data, lines = indented("docs/RECORDS.md", "A whole stream")
         records, of_stream = read(bytes.fromhex("".join(data)))
         self.assertEqual(faults(records, of_stream), [])
-        self.assertEqual(sum(len(record.raw) for record in records), 252)
+        self.assertEqual(sum(len(record.raw) for record in records), 260)
         self.assertEqual([plain(record) for record in records], lines)
         self.assertEqual([line for line in text("scenes/red.sf").splitlines() if not line.startswith("#")], script)
+
+    def test_the_page_on_scripts_has_each_form(self):
+        page = text("docs/SCRIPT.md")
+        for form in LINES[1:] + SECOND + STEPS[:-1] + tuple(change for change in CHANGES if change != "orient ORIENT"):
+            shown = form_text(form) + (" PICK .." if form == "order PICK" else "")
+            self.assertIn(f"`{shown}`", page)
+        self.assertIn("`set TX LAYER orient ORIENT`", page)
+
+    def test_the_examples_of_the_page_on_scripts_have_lines_of_its_forms(self):
+        blocks = [block.splitlines() for block in text("docs/SCRIPT.md").split("\n\n") if block.startswith("    ")]
+        self.assertEqual(len(blocks), 3)
+        for block in blocks:
+            in_steps = False
+            for line in block:
+                words = line.split()
+                in_steps = in_steps or words[0] == "actor"
+                self.assertTrue(words[0] == "#" or of_some_form(words, in_steps), line)
+
+    def test_the_page_on_records_has_each_tag_and_each_name(self):
+        page = text("docs/RECORDS.md")
+        for tag in FORMS:
+            self.assertRegex(page, rf"\| {tag} \||the record {tag},")
+        for names in (STATUSES, REJECTS, HOLDS, CALLS):
+            for number, name in names.items():
+                self.assertIn(f"| {number} | {name} |", page)
 
 
 if __name__ == "__main__":

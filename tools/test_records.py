@@ -113,7 +113,7 @@ class Dump(Case):
             self.assertIn(text, out)
 
     def test_each_status_has_its_name(self):
-        for status, name in ((11, "BadValue"), (15, "Empty"), (16, "Occupied"), (17, "Unbuilt"), (99, "number 99")):
+        for status, name in ((11, "BadValue"), (15, "Empty"), (16, "Occupied"), (99, "number 99")):
             _, out, _ = run("dump", self.file(SCEN + record("REPL", 1, 1, status, 0) + DONE))
             self.assertIn(f"step 1: {name}\n", out)
 

@@ -1,4 +1,4 @@
-"""Runs a program that takes long, and tells how far it is while it runs."""
+"""Runs a program that takes long, keeps what it writes, and tells how far it is while it runs."""
 
 import os
 import subprocess
@@ -9,15 +9,26 @@ from stream import HEAD
 
 # How often it is told how far a program is, in seconds.
 EACH = 5
+PIECE = 1 << 16
+UNITS = ("bytes", "KiB", "MiB", "GiB")
+
+
+def size_text(count):
+    """A number of bytes as people say it."""
+    unit = 0
+    while count >= 1024 and unit + 1 < len(UNITS):
+        count, unit = count / 1024, unit + 1
+    return f"{count:.1f} {UNITS[unit]}" if unit else f"{count} {UNITS[unit]}"
 
 
 class Counts:
-    """How many records of each tag a stream has had so far, from pieces of its bytes."""
+    """How many bytes a stream has had so far, and how many records of each tag, from pieces of its bytes."""
 
     def __init__(self):
-        self.of, self.head, self.left = {}, b"", 0
+        self.of, self.bytes, self.head, self.left = {}, 0, b"", 0
 
     def add(self, piece):
+        self.bytes += len(piece)
         while piece:
             if self.left:
                 piece, self.left = piece[self.left:], max(0, self.left - len(piece))
@@ -32,21 +43,36 @@ class Counts:
     def text(self):
         if not self.of:
             return "no records yet"
-        return f"{self.of.get('REPL', 0)} steps, {self.of.get('VSYN', 0)} vsyncs and {self.of.get('FRAM', 0)} frames so far"
+        steps, vsyncs, frames = (self.of.get(tag, 0) for tag in ("REPL", "VSYN", "FRAM"))
+        return f"{steps} steps, {vsyncs} vsyncs, {frames} frames, {size_text(self.bytes)}"
 
 
-def awaited(command, folder, source, tell, each=EACH):
-    """The status and the output of a command that reads `source`; `tell` is given a line in each so many seconds."""
-    begun, counts, pieces = time.monotonic(), Counts(), []
-    with subprocess.Popen(command, cwd=folder, stdin=source, stdout=subprocess.PIPE) as running:
-        def take():
-            while piece := os.read(running.stdout.fileno(), 1 << 16):
-                pieces.append(piece)
+def awaited(command, folder, source, sink, tell, each=EACH):
+    """The status of a command that reads the file `source`; what it writes goes into the file `sink` as it comes.
+    `tell` is given a line in each so many seconds. Where this is interrupted, the command is ended too."""
+    begun, counts, failed = time.monotonic(), Counts(), []
+
+    def take(pipe):
+        try:
+            while piece := os.read(pipe.fileno(), PIECE):
+                sink.write(piece)
+                sink.flush()
                 counts.add(piece)
-        taking = threading.Thread(target=take)
+        except OSError as fault:
+            failed.append(fault)
+            pipe.close()
+
+    with subprocess.Popen(command, cwd=folder, stdin=source, stdout=subprocess.PIPE) as running:
+        taking = threading.Thread(target=take, args=(running.stdout,), daemon=True)
         taking.start()
-        while taking.is_alive():
-            taking.join(each)
-            if taking.is_alive():
-                tell(f"{time.monotonic() - begun:.0f} s: {counts.text()}")
-    return running.returncode, b"".join(pieces)
+        try:
+            while taking.is_alive():
+                taking.join(each)
+                if taking.is_alive():
+                    tell(f"{time.monotonic() - begun:.0f} s: {counts.text()}")
+        except BaseException:
+            running.terminate()
+            raise
+    if failed:
+        raise failed[0]
+    return running.returncode

@@ -10,7 +10,19 @@ REJECTS = {
 }
 STATUSES = {
     0: "Ok", 1: "Stale", 2: "NoBuffer", 3: "PresentLater", 10: "NoInit", 11: "BadValue",
-    12: "InvalidOperation", 13: "WouldBlock", 14: "NoSlot", 15: "Empty", 16: "Occupied", 17: "Unbuilt",
+    12: "InvalidOperation", 13: "WouldBlock", 14: "NoSlot", 15: "Empty", 16: "Occupied",
+}
+# What a refusal or a reject says, in words.
+REFUSALS = {
+    1: "the frame that it names is not the slot's any more", 2: "no frame waits", 3: "no frame is due yet",
+    10: "the queue is abandoned, or the actor is not its producer", 11: "a value is out of range or does not fit",
+    12: "a limit of the queue is reached, or a producer is connected", 13: "no slot is free", 14: "no slot is free to attach to",
+    15: "a name or a number does not hold what the step needs", 16: "a name or a number that is to be filled holds something",
+}
+REJECTIONS = {
+    1: "the layer, or the parent or relative that it names, is not there", 2: "a layer with this number is there already",
+    3: "the layer would be its own ancestor", 4: "the layer would be drawn below itself",
+    5: "there is no room for another layer", 6: "a layer of this kind does not take it",
 }
 CALLS = {
     1: "connect", 2: "disconnect", 3: "max dequeued", 4: "async", 5: "dequeue", 6: "request", 7: "queue",
@@ -18,7 +30,7 @@ CALLS = {
     13: "acquire", 14: "release", 15: "consumer detach", 16: "consumer attach",
 }
 FAULTS = {
-    0: "no scene", 1: "not UTF-8", 2: "unknown word", 3: "bad word", 4: "missing word", 5: "extra word",
+    0: "not played", 1: "not UTF-8", 2: "unknown word", 3: "bad word", 4: "missing word", 5: "extra word",
     6: "out of order", 7: "undefined", 8: "twice", 9: "limit", 10: "unended", 11: "wrong version",
 }
 NO_SLOT = 4294967295

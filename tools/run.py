@@ -1,0 +1,199 @@
+#!/usr/bin/env python3
+"""Plays a scene and writes what comes of it: its frames as PNG files, and the run as text and as a timeline.
+
+    run.py [--proved] [SCENE [FOLDER]]
+
+SCENE is scenes/phone.sf if it is not given, and FOLDER is out/NAME for a scene NAME.sf, beside the
+folder crates/. The folder gets
+
+    records.bin      the records, for tools/records.py; they are written while they come
+    dump.txt         a sentence for each record
+    trace.json       a timeline, for chrome://tracing or Perfetto
+    frame-N.png      the frame of vsync N
+
+in the place of those that an earlier run left there.
+
+What the run comes to is told on standard output, with what waits and who is stuck, and why. The fault
+of a script that is no scene is shown at its place, on standard error; so is how far the program is,
+while it builds and plays: the time, the steps, vsyncs and frames so far, and their bytes.
+
+The program that `rt run` built in crates/sf_main is used where no source is newer than it. Where there
+is none, the program is compiled and run as it stands, by `rt try`: that takes less than a minute, and
+no proof is asked for. Such a run may write at most 1 MiB of records, which all come at its end. With
+--proved the program is proved and built first by `rt run`, the first time for long, later only what
+changed. What was built has no such limit.
+
+status: that of the program (0 played, 2 the script is no scene), or 1 where there is no answer, 2
+where words are wrong or a file cannot be read or written, or 130 where it was interrupted.
+"""
+
+import glob
+import json
+import os
+import re
+import sys
+
+from explaining import explained
+from pictures import write_frames
+from scripts import read_script
+from stream import faults, read
+from summing import summed
+from timeline import trace
+from waiting import EACH, awaited
+from wording import sentence
+
+TOP = os.path.dirname(os.path.dirname(os.path.abspath(__file__)))
+FOLDER_OF_PROGRAM = os.path.join("crates", "sf_main")
+USUAL_SCENE = os.path.join(TOP, "scenes", "phone.sf")
+# Which statuses of the program leave whole records behind: a played scene, and a script that is none.
+WHOLE = (0, 2)
+INTERRUPTED = 130
+# What a run leaves in its folder.
+LEFT = ("records.bin", "dump.txt", "trace.json")
+FRAME = re.compile(r"frame-[0-9]+\.png")
+UNPROVED, PROVED = ["rt", "try"], ["rt", "run"]
+DOES = {
+    "try": "compiles and plays it as it stands, without any proof (half a minute to a minute)",
+    "run": "proves what is not proved yet, builds and plays it",
+}
+
+
+def complain(text):
+    print(f"run.py: {text}", file=sys.stderr)
+
+
+def usual_folder(scene):
+    return os.path.join(TOP, "out", os.path.splitext(os.path.basename(scene))[0])
+
+
+def arguments(words):
+    """Whether a proved program is asked for, the scene and the folder; None where the words are wrong."""
+    proved = words[:1] == ["--proved"]
+    names = words[1:] if proved else words
+    if len(names) > 2 or any(name.startswith("-") for name in names):
+        return None
+    scene = names[0] if names else USUAL_SCENE
+    return proved, scene, names[1] if len(names) == 2 else usual_folder(scene)
+
+
+def built(top):
+    """The program that was built from the sources as they stand, or None."""
+    program = os.path.join(top, FOLDER_OF_PROGRAM, "out", "sf_main")
+    sources = glob.glob(os.path.join(top, "crates", "*", "src", "**", "*.rt"), recursive=True)
+    try:
+        when = os.path.getmtime(program)
+        return program if all(os.path.getmtime(source) < when for source in sources) else None
+    except OSError:
+        return None
+
+
+def command_for(proved, top):
+    """The command that plays a scene, and what it does first."""
+    program = None if proved else built(top)
+    if program:
+        return [program], f"{os.path.relpath(program)} plays it"
+    command = PROVED if proved else UNPROVED
+    return command, DOES[command[1]]
+
+
+class Progress:
+    """Tells how far a run is: over and over on the same line of a terminal, else line by line."""
+
+    def __init__(self, out):
+        self.out, self.on_terminal, self.open = out, out.isatty(), False
+        self.each = 1 if self.on_terminal else EACH
+
+    def tell(self, text):
+        self.out.write(f"\r\x1b[K  {text}" if self.on_terminal else f"  {text}\n")
+        self.open = self.on_terminal
+        self.out.flush()
+
+    def end(self):
+        if self.open:
+            self.out.write("\n")
+        self.open = False
+
+
+def play(command, top, scene, records):
+    """The status of a command that plays a scene; its records go into a file. What `rt` says goes on to standard error."""
+    progress = Progress(sys.stderr)
+    try:
+        with open(scene, "rb") as script, open(records, "wb") as sink:
+            return awaited(command, os.path.join(top, FOLDER_OF_PROGRAM), script, sink, progress.tell, progress.each)
+    finally:
+        progress.end()
+
+
+def clear(folder):
+    """Makes a folder, and takes out of it what an earlier run left there."""
+    os.makedirs(folder, exist_ok=True)
+    for name in os.listdir(folder):
+        if name in LEFT or FRAME.fullmatch(name):
+            os.remove(os.path.join(folder, name))
+
+
+def write_text(folder, name, text):
+    with open(os.path.join(folder, name), "w", encoding="utf-8") as file:
+        file.write(text)
+
+
+def contents(path):
+    with open(path, "rb") as file:
+        return file.read()
+
+
+def leave(records, scene, folder):
+    """Writes what a whole stream tells into the folder, and says what it comes to."""
+    write_text(folder, "dump.txt", "".join(sentence(record) + "\n" for record in records))
+    write_text(folder, "trace.json", json.dumps(trace(records), indent=1) + "\n")
+    for path in write_frames(folder, records):
+        print(os.path.relpath(path))
+    if records[0].tag == "SFLT" and records[0].fields is not None:
+        for line in explained(os.path.relpath(scene), contents(scene), records[0].fields):
+            print(line, file=sys.stderr)
+        return
+    for line in summed(records, read_script(contents(scene))):
+        print(line)
+
+
+def run(proved, scene, folder, top=TOP):
+    with open(scene, "rb"):
+        command, does = command_for(proved, top)
+    print(f"{os.path.relpath(scene)}: {does}", file=sys.stderr, flush=True)
+    clear(folder)
+    path = os.path.join(folder, "records.bin")
+    status = play(command, top, scene, path)
+    records, of_stream = read(contents(path))
+    if status not in WHOLE or not records:
+        complain(f"{' '.join(command)} ended with status {status} and gave no whole run; what came stands in {os.path.relpath(path)}")
+        return 1
+    for line in faults(records, of_stream):
+        complain(line)
+    leave(records, scene, folder)
+    return status
+
+
+def main(words):
+    if words in (["--help"], ["-h"]):
+        print(__doc__.strip())
+        return 0
+    parsed = arguments(words)
+    if parsed is None:
+        print(__doc__.strip(), file=sys.stderr)
+        return 2
+    try:
+        return run(*parsed)
+    except FileNotFoundError as fault:
+        complain("rt, the command of Rattle's kit, is not on the path, and crates/sf_main/out has no program that was built from these sources"
+                 if fault.filename == "rt" else fault)
+        return 2
+    except OSError as fault:
+        complain(fault)
+        return 2
+    except KeyboardInterrupt:
+        complain("interrupted")
+        return INTERRUPTED
+
+
+if __name__ == "__main__":
+    sys.exit(main(sys.argv[1:]))
