@@ -1,13 +1,33 @@
 -- What a script asks for.
-use Rattle.std.specs.Prelude.{ℕ, ◌==◌, ◌&&◌, if◌then◌else◌, Bool, List, Result, Ok, Err}
+use Rattle.std.specs.Prelude.{◌≡◌, ℕ, ◌==◌, ◌&&◌, if◌then◌else◌, Bool, true, false, not, List, Result, Ok, Err}
+use Rattle.std.specs.List.{list_all}
 use Rattle.sf_cast.specs.Scripts.{are_playable}
 use Rattle.sf_scene.specs.Scene.{SceneValue}
+use Rattle.sf_scene.specs.declared.step.ActorScript.{ActorScript}
+use Rattle.sf_scene.specs.declared.change.Change.TheVariants as change
+use Rattle.sf_scene.specs.declared.step.Step.{Step}
+use Rattle.sf_scene.specs.declared.step.Step.TheVariants as step
 use Rattle.sf_script.specs.Parse.{parsed_of}
 use Rattle.sf_script.specs.declared.fault.ScriptFault.{ScriptFault}
 
--- a scene is played so far: it is of version 1, and sets no orientation that layers don't take
+-- a step turns a layer
+abbrev pub is_turn : Step → Bool
+is_turn (step.Set number layer (change.Orient orientation)) = true
+is_turn other = false
+
+abbrev pub turns_none : ActorScript → Bool
+turns_none script = list_all (λ s. not (is_turn s)) script.steps
+
+abbrev pub all_turn_none : List ActorScript → Bool
+all_turn_none scripts = list_all turns_none scripts
+
+-- a cast can play the scene
+abbrev pub is_for_a_cast : SceneValue → Bool
+is_for_a_cast scene = scene.version == 1 && are_playable scene.actors
+
+-- a scene is played so far: it is of version 1, and turns no layer
 abbrev pub is_played : SceneValue → Bool
-is_played scene = scene.version == 1 && are_playable scene.actors
+is_played scene = is_for_a_cast scene && all_turn_none scene.actors
 
 -- a fault of this cause, which has no place
 abbrev pub at_no_place : ℕ → ScriptFault

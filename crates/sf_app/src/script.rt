@@ -1,10 +1,10 @@
-ghost use Rattle.std.specs.Prelude.{◌≡◌, true, IfOk};
+ghost use Rattle.std.specs.Prelude.{◌≡◌, true, not, IfOk};
 ghost use Rattle.sf_script.specs.Parse.{GivesScene};
 ghost use Rattle.sf_script.specs.declared.fault.ParseFault.TheVariants.{Script};
-ghost use Rattle.sf_app.specs.Scripts.{asked_of, at_no_place, is_played};
+ghost use Rattle.sf_app.specs.Scripts.{all_turn_none, asked_of, at_no_place, is_for_a_cast, is_played, is_turn, turns_none};
 
 use sf_cast::is_playable;
-use sf_scene::Scene;
+use sf_scene::{ActorScript, Change, Scene, Step};
 use sf_script::{ParseFault, ScriptFault, parse};
 use std::alloc::Global;
 
@@ -19,11 +19,40 @@ pub fn at_no_place(cause: u32) -> ScriptFault
     }
 }
 
+/// Whether a step turns no layer.
+fn is_still(step: &Step) -> bool
+    ensures { result ≡ not (is_turn step.now) }
+{
+    match step {
+        Step::Set(_, _, Change::Orient(_)) => false,
+        _ => true,
+    }
+}
+
+fn turns_none(script: &ActorScript) -> bool
+    ensures { result ≡ turns_none script.now }
+{
+    script.steps.as_slice().iter().all(is_still)
+}
+
+fn all_turn_none(scripts: &[ActorScript]) -> bool
+    ensures { result ≡ all_turn_none scripts.now }
+{
+    scripts.iter().all(turns_none)
+}
+
+/// Whether a cast can play a scene.
+fn is_for_a_cast(scene: &Scene) -> bool
+    ensures { result ≡ is_for_a_cast scene.now }
+{
+    scene.version == 1 && is_playable(scene.actors.as_slice())
+}
+
 /// Whether a scene is played so far.
 fn is_played(scene: &Scene) -> bool
     ensures { result ≡ is_played scene.now }
 {
-    scene.version == 1 && is_playable(scene.actors.as_slice())
+    is_for_a_cast(scene) && all_turn_none(scene.actors.as_slice())
 }
 
 /// The scene that a script asks to be played: the one that it spells. A scene that is not played yet
