@@ -167,7 +167,7 @@ def not_played(lines):
     for line, words in enumerate(map(texts_of, lines), 1):
         if words[:1] == ["scene"] and len(words) > 1 and words[1].lstrip("0") == "2":
             return line, 2
-        if words[:1] == ["set"] and words[3:4] == ["orient"] and words[4:] and words[4].strip("0"):
+        if words[:1] == ["set"] and words[3:4] == ["orient"] and words[4:]:
             return line, 5
     return None
 

@@ -42,7 +42,7 @@ WORDS = {
     "TIME": "0 to 9223372036854775807, in nanoseconds", "TX": "1 to 64", "LAYER": "1 to 4294967295",
     "TOKEN": "1 to 4294967295", "PARENT": "none, or a layer, 0 being the root", "Z": "-2147483648 to 2147483647",
     "PX": "-16384 to 16384, in pixels", "PY": "-16384 to 16384, in pixels", "CWIDTH": "0 to 16384, in pixels",
-    "CHEIGHT": "0 to 16384, in pixels", "ALPHA": "0 to 255", "ORIENT": "0 to 7; other than 0 is read, and not played yet",
+    "CHEIGHT": "0 to 16384, in pixels", "ALPHA": "0 to 255", "ORIENT": "0 to 7; read, and not played yet",
     "PICK": "v or an actor's number, alone or with * and 1 to 256 behind it, as 1*20",
     "DISPLAY": "2 to 8", "CAPTURE": "1 to 8", "HIT": "1 to 64", "STACK": "0 to 4294967295", "FORMAT": "rgba, rgbx or rgb565",
 }

@@ -61,8 +61,8 @@ FAULTS = (
     ("x", (0, 0, 9), ("a.sf: limit: the script has 1 bytes, and may have 1048576",)),
     # A scene that is read and not played yet: the first form of it that is not.
     (SECOND_HEAD + "end\n", (0, 0, 0), ("a.sf:1:2: not played: the script is a scene, but has forms that are read and not played yet",)),
-    (HEAD + "actor 1\ntx 1\nset 1 1 orient 0\nset 1 1 orient 3\nend\n", (0, 0, 0),
-     (" 5 | set 1 1 orient 3", "   = ORIENT: 0 to 7; other than 0 is read, and not played yet")),
+    (HEAD + "actor 1\ntx 1\nset 1 1 alpha 0\nset 1 1 orient 3\nend\n", (0, 0, 0),
+     (" 5 | set 1 1 orient 3", "   = ORIENT: 0 to 7; read, and not played yet")),
     (HEAD + "end\n", (0, 0, 0), ("a.sf: the script is a scene, but has forms that are read and not played yet",)),
 )
 
