@@ -31,7 +31,8 @@ module _ {B : Type 0} where
     pub live_made : (right : RightAt) → Contains old.live right → Contains old.made right.turn.0
     pub queued_made : (write : WriteAt) → Contains old.queued write → Contains old.made write.write.turn.0
     pub own : (write : WriteAt) → Contains (place_written queue asked answered) write → (right : RightAt) → Contains (brought_at from asked) right → right.at.queue ≡ queue.0
-    pub latest : (write other : WriteAt) → Contains (place_written queue asked answered) write → Contains old.queued other → other.write.turn.0 ≡ write.write.turn.0 → other.write.turn.1 < write.write.turn.1
+    pub latest : (write other : WriteAt) → Contains (place_written queue asked answered) write → Contains old.queued other
+        → other.write.turn.0 ≡ write.write.turn.0 → other.write.turn.1 < write.write.turn.1
     pub frames : (write other : WriteAt) → Contains (place_written queue asked answered) write → Contains old.queued other → other.write.frame.0.0 ≡ write.write.frame.0.0
         → other.write.frame.1 < write.write.frame.1
 
@@ -63,4 +64,5 @@ pub record PlaceStep {B : Type 0} (old new : State B) (by queue step : ℕ) (ask
   pub call : CallStep old new by queue step asked reply
   pub brought : AreIn (brought_at from asked) (places_out old)
   pub held : HasAtMost (places_out old ++ given_at from asked reply.gives) (brought_at from asked) [] (places_out new)
-  pub owed : AreIn (places_of new).owed (place_written (mark_among old.marks queue).queue asked (told_reply (mark_among old.marks queue) (old.view.calls queue) by asked) ++ (places_of old).owed)
+  pub owed : AreIn (places_of new).owed (place_written (mark_among old.marks queue).queue asked
+      (told_reply (mark_among old.marks queue) (old.view.calls queue) by asked) ++ (places_of old).owed)

@@ -19,6 +19,7 @@ module _ {B : Type 0} where
   pub record MakersTell (maker : BufferOf → Maker) (ofs : List (ActorOf B)) : Type 0 where
     pub same : (one other : Holding B) → IsHeld ofs one → IsHeld ofs other → is_owing (Some (token_of one)) ≡ true → MayDraw other → (turn_held one).0 ≡ (turn_held other).0
         → same_maker (maker (buffer_in (token_of one))) (maker (buffer_in (token_of other))) ≡ true
-    pub order : (one other : Holding B) → IsHeld ofs one → IsHeld ofs other → is_owing (Some (token_of one)) ≡ true → is_owing (Some (token_of other)) ≡ true → (turn_held one).0 ≡ (turn_held other).0
+    pub order : (one other : Holding B) → IsHeld ofs one → IsHeld ofs other → is_owing (Some (token_of one)) ≡ true → is_owing (Some (token_of other)) ≡ true
+        → (turn_held one).0 ≡ (turn_held other).0
         → (turn_held one).1 < (turn_held other).1
         → is_before (maker (buffer_in (token_of one))).age (owed_frame (token_of one)) (maker (buffer_in (token_of other))).age (owed_frame (token_of other)) ≡ true

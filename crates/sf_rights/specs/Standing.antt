@@ -72,7 +72,8 @@ module _ {B : Type 0} where
   home_taken home view = record home { taken = length view.arrivals }
 
   -- A vsync: all that was not yet taken arrives, the compositor decides, and what goes is given back.
-  pub record VsyncIn (lease : Ghosts ReadLeaseOf SeatView ReadLeaseOf Issued) (home : DeskHome) (old : DeskView B) (handler : HandlerOf ReadLeaseOf) (new : DeskView B) (after : HandlerOf ReadLeaseOf) : Type 0 where
+  pub record VsyncIn (lease : Ghosts ReadLeaseOf SeatView ReadLeaseOf Issued) (home : DeskHome) (old : DeskView B) (handler : HandlerOf ReadLeaseOf)
+      (new : DeskView B) (after : HandlerOf ReadLeaseOf) : Type 0 where
     pub of_turns : IsOfTurns lease
     pub unlent : handler.lent ≡ None
     pub arrived : List (Arrival ReadLeaseOf)

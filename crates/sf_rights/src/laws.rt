@@ -136,14 +136,16 @@ pub fn a_standing_ledger_tells<B: TableName>()
 pub fn a_step_leaves_the_ledger_standing<B: TableName>()
     ensures { (table : TableId) (buffers place : ℕ) (pictures : List Picture) (ofs : List (ActorOf B)) (actors nows : List (Actor B)) (before after : PlainOf B) (stepped : Stepped)
         (handler : HandlerOf ReadLeaseOf) → (steps : StepsAt table (picture_at pictures) place actors ofs before nows after stepped)
-        → KeepAs table (picture_at pictures) (home_of before) (view_of before) actors ofs → All (MayPlay (home_of before) pictures) (scripts_of actors) → home_of after ≡ home_of before
+        → KeepAs table (picture_at pictures) (home_of before) (view_of before) actors ofs → All (MayPlay (home_of before) pictures) (scripts_of actors)
+        → home_of after ≡ home_of before
         → AreOver (picture_at pictures) (home_of before) (view_of before) ofs
         → LedgerStands buffers (home_of before) (view_of before) ofs handler → LedgerStands buffers (home_of after) (view_of after) (slice_set ofs place steps.new) handler }
 {}
 
 /// A look at a frame that was acquired tells whether the run has written it.
 pub fn a_look_tells_what_a_run_has_written<B: TableName>()
-    ensures same { (scene : SceneValue) (home : DeskHome) (view : DeskView B) (ofs : List (ActorOf B)) (handler : HandlerOf ReadLeaseOf) → IsWithinLimits scene → AreActors scene ofs home view
+    ensures same { (scene : SceneValue) (home : DeskHome) (view : DeskView B) (ofs : List (ActorOf B)) (handler : HandlerOf ReadLeaseOf)
+        → IsWithinLimits scene → AreActors scene ofs home view
         → all_written (state_of home view ofs handler) ≡ written_in scene (run_of ofs home view) }
     ensures tells { (scene : SceneValue) (pictures : ℕ → Picture) (buffers : ℕ) (home : DeskHome) (view : DeskView B) (ofs : List (ActorOf B)) (handler : HandlerOf ReadLeaseOf)
         → IsWithinLimits scene → AreActors scene ofs home view → LedgerStands buffers home view ofs handler → AreOver pictures home view ofs

@@ -39,7 +39,8 @@ pub fn makers_that_are_followed_tell<B: TableName>()
 
 /// Where a run goes on, its makers stay followed.
 pub fn a_run_that_goes_on_keeps_makers()
-    ensures { (old new : Run) (most more : ℕ) (stays : Stays) (places : Places) → GoesOn old new → most ≤ more → AreFollowed old most stays places → AreFollowed new more stays places }
+    ensures { (old new : Run) (most more : ℕ) (stays : Stays) (places : Places) → GoesOn old new → most ≤ more → AreFollowed old most stays places
+        → AreFollowed new more stays places }
 {}
 
 /// Where nothing is queued and no buffer goes to a queue, they stay followed.
@@ -49,7 +50,8 @@ pub fn a_rest_keeps_makers()
 
 /// Where a frame is queued, they stay followed.
 pub fn a_queued_frame_keeps_makers()
-    ensures { (run : Run) (most : ℕ) (stays : Stays) (old new : Places) → AreFollowed run most stays old → (write : WriteAt) → QueuesAt write old new → Contains old.made write.write.turn.0
+    ensures { (run : Run) (most : ℕ) (stays : Stays) (old new : Places) → AreFollowed run most stays old → (write : WriteAt) → QueuesAt write old new
+        → Contains old.made write.write.turn.0
         → AreFollowed run most stays new }
 {}
 
@@ -70,7 +72,8 @@ pub fn a_buffer_that_is_made_keeps_makers()
 /// Each right that lies in a queue after a call, or that its reply gives, lay there at the same place,
 /// was brought, or is that of a buffer that came to the queue.
 pub fn a_call_tells_places<B: TableName>()
-    ensures { (mark : QueueMark) (earlier : List (Made B)) (by step : ℕ) (asked : QCall B) (reply : QReply B) → Replied mark earlier by asked reply → (from : BufferOf) (right : RightAt)
+    ensures { (mark : QueueMark) (earlier : List (Made B)) (by step : ℕ) (asked : QCall B) (reply : QReply B) → Replied mark earlier by asked reply
+        → (from : BufferOf) (right : RightAt)
         → Contains (places_lying mark (entry by (step, asked) reply ∷ earlier)) right ⊎ Contains (given_at from asked reply.gives) right
         → WasIn (places_lying mark earlier ++ brought_at from asked) right ⊎ IsNewAt mark.queue asked (told_reply mark earlier by asked) right }
 {}
@@ -111,8 +114,10 @@ pub fn rights_stay_where_they_were<B: TableName>()
 /// A call does to the places of a state what is told of it, where each right of a buffer that came to
 /// the queue is there.
 pub fn a_call_does_to_places_what_is_told<B: TableName>()
-    ensures { (old new : State B) (by queue step : ℕ) (asked : QCall B) (reply : QReply B) (from : BufferOf) → PlaceStep old new by queue step asked reply from → IsLedger (ledger_of old)
-        → ((right now : RightAt) → Contains (places_of new).live right → IsNewAt (mark_among old.marks queue).queue asked (told_reply (mark_among old.marks queue) (old.view.calls queue) by asked) now
+    ensures { (old new : State B) (by queue step : ℕ) (asked : QCall B) (reply : QReply B) (from : BufferOf)
+        → PlaceStep old new by queue step asked reply from → IsLedger (ledger_of old)
+        → ((right now : RightAt) → Contains (places_of new).live right
+        → IsNewAt (mark_among old.marks queue).queue asked (told_reply (mark_among old.marks queue) (old.view.calls queue) by asked) now
         → right.turn.0 ≡ now.turn.0 → right.at ≡ now.at)
         → PlacesTold (mark_among old.marks queue).queue asked (told_reply (mark_among old.marks queue) (old.view.calls queue) by asked) from (places_of old) (places_of new) }
 {}
@@ -120,15 +125,18 @@ pub fn a_call_does_to_places_what_is_told<B: TableName>()
 /// Where the right of a loose buffer is given back at a place and comes to lie in no slot, it is the
 /// only right of its buffer.
 pub fn the_right_of_a_buffer_moves<B: TableName>()
-    ensures { (old new : State B) (by queue step : ℕ) (asked : QCall B) (reply : QReply B) (from : BufferOf) → PlaceStep old new by queue step asked reply from → IsLedger (ledger_of old)
+    ensures { (old new : State B) (by queue step : ℕ) (asked : QCall B) (reply : QReply B) (from : BufferOf)
+        → PlaceStep old new by queue step asked reply from → IsLedger (ledger_of old)
         → (right was now : RightAt) → brought_at from asked ≡ was ∷ [] → given_at from asked reply.gives ≡ now ∷ [] → right.turn.0 ≡ was.turn.0
-        → (Contains (places_lying (mark_among old.marks queue) (entry by (step, asked) reply ∷ old.view.calls queue)) right → Contains (places_lying (mark_among old.marks queue) (old.view.calls queue)) right)
+        → (Contains (places_lying (mark_among old.marks queue) (entry by (step, asked) reply ∷ old.view.calls queue)) right
+        → Contains (places_lying (mark_among old.marks queue) (old.view.calls queue)) right)
         → Contains (places_of new).live right → right ≡ now }
 {}
 
 /// A call leaves the makers of a state standing, over the run that tells of it.
 pub fn a_call_leaves_makers_standing<B: TableName>()
-    ensures { (old new : State B) (by queue step : ℕ) (asked : QCall B) (reply : QReply B) (from : BufferOf) (before after : Run) (most more : ℕ) → PlaceStep old new by queue step asked reply from
+    ensures { (old new : State B) (by queue step : ℕ) (asked : QCall B) (reply : QReply B) (from : BufferOf) (before after : Run) (most more : ℕ)
+        → PlaceStep old new by queue step asked reply from
         → IsLedger (ledger_of old) → RunGets (mark_among old.marks queue) (entry by (step, asked) reply) (old.view.calls queue) from before after → most < more
         → MakersStand before most old → MakersStand after more new }
 {}

@@ -44,7 +44,8 @@ pub fn a_draw_that_enters_is_in_turn<B: TableName>()
 
 /// What draws entered is in turn after a try of an actor's step.
 pub fn a_step_leaves_draws_in_turn<B: TableName>()
-    ensures { (scene : SceneValue) (table : TableId) (buffers place : ℕ) (pictures : List Picture) (ofs : List (ActorOf B)) (actors nows : List (Actor B)) (before after : PlainOf B)
+    ensures { (scene : SceneValue) (table : TableId) (buffers place : ℕ) (pictures : List Picture) (ofs : List (ActorOf B)) (actors nows : List (Actor B))
+        (before after : PlainOf B)
         (stepped : Stepped) (handler : HandlerOf ReadLeaseOf) → (steps : StepsAt table (picture_at pictures) place actors ofs before nows after stepped)
         → KeepAs table (picture_at pictures) (home_of before) (view_of before) actors ofs → All (MayPlay (home_of before) pictures) (scripts_of actors)
         → home_of after ≡ home_of before
@@ -57,7 +58,8 @@ pub fn a_step_leaves_draws_in_turn<B: TableName>()
 
 /// So it is after a vsync.
 pub fn a_vsync_leaves_draws_in_turn<B: TableName>()
-    ensures { (scene : SceneValue) (home : DeskHome) (ofs : List (ActorOf B)) (old : DeskView B) (handler : HandlerOf ReadLeaseOf) (buffers : ℕ) (new : DeskView B) (after : HandlerOf ReadLeaseOf)
+    ensures { (scene : SceneValue) (home : DeskHome) (ofs : List (ActorOf B)) (old : DeskView B) (handler : HandlerOf ReadLeaseOf) (buffers : ℕ)
+        (new : DeskView B) (after : HandlerOf ReadLeaseOf)
         → VsyncIn ⟦<ReadLease<B> as Lease>⟧ home old handler new after → LedgerStands buffers home old ofs handler → AreDeclared scene home.marks
         → MakersPlay scene home old ofs handler → DrawsStand scene home old ofs handler → DrawsStand scene (home_taken home old) new ofs after }
 {}

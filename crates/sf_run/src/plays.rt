@@ -72,7 +72,8 @@ pub fn a_vsync_is_the_next_of_a_play<L: Lease>()
 /// actor's next turn, where the turn of a draw has come; and a turn in which an actor has ended, or is not ready, changes nothing.
 pub fn a_step_is_the_next_of_a_play()
     ensures done { (scene : SceneValue) (world : World) (script : ScriptValue) (done : DoneValue) (later : Run) (arrived : List (Arrival FrameOf))
-        → DoesOneMore scene world script done later arrived → DrawsInTime scene world script done.step → find (λ (s : ScriptValue). s.number == script.number) scene.actors ≡ Some script
+        → DoesOneMore scene world script done later arrived → DrawsInTime scene world script done.step
+        → find (λ (s : ScriptValue). s.number == script.number) scene.actors ≡ Some script
         → actor_turn scene script.number world ≡ record {
           events = event.Reply (reply_shown (reply_at script.number (at_now world script done))) ∷ [];
           world = record world { run = later; arrivals = world.arrivals ++ arrived };
