@@ -1,3 +1,2 @@
 pub mod WriteLemmas
 pub mod ReadingLemmas
-pub mod FitLemmas

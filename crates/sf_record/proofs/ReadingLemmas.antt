@@ -1,5 +1,5 @@
 -- What was written of records that fit is read back.
-use Rattle.std.proofs.Common.{◌≡◌, ◌≢◌, ℕ, zero, suc, ◌+◌, ◌-◌, ◌*◌, ◌%◌, ◌^◌, ◌<◌, ◌≤◌, List, [], ◌∷◌, ◌++◌, All, drop, length, take, refl, sym, ap, subst, ◌∙◌, append_assoc, arith, length-append, lit<}
+use Rattle.std.proofs.Common.{◌≡◌, ℕ, zero, suc, ◌+◌, ◌-◌, ◌*◌, ◌%◌, ◌^◌, ◌<◌, ◌≤◌, List, [], ◌∷◌, ◌++◌, All, drop, length, take, refl, sym, ap, subst, ◌∙◌, append_assoc, arith, length-append, lit<}
 use Rattle.std.proofs.Math.Arith.{mod-mul}
 use Rattle.std.proofs.Math.Nat.{mod-eq_of_lt, one-le-pow, pow-succ'}
 use Rattle.std.proofs.Math.Seq.{drop-append_seam, take-append_seam}
@@ -18,11 +18,12 @@ use Rattle.sf_record.specs.declared.record.Record.TheVariants as rec
 use Rattle.sf_record.specs.declared.record.Reply.{Reply}
 use Rattle.sf_record.specs.declared.record.SceneHeader.{SceneHeader}
 use Rattle.sf_record.specs.declared.record.StuckEntry.{StuckEntry}
+use Rattle.sf_record.specs.declared.record.Summary.{Summary}
 use Rattle.sf_record.specs.declared.record.TimelineValue.{TimelineValue}
 use Rattle.sf_record.specs.declared.record.VsyncHeader.{VsyncHeader}
-use Rattle.sf_record.specs.Fitting.{ArrivalFits, BufferFits, CallFits, CommitFits, FaultFits, Fits32, Fits64, HeldFits, HistoryFits, ListFits, RecordFits, ReplyFits, SceneFits, StuckFits, TimelineFits, VsyncFits}
-use Rattle.sf_record.specs.Reading.{AreDetermined, AreReadBack, Reader, list_of, read_arrival, read_body, read_buffer, read_call, read_commit, read_fault, read_held, read_history, read_items, read_number, read_record, read_reply, read_scene, read_stuck, read_timeline, read_up_to, read_vsync, records_in, so_many, u32, u64, ◌and◌, ◌of◌}
-use Rattle.sf_record.specs.Records.{arrival_bytes, body_of, buffer_bytes, bytes_of, held_bytes, history_entry_bytes, list_bytes, record_bytes, stuck_bytes, tag_of, timeline_bytes, u32_bytes, u64_bytes}
+use Rattle.sf_record.specs.Fitting.{ArrivalFits, BufferFits, CallFits, CommitFits, FaultFits, Fits32, Fits64, HeldFits, HistoryFits, ListFits, RecordFits, ReplyFits, SceneFits, StuckFits, SummaryFits, TimelineFits, VsyncFits}
+use Rattle.sf_record.specs.Reading.{AreDetermined, AreReadBack, Reader, list_of, read_arrival, read_body, read_buffer, read_call, read_commit, read_fault, read_held, read_history, read_items, read_number, read_record, read_reply, read_scene, read_stuck, read_summary, read_timeline, read_up_to, read_vsync, records_in, so_many, u32, u64, ◌and◌, ◌of◌}
+use Rattle.sf_record.specs.Records.{arrival_bytes, body_of, buffer_bytes, bytes_of, held_bytes, history_entry_bytes, list_bytes, record_bytes, stuck_bytes, summary_bytes, tag_of, timeline_bytes, u32_bytes, u64_bytes}
 
 -- the reader reads this value from these bytes, whatever follows
 pub record Reads {A : Type 0} (reader : Reader A) (bytes : List ℕ) (value : A) : Type 0 where
@@ -133,30 +134,36 @@ fault_read : (f : ScriptFault) → FaultFits f → Reads read_fault (u32_bytes f
 unfolding read_fault
 fault_read f h = and_read (and_read (of_read _ (u32_read h.line)) (u32_read h.word)) (u32_read h.cause)
 
+summary_read : (s : Summary) → SummaryFits s → Reads read_summary (summary_bytes s) s
+unfolding read_summary
+summary_read s h =
+    and_read (and_read (and_read (and_read (and_read (and_read (and_read (of_read _ (u64_read h.replies)) (u64_read h.vsyncs)) (u64_read h.commits)) (u64_read h.rejected)) (u64_read h.frames)) (u64_read h.pixel_sum)) (u64_read h.held)) (u64_read h.stuck)
+
 -- how many bytes the pixels of a frame have, by what its body has
-pixels_left : (k : ℕ) (pixels : List ℕ) → Fits32 (4 + length pixels) → length (u32_bytes k ++ pixels) % 256 ^ 4 - 4 ≡ length pixels
+pixels_left : (k : ℕ) (pixels : List ℕ) → Fits32 (length (u32_bytes k ++ pixels)) → length (u32_bytes k ++ pixels) % 256 ^ 4 - 4 ≡ length pixels
 unfolding u32_bytes
 pixels_left k pixels h =
     let whole : length (bytes_high_first 4 k ++ pixels) ≡ 4 + length pixels = length-append (bytes_high_first 4 k) pixels in
-    let kept : length (bytes_high_first 4 k ++ pixels) % 256 ^ 4 ≡ 4 + length pixels = ap (λ (m : ℕ). m % 256 ^ 4) whole ∙ mod-eq_of_lt h in
-    omega (arith, kept)
+    let kept : length (bytes_high_first 4 k ++ pixels) % 256 ^ 4 ≡ length (bytes_high_first 4 k ++ pixels) = mod-eq_of_lt h in
+    omega (arith, kept, whole)
 
 body_read : (r : Record) → RecordFits r → Reads (read_body (tag_of r) (length (body_of r) % 256 ^ 4)) (body_of r) r
 unfolding read_body body_of
-body_read (rec.Scen s) h = of_read _ (scene_read s h)
-body_read (rec.Repl r) h = of_read _ (reply_read r h)
-body_read (rec.Vsyn v) h = of_read _ (vsync_read v h)
-body_read (rec.Comm c) h = of_read _ (commit_read c h)
+body_read (rec.Scen s) h = of_read _ (scene_read s h.fields)
+body_read (rec.Repl r) h = of_read _ (reply_read r h.fields)
+body_read (rec.Vsyn v) h = of_read _ (vsync_read v h.fields)
+body_read (rec.Comm c) h = of_read _ (commit_read c h.fields)
 body_read (rec.Fram f) h =
     let pixels : Reads (so_many (length (u32_bytes f.number ++ f.pixels) % 256 ^ 4 - 4)) f.pixels f.pixels =
     subst (λ (n : ℕ). Reads (so_many n) f.pixels f.pixels) (sym (pixels_left f.number f.pixels h.body)) (so_many_read f.pixels) in
-    and_read (of_read _ (u32_read h.number)) pixels
-body_read (rec.Arrv arrivals) h = of_read _ (list_read arrival_read h)
-body_read (rec.Hist history) h = of_read _ (history_read history h)
-body_read (rec.Hold held) h = of_read _ (list_read held_read h)
-body_read (rec.Stuk stuck) h = of_read _ (list_read stuck_read h)
+    and_read (of_read _ (u32_read h.fields)) pixels
+body_read (rec.Arrv arrivals) h = of_read _ (list_read arrival_read h.fields)
+body_read (rec.Hist history) h = of_read _ (history_read history h.fields)
+body_read (rec.Hold held) h = of_read _ (list_read held_read h.fields)
+body_read (rec.Stuk stuck) h = of_read _ (list_read stuck_read h.fields)
 body_read rec.Done h = record { whole = λ rest. refl }
-body_read (rec.Sflt fault) h = of_read _ (fault_read fault h)
+body_read (rec.Sflt fault) h = of_read _ (fault_read fault h.fields)
+body_read (rec.Summ summary) h = of_read _ (summary_read summary h.fields)
 
 length-tag : (r : Record) → length (tag_of r) ≡ 4
 length-tag (rec.Scen s) = refl
@@ -170,6 +177,7 @@ length-tag (rec.Hold held) = refl
 length-tag (rec.Stuk stuck) = refl
 length-tag rec.Done = refl
 length-tag (rec.Sflt fault) = refl
+length-tag (rec.Summ summary) = refl
 
 -- behind a tag of four bytes and a length comes the body
 behind_tag : (tag counted behind : List ℕ) (n : ℕ) → length tag ≡ 4 → u32 (counted ++ behind) ≡ (n, behind) → read_record (tag ++ (counted ++ behind)) ≡ read_body tag n behind

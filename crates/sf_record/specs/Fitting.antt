@@ -1,5 +1,5 @@
--- Each number of a record fits its field: what is written of it can be read back.
-use Rattle.std.specs.Prelude.{ℕ, ◌+◌, ◌<◌, ◌^◌, List, All, length}
+-- Each number of a record fits its field, and the length of its body the head: what is written of it can be read back.
+use Rattle.std.specs.Prelude.{ℕ, ◌<◌, ◌^◌, List, All, length}
 use Rattle.sf_script.specs.declared.fault.ScriptFault.{ScriptFault}
 use Rattle.sf_record.specs.declared.record.ArrivalEntry.{ArrivalEntry}
 use Rattle.sf_record.specs.declared.record.Commit.{Commit}
@@ -13,8 +13,10 @@ use Rattle.sf_record.specs.declared.record.Record.TheVariants as rec
 use Rattle.sf_record.specs.declared.record.Reply.{Reply}
 use Rattle.sf_record.specs.declared.record.SceneHeader.{SceneHeader}
 use Rattle.sf_record.specs.declared.record.StuckEntry.{StuckEntry}
+use Rattle.sf_record.specs.declared.record.Summary.{Summary}
 use Rattle.sf_record.specs.declared.record.TimelineValue.{TimelineValue}
 use Rattle.sf_record.specs.declared.record.VsyncHeader.{VsyncHeader}
+use Rattle.sf_record.specs.Records.{body_of}
 
 -- a number fits four bytes, or eight
 abbrev pub Fits32 : ℕ → Type 0
@@ -66,10 +68,8 @@ pub record CommitFits (c : Commit) : Type 0 where
   pub operation : Fits32 c.operation
   pub buffers : ListFits BufferFits c.buffers
 
--- the number fits, and so does how many bytes the body has
-pub record FrameFits (f : Frame) : Type 0 where
-  pub number : Fits32 f.number
-  pub body : Fits32 (4 + length f.pixels)
+abbrev pub FrameFits : Frame → Type 0
+FrameFits f = Fits32 f.number
 
 pub record ArrivalFits (a : ArrivalEntry) : Type 0 where
   pub actor : Fits32 a.actor
@@ -103,15 +103,31 @@ pub record FaultFits (f : ScriptFault) : Type 0 where
   pub word : Fits32 f.word
   pub cause : Fits32 f.cause
 
-abbrev pub RecordFits : Record → Type 0
-RecordFits (rec.Scen s) = SceneFits s
-RecordFits (rec.Repl r) = ReplyFits r
-RecordFits (rec.Vsyn v) = VsyncFits v
-RecordFits (rec.Comm c) = CommitFits c
-RecordFits (rec.Fram f) = FrameFits f
-RecordFits (rec.Arrv arrivals) = ListFits ArrivalFits arrivals
-RecordFits (rec.Hist history) = HistoryFits history
-RecordFits (rec.Hold held) = ListFits HeldFits held
-RecordFits (rec.Stuk stuck) = ListFits StuckFits stuck
-RecordFits rec.Done = Unit {0}
-RecordFits (rec.Sflt fault) = FaultFits fault
+pub record SummaryFits (s : Summary) : Type 0 where
+  pub replies : Fits64 s.replies
+  pub vsyncs : Fits64 s.vsyncs
+  pub commits : Fits64 s.commits
+  pub rejected : Fits64 s.rejected
+  pub frames : Fits64 s.frames
+  pub pixel_sum : Fits64 s.pixel_sum
+  pub held : Fits64 s.held
+  pub stuck : Fits64 s.stuck
+
+abbrev pub FieldsFit : Record → Type 0
+FieldsFit (rec.Scen s) = SceneFits s
+FieldsFit (rec.Repl r) = ReplyFits r
+FieldsFit (rec.Vsyn v) = VsyncFits v
+FieldsFit (rec.Comm c) = CommitFits c
+FieldsFit (rec.Fram f) = FrameFits f
+FieldsFit (rec.Arrv arrivals) = ListFits ArrivalFits arrivals
+FieldsFit (rec.Hist history) = HistoryFits history
+FieldsFit (rec.Hold held) = ListFits HeldFits held
+FieldsFit (rec.Stuk stuck) = ListFits StuckFits stuck
+FieldsFit rec.Done = Unit {0}
+FieldsFit (rec.Sflt fault) = FaultFits fault
+FieldsFit (rec.Summ summary) = SummaryFits summary
+
+-- the numbers of a record fit their fields, and the length of its body fits four bytes
+pub record RecordFits (r : Record) : Type 0 where
+  pub fields : FieldsFit r
+  pub body : Fits32 (length (body_of r))

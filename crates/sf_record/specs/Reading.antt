@@ -1,5 +1,5 @@
 -- Reading records back from their bytes.
-use Rattle.std.specs.Prelude.{◌≡◌, ℕ, zero, suc, ◌+◌, ◌-◌, ◌*◌, ◌^◌, Bool, if◌then◌else◌, List, [], ◌∷◌, All, codes, drop, length, take}
+use Rattle.std.specs.Prelude.{◌≡◌, ℕ, zero, suc, ◌+◌, ◌-◌, ◌*◌, ◌^◌, if◌then◌else◌, List, [], ◌∷◌, All, codes, drop, length, take}
 use Rattle.std.specs.Str.{bytes_eq}
 use Rattle.sf_script.specs.declared.fault.ScriptFault.{ScriptFault}
 use Rattle.sf_record.specs.declared.record.ArrivalEntry.{ArrivalEntry}
@@ -13,6 +13,7 @@ use Rattle.sf_record.specs.declared.record.Record.TheVariants as rec
 use Rattle.sf_record.specs.declared.record.Reply.{Reply}
 use Rattle.sf_record.specs.declared.record.SceneHeader.{SceneHeader}
 use Rattle.sf_record.specs.declared.record.StuckEntry.{StuckEntry}
+use Rattle.sf_record.specs.declared.record.Summary.{Summary}
 use Rattle.sf_record.specs.declared.record.TimelineValue.{TimelineValue}
 use Rattle.sf_record.specs.declared.record.VsyncHeader.{VsyncHeader}
 use Rattle.sf_record.specs.Fitting.{RecordFits}
@@ -98,6 +99,12 @@ read_stuck = ((λ a s. record { actor = a; step = s }) of u32) and u32
 unfoldable pub read_fault : Reader ScriptFault
 read_fault = (((λ l w c. record { line = l; word = w; cause = c }) of u32) and u32) and u32
 
+unfoldable pub read_summary : Reader Summary
+read_summary =
+    ((((((((λ r v c x f p h s.
+    record { replies = r; vsyncs = v; commits = c; rejected = x; frames = f; pixel_sum = p; held = h; stuck = s })
+    of u64) and u64) and u64) and u64) and u64) and u64) and u64) and u64
+
 -- the body of a record with this tag and of this length; what has no other tag is the end of a run
 unfoldable pub read_body : List ℕ → ℕ → Reader Record
 read_body tag n =
@@ -110,7 +117,8 @@ read_body tag n =
     if bytes_eq tag (codes "HIST") then rec.Hist of read_history else
     if bytes_eq tag (codes "HOLD") then rec.Hold of list_of read_held else
     if bytes_eq tag (codes "STUK") then rec.Stuk of list_of read_stuck else
-    if bytes_eq tag (codes "SFLT") then rec.Sflt of read_fault else (λ bytes. (rec.Done, bytes))
+    if bytes_eq tag (codes "SFLT") then rec.Sflt of read_fault else
+    if bytes_eq tag (codes "SUMM") then rec.Summ of read_summary else (λ bytes. (rec.Done, bytes))
 
 -- a record: its tag, the length of its body, and the body
 unfoldable pub read_record : Reader Record

@@ -1,5 +1,5 @@
 -- The bytes of records. All numbers are written with their highest byte first.
-use Rattle.std.specs.Prelude.{ℕ, ◌≤◌, List, [], ◌∷◌, ◌++◌, Option, length, codes, drop, take}
+use Rattle.std.specs.Prelude.{ℕ, ◌≤◌, List, [], ◌++◌, Option, length, codes, drop, take}
 use Rattle.std.specs.Io.KnownBytes.{Appends}
 use Rattle.std.specs.List.{flat_map}
 use Rattle.byteorder.specs.Endian.{big_bytes}
@@ -14,6 +14,7 @@ use Rattle.sf_record.specs.declared.record.Record.TheVariants as rec
 use Rattle.sf_record.specs.declared.record.Reply.{Reply}
 use Rattle.sf_record.specs.declared.record.SceneHeader.{SceneHeader}
 use Rattle.sf_record.specs.declared.record.StuckEntry.{StuckEntry}
+use Rattle.sf_record.specs.declared.record.Summary.{Summary}
 use Rattle.sf_record.specs.declared.record.TimelineValue.{TimelineValue}
 use Rattle.sf_record.specs.declared.record.VsyncHeader.{VsyncHeader}
 
@@ -58,6 +59,7 @@ tag_of (rec.Hold _) = codes "HOLD"
 tag_of (rec.Stuk _) = codes "STUK"
 tag_of rec.Done = codes "DONE"
 tag_of (rec.Sflt _) = codes "SFLT"
+tag_of (rec.Summ _) = codes "SUMM"
 
 -- the bodies of records with several fields: each field as it stands in the record, one after the other
 abbrev pub scene_bytes : SceneHeader → List ℕ
@@ -73,6 +75,10 @@ abbrev pub commit_bytes : Commit → List ℕ
 commit_bytes c =
     u32_bytes c.token ++ u32_bytes c.arrival ++ u32_bytes c.result ++ u32_bytes c.operation ++ list_bytes buffer_bytes c.buffers
 
+abbrev pub summary_bytes : Summary → List ℕ
+summary_bytes s =
+    u64_bytes s.replies ++ u64_bytes s.vsyncs ++ u64_bytes s.commits ++ u64_bytes s.rejected ++ u64_bytes s.frames ++ u64_bytes s.pixel_sum ++ u64_bytes s.held ++ u64_bytes s.stuck
+
 -- the body of a record
 unfoldable pub body_of : Record → List ℕ
 body_of (rec.Scen s) = scene_bytes s
@@ -86,6 +92,7 @@ body_of (rec.Hold held) = list_bytes held_bytes held
 body_of (rec.Stuk stuck) = list_bytes stuck_bytes stuck
 body_of rec.Done = []
 body_of (rec.Sflt f) = u32_bytes f.line ++ u32_bytes f.word ++ u32_bytes f.cause
+body_of (rec.Summ summary) = summary_bytes summary
 
 -- the bytes of a record: its tag, the length of its body, and the body
 unfoldable pub record_bytes : Record → List ℕ

@@ -2,15 +2,15 @@ ghost use Rattle.std.specs.Prelude.{◌≡◌, ◌<◌, ◌≤◌, ◌^◌, ◌+
 ghost use Rattle.std.specs.Io.KnownBytes.{Appends};
 ghost use Rattle.std.specs.List.{flat_map};
 ghost use Rattle.sf_io.specs.Causes.{Rose};
-ghost use Rattle.sf_io.specs.Streams.{TookPrefix};
-ghost use Rattle.sf_record.specs.Fitting.{ArrivalFits, BufferFits, CallFits, CommitFits, FaultFits, Fits32, Fits64, FrameFits, HeldFits};
-ghost use Rattle.sf_record.specs.Fitting.{HistoryFits, ListFits, RecordFits, ReplyFits, SceneFits, StuckFits, TimelineFits, VsyncFits};
+ghost use Rattle.sf_io.specs.Streams.{TookPrefix, framed};
+ghost use Rattle.sf_record.specs.Fitting.{ArrivalFits, BufferFits, CallFits, CommitFits, FaultFits, FieldsFit, Fits32, Fits64, FrameFits, HeldFits};
+ghost use Rattle.sf_record.specs.Fitting.{HistoryFits, ListFits, RecordFits, ReplyFits, SceneFits, StuckFits, SummaryFits, TimelineFits, VsyncFits};
 ghost use Rattle.sf_record.specs.Records.{AppendsFirst, arrival_bytes, body_of, buffer_bytes, bytes_of, commit_bytes, frame_in, held_bytes, history_entry_bytes, list_bytes};
-ghost use Rattle.sf_record.specs.Records.{record_bytes, reply_bytes, scene_bytes, stuck_bytes, tag_of, timeline_bytes, u32_bytes, u64_bytes, vsync_bytes};
+ghost use Rattle.sf_record.specs.Records.{record_bytes, reply_bytes, scene_bytes, stuck_bytes, summary_bytes, tag_of, timeline_bytes, u32_bytes, u64_bytes, vsync_bytes};
 
 use crate::record::{
     ArrivalEntry, Commit, CommittedBuffer, Frame, HeldEntry, HistoryEntry, QueueHistory, Record,
-    Reply, SceneHeader, StuckEntry, TimelineValue, VsyncHeader,
+    Reply, SceneHeader, StuckEntry, Summary, TimelineValue, VsyncHeader,
 };
 use byteorder::{BigEndian, ByteOrder};
 use sf_base::NoMemory;
@@ -186,6 +186,7 @@ fn tag(shown: &Record) -> [u8; 4]
         Record::Stuk(_) => *b"STUK",
         Record::Done => *b"DONE",
         Record::Sflt(_) => *b"SFLT",
+        Record::Summ(_) => *b"SUMM",
     }
 }
 
@@ -231,7 +232,7 @@ fn push_commit(out: &mut Vec<u8>, commit: &Commit) -> Result<(), NoMemory>
 
 fn push_frame(out: &mut Vec<u8>, frame: &Frame) -> Result<(), NoMemory>
     ensures ok { OnOk result (out.new.items ≡ out.old.items ++ (u32_bytes frame.now.number ++ frame.now.pixels)) }
-    ensures fits { OnOk result (Fits32 (length out.new.items) → FrameFits frame.now) }
+    ensures fits { OnOk result (FrameFits frame.now) }
 {
     push_u32(out, frame.number)?;
     out.extend_from_slice(frame.pixels.as_slice())?;
@@ -255,11 +256,25 @@ fn push_fault(out: &mut Vec<u8>, fault: &ScriptFault) -> Result<(), NoMemory>
     push_u32(out, fault.cause)
 }
 
+fn push_summary(out: &mut Vec<u8>, summary: &Summary) -> Result<(), NoMemory>
+    ensures ok { OnOk result (out.new.items ≡ out.old.items ++ summary_bytes summary.now) }
+    ensures fits { OnOk result (SummaryFits summary.now) }
+{
+    push_u64(out, summary.replies)?;
+    push_u64(out, summary.vsyncs)?;
+    push_u64(out, summary.commits)?;
+    push_u64(out, summary.rejected)?;
+    push_u64(out, summary.frames)?;
+    push_u64(out, summary.pixel_sum)?;
+    push_u64(out, summary.held)?;
+    push_u64(out, summary.stuck)
+}
+
 // The body of a record.
 #[tactic(auto, unfolding(crate::specs::Records::body_of))]
 fn body(alloc: Global, shown: &Record) -> Result<Vec<u8>, NoMemory>
     ensures ok { IfOk result (λ v. v.items ≡ body_of shown.now) }
-    ensures fits { IfOk result (λ v. Fits32 (length v.items) → RecordFits shown.now) }
+    ensures fits { OnOk result (FieldsFit shown.now) }
 {
     let mut out = Vec::new(alloc);
     match shown {
@@ -274,6 +289,7 @@ fn body(alloc: Global, shown: &Record) -> Result<Vec<u8>, NoMemory>
         Record::Stuk(stuck) => push_list(&mut out, stuck.as_slice())?,
         Record::Done => {}
         Record::Sflt(fault) => push_fault(&mut out, fault)?,
+        Record::Summ(summary) => push_summary(&mut out, summary)?,
     }
     Ok(out)
 }
@@ -286,6 +302,24 @@ pub enum RunFault {
     /// Want of memory; or a record has a list of more than 2^32 - 1 items or a body of more bytes,
     /// whose length its bytes could not tell.
     NoMemory,
+}
+
+// Writes the record with this tag and this body.
+fn write_body<K: Sink>(sink: &mut K, tag: [u8; 4], body: &[u8]) -> Result<(), RunFault>
+    ensures ok { OnOk result (Appends (K.taken sink.old) (K.taken sink.new) (framed tag body.now)) }
+    ensures fits { OnOk result (Fits32 (length body.now)) }
+    ensures err { OnErr result (TookPrefix (K.taken sink.old) (K.taken sink.new) (framed tag body.now)) }
+    ensures nothing { IsErrOf result RunFault.NoMemory → sink.new ≡ sink.old }
+    ensures later { K.faults sink.old ≤ K.faults sink.new }
+    ensures failed { IsErrOf result RunFault.WriteFault → Rose (K.faults sink.old) (K.faults sink.new) }
+{
+    if body.len() > u32::MAX as usize {
+        return Err(RunFault::NoMemory);
+    }
+    match put(sink, tag, body) {
+        Ok(()) => Ok(()),
+        Err(_) => Err(RunFault::WriteFault),
+    }
 }
 
 /// Writes a record. After a fault the sink has a prefix of it, after want of memory none of it. A
@@ -304,13 +338,7 @@ pub fn write_record<K: Sink>(alloc: Global, sink: &mut K, shown: &Record) -> Res
         Ok(body) => body,
         Err(_) => return Err(RunFault::NoMemory),
     };
-    if body.len() > u32::MAX as usize {
-        return Err(RunFault::NoMemory);
-    }
-    match put(sink, tag(shown), &body) {
-        Ok(()) => Ok(()),
-        Err(_) => Err(RunFault::WriteFault),
-    }
+    write_body(sink, tag(shown), &body)
 }
 
 /// Writes the record of a frame from its body, without a copy: the number of its vsync in four bytes,
@@ -325,13 +353,7 @@ pub fn write_frame<K: Sink>(sink: &mut K, number: u32, body: &[u8]) -> Result<()
     ensures later { K.faults sink.old ≤ K.faults sink.new }
     ensures failed { IsErrOf result RunFault.WriteFault → Rose (K.faults sink.old) (K.faults sink.new) }
 {
-    if body.len() > u32::MAX as usize {
-        return Err(RunFault::NoMemory);
-    }
-    match put(sink, *b"FRAM", body) {
-        Ok(()) => Ok(()),
-        Err(_) => Err(RunFault::WriteFault),
-    }
+    write_body(sink, *b"FRAM", body)
 }
 
 /// Writes records in order. After a fault the sink has a prefix of their bytes, after want of memory

@@ -12,5 +12,5 @@ pub use event::{Event, VsyncReport, records};
 pub use laws::{bytes_determine_records, records_are_read_back};
 pub use record::{
     ArrivalEntry, Commit, CommittedBuffer, Frame, HeldEntry, HistoryEntry, QueueHistory, Record,
-    Reply, SceneHeader, StuckEntry, TimelineValue, VsyncHeader,
+    Reply, SceneHeader, StuckEntry, Summary, TimelineValue, VsyncHeader,
 };

@@ -128,6 +128,24 @@ pub struct StuckEntry {
     pub step: u32,
 }
 
+/// What records come to.
+#[derive(Clone, Copy, Debug, PartialEq, Eq)]
+pub struct Summary {
+    /// The replies to steps.
+    pub replies: u64,
+    pub vsyncs: u64,
+    /// All commits, those that were rejected too.
+    pub commits: u64,
+    pub rejected: u64,
+    pub frames: u64,
+    /// The sum of all bytes of pixels.
+    pub pixel_sum: u64,
+    /// The transactions that are held at the end.
+    pub held: u64,
+    /// The actors that are stuck at the end.
+    pub stuck: u64,
+}
+
 /// A record of a run.
 #[derive(Drop)]
 pub enum Record {
@@ -153,4 +171,6 @@ pub enum Record {
     Done,
     /// The place of a script's fault; nothing else is written then.
     Sflt(ScriptFault),
+    /// What the records of a run come to, in place of them.
+    Summ(Summary),
 }

@@ -37,11 +37,13 @@ use Rattle.sf_actor.specs.Traces.{DoneAt, IsAnswered, AreAnswered, MadeStep, Pas
 use Rattle.sf_actor.specs.Values.{replies_of}
 use Rattle.sf_actor.specs.Written.{FrameNumber}
 use Rattle.sf_record.specs.Events.{events_records}
-use Rattle.sf_record.specs.Fitting.{ArrivalFits, BufferFits, Fits32, Fits64, HeldFits, RecordFits, ReplyFits, StuckFits, TimelineFits}
+use Rattle.sf_record.specs.Fitting.{ArrivalFits, BufferFits, FieldsFit, Fits32, Fits64, HeldFits, RecordFits, ReplyFits, StuckFits, TimelineFits}
 use Rattle.sf_record.specs.declared.event.VsyncReport.{VsyncReport}
 use Rattle.sf_record.specs.declared.record.ArrivalEntry.{ArrivalEntry}
 use Rattle.sf_record.specs.declared.record.Commit.{Commit}
+use Rattle.sf_record.specs.declared.record.Record.{Record}
 use Rattle.sf_record.specs.declared.record.Reply.{Reply}
+use Rattle.sf_record.specs.Records.{body_of, list_bytes, u32_bytes, u64_bytes}
 use Rattle.sf_run.specs.Arrivals.{ArriveInOrder, number_of}
 use Rattle.sf_run.specs.Buffers.{IsAsQueued}
 use Rattle.sf_run.specs.Commits.{CommitInOrder, CommitsReady, IsPrefix, SaysResults, WasReady, arrival_of, arrived_of, committed_of}
@@ -307,45 +309,49 @@ reply_fits place values low few each = record {
   values = record { count = fits_32 (length values) few; each = each };
 }
 
+-- the numbers of a record fit, and so does the length of its body
+fitting : (r : Record) (size : ℕ) → length (body_of r) ≡ size → size < 20000000 → FieldsFit r → RecordFits r
+fitting r size is low fields = record { fields = fields; body = subst Fits32 (sym is) (fits_32 size low) }
+
 each_fits : AllByRecursion RecordFits least_records
-unfolding events_records
+unfolding events_records body_of list_bytes u32_bytes u64_bytes
 each_fits = (
-  record { version = fits_32 1 (omega arith); width = fits_32 2 (omega arith); height = fits_32 1 (omega arith); period = fits_64 16666667 (omega arith) },
+  fitting _ 20 refl (omega arith) (record { version = fits_32 1 (omega arith); width = fits_32 2 (omega arith); height = fits_32 1 (omega arith); period = fits_64 16666667 (omega arith) }),
   (
-    reply_fits 1 [] (omega arith) (omega arith) (All-nil Fits64),
+    fitting _ 16 refl (omega arith) (reply_fits 1 [] (omega arith) (omega arith) (All-nil Fits64)),
     (
-      reply_fits 2 [] (omega arith) (omega arith) (All-nil Fits64),
+      fitting _ 16 refl (omega arith) (reply_fits 2 [] (omega arith) (omega arith) (All-nil Fits64)),
       (
-        reply_fits 3 [] (omega arith) (omega arith) (All-nil Fits64),
+        fitting _ 16 refl (omega arith) (reply_fits 3 [] (omega arith) (omega arith) (All-nil Fits64)),
         (
-          reply_fits 4 (1 ∷ []) (omega arith) (omega arith) (one Fits64 1 (fits_64 1 (omega arith))),
+          fitting _ 24 refl (omega arith) (reply_fits 4 (1 ∷ []) (omega arith) (omega arith) (one Fits64 1 (fits_64 1 (omega arith)))),
           (
-            record {
+            fitting _ 16 refl (omega arith) (record {
               number = fits_32 1 (omega arith);
               expected = fits_64 16666667 (omega arith);
               timelines = record { count = fits_32 0 (omega arith); each = All-nil TimelineFits };
-            },
+            }),
             (
-              record {
+              fitting _ 20 refl (omega arith) (record {
                 token = fits_32 1 (omega arith);
                 arrival = fits_32 1 (omega arith);
                 result = fits_32 0 (omega arith);
                 operation = fits_32 0 (omega arith);
                 buffers = record { count = fits_32 0 (omega arith); each = All-nil BufferFits };
-              },
+              }),
               (
-                record { number = fits_32 1 (omega arith); body = fits_32 12 (omega arith) },
+                fitting _ 12 refl (omega arith) (fits_32 1 (omega arith)),
                 (
-                  record {
+                  fitting _ 16 refl (omega arith) (record {
                     count = fits_32 1 (omega arith);
                     each = one ArrivalFits (record { actor = 1; step = 4; token = 1 })
                         (record { actor = fits_32 1 (omega arith); step = fits_32 4 (omega arith); token = fits_32 1 (omega arith) });
-                  },
+                  }),
                   (
-                    record { count = fits_32 0 (omega arith); each = All-nil HeldFits },
+                    fitting _ 4 refl (omega arith) (record { count = fits_32 0 (omega arith); each = All-nil HeldFits }),
                     (
-                      record { count = fits_32 0 (omega arith); each = All-nil StuckFits },
-                      (tt, tt),
+                      fitting _ 4 refl (omega arith) (record { count = fits_32 0 (omega arith); each = All-nil StuckFits }),
+                      (fitting _ 0 refl (omega arith) tt, tt),
                     ),
                   ),
                 ),

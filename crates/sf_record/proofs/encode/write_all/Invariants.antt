@@ -1,4 +1,4 @@
-use Rattle.std.proofs.Common.{◌≤◌, ◌<◌, ℕ, All, drop, take, get_or}
+use Rattle.std.proofs.Common.{◌≤◌, All, drop, take}
 use Rattle.std.specs.Io.KnownBytes.{Appends}
 use Rattle.sf_record.specs.Fitting.{RecordFits}
 use Rattle.sf_record.specs.Records.{bytes_of}

@@ -1,0 +1,72 @@
+-- What records come to.
+use Rattle.std.specs.Prelude.{ℕ, ◌+◌, ◌%◌, ◌^◌, ◌==◌, List, [], ◌∷◌, if◌then◌else◌, length}
+use Rattle.std.specs.List.{sum}
+use Rattle.sf_record.specs.declared.record.Record.{Record}
+use Rattle.sf_record.specs.declared.record.Record.TheVariants as rec
+use Rattle.sf_record.specs.declared.record.Summary.{Summary}
+
+-- the sum of a number of each record
+unfoldable pub total : (Record → ℕ) → List Record → ℕ
+total number [] = 0
+total number (r ∷ rs) = number r + total number rs
+
+abbrev pub replies : Record → ℕ
+replies (rec.Repl _) = 1
+replies _ = 0
+
+abbrev pub vsyncs : Record → ℕ
+vsyncs (rec.Vsyn _) = 1
+vsyncs _ = 0
+
+abbrev pub commits : Record → ℕ
+commits (rec.Comm _) = 1
+commits _ = 0
+
+abbrev pub rejected : Record → ℕ
+rejected (rec.Comm c) = if c.result == 0 then 0 else 1
+rejected _ = 0
+
+abbrev pub frames : Record → ℕ
+frames (rec.Fram _) = 1
+frames _ = 0
+
+abbrev pub pixel_sum : Record → ℕ
+pixel_sum (rec.Fram f) = sum f.pixels
+pixel_sum _ = 0
+
+abbrev pub held : Record → ℕ
+held (rec.Hold entries) = length entries
+held _ = 0
+
+abbrev pub stuck : Record → ℕ
+stuck (rec.Stuk entries) = length entries
+stuck _ = 0
+
+-- how many replies, vsyncs, commits, rejected commits and frames; the sum of all bytes of pixels; how many are held and stuck
+abbrev pub summary_of : List Record → Summary
+summary_of rs = record {
+  replies = total replies rs;
+  vsyncs = total vsyncs rs;
+  commits = total commits rs;
+  rejected = total rejected rs;
+  frames = total frames rs;
+  pixel_sum = total pixel_sum rs;
+  held = total held rs;
+  stuck = total stuck rs;
+}
+
+abbrev pub nothing : Summary
+nothing = record { replies = 0; vsyncs = 0; commits = 0; rejected = 0; frames = 0; pixel_sum = 0; held = 0; stuck = 0 }
+
+-- each number as 64 bits tell it
+abbrev pub wrapped : Summary → Summary
+wrapped s = record {
+  replies = s.replies % 2 ^ 64;
+  vsyncs = s.vsyncs % 2 ^ 64;
+  commits = s.commits % 2 ^ 64;
+  rejected = s.rejected % 2 ^ 64;
+  frames = s.frames % 2 ^ 64;
+  pixel_sum = s.pixel_sum % 2 ^ 64;
+  held = s.held % 2 ^ 64;
+  stuck = s.stuck % 2 ^ 64;
+}

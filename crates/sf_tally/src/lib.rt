@@ -1,0 +1,9 @@
+//! What the records of a run come to, from their bytes as they are written: of the records themselves
+//! nothing is kept.
+#![tactic(auto)]
+
+mod past;
+mod progress;
+mod tally;
+
+pub use tally::Tally;
