@@ -1,35 +1,52 @@
--- Which statuses are left where the words are right, the bytes are a scene, and nothing failed.
-use Rattle.std.proofs.Common.{◌≡◌, ℕ, ◌<◌, ◌≤◌, List, ◌++◌, Option, None, Some, Result, Ok, Err, length, ◌⊎◌, inl, inr, refl, sym, ap, subst, ◌∙◌, arith, length-append}
+-- Which statuses are left where the words are right, the script is a scene, and nothing failed.
+use Rattle.std.proofs.Common.{◌≡◌, ℕ, ◌<◌, ◌≤◌, ◌==◌, Bool, true, false, List, [], ◌∷◌, ◌++◌, Option, None, Some, Result, Ok, Err, length, ◌⊎◌, inl, inr, refl, sym, ap, subst, ◌∙◌, arith, length-append}
+use Rattle.std.specs.Prelude.{◌≢◌, ◌&&◌, if◌then◌else◌}
 use Rattle.std.proofs.lemmas.List.{append-nil, take_all}
 use Rattle.std.proofs.lemmas.Bool.{cases_eq, lt-ltb}
 use Rattle.std.proofs.KnownBytes.{Appends-nil}
 use Rattle.std.specs.Io.KnownBytes.{Appends, Consumes, IsAtEnd}
-use Rattle.sf_io.specs.Streams.{Took}
+use Rattle.std.specs.List.{list_all}
+use Rattle.sf_io.specs.Streams.{Took, TookPrefix}
+use Rattle.sf_options.specs.declared.options.Options.{Options}
 use Rattle.sf_scene.specs.Limits.{IsWithinLimits}
 use Rattle.sf_scene.specs.Scene.{SceneValue}
+use Rattle.sf_scene.specs.declared.change.Change.{Change}
+use Rattle.sf_scene.specs.declared.change.Change.TheVariants as change
+use Rattle.sf_scene.specs.declared.step.ActorScript.{ActorScript}
+use Rattle.sf_scene.specs.declared.step.Step.{Step}
+use Rattle.sf_scene.specs.declared.step.Step.TheVariants as step
 use Rattle.sf_script.specs.declared.fault.ScriptFault.{ScriptFault}
 use Rattle.sf_script.specs.Parse.{parsed_of}
-use Rattle.sf_app.specs.Scripts.{asked_of, at_no_place}
-use Rattle.sf_io.specs.Streams.{TookPrefix}
+use Rattle.sf_cast.specs.Scripts.{are_playable, are_taken, is_taken}
+use Rattle.sf_load.proofs.ReadyLemmas.{and_both, and_first, and_second}
+use Rattle.sf_load.proofs.SceneLemmas.{text_is_scene}
+use Rattle.sf_load.specs.Turning.{all_turn_none, is_still, turns_none}
 use Rattle.sf_record.specs.Records.{bytes_of}
 use Rattle.sf_run.proofs.Ending.{timed_records}
-use Rattle.sf_show.specs.Runs.{CutRun, WroteRun}
+use Rattle.sf_show.specs.Runs.{CutRun}
 use Rattle.sf_app.proofs.HeaderLemmas.{IsPeriod, asked_timed}
-use Rattle.sf_app.specs.Statuses.{NoScene, PlayedScript, PrefixOf, WritesPrefix, fault_bytes, misspelled, too_long}
+use Rattle.sf_app.specs.Scripts.{asked_of, at_no_place, is_for_a_cast, played_of}
+use Rattle.sf_app.specs.Shown.{ShowsPart, ShowsPlay, bytes_shown}
+use Rattle.sf_app.specs.Statuses.{NoScene, PlayedScript, PrefixOf, RefusedScript, WritesPrefix, fault_bytes, misspelled, too_long}
+use Rattle.sf_app.specs.Words.{IsScript, IsScriptBy, IsTold, IsToldBy, generated, is_gen}
 
-nothing_took : (a : Option (List ℕ)) (bs : List ℕ) → TookPrefix a a bs
+pub nothing_took : (a : Option (List ℕ)) (bs : List ℕ) → TookPrefix a a bs
 nothing_took a bs = (0, omega arith, Appends-nil a)
 
 took_all : (a b : Option (List ℕ)) (bs : List ℕ) → Appends a b bs → TookPrefix a b bs
 took_all a b bs h = (length bs, omega arith, subst (Appends a b) (sym (take_all (length bs) bs (omega arith))) h)
 
--- a prefix that is the whole
-pub cut_whole : (scene : SceneValue) (a b : Option (List ℕ)) → WroteRun scene a b → CutRun scene a b
-cut_whole scene a b h = record { records = h.records; is_play = h.is_play; written = took_all a b (bytes_of h.records) h.written.bytes }
+-- what shows a play whole is a prefix of it
+pub part_whole : (summary : Bool) (scene : SceneValue) (a b : Option (List ℕ)) → ShowsPlay summary scene a b → ShowsPart summary scene a b
+part_whole summary scene a b h = record { records = h.records; is_play = h.is_play; written = took_all a b (bytes_shown summary h.records) h.written }
 
 -- nothing was written, which is a prefix too
 cut_none : (scene : SceneValue) (a : Option (List ℕ)) → IsPeriod scene.period → CutRun scene a a
 cut_none scene a period = let play = timed_records scene period.low period.high in record { records = play.0; is_play = play.1; written = nothing_took a (bytes_of play.0) }
+
+part_none : (summary : Bool) (scene : SceneValue) (a : Option (List ℕ)) → IsPeriod scene.period → ShowsPart summary scene a a
+part_none summary scene a period =
+    let play = timed_records scene period.low period.high in record { records = play.0; is_play = play.1; written = nothing_took a (bytes_shown summary play.0) }
 
 pub cut_unbegun : (scene : SceneValue) (a : Option (List ℕ)) → IsWithinLimits scene → CutRun scene a a
 cut_unbegun scene a limits = cut_none scene a (record { low = limits.header.low_period; high = limits.header.high_period })
@@ -69,29 +86,151 @@ two_or_last n h a b c d = elim (cases_eq n 2) [
   | inr some ↦ inr (omega (arith, some, a, b, c, d))
 ]
 
--- a script that was played is no fault
-pub played_is_scene : (bytes : List ℕ) (fault : ScriptFault) (rest taken now : Option (List ℕ)) → asked_of bytes ≡ Err fault → PlayedScript (Some bytes) rest taken now → ⊥
-played_is_scene bytes fault rest taken now wrong h =
-    let same = all_given bytes h.bytes rest h.read h.at_end in
-    let two : Err fault ≡ Ok h.scene = sym wrong ∙ ap asked_of same ∙ h.spelled in
+if_both : {X : Type 0} (a b : Bool) (x y : X) → a ≡ true → b ≡ true → (if a && b then x else y) ≡ x
+if_both true true x y e f = refl
+if_both true false x y e f = absurd (cc)
+if_both false b x y e f = absurd (cc)
+
+-- a step that sets no orientation sets none that layers don't take
+still_set : (number layer : ℕ) (c : Change) → is_still (step.Set number layer c) ≡ true → is_taken (step.Set number layer c) ≡ true
+still_set number layer (change.Orient orientation) still = absurd (cc)
+still_set number layer c still = refl
+
+still_taken : (s : Step) → is_still s ≡ true → is_taken s ≡ true
+still_taken (step.Set number layer c) still = still_set number layer c still
+still_taken s still = refl
+
+still_all : (steps : List Step) → list_all is_still steps ≡ true → list_all is_taken steps ≡ true
+still_all [] still = refl
+still_all (s ∷ steps) still = and_both (is_taken s) (list_all is_taken steps) (still_taken s (and_first (is_still s) (list_all is_still steps) still)) (still_all steps (and_second (is_still s) (list_all is_still steps) still))
+
+still_playable : (actors : List ActorScript) → all_turn_none actors ≡ true → are_playable actors ≡ true
+still_playable [] still = refl
+still_playable (a ∷ actors) still =
+    and_both (are_taken a) (are_playable actors) (still_all a.steps (and_first (turns_none a) (all_turn_none actors) still)) (still_playable actors (and_second (turns_none a) (all_turn_none actors) still))
+
+-- the scene of a number is played
+played_when : (scene : SceneValue) → scene.version ≡ 1 → all_turn_none scene.actors ≡ true → played_of (Ok scene) ≡ Ok scene
+played_when scene v still =
+    let cast : is_for_a_cast scene ≡ true = and_both (scene.version == 1) (are_playable scene.actors) (ap (λ (n : ℕ). n == 1) v) (still_playable scene.actors still) in
+    if_both (is_for_a_cast scene) (all_turn_none scene.actors) (Ok scene) (Err (at_no_place 0)) cast still
+
+generated_played : (number : ℕ) → (scene : SceneValue) × (asked_of (generated number) ≡ Ok scene)
+unfolding asked_of
+generated_played number =
+    let text = text_is_scene number in
+    (text.scene, ap played_of text.parsed ∙ played_when text.scene text.version text.still)
+
+generated_no_fault : (number : ℕ) (fault : ScriptFault) → asked_of (generated number) ≡ Err fault → ⊥
+generated_no_fault number fault wrong =
+    let is = generated_played number in
+    let two : Ok is.0 ≡ Err fault = sym is.1 ∙ wrong in
     cc
 
-none_by : (bytes : List ℕ) (p : Result SceneValue ScriptFault) (a : Option (List ℕ)) → asked_of bytes ≡ p → PrefixOf p a a
-none_by bytes (Ok scene) a is = cut_none scene a (asked_timed bytes scene is)
-none_by bytes (Err fault) a is = nothing_took a (fault_bytes fault)
+-- the script that was played is the one that is known
+same_by : (gen : Bool) (number : ℕ) (left rest : Option (List ℕ)) (script bytes : List ℕ) → IsScriptBy gen number left rest script → IsToldBy gen number left bytes → bytes ≡ script
+same_by true number left rest script bytes s told = told ∙ sym s.1
+same_by false number left rest script bytes s told = all_given bytes script rest (subst (λ (l : Option (List ℕ)). Consumes l rest script) told s.0) s.1
+
+same_script : (options : Options) (left rest : Option (List ℕ)) (script bytes : List ℕ) → IsScript options left rest script → IsTold options left bytes → bytes ≡ script
+same_script options left rest script bytes s told = same_by (is_gen options.run) options.number left rest script bytes s told
+
+refused_by : (gen : Bool) (options : Options) (left rest a b : Option (List ℕ)) (script : List ℕ) → is_gen options.run ≡ gen → IsScriptBy gen options.number left rest script →
+    (fault : ScriptFault) → asked_of script ≡ Err fault → Appends a b (fault_bytes fault) → RefusedScript (Some options) left rest a b
+refused_by true options left rest a b script is s fault wrong written = absurd (generated_no_fault options.number fault (ap asked_of (sym s.1) ∙ wrong))
+refused_by false options left rest a b script is s fault wrong written =
+    record { options = options; right = refl; reads = is; fault = fault; cause = misspelled script fault s.0 s.1 wrong; written = written }
+
+-- a script that is refused was read
+pub refused_script : (options : Options) (left rest a b : Option (List ℕ)) (script : List ℕ) → IsScript options left rest script →
+    (fault : ScriptFault) × (asked_of script ≡ Err fault) × Appends a b (fault_bytes fault) → RefusedScript (Some options) left rest a b
+refused_script options left rest a b script s r = refused_by (is_gen options.run) options left rest a b script refl s r.0 r.1 r.2
+
+-- a script that was played
+pub played_script : (options : Options) (left rest a b : Option (List ℕ)) (script : List ℕ) → IsScript options left rest script →
+    (scene : SceneValue) × (asked_of script ≡ Ok scene) × ShowsPlay options.summary scene a b → PlayedScript (Some options) left rest a b
+played_script options left rest a b script s p = record { options = options; right = refl; bytes = script; script = s; scene = p.0; spelled = p.1; run = p.2 }
+
+some_same : (asked : Option Options) (x y : Options) → asked ≡ Some x → asked ≡ Some y → x ≡ y
+some_same asked x y e f = cc
+
+-- right words are not wrong
+pub right_words : (asked : Option Options) (options : Options) → asked ≡ Some options → asked ≡ None → ⊥
+right_words asked options right wrong = cc
+
+told_read : (options : Options) (left : Option (List ℕ)) (bytes : List ℕ) → is_gen options.run ≡ false → IsTold options left bytes → left ≡ Some bytes
+told_read options left bytes reads told = subst (λ (gen : Bool). IsToldBy gen options.number left bytes) reads told
+
+-- a script that is a scene is not refused
+pub no_refusal : (asked : Option Options) (options : Options) (left rest a b : Option (List ℕ)) (bytes : List ℕ) (scene : SceneValue) → asked ≡ Some options → IsTold options left bytes →
+    asked_of bytes ≡ Ok scene → RefusedScript asked left rest a b → ⊥
+no_refusal asked options left rest a b bytes scene right told spelled r =
+    let reads : is_gen options.run ≡ false = ap (λ (o : Options). is_gen o.run) (some_same asked options r.options right r.right) ∙ r.reads in
+    scene_is_read bytes scene rest r.fault spelled (subst (λ (l : Option (List ℕ)). NoScene l rest r.fault) (told_read options left bytes reads told) r.cause)
+
+-- a script that was played is no fault
+pub no_play : (asked : Option Options) (options : Options) (left rest a b : Option (List ℕ)) (bytes : List ℕ) (fault : ScriptFault) → asked ≡ Some options → IsTold options left bytes →
+    asked_of bytes ≡ Err fault → PlayedScript asked left rest a b → ⊥
+no_play asked options left rest a b bytes fault right told wrong p =
+    let script : IsScript options left rest p.bytes = subst (λ (o : Options). IsScript o left rest p.bytes) (some_same asked p.options options p.right right) p.script in
+    let two : Err fault ≡ Ok p.scene = sym wrong ∙ ap asked_of (same_script options left rest p.bytes bytes script told) ∙ p.spelled in
+    cc
+
+none_by : (summary : Bool) (bytes : List ℕ) (p : Result SceneValue ScriptFault) (a : Option (List ℕ)) → asked_of bytes ≡ p → PrefixOf summary p a a
+none_by summary bytes (Ok scene) a is = part_none summary scene a (asked_timed bytes scene is)
+none_by summary bytes (Err fault) a is = nothing_took a (fault_bytes fault)
 
 -- nothing was written
-pub writes_none : (left a b : Option (List ℕ)) → b ≡ a → WritesPrefix left a b
-writes_none left a b e = λ bytes told. subst (PrefixOf (asked_of bytes) a) (sym e) (none_by bytes (asked_of bytes) a refl)
+pub prefix_none : (summary : Bool) (bytes : List ℕ) (a : Option (List ℕ)) → PrefixOf summary (asked_of bytes) a a
+prefix_none summary bytes a = none_by summary bytes (asked_of bytes) a refl
 
--- a prefix was written of what the bytes that were read ask for
-pub writes_read : (left rest : Option (List ℕ)) (bs : List ℕ) (p : Result SceneValue ScriptFault) (a b : Option (List ℕ)) → Consumes left rest bs → IsAtEnd rest → asked_of bs ≡ p → PrefixOf p a b → WritesPrefix left a b
-writes_read left rest bs p a b given end is h = λ bytes told.
-    let read : Consumes (Some bytes) rest bs = subst (λ (l : Option (List ℕ)). Consumes l rest bs) told given in
-    subst (λ (q : Result SceneValue ScriptFault). PrefixOf q a b) (sym is ∙ ap asked_of (sym (all_given bytes bs rest read end))) h
+pub prefix_shown : (summary : Bool) (p : Result SceneValue ScriptFault) (scene : SceneValue) (a b : Option (List ℕ)) → p ≡ Ok scene → ShowsPart summary scene a b → PrefixOf summary p a b
+prefix_shown summary p scene a b is h = subst (λ (q : Result SceneValue ScriptFault). PrefixOf summary q a b) (sym is) h
+
+pub prefix_refused : (summary : Bool) (p : Result SceneValue ScriptFault) (fault : ScriptFault) (a b : Option (List ℕ)) → p ≡ Err fault → TookPrefix a b (fault_bytes fault) → PrefixOf summary p a b
+prefix_refused summary p fault a b is h = subst (λ (q : Result SceneValue ScriptFault). PrefixOf summary q a b) (sym is) h
+
+pub writes_none : (options : Options) (left a b : Option (List ℕ)) → b ≡ a → WritesPrefix (Some options) left a b
+writes_none options left a b e = λ bytes told. subst (PrefixOf options.summary (asked_of bytes) a) (sym e) (prefix_none options.summary bytes a)
+
+-- a prefix was written of what the script that was played asks for
+pub writes_script : (options : Options) (left rest : Option (List ℕ)) (script : List ℕ) (a b : Option (List ℕ)) → IsScript options left rest script →
+    PrefixOf options.summary (asked_of script) a b → WritesPrefix (Some options) left a b
+writes_script options left rest script a b s h = λ bytes told.
+    subst (λ (t : List ℕ). PrefixOf options.summary (asked_of t) a b) (sym (same_script options left rest script bytes s told)) h
 
 -- too many bytes were read, and a prefix was written of the record that says so
-pub writes_too_long : (left rest a b : Option (List ℕ)) → Took left rest 1048577 → TookPrefix a b (fault_bytes (at_no_place 9)) → WritesPrefix left a b
-writes_too_long left rest a b took h = λ bytes told.
-    let many : Took (Some bytes) rest 1048577 = subst (λ (l : Option (List ℕ)). Took l rest 1048577) told took in
-    subst (λ (q : Result SceneValue ScriptFault). PrefixOf q a b) (sym (too_long_fault bytes (too_many bytes rest many))) h
+pub writes_too_long : (options : Options) (left rest a b : Option (List ℕ)) → is_gen options.run ≡ false → Took left rest 1048577 → TookPrefix a b (fault_bytes (at_no_place 9)) →
+    WritesPrefix (Some options) left a b
+writes_too_long options left rest a b reads took h = λ bytes told.
+    let many : Took (Some bytes) rest 1048577 = subst (λ (l : Option (List ℕ)). Took l rest 1048577) (told_read options left bytes reads told) took in
+    prefix_refused options.summary (asked_of bytes) (at_no_place 9) a b (too_long_fault bytes (too_many bytes rest many)) h
+
+-- the status of a refusal
+pub refusal_range : (n : ℕ) → (n ≡ 2) ⊎ ((n ≡ 4) ⊎ (n ≡ 5)) → (n ≤ 5) × ((n ≢ 1) × (n ≢ 3))
+refusal_range n (inl e) = (omega (arith, e), ((λ f. omega (arith, e, f)), λ f. omega (arith, e, f)))
+refusal_range n (inr (inl e)) = (omega (arith, e), ((λ f. omega (arith, e, f)), λ f. omega (arith, e, f)))
+refusal_range n (inr (inr e)) = (omega (arith, e), ((λ f. omega (arith, e, f)), λ f. omega (arith, e, f)))
+
+-- nothing was written, whatever the words ask for
+pub writes_nothing : (asked : Option Options) (left a : Option (List ℕ)) → WritesPrefix asked left a a
+writes_nothing None left a = refl
+writes_nothing (Some options) left a = writes_none options left a a refl
+
+-- what holds of the options that the words give
+pub played_as : (asked : Option Options) (options : Options) (left rest a b : Option (List ℕ)) → asked ≡ Some options → PlayedScript (Some options) left rest a b → PlayedScript asked left rest a b
+played_as asked options left rest a b is p = subst (λ (o : Option Options). PlayedScript o left rest a b) (sym is) p
+
+pub refused_as : (asked : Option Options) (options : Options) (left rest a b : Option (List ℕ)) → asked ≡ Some options → RefusedScript (Some options) left rest a b → RefusedScript asked left rest a b
+refused_as asked options left rest a b is p = subst (λ (o : Option Options). RefusedScript o left rest a b) (sym is) p
+
+pub writes_as : (asked : Option Options) (options : Options) (left a b : Option (List ℕ)) → asked ≡ Some options → WritesPrefix (Some options) left a b → WritesPrefix asked left a b
+writes_as asked options left a b is p = subst (λ (o : Option Options). WritesPrefix o left a b) (sym is) p
+
+pub gen_as : (asked : Option Options) (x y : Options) → asked ≡ Some x → asked ≡ Some y → is_gen y.run ≡ true → is_gen x.run ≡ true
+gen_as asked x y e f gen = ap (λ (o : Options). is_gen o.run) (some_same asked x y e f) ∙ gen
+
+pub refusal_is_late : (n : ℕ) → (n ≡ 2) ⊎ ((n ≡ 4) ⊎ (n ≡ 5)) → n ≢ 0
+refusal_is_late n (inl e) = λ f. omega (arith, e, f)
+refusal_is_late n (inr (inl e)) = λ f. omega (arith, e, f)
+refusal_is_late n (inr (inr e)) = λ f. omega (arith, e, f)

@@ -1,4 +1,6 @@
 pub mod Scripts
+pub mod Words
+pub mod Shown
 pub mod Statuses
 pub mod Callers
 pub use Rattle.sf_io.specs.Causes

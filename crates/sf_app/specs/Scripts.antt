@@ -1,25 +1,10 @@
 -- What a script asks for.
-use Rattle.std.specs.Prelude.{◌≡◌, ℕ, ◌==◌, ◌&&◌, if◌then◌else◌, Bool, true, false, not, List, Result, Ok, Err}
-use Rattle.std.specs.List.{list_all}
+use Rattle.std.specs.Prelude.{ℕ, ◌==◌, ◌&&◌, if◌then◌else◌, Bool, List, Result, Ok, Err}
 use Rattle.sf_cast.specs.Scripts.{are_playable}
+use Rattle.sf_load.specs.Turning.{all_turn_none}
 use Rattle.sf_scene.specs.Scene.{SceneValue}
-use Rattle.sf_scene.specs.declared.step.ActorScript.{ActorScript}
-use Rattle.sf_scene.specs.declared.change.Change.TheVariants as change
-use Rattle.sf_scene.specs.declared.step.Step.{Step}
-use Rattle.sf_scene.specs.declared.step.Step.TheVariants as step
 use Rattle.sf_script.specs.Parse.{parsed_of}
 use Rattle.sf_script.specs.declared.fault.ScriptFault.{ScriptFault}
-
--- a step turns a layer
-abbrev pub is_turn : Step → Bool
-is_turn (step.Set number layer (change.Orient orientation)) = true
-is_turn other = false
-
-abbrev pub turns_none : ActorScript → Bool
-turns_none script = list_all (λ s. not (is_turn s)) script.steps
-
-abbrev pub all_turn_none : List ActorScript → Bool
-all_turn_none scripts = list_all turns_none scripts
 
 -- a cast can play the scene
 abbrev pub is_for_a_cast : SceneValue → Bool

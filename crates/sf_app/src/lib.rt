@@ -1,13 +1,17 @@
-//! The compositor as one call: [`run`] reads a script, plays it and writes the records of the run.
+//! The compositor as one call: [`run`] reads its words and a script, plays it and writes the records
+//! of the run, or what they come to.
 //!
-//! This is the whole way of a frame, from bytes to bytes: `sf_script` reads a scene; `sf_play` picks
-//! its actors and vsyncs in turn; and `sf_show` writes to a sink of `sf_io` the records of what they did.
+//! This is the whole way of a frame, from bytes to bytes: `sf_options` reads the words; `sf_script`
+//! reads a scene, or `sf_generate` makes one; `sf_play` picks its actors and vsyncs in turn; and
+//! `sf_show` writes to a sink of `sf_io` the records of what they did, or `sf_tally` sums them up.
 #![tactic(auto)]
 
 mod laws;
 mod play;
 mod script;
 mod session;
+mod summary;
+mod words;
 
 pub use laws::{callers_are_known, one_play};
 pub use session::run;

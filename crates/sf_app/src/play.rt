@@ -15,14 +15,19 @@ use sf_show::show_play;
 use sf_turns::{Stock, TurnSeat, open_turns};
 use std::alloc::Global;
 use std::marker::Brand;
+use std::thread::Threads;
 
 // Plays a scene whose actors need so many permits.
-fn play_with<K: Sink>(
+fn play_with<R: Threads + Sync, K: Sink>(
+    rt: &R,
     alloc: Global,
+    workers: u32,
     sink: &mut K,
     scene: Scene,
     permits: u32,
 ) -> Result<(), RunFault>
+    requires some { 1 ≤ workers }
+    requires few { workers ≤ 16 }
     requires played { is_played scene ≡ true }
     requires counted { permits ≡ permits_of scene.actors }
     ensures ok { OnOk result (WroteRun scene (K.taken sink.old) (K.taken sink.new)) }
@@ -31,13 +36,24 @@ fn play_with<K: Sink>(
     ensures failed { IsErrOf result WriteFault → Rose (K.faults sink.old) (K.faults sink.new) }
 {
     match open_turns::<Painted>(alloc, permits) {
-        Ok((seat, stock)) => show_play::<K, Brand>(alloc, sink, scene, seat, stock),
+        Ok((seat, stock)) => {
+            show_play::<R, K, Brand>(rt, alloc, workers, sink, scene, seat, stock)
+        }
         Err(NoMemory) => Err(RunFault::NoMemory),
     }
 }
 
-/// Plays a scene, and writes the records of its play.
-pub fn play<K: Sink>(alloc: Global, sink: &mut K, scene: Scene) -> Result<(), RunFault>
+/// Plays a scene, whose frames so many workers compose, and writes the records of its play. They are
+/// the same for every number of workers.
+pub fn play<R: Threads + Sync, K: Sink>(
+    rt: &R,
+    alloc: Global,
+    workers: u32,
+    sink: &mut K,
+    scene: Scene,
+) -> Result<(), RunFault>
+    requires some { 1 ≤ workers }
+    requires few { workers ≤ 16 }
     requires played { is_played scene ≡ true }
     ensures ok { OnOk result (WroteRun scene (K.taken sink.old) (K.taken sink.new)) }
     ensures err { OnErr result (CutRun scene (K.taken sink.old) (K.taken sink.new)) }
@@ -45,7 +61,7 @@ pub fn play<K: Sink>(alloc: Global, sink: &mut K, scene: Scene) -> Result<(), Ru
     ensures failed { IsErrOf result WriteFault → Rose (K.faults sink.old) (K.faults sink.new) }
 {
     match permits_for(scene.actors.as_slice()) {
-        Some(permits) => play_with(alloc, sink, scene, permits),
+        Some(permits) => play_with(rt, alloc, workers, sink, scene, permits),
         // No scene comes to it: 16 actors have at most 4,096 steps each.
         None => Err(RunFault::NoMemory),
     }

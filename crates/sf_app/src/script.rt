@@ -1,7 +1,8 @@
 ghost use Rattle.std.specs.Prelude.{◌≡◌, true, not, IfOk};
 ghost use Rattle.sf_script.specs.Parse.{GivesScene};
 ghost use Rattle.sf_script.specs.declared.fault.ParseFault.TheVariants.{Script};
-ghost use Rattle.sf_app.specs.Scripts.{all_turn_none, asked_of, at_no_place, is_for_a_cast, is_played, is_turn, turns_none};
+ghost use Rattle.sf_load.specs.Turning.{all_turn_none, is_still, turns_none};
+ghost use Rattle.sf_app.specs.Scripts.{asked_of, at_no_place, is_for_a_cast, is_played};
 
 use sf_cast::is_playable;
 use sf_scene::{ActorScript, Change, Scene, Step};
@@ -21,7 +22,7 @@ pub fn at_no_place(cause: u32) -> ScriptFault
 
 /// Whether a step turns no layer.
 fn is_still(step: &Step) -> bool
-    ensures { result ≡ not (is_turn step.now) }
+    ensures { result ≡ is_still step.now }
 {
     match step {
         Step::Set(_, _, Change::Orient(_)) => false,

@@ -1,17 +1,24 @@
-ghost use Rattle.std.specs.Prelude.{◌≡◌, ◌≢◌, ◌≤◌, ◌⊎◌, ◌↔◌, ℕ, List, Some, Ok, Err, length};
+ghost use Rattle.std.specs.Prelude.{◌≡◌, ◌≢◌, ◌≤◌, ◌⊎◌, ℕ, List, None, Some, Ok, Err, map, true};
 ghost use Rattle.std.specs.Io.KnownBytes.{Appends};
+ghost use Rattle.std.specs.String.{string_bytes};
 ghost use Rattle.sf_io.specs.Causes.{Rose};
 ghost use Rattle.sf_io.specs.Streams.{TookPrefix};
+ghost use Rattle.sf_options.specs.declared.options.Options.{Options as OptionsValue};
 ghost use Rattle.sf_scene.specs.Scene.{SceneValue};
 ghost use Rattle.sf_script.specs.declared.fault.ScriptFault.{ScriptFault};
-ghost use Rattle.sf_app.specs.Scripts.{asked_of};
-ghost use Rattle.sf_app.specs.Statuses.{MeansScript, PlayedScript, RefusedScript, WritesPrefix, fault_bytes};
+ghost use Rattle.sf_app.specs.Scripts.{asked_of, is_played};
+ghost use Rattle.sf_app.specs.Shown.{ShowsPart, ShowsPlay};
+ghost use Rattle.sf_app.specs.Statuses.{MeansScript, PlayedScript, PrefixOf, RefusedScript, WritesPrefix, fault_bytes};
+ghost use Rattle.sf_app.specs.Words.{IsTold, asked_run, is_gen};
 
-use crate::play::play;
 use crate::script::{at_no_place, scene_of};
-use sf_io::{Gate, ReadFault, Sink, Source, read_all};
+use crate::summary::show;
+use crate::words::{options_asked, script_asked};
+use sf_io::{Gate, ReadFault, Sink, Source};
+use sf_options::{Options, OptionsFault};
 use sf_record::{Record, RunFault, write_record};
-use sf_script::{LONGEST_SCRIPT, ParseFault, ScriptFault};
+use sf_scene::Scene;
+use sf_script::{ParseFault, ScriptFault};
 use std::alloc::Global;
 use std::sync::Wait;
 use std::thread::Threads;
@@ -50,90 +57,168 @@ fn refuse<K: Sink>(alloc: Global, sink: &mut K, fault: ScriptFault) -> u8
     }
 }
 
-// Reads a script, plays it and writes the records of the run.
-fn read_and_play<S: Source, K: Sink>(
+// Plays a scene and writes what shows its play.
+fn play_scene<R: Threads + Sync, K: Sink>(
+    rt: &R,
     alloc: Global,
-    words: &[String],
-    source: &mut S,
+    options: Options,
     sink: &mut K,
+    scene: Scene,
 ) -> u8
-    ensures played { result ≡ 0 → PlayedScript (S.left source.old) (S.left source.new) (K.taken sink.old) (K.taken sink.new) }
-
-    ensures usage { (result ≡ 1) ↔ (length words.now ≢ 0) }
-    ensures untouched { result ≡ 1 → (source.new ≡ source.old) × (sink.new ≡ sink.old) }
-    ensures refused { result ≡ 2 → RefusedScript (S.left source.old) (S.left source.new) (K.taken sink.old) (K.taken sink.new) }
-    ensures read_failed { result ≡ 3 → Rose (S.faults source.old) (S.faults source.new) }
-    ensures silent { result ≡ 3 → sink.new ≡ sink.old }
+    requires some { 1 ≤ options.workers }
+    requires few { options.workers ≤ 16 }
+    requires played { is_played scene ≡ true }
+    ensures played { result ≡ 0 → ShowsPlay options.summary scene (K.taken sink.old) (K.taken sink.new) }
+    ensures part { ShowsPart options.summary scene (K.taken sink.old) (K.taken sink.new) }
     ensures write_failed { result ≡ 4 → Rose (K.faults sink.old) (K.faults sink.new) }
     ensures range { result ≤ 5 }
-
-    // Whatever the status is, a prefix was written of what the bytes ask for.
-    ensures prefix { WritesPrefix (S.left source.old) (K.taken sink.old) (K.taken sink.new) }
+    ensures other { (result ≢ 1) × ((result ≢ 2) × (result ≢ 3)) }
 {
-    if !words.is_empty() {
-        return WRONG_WORDS;
+    match show(rt, alloc, options.workers, options.summary, sink, scene) {
+        Ok(()) => DONE,
+        Err(RunFault::WriteFault) => WRITE_FAILED,
+        Err(RunFault::NoMemory) => NO_MEMORY,
     }
-    let bytes = match read_all(alloc, source, LONGEST_SCRIPT) {
-        Ok(bytes) => bytes,
-        Err(ReadFault::Failed) => return READ_FAILED,
-        Err(ReadFault::NoMemory) => return NO_MEMORY,
-        Err(ReadFault::TooLong) => {
-            return refuse(alloc, sink, at_no_place(9));
-        }
-    };
-    match scene_of(alloc, &bytes) {
-        Ok(scene) => match play(alloc, sink, scene) {
-            Ok(()) => DONE,
-            Err(RunFault::WriteFault) => WRITE_FAILED,
-            Err(RunFault::NoMemory) => NO_MEMORY,
-        },
+}
+
+// Plays a script, and writes what shows its play, or the place of its fault.
+fn play_script<R: Threads + Sync, K: Sink>(
+    rt: &R,
+    alloc: Global,
+    options: Options,
+    script: &[u8],
+    sink: &mut K,
+) -> u8
+    requires some { 1 ≤ options.workers }
+    requires few { options.workers ≤ 16 }
+    ensures played { result ≡ 0 → (scene : SceneValue) × (asked_of script.now ≡ Ok scene) × ShowsPlay options.summary scene (K.taken sink.old) (K.taken sink.new) }
+    ensures refused { result ≡ 2 → (fault : ScriptFault) × (asked_of script.now ≡ Err fault) × Appends (K.taken sink.old) (K.taken sink.new) (fault_bytes fault) }
+    ensures prefix { PrefixOf options.summary (asked_of script.now) (K.taken sink.old) (K.taken sink.new) }
+    ensures write_failed { result ≡ 4 → Rose (K.faults sink.old) (K.faults sink.new) }
+    ensures range { result ≤ 5 }
+    ensures begun { result ≢ 1 }
+    ensures read { result ≢ 3 }
+{
+    match scene_of(alloc, script) {
+        Ok(scene) => play_scene(rt, alloc, options, sink, scene),
         Err(ParseFault::Script(fault)) => refuse(alloc, sink, fault),
         Err(ParseFault::NoMemory) => NO_MEMORY,
     }
 }
 
-/// Reads a script from the source, plays it and writes the records of the run to the sink. The
-/// answer is the status of the program:
+// Plays the script that the options ask for.
+fn play_asked<R: Threads + Sync, S: Source, K: Sink>(
+    rt: &R,
+    alloc: Global,
+    options: Options,
+    source: &mut S,
+    sink: &mut K,
+) -> u8
+    requires some { 1 ≤ options.workers }
+    requires few { options.workers ≤ 16 }
+    ensures played { result ≡ 0 → PlayedScript (Some options) (S.left source.old) (S.left source.new) (K.taken sink.old) (K.taken sink.new) }
+    ensures refused { result ≡ 2 → RefusedScript (Some options) (S.left source.old) (S.left source.new) (K.taken sink.old) (K.taken sink.new) }
+    ensures read_failed { result ≡ 3 → Rose (S.faults source.old) (S.faults source.new) }
+    ensures silent { result ≡ 3 → sink.new ≡ sink.old }
+    ensures write_failed { result ≡ 4 → Rose (K.faults sink.old) (K.faults sink.new) }
+    ensures range { result ≤ 5 }
+    ensures begun { result ≢ 1 }
+    ensures unread { is_gen options.run ≡ true → source.new ≡ source.old }
+    ensures prefix { WritesPrefix (Some options) (S.left source.old) (K.taken sink.old) (K.taken sink.new) }
+{
+    match script_asked(alloc, options, source) {
+        Ok(script) => play_script(rt, alloc, options, &script, sink),
+        Err(ReadFault::Failed) => READ_FAILED,
+        Err(ReadFault::NoMemory) => NO_MEMORY,
+        Err(ReadFault::TooLong) => refuse(alloc, sink, at_no_place(9)),
+    }
+}
+
+// Does what the words ask.
+fn follow<R: Threads + Sync, S: Source, K: Sink>(
+    rt: &R,
+    alloc: Global,
+    words: &[String],
+    source: &mut S,
+    sink: &mut K,
+) -> u8
+    ensures played { let asked = asked_run (map string_bytes words.now) in
+        result ≡ 0 → PlayedScript asked (S.left source.old) (S.left source.new) (K.taken sink.old) (K.taken sink.new) }
+
+    ensures usage { result ≡ 1 → asked_run (map string_bytes words.now) ≡ None }
+    ensures wrong { asked_run (map string_bytes words.now) ≡ None → (result ≡ 1) ⊎ (result ≡ 5) }
+    ensures untouched { asked_run (map string_bytes words.now) ≡ None → (source.new ≡ source.old) × (sink.new ≡ sink.old) }
+    ensures refused { let asked = asked_run (map string_bytes words.now) in
+        result ≡ 2 → RefusedScript asked (S.left source.old) (S.left source.new) (K.taken sink.old) (K.taken sink.new) }
+    ensures read_failed { result ≡ 3 → Rose (S.faults source.old) (S.faults source.new) }
+    ensures silent { result ≡ 3 → sink.new ≡ sink.old }
+    ensures write_failed { result ≡ 4 → Rose (K.faults sink.old) (K.faults sink.new) }
+    ensures range { result ≤ 5 }
+    ensures unread { (options : OptionsValue) → asked_run (map string_bytes words.now) ≡ Some options → is_gen options.run ≡ true → source.new ≡ source.old }
+
+    // Whatever the status is, a prefix was written of what the script asks for.
+    ensures prefix { WritesPrefix (asked_run (map string_bytes words.now)) (S.left source.old) (K.taken sink.old) (K.taken sink.new) }
+{
+    match options_asked(alloc, words) {
+        Ok(options) => play_asked(rt, alloc, options, source, sink),
+        Err(OptionsFault::WrongWords) => WRONG_WORDS,
+        Err(OptionsFault::NoMemory) => NO_MEMORY,
+    }
+}
+
+/// Does what the words ask: reads a script from the source, or generates one, plays it and writes the
+/// records of the run to the sink, or the one record that sums them up. The answer is the status of
+/// the program:
 ///
 /// | Status | Meaning |
 /// |---|---|
-/// | 0 | the script was read to its end and is a scene, and the records of its play were written |
-/// | 1 | there are words; so far a run takes none. Nothing is read or written |
+/// | 0 | the script was read to its end and is a scene, or was generated, and what shows its play was written |
+/// | 1 | the words are wrong, or ask for a live run, which is not built yet. Nothing is read or written |
 /// | 2 | the bytes are no scene, or one that is not played yet, or they are more than 1,048,576; the record SFLT was written |
 /// | 3 | the source failed; nothing is written |
 /// | 4 | the sink failed |
 /// | 5 | want of memory |
 ///
-/// Whatever the status is, what a run of a scene wrote is a prefix of the records of its play.
-/// The gate is not asked, and no thread is started, as the play of a script needs neither.
+/// Whatever the status is, what a run of a scene wrote is a prefix of the records of its play, or of
+/// the record that sums them up. The gate is not asked, as the play of a script needs none.
 pub fn run<R: Threads + Wait + Sync, S: Source, K: Sink, G: Gate + Sync>(
-    _rt: &R,
+    rt: &R,
     alloc: Global,
     words: &[String],
     source: &mut S,
     sink: &mut K,
     _gate: &G,
 ) -> u8
-    // The script's records stand to its scene as those of a played run do.
-    ensures means { result ≡ 0 → MeansScript (S.left source.old) (S.left source.new) (K.taken sink.old) (K.taken sink.new) }
-    ensures played { result ≡ 0 → PlayedScript (S.left source.old) (S.left source.new) (K.taken sink.old) (K.taken sink.new) }
+    // What is written shows records that stand to the script's scene as those of a played run do.
+    ensures means { let asked = asked_run (map string_bytes words.now) in
+        result ≡ 0 → MeansScript asked (S.left source.old) (S.left source.new) (K.taken sink.old) (K.taken sink.new) }
+    ensures played { let asked = asked_run (map string_bytes words.now) in
+        result ≡ 0 → PlayedScript asked (S.left source.old) (S.left source.new) (K.taken sink.old) (K.taken sink.new) }
 
-    ensures usage { (result ≡ 1) ↔ (length words.now ≢ 0) }
-    ensures untouched { result ≡ 1 → (source.new ≡ source.old) × (sink.new ≡ sink.old) }
-    ensures refused { result ≡ 2 → RefusedScript (S.left source.old) (S.left source.new) (K.taken sink.old) (K.taken sink.new) }
+    // Only wrong words, and words that ask for a live run, are answered by 1; they are answered so but for want of memory to read them.
+    ensures usage { result ≡ 1 → asked_run (map string_bytes words.now) ≡ None }
+    ensures wrong { asked_run (map string_bytes words.now) ≡ None → (result ≡ 1) ⊎ (result ≡ 5) }
+    ensures untouched { asked_run (map string_bytes words.now) ≡ None → (source.new ≡ source.old) × (sink.new ≡ sink.old) }
+    ensures refused { let asked = asked_run (map string_bytes words.now) in
+        result ≡ 2 → RefusedScript asked (S.left source.old) (S.left source.new) (K.taken sink.old) (K.taken sink.new) }
     ensures read_failed { result ≡ 3 → Rose (S.faults source.old) (S.faults source.new) }
     ensures silent { result ≡ 3 → sink.new ≡ sink.old }
     ensures write_failed { result ≡ 4 → Rose (K.faults sink.old) (K.faults sink.new) }
     ensures range { result ≤ 5 }
 
-    // Whatever the status is, a prefix was written of what the bytes ask for.
-    ensures prefix { WritesPrefix (S.left source.old) (K.taken sink.old) (K.taken sink.new) }
+    // A generated script is played without reading.
+    ensures unread { (options : OptionsValue) → asked_run (map string_bytes words.now) ≡ Some options → is_gen options.run ≡ true → source.new ≡ source.old }
+
+    // Whatever the status is, a prefix was written of what the script asks for.
+    ensures prefix { WritesPrefix (asked_run (map string_bytes words.now)) (S.left source.old) (K.taken sink.old) (K.taken sink.new) }
 
     // Right words, a script that is told, and no count of faults that rose: the run is whole, or the script refused, but for want of memory.
-    ensures complete { (bytes : List ℕ) (scene : SceneValue) → length words.now ≡ 0 → S.left source.old ≡ Some bytes → asked_of bytes ≡ Ok scene
+    ensures complete { (options : OptionsValue) (bytes : List ℕ) (scene : SceneValue) → asked_run (map string_bytes words.now) ≡ Some options
+        → IsTold options (S.left source.old) bytes → asked_of bytes ≡ Ok scene
         → ¬ Rose (S.faults source.old) (S.faults source.new) → ¬ Rose (K.faults sink.old) (K.faults sink.new) → (result ≡ 0) ⊎ (result ≡ 5) }
-    ensures complete_refusal { (bytes : List ℕ) (fault : ScriptFault) → length words.now ≡ 0 → S.left source.old ≡ Some bytes → asked_of bytes ≡ Err fault
+    ensures complete_refusal { (options : OptionsValue) (bytes : List ℕ) (fault : ScriptFault) → asked_run (map string_bytes words.now) ≡ Some options
+        → IsTold options (S.left source.old) bytes → asked_of bytes ≡ Err fault
         → ¬ Rose (S.faults source.old) (S.faults source.new) → ¬ Rose (K.faults sink.old) (K.faults sink.new) → (result ≡ 2) ⊎ (result ≡ 5) }
 {
-    read_and_play(alloc, words, source, sink)
+    follow(rt, alloc, words, source, sink)
 }

@@ -4,6 +4,7 @@
 
 use sf_app::run;
 use sf_io::{OpenGate, ReadSource, WriteSink};
+use sf_options::About;
 use std::io::{BufWriter, ErrorKind};
 use std::sync::Wait;
 use std::thread::Threads;
@@ -16,18 +17,29 @@ const HELP: &str = "\
 sf_main plays a script of a compositor: an actor draws buffers and sends transactions, and each
 vsync commits them, each whole or not at all, and shows a frame.
 
-usage: sf_main < SCRIPT > RECORDS
+usage: sf_main [--run play|live|gen] [--workers N] [--number N] [--summary] < SCRIPT > RECORDS
 
 It reads the script from standard input, and writes what comes of it to standard output as binary
 records: each reply, each commit, each frame as raw RGBA, the history of each queue, what waits and
 who is stuck.
 
+  --run V      play, if absent: the script that is read, one step at a time, in its order
+               gen: a generated script of four producers; nothing is read
+               live: each actor in a thread of its own; not built yet, so these are wrong words
+  --workers N  how many workers compose a frame, 1 to 16; 1 if absent. The records are the same
+  --number N   which script is generated, 0 to 18446744073709551615; 1 if absent. Only gen uses it
+  --summary    writes, in place of the records, the one record SUMM of what they come to: how many
+               replies, vsyncs, commits, rejected commits and frames, the sum of all bytes of
+               pixels, and how many wait and are stuck. Not with live
+
+N is 1 to 20 decimal digits. An option is given once; its value is the next word, or follows `=`.
+
   --help, -h   writes this page
   --version    writes the version
 
-Each of these stands alone. There are no other words yet.
+Each of these two stands alone.
 
-status: 0   the script was played
+status: 0   the script was played, and its records or their summary were written
         1   wrong words; nothing is read or written
         2   the script is no scene; one record says at which line and word, and why
         3   reading failed
@@ -60,14 +72,10 @@ fn message(status: u8) -> &'static str {
 }
 
 // What is written for a word that asks about the program, which stands alone.
-fn about(words: &[String]) -> Option<&'static str> {
-    match words {
-        [word] => match word.as_str() {
-            "--help" | "-h" => Some(HELP),
-            "--version" => Some(VERSION),
-            _ => None,
-        },
-        _ => None,
+fn text_about(words: &[String]) -> Option<&'static str> {
+    match About::read(words)? {
+        About::Help => Some(HELP),
+        About::Version => Some(VERSION),
     }
 }
 
@@ -118,7 +126,7 @@ fn run_over_streams<R: Threads + Wait + Sync>(
 /// started through the second handle, which is the runtime's own in `main`.
 pub fn command<R: Threads + Wait + Sync>(rt: &HostRuntime, threads: &R) -> u8 {
     let status = match words(rt) {
-        Ok(words) => match about(&words) {
+        Ok(words) => match text_about(&words) {
             Some(text) => match println!(rt; "{}", text) {
                 Ok(()) => 0,
                 Err(_) => WRITE_FAILED,

@@ -1,4 +1,4 @@
-use crate::{HELP, VERSION, about, message, status_without_words};
+use crate::{HELP, VERSION, message, status_without_words, text_about};
 use std::alloc::{AllocError, Global};
 use std::io::{self, ErrorKind};
 use std::test::Fail;
@@ -40,7 +40,7 @@ fn what_asks_about_the_program_stands_alone(rt: HostRuntime) -> Result<(), Fail>
     ];
     for (words, want) in cases {
         let words = words_of(rt.alloc(), words)?;
-        assert_eq!(rt; about(&words), want);
+        assert_eq!(rt; text_about(&words), want);
     }
     Ok(())
 }

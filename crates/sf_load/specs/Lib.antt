@@ -4,3 +4,4 @@ pub mod Plain
 pub mod Ready
 pub mod Scenes
 pub mod Sizes
+pub mod Turning

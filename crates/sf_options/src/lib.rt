@@ -2,8 +2,10 @@
 #![tactic(auto)]
 
 mod about;
+mod laws;
 mod matched;
 mod options;
 
 pub use about::About;
+pub use laws::no_words_play;
 pub use options::{Options, OptionsFault, Run};

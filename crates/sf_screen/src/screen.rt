@@ -10,12 +10,13 @@ ghost use Rattle.sf_screen.specs.Screens.{IsSameSize, IsWhole};
 
 use byteorder::{BigEndian, ByteOrder};
 use sf_base::{NoMemory, Rect};
-use sf_compose::{Pixels, compose_one, compose_seen};
+use sf_compose::{Pixels, compose, compose_seen_by};
 use sf_damage::{dirty, visible};
 use sf_region::Region;
 use sf_view::View;
 use std::alloc::Global;
 use std::marker::Model;
+use std::thread::Threads;
 
 /// What a display showed last: the view, if there was one, and its frame, four bytes for each pixel
 /// in the order red, green, blue, alpha, row by row from the top.
@@ -55,13 +56,17 @@ fn display(alloc: Global, view: &View) -> Result<Region, NoMemory>
     Region::rect(alloc, rect)
 }
 
-/// Composes a view, behind room for the number of its frame.
-fn compose_first<C: Pixels>(
+/// Composes a view by so many workers, behind room for the number of its frame.
+fn compose_first<R: Threads + Sync, C: Pixels + Sync>(
+    rt: &R,
     alloc: Global,
+    workers: u32,
     view: &View,
     contents: &[C],
     sources: &[u32],
 ) -> Result<Vec<u8>, NoMemory>
+    requires some { 1 ≤ workers }
+    requires few { workers ≤ 16 }
     requires readable { AreReadable (map C.picture contents.now) view.now.drawn sources.now }
     ensures room { IfOk result (λ body. NUMBER ≤ length body.items) }
     ensures whole { IfOk result (λ body. IsWhole view.now (drop 4 body.items)) }
@@ -71,19 +76,31 @@ fn compose_first<C: Pixels>(
     let size = 4 * (view.width as usize * view.height as usize);
     let mut body = vec![in alloc; 0u8; NUMBER + size]?;
     let part = display(alloc, view)?;
-    compose_one(alloc, view, contents, sources, &part, &mut body[NUMBER..])?;
+    compose(
+        rt,
+        workers,
+        view,
+        contents,
+        sources,
+        &part,
+        &mut body[NUMBER..],
+    )?;
     Ok(body)
 }
 
-/// Composes a view over the frame of an older one, where they differ.
-fn compose_again<C: Pixels>(
+/// Composes a view by so many workers over the frame of an older one, where they differ.
+fn compose_again<R: Threads + Sync, C: Pixels + Sync>(
+    rt: &R,
     alloc: Global,
+    workers: u32,
     old: &View,
     view: &View,
     contents: &[C],
     sources: &[u32],
     frame: &mut [u8],
 ) -> Result<(), NoMemory>
+    requires some { 1 ≤ workers }
+    requires few { workers ≤ 16 }
     requires same { IsSameSize frame.old view.now old.now }
     requires readable { AreReadable (map C.picture contents.now) view.now.drawn sources.now }
     ensures size { length frame.new ≡ length frame.old }
@@ -93,18 +110,22 @@ fn compose_again<C: Pixels>(
 {
     let part = dirty(alloc, old, view)?;
     let shows = visible(alloc, view)?;
-    compose_seen(alloc, view, contents, sources, &shows, &part, frame)
+    compose_seen_by(rt, workers, view, contents, sources, &shows, &part, frame)
 }
 
 /// The same behind room for the number of the frame.
-fn compose_behind<C: Pixels>(
+fn compose_behind<R: Threads + Sync, C: Pixels + Sync>(
+    rt: &R,
     alloc: Global,
+    workers: u32,
     old: &View,
     view: &View,
     contents: &[C],
     sources: &[u32],
     body: &mut [u8],
 ) -> Result<(), NoMemory>
+    requires some { 1 ≤ workers }
+    requires few { workers ≤ 16 }
     requires room { NUMBER ≤ length body.old }
     requires same { IsSameSize (drop 4 body.old) view.now old.now }
     requires readable { AreReadable (map C.picture contents.now) view.now.drawn sources.now }
@@ -113,7 +134,8 @@ fn compose_behind<C: Pixels>(
         → ShowsView picture old.now (drop 4 body.old) → ShowsView picture view.now (drop 4 body.new)) }
     ensures err { OnErr result (body.new ≡ body.old) }
 {
-    compose_again(alloc, old, view, contents, sources, &mut body[NUMBER..])
+    let frame = &mut body[NUMBER..];
+    compose_again(rt, alloc, workers, old, view, contents, sources, frame)
 }
 
 /// Puts a number in front of a frame.
@@ -146,15 +168,19 @@ impl Screen {
         }
     }
 
-    /// Shows a view of the same size as the last one. A layer that shows a buffer finds its pixels
-    /// among the contents, at the place that stands for the layer in `sources`. After want of memory
-    /// the screen is as it was.
-    pub fn show<C: Pixels>(
+    /// Shows a view of the same size as the last one; so many workers, 1 to 16, compose its frame, each
+    /// some of its rows. A layer that shows a buffer finds its pixels among the contents, at the place
+    /// that stands for the layer in `sources`. After want of memory the screen is as it was.
+    pub fn show<R: Threads + Sync, C: Pixels + Sync>(
         &mut self,
+        rt: &R,
+        workers: u32,
         view: View,
         contents: &[C],
         sources: &[u32],
     ) -> Result<(), NoMemory>
+        requires some { 1 ≤ workers }
+        requires few { workers ≤ 16 }
         requires may { MayShow self.old view }
         requires readable { AreReadable (map C.picture contents.now) view.drawn sources.now }
         ensures shown { OnOk result ((picture : ℕ → Picture) → HasSources picture view (map C.picture contents.now) sources.now
@@ -165,9 +191,10 @@ impl Screen {
     {
         match &self.view {
             Some(old) => {
-                compose_behind(self.alloc, old, &view, contents, sources, &mut self.body)?
+                let body = &mut self.body;
+                compose_behind(rt, self.alloc, workers, old, &view, contents, sources, body)?;
             }
-            None => self.body = compose_first(self.alloc, &view, contents, sources)?,
+            None => self.body = compose_first(rt, self.alloc, workers, &view, contents, sources)?,
         }
         self.view = Some(view);
         Ok(())

@@ -10,6 +10,7 @@ use Rattle.atomic_table.specs.Seated.{TableId}
 use Rattle.sf_picture.specs.declared.picture.Picture.{Picture}
 use Rattle.sf_commit.specs.declared.vsync.Commit.{Commit as Decided}
 use Rattle.sf_compose.specs.Readings.{AreReadable}
+use Rattle.sf_compose.specs.Sources.{HasSources}
 use Rattle.sf_view.specs.Views.{ViewOf}
 use Rattle.sf_scene.specs.Limits.{IsWithinLimits}
 use Rattle.sf_scene.specs.Ranges.{IsTimeline}
@@ -160,6 +161,11 @@ module _ {B : Type 0} where
     size = same_size scene.width scene.height report.view screen.frame screen.view tells.wide tells.high sized;
     readable = subst (λ (cs : List Picture). AreReadable cs report.view.drawn report.sources) (sym (map-id contents ∙ are)) tells.readable;
   }
+
+  pub has_sources : (scene : SceneValue) (report : VsyncReport) (play : PlayOf B) (contents : List Picture) → TellsFrame scene report play
+      → contents ≡ map expected_by play.handler.on → HasSources (picture_at scene.pictures) report.view (map (λ (p : Picture). p) contents) report.sources
+  has_sources scene report play contents tells are =
+      subst (λ (cs : List Picture). HasSources (picture_at scene.pictures) report.view cs report.sources) (sym (map-id contents ∙ are)) tells.sources
 
   -- a turn was written behind what was written before
   pub goes_on : (table : TableId) (scene : SceneValue) (timelines : List ℕ) (start a b : Option (List ℕ)) (before screen : ScreenOf) (old player : PlayerOf B) (came_to : Turn)

@@ -27,6 +27,7 @@ use sf_scene::Scene;
 use sf_screen::Screen;
 use sf_turns::{Stock, TableName, TurnSeat};
 use std::alloc::Global;
+use std::thread::Threads;
 
 /// The record that a play begins with.
 fn opening(scene: &Scene) -> Record
@@ -73,14 +74,18 @@ fn is_end(turn: &Turn) -> bool
 }
 
 /// Writes what a turn shows: the reply to a step, or what a vsync committed, with its frame.
-fn write_turn<K: Sink, B: TableName>(
+fn write_turn<R: Threads + Sync, K: Sink, B: TableName>(
+    rt: &R,
     alloc: Global,
+    workers: u32,
     sink: &mut K,
     timelines: &[u32],
     screen: &mut Screen,
     player: &Player<B>,
     turn: Turn,
 ) -> Result<(), RunFault>
+    requires some { 1 ≤ workers }
+    requires few { workers ≤ 16 }
     requires timelines { All (λ timeline. (1 ≤ timeline) × (timeline ≤ 64)) timelines.now }
     requires may { (scene : SceneValue) × MayShowTurn scene turn player.now × IsSized scene.width scene.height screen.old }
     ensures ok { (scene : SceneValue) → MayShowTurn scene turn player.now → IsShown (picture_at scene.pictures) screen.old → OnOk result
@@ -96,7 +101,9 @@ fn write_turn<K: Sink, B: TableName>(
     match turn {
         Turn::Step(place) => write_newest(alloc, sink, player.cast().actors()[place].replies()),
         Turn::Vsync(report) => show_vsync(
+            rt,
             alloc,
+            workers,
             sink,
             timelines,
             screen,
@@ -109,14 +116,18 @@ fn write_turn<K: Sink, B: TableName>(
 }
 
 /// Does the next turn of a play and writes what it shows; whether it was not the end.
-fn show_turn<K: Sink, B: TableName>(
+fn show_turn<R: Threads + Sync, K: Sink, B: TableName>(
+    rt: &R,
     alloc: Global,
+    workers: u32,
     sink: &mut K,
     timelines: &[u32],
     screen: &mut Screen,
     player: &mut Player<B>,
 ) -> Result<bool, RunFault>
-    requires { (scene : SceneValue) × (start : Option (List ℕ)) × IsWriting B.table scene timelines.now start (K.taken sink.old) screen.old player.old }
+    requires some { 1 ≤ workers }
+    requires few { workers ≤ 16 }
+    requires writing { (scene : SceneValue) × (start : Option (List ℕ)) × IsWriting B.table scene timelines.now start (K.taken sink.old) screen.old player.old }
     ensures on { (scene : SceneValue) (start : Option (List ℕ)) → IsWriting B.table scene timelines.now start (K.taken sink.old) screen.old player.old
         → IfOk result (λ goes_on. TurnsOn goes_on B.table scene timelines.now start (K.taken sink.new) screen.new player.new) }
     ensures err { (scene : SceneValue) (start : Option (List ℕ)) → IsWriting B.table scene timelines.now start (K.taken sink.old) screen.old player.old
@@ -130,20 +141,24 @@ fn show_turn<K: Sink, B: TableName>(
         Err(_) => return Err(RunFault::NoMemory),
     };
     let goes_on = !is_end(&turn);
-    match write_turn(alloc, sink, timelines, screen, player, turn) {
+    match write_turn(rt, alloc, workers, sink, timelines, screen, player, turn) {
         Ok(()) => Ok(goes_on),
         Err(fault) => Err(fault),
     }
 }
 
 /// Does the turns of a play up to its end, and writes what they show.
-fn show_turns<K: Sink, B: TableName>(
+fn show_turns<R: Threads + Sync, K: Sink, B: TableName>(
+    rt: &R,
     alloc: Global,
+    workers: u32,
     sink: &mut K,
     timelines: &[u32],
     player: &mut Player<B>,
 ) -> Result<(), RunFault>
-    requires { (scene : SceneValue) × (start : Option (List ℕ)) × IsWriting B.table scene timelines.now start (K.taken sink.old) bare_screen player.old }
+    requires some { 1 ≤ workers }
+    requires few { workers ≤ 16 }
+    requires writing { (scene : SceneValue) × (start : Option (List ℕ)) × IsWriting B.table scene timelines.now start (K.taken sink.old) bare_screen player.old }
     ensures ok { (scene : SceneValue) (start : Option (List ℕ)) → IsWriting B.table scene timelines.now start (K.taken sink.old) bare_screen player.old
         → OnOk result (HasWritten B.table scene start (K.taken sink.new) player.new) }
     ensures err { (scene : SceneValue) (start : Option (List ℕ)) → IsWriting B.table scene timelines.now start (K.taken sink.old) bare_screen player.old
@@ -153,7 +168,7 @@ fn show_turns<K: Sink, B: TableName>(
 {
     let mut screen = Screen::new(alloc);
     'turns: loop {
-        match show_turn(alloc, sink, timelines, &mut screen, player) {
+        match show_turn(rt, alloc, workers, sink, timelines, &mut screen, player) {
             Ok(true) => {}
             Ok(false) => return Ok(()),
             Err(fault) => return Err(fault),
@@ -162,14 +177,18 @@ fn show_turns<K: Sink, B: TableName>(
 }
 
 /// Writes the record that a play begins with, does its turns, and writes its closing records.
-fn write_play<K: Sink, B: TableName>(
+fn write_play<R: Threads + Sync, K: Sink, B: TableName>(
+    rt: &R,
     alloc: Global,
+    workers: u32,
     sink: &mut K,
     first: Record,
     timelines: &[u32],
     player: &mut Player<B>,
 ) -> Result<(), RunFault>
-    requires { (scene : SceneValue) × IsReady B.table scene first timelines.now player.old }
+    requires some { 1 ≤ workers }
+    requires few { workers ≤ 16 }
+    requires ready { (scene : SceneValue) × IsReady B.table scene first timelines.now player.old }
     ensures ok { (scene : SceneValue) → IsReady B.table scene first timelines.now player.old → OnOk result (WroteRun scene (K.taken sink.old) (K.taken sink.new)) }
     ensures err { (scene : SceneValue) → IsReady B.table scene first timelines.now player.old → OnErr result (CutRun scene (K.taken sink.old) (K.taken sink.new)) }
     ensures later { K.faults sink.old ≤ K.faults sink.new }
@@ -179,7 +198,7 @@ fn write_play<K: Sink, B: TableName>(
         Ok(()) => {}
         Err(fault) => return Err(fault),
     }
-    match show_turns(alloc, sink, timelines, player) {
+    match show_turns(rt, alloc, workers, sink, timelines, player) {
         Ok(()) => {}
         Err(fault) => return Err(fault),
     }
@@ -187,15 +206,20 @@ fn write_play<K: Sink, B: TableName>(
 }
 
 /// Plays a scene of version 1 over buffers of the table that B names, and writes the records of its
-/// play. It takes the seat and the whole stock of the turns, with a permit for each dequeue. After a
-/// fault of the sink, or want of memory, the sink has a prefix of these records.
-pub fn show_play<K: Sink, B: TableName>(
+/// play. So many workers, 1 to 16, compose each frame; the records are those of the scene, whatever
+/// the number of workers is. It takes the seat and the whole stock of the turns, with a permit for
+/// each dequeue. After a fault of the sink, or want of memory, the sink has a prefix of these records.
+pub fn show_play<R: Threads + Sync, K: Sink, B: TableName>(
+    rt: &R,
     alloc: Global,
+    workers: u32,
     sink: &mut K,
     scene: Scene,
     seat: TurnSeat<Painted>,
     stock: Stock<Painted>,
 ) -> Result<(), RunFault>
+    requires some { 1 ≤ workers }
+    requires few { workers ≤ 16 }
     requires version { scene.version ≡ 1 }
     requires playable { are_playable scene.actors ≡ true }
     requires own { (seat.table ≡ B.table) × (stock.table ≡ B.table) }
@@ -215,7 +239,7 @@ pub fn show_play<K: Sink, B: TableName>(
     let first = opening(&scene);
     match Player::<B>::new(alloc, scene, seat, stock) {
         Ok(mut player) => {
-            let written = write_play(alloc, sink, first, &timelines, &mut player);
+            let written = write_play(rt, alloc, workers, sink, first, &timelines, &mut player);
             player.finish();
             written
         }

@@ -21,6 +21,7 @@ use sf_report::{VsyncReport, commit_record, vsync_record};
 use sf_screen::Screen;
 use sf_view::View;
 use std::alloc::Global;
+use std::thread::Threads;
 
 /// Writes the records of commits, one after another.
 fn write_commits<K: Sink>(alloc: Global, sink: &mut K, commits: &[Commit]) -> Result<(), RunFault>
@@ -64,8 +65,10 @@ fn shows_frame(commits: &[Commit]) -> bool
     commits.iter().any(is_accepted)
 }
 
-/// Shows the view of a vsync, and writes the record of its frame.
-fn show_frame<K: Sink, C: Pixels>(
+/// Shows the view of a vsync, which so many workers compose, and writes the record of its frame.
+fn show_frame<R: Threads + Sync, K: Sink, C: Pixels + Sync>(
+    rt: &R,
+    workers: u32,
     sink: &mut K,
     screen: &mut Screen,
     contents: &[C],
@@ -73,6 +76,8 @@ fn show_frame<K: Sink, C: Pixels>(
     view: View,
     sources: &[u32],
 ) -> Result<(), RunFault>
+    requires some { 1 ≤ workers }
+    requires few { workers ≤ 16 }
     requires may { MayShow screen.old view }
     requires readable { AreReadable (map C.picture contents.now) view.drawn sources.now }
     ensures ok { (pictures : ℕ → Picture) → HasSources pictures view (map C.picture contents.now) sources.now → IsShown pictures screen.old
@@ -85,22 +90,26 @@ fn show_frame<K: Sink, C: Pixels>(
     ensures later { K.faults sink.old ≤ K.faults sink.new }
     ensures failed { IsErrOf result RunFault.WriteFault → Rose (K.faults sink.old) (K.faults sink.new) }
 {
-    match screen.show(view, contents, sources) {
+    match screen.show(rt, workers, view, contents, sources) {
         Ok(()) => write_shown(sink, screen, number),
         Err(_) => Err(RunFault::NoMemory),
     }
 }
 
-/// Writes the records of a vsync, and shows its frame where something was committed that was not
-/// rejected. A vsync that commits nothing has no records.
-pub fn show_vsync<K: Sink, C: Pixels>(
+/// Writes the records of a vsync, and shows its frame, which so many workers compose, where something
+/// was committed that was not rejected. A vsync that commits nothing has no records.
+pub fn show_vsync<R: Threads + Sync, K: Sink, C: Pixels + Sync>(
+    rt: &R,
     alloc: Global,
+    workers: u32,
     sink: &mut K,
     timelines: &[u32],
     screen: &mut Screen,
     contents: &[C],
     report: VsyncReport,
 ) -> Result<(), RunFault>
+    requires some { 1 ≤ workers }
+    requires few { workers ≤ 16 }
     requires timelines { All (λ timeline. (1 ≤ timeline) × (timeline ≤ 64)) timelines.now }
     requires may { shows_frame report ≡ true → MayCompose screen.old (map C.picture contents.now) report }
     ensures ok { (pictures : ℕ → Picture) → (shows_frame report ≡ true → HasSources pictures report.view (map C.picture contents.now) report.sources)
@@ -133,7 +142,16 @@ pub fn show_vsync<K: Sink, C: Pixels>(
         Err(fault) => return Err(fault),
     }
     if shows_frame(commits.as_slice()) {
-        show_frame(sink, screen, contents, number, view, sources.as_slice())
+        show_frame(
+            rt,
+            workers,
+            sink,
+            screen,
+            contents,
+            number,
+            view,
+            sources.as_slice(),
+        )
     } else {
         Ok(())
     }

@@ -7,8 +7,8 @@ use Rattle.sf_show.proofs.play.show_play.Goals as goal
 pub returns-in-Err-clause-err : goal.returns-in-Err-clause-err
 returns-in-Err-clause-err g c = nothing_written c.args.scene (g.K.Sink.taken c.args.sink.now) (subst IsWithinLimits c.scene.view_is c.scene.invariant)
 
-pub write_play-written-requires : goal.write_play-written-requires
-write_play-written-requires g c = (
+pub write_play-written-requires-clause-ready : goal.write_play-written-requires-clause-ready
+write_play-written-requires-clause-ready g c = λ lives outlives. (
   c.args.scene,
   is_ready g.B.TableName.table c.args.scene c.opening-first.result c.as_slice.result.now c.in-Ok.timelines.items c.deref.result.now c.in-Ok-new.player
       (subst IsWithinLimits c.scene.view_is c.scene.invariant) c.in-Ok-new.ensures c.opening-first.ensures

@@ -8,14 +8,14 @@ pub returns-in-Err-clause-err : goal.returns-in-Err-clause-err
 returns-in-Err-clause-err g c = λ scene start w. cut_so_far g.B.TableName.table scene start _ w.so c.args.player.now w.stands (part_whole start _ _ w.written)
 
 pub write_turn-requires-clause-timelines : goal.write_turn-requires-clause-timelines
-write_turn-requires-clause-timelines g c =
-    let w = c.requires.2 in
-    timelines_within c.requires.0 c.args.timelines.now w.stands.stands.stands.of_scene.limits w.rising
+write_turn-requires-clause-timelines g c = λ lives outlives.
+    let w = c.requires.writing.2 in
+    timelines_within c.requires.writing.0 c.args.timelines.now w.stands.stands.stands.of_scene.limits w.rising
 
 pub write_turn-requires-clause-may : goal.write_turn-requires-clause-may
-write_turn-requires-clause-may g c =
-    let w = c.requires.2 in
-    (c.requires.0, may_show g.B.TableName.table c.requires.0 w.so c.in-Ok.turn c.next.new.self (c.in-Ok.ensures.on c.requires.0 w.so w.stands), w.sized)
+write_turn-requires-clause-may g c = λ lives outlives.
+    let w = c.requires.writing.2 in
+    (c.requires.writing.0, may_show g.B.TableName.table c.requires.writing.0 w.so c.in-Ok.turn c.next.new.self (c.in-Ok.ensures.on c.requires.writing.0 w.so w.stands), w.sized)
 
 pub returns-in-Ok-write_turn-clause-on : goal.returns-in-Ok-write_turn-clause-on
 returns-in-Ok-write_turn-clause-on g c = λ scene start w.

@@ -6,11 +6,11 @@ use Rattle.sf_show.proofs.play.write_play.Goals as goal
 pub returns-in-Err-clause-err : goal.returns-in-Err-clause-err
 returns-in-Err-clause-err g c = λ scene ready. first_cut g.B.TableName.table scene c.args.first c.args.timelines.now c.args.player.now ready _ _ (c.in-Err.ensures.err c.args.first refl)
 
-pub show_turns-requires : goal.show_turns-requires
-show_turns-requires g c = (
-  c.requires.0,
+pub show_turns-requires-clause-writing : goal.show_turns-requires-clause-writing
+show_turns-requires-clause-writing g c = λ lives outlives. (
+  c.requires.ready.0,
   g.K.Sink.taken c.args.sink.now,
-  has_begun g.B.TableName.table c.requires.0 c.args.first c.args.timelines.now c.args.player.now c.requires.1 _ _ (c.in-Ok.ensures.ok c.args.first refl),
+  has_begun g.B.TableName.table c.requires.ready.0 c.args.first c.args.timelines.now c.args.player.now c.requires.ready.1 _ _ (c.in-Ok.ensures.ok c.args.first refl),
 )
 
 pub returns-in-Err-show_turns-clause-err : goal.returns-in-Err-show_turns-clause-err
@@ -20,9 +20,9 @@ returns-in-Err-show_turns-clause-err g c = λ scene ready.
 
 pub write_closing-requires : goal.write_closing-requires
 write_closing-requires g c =
-    let has = c.in-Ok-show_turns.ensures.ok c.requires.0 (g.K.Sink.taken c.args.sink.now)
-    (has_begun g.B.TableName.table c.requires.0 c.args.first c.args.timelines.now c.args.player.now c.requires.1 _ _ (c.in-Ok.ensures.ok c.args.first refl)) in
-    few_steps g.B.TableName.table c.requires.0 has.so c.show_turns.new.player has.stands
+    let has = c.in-Ok-show_turns.ensures.ok c.requires.ready.0 (g.K.Sink.taken c.args.sink.now)
+    (has_begun g.B.TableName.table c.requires.ready.0 c.args.first c.args.timelines.now c.args.player.now c.requires.ready.1 _ _ (c.in-Ok.ensures.ok c.args.first refl)) in
+    few_steps g.B.TableName.table c.requires.ready.0 has.so c.show_turns.new.player has.stands
 
 pub returns-clause-ok : goal.returns-clause-ok
 returns-clause-ok g c = λ scene ready.

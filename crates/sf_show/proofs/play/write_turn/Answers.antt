@@ -6,13 +6,13 @@ use Rattle.sf_cast.specs.Casts.{CastOf}
 use Rattle.sf_play.specs.declared.turn.Turn.{Turn}
 use Rattle.sf_show.specs.Turns.{MayShowTurn, newest_shown, turn_shown}
 use Rattle.sf_show.specs.Writing.{Writes, WritesPart}
-use Rattle.sf_show.proofs.TurnLemmas.{actor_at, may_compose}
+use Rattle.sf_show.proofs.TurnLemmas.{actor_at, has_sources, may_compose}
 use Rattle.sf_show.proofs.VsyncLemmas.{with_more}
 use Rattle.sf_show.proofs.WritingLemmas.{writes_none}
 use Rattle.sf_show.proofs.play.write_turn.Goals as goal
 
 pub show_vsync-requires-clause-may : goal.show_vsync-requires-clause-may
-show_vsync-requires-clause-may g c = λ shows.
+show_vsync-requires-clause-may g c = λ lives outlives shows.
     may_compose c.requires.may.0 c.in-Vsync.report c.args.player.now.play c.args.screen.now c.contents.result.now
     (subst (λ (t : Turn). MayShowTurn c.requires.may.0 t c.args.player.now) c.in-Vsync.is c.requires.may.1) c.requires.may.2 c.contents.ensures
 
@@ -53,3 +53,10 @@ returns-in-End-clause-ok g c = λ scene may shown. (
       (sym c.in-End.is) (writes_none (g.K.Sink.taken c.args.sink.now)),
   shown,
 )
+
+pub returns-in-Vsync-clause-err : goal.returns-in-Vsync-clause-err
+returns-in-Vsync-clause-err g c = λ scene may shown.
+    let tells = subst (λ (t : Turn). MayShowTurn scene t c.args.player.now) c.in-Vsync.is may in
+    let cut = c.show_vsync.ensures.err (picture_at scene.pictures) (λ _. has_sources scene c.in-Vsync.report c.args.player.now.play c.contents.result.now tells c.contents.ensures) shown in
+    subst (λ (t : Turn). OnErr c.show_vsync.result (WritesPart (g.K.Sink.taken c.args.sink.now) (g.K.Sink.taken c.show_vsync.new.sink) (turn_shown (picture_at scene.pictures) c.args.timelines.now c.args.player.now.play.cast.actors t)))
+    (sym c.in-Vsync.is) cut

@@ -1,0 +1,57 @@
+-- What is written of a play, by its records or by their summary.
+use Rattle.std.proofs.Common.{◌≡◌, ℕ, true, false, List, [], Option, Some, Result, Ok, Err, OnErr, OnOk, All, subst}
+use Rattle.std.specs.Io.KnownBytes.{Appends}
+use Rattle.sf_io.specs.Streams.{TookPrefix}
+use Rattle.sf_scene.specs.Scene.{SceneValue}
+use Rattle.sf_record.specs.Fitting.{RecordFits}
+use Rattle.sf_record.specs.Records.{bytes_of, record_bytes}
+use Rattle.sf_record.specs.declared.encode.RunFault.{RunFault}
+use Rattle.sf_record.specs.declared.record.Record.{Record}
+use Rattle.sf_record.specs.declared.record.Record.TheVariants as rec
+use Rattle.sf_record.specs.declared.record.Summary.{Summary}
+use Rattle.sf_show.specs.Runs.{CutRun, WroteRun}
+use Rattle.sf_tally.specs.Summaries.{summary_of, wrapped}
+use Rattle.sf_app.specs.Shown.{ShowsPart, ShowsPlay}
+use Rattle.sf_app.proofs.StatusLemmas.{nothing_took}
+
+pub ok_then : {A B : Type 0} (r : Result (Unit {0}) RunFault) → (A → B) → OnOk r A → OnOk r B
+ok_then (Ok u) f h = f h
+ok_then (Err e) f h = tt
+
+pub err_then : {A B : Type 0} (r : Result (Unit {0}) RunFault) → (A → B) → OnErr r A → OnErr r B
+err_then (Ok u) f h = tt
+err_then (Err e) f h = f h
+
+-- the records of a play were written
+pub run_shows : (scene : SceneValue) (a b : Option (List ℕ)) → WroteRun scene a b → ShowsPlay false scene a b
+run_shows scene a b h = record { records = h.records; is_play = h.is_play; means = h.means; fits = h.written.fits; written = h.written.bytes }
+
+pub run_shows_part : (scene : SceneValue) (a b : Option (List ℕ)) → CutRun scene a b → ShowsPart false scene a b
+run_shows_part scene a b h = record { records = h.records; is_play = h.is_play; written = h.written }
+
+-- a summary tells what the records come to that were taken
+abbrev pub SumsUp : Summary → List ℕ → Type 0
+SumsUp summary taken = (records : List Record) → All RecordFits records → taken ≡ bytes_of records → summary ≡ wrapped (summary_of records)
+
+-- the summary of the records of a play was written
+pub sum_shows : (scene : SceneValue) (taken : List ℕ) (summary : Summary) (a b : Option (List ℕ)) → WroteRun scene (Some []) (Some taken) → SumsUp summary taken →
+    Appends a b (record_bytes (rec.Summ summary)) → ShowsPlay true scene a b
+sum_shows scene taken summary a b h sums written = record {
+  records = h.records;
+  is_play = h.is_play;
+  means = h.means;
+  fits = h.written.fits;
+  written = subst (λ (s : Summary). Appends a b (record_bytes (rec.Summ s))) (sums h.records h.written.fits h.written.bytes) written;
+}
+
+pub sum_shows_part : (scene : SceneValue) (taken : List ℕ) (summary : Summary) (a b : Option (List ℕ)) → WroteRun scene (Some []) (Some taken) → SumsUp summary taken →
+    TookPrefix a b (record_bytes (rec.Summ summary)) → ShowsPart true scene a b
+sum_shows_part scene taken summary a b h sums written = record {
+  records = h.records;
+  is_play = h.is_play;
+  written = subst (λ (s : Summary). TookPrefix a b (record_bytes (rec.Summ s))) (sums h.records h.written.fits h.written.bytes) written;
+}
+
+-- a play that was cut short shows nothing of its summary
+pub cut_shows_nothing : (scene : SceneValue) (a b c : Option (List ℕ)) → CutRun scene a b → ShowsPart true scene c c
+cut_shows_nothing scene a b c h = record { records = h.records; is_play = h.is_play; written = nothing_took c (record_bytes (rec.Summ (wrapped (summary_of h.records)))) }

@@ -1,0 +1,84 @@
+ghost use Rattle.std.specs.Prelude.{◌≡◌, ◌≤◌, Some, false, true, IfOk, IsErrOf, map};
+ghost use Rattle.std.specs.String.{string_bytes};
+ghost use Rattle.sf_io.specs.Causes.{Rose};
+ghost use Rattle.sf_io.specs.Streams.{Took};
+ghost use Rattle.sf_options.specs.Options.{GivesOptions, is_live};
+ghost use Rattle.sf_app.specs.Words.{IsScript, asked_run, generated, is_gen, unless_live};
+
+use sf_generate::generate;
+use sf_io::{ReadFault, Source, read_all};
+use sf_options::{Options, OptionsFault, Run};
+use sf_script::LONGEST_SCRIPT;
+use std::alloc::Global;
+
+fn is_live(run: Run) -> bool
+    ensures { result ≡ is_live run }
+{
+    match run {
+        Run::Live => true,
+        _ => false,
+    }
+}
+
+fn is_gen(run: Run) -> bool
+    ensures { result ≡ is_gen run }
+{
+    match run {
+        Run::Gen => true,
+        _ => false,
+    }
+}
+
+/// The options, where they ask for no live run, which is not built yet.
+fn unless_live(options: Options) -> Result<Options, OptionsFault>
+    requires { (1 ≤ options.workers) × (options.workers ≤ 16) }
+    ensures given { GivesOptions result (unless_live (Some options)) }
+    ensures workers { IfOk result (λ o. (1 ≤ o.workers) × (o.workers ≤ 16)) }
+{
+    if is_live(options.run) {
+        Err(OptionsFault::WrongWords)
+    } else {
+        Ok(options)
+    }
+}
+
+/// The options that the words give. Words that ask for a live run are wrong so far.
+pub fn options_asked(alloc: Global, words: &[String]) -> Result<Options, OptionsFault>
+    ensures given { GivesOptions result (asked_run (map string_bytes words.now)) }
+    ensures workers { IfOk result (λ o. (1 ≤ o.workers) × (o.workers ≤ 16)) }
+{
+    match Options::read(alloc, words) {
+        Ok(options) => unless_live(options),
+        Err(fault) => Err(fault),
+    }
+}
+
+/// The script that a number generates; only want of memory refuses it.
+fn generated(alloc: Global, number: u64) -> Result<Vec<u8>, ReadFault>
+    ensures text { IfOk result (λ text. text.items ≡ generated number) }
+    ensures short { ¬ IsErrOf result ReadFault.TooLong }
+    ensures calm { ¬ IsErrOf result ReadFault.Failed }
+{
+    match generate(alloc, number) {
+        Ok(text) => Ok(text),
+        Err(_) => Err(ReadFault::NoMemory),
+    }
+}
+
+/// The script that the options ask for: the generated one of their number, or what the source has.
+pub fn script_asked<S: Source>(
+    alloc: Global,
+    options: Options,
+    source: &mut S,
+) -> Result<Vec<u8>, ReadFault>
+    ensures script { IfOk result (λ text. IsScript options (S.left source.old) (S.left source.new) text.items) }
+    ensures too_long { IsErrOf result ReadFault.TooLong → (is_gen options.run ≡ false) × Took (S.left source.old) (S.left source.new) 1048577 }
+    ensures failed { IsErrOf result ReadFault.Failed → Rose (S.faults source.old) (S.faults source.new) }
+    ensures unread { is_gen options.run ≡ true → source.new ≡ source.old }
+{
+    if is_gen(options.run) {
+        generated(alloc, options.number)
+    } else {
+        read_all(alloc, source, LONGEST_SCRIPT)
+    }
+}
