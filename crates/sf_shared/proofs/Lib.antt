@@ -1,0 +1,14 @@
+pub mod Calling
+pub mod Ending
+pub mod Giving
+pub mod Going
+pub mod Homing
+pub mod Meeting
+pub mod Opening
+pub mod Ordering
+pub mod Passing
+pub mod Sending
+pub mod Splitting
+pub mod Staying
+pub mod Taking
+pub mod Watching

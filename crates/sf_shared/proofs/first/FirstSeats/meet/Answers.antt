@@ -1,0 +1,112 @@
+use Rattle.std.proofs.Common.{◌≡◌, ◌∙◌, ◌++◌, ◌∷◌, [], List, ap, arith, length, refl, rules, subst, sym}
+use Rattle.std.specs.List.{AllByRecursion, AllZip}
+use Rattle.std.specs.Vec.{with_items}
+use Rattle.std.proofs.Math.Nat.{le-max_left}
+use Rattle.std.proofs.lemmas.List.{with_items_is}
+use Rattle.sf_shared.specs.declared.first.FirstSeats.{FirstSeats}
+use Rattle.sf_shared.specs.declared.locks.QueueLock.{QueueLock}
+use Rattle.sf_shared.specs.First.{gave_of}
+use Rattle.sf_shared.specs.Passes.{IsAt, IsFirstPass, KeepsOwn, all_met}
+use Rattle.sf_shared.specs.Seats.{IsPassOf, QueuePass}
+use Rattle.sf_shared.proofs.Giving.{at_locks}
+use Rattle.sf_shared.proofs.Meeting.{IsMet, first_after, first_passes, meets_after, met_long, one_longer, took_one}
+use Rattle.sf_shared.proofs.Passing.{as_long}
+use Rattle.sf_shared.proofs.first.FirstSeats.meet.Goals as goal
+
+pub meet_passes-requires-clause-own : goal.meet_passes-requires-clause-own
+meet_passes-requires-clause-own g c =
+    let first = c.args.self.now in
+    subst (λ (ls : List (QueueLock g.row.B.Denot)). AllZip IsAt ls c.deref_mut.result.now) (sym c.deref.ensures.value)
+    (subst (λ (ps : List (QueuePass g.row.B.Denot)). AllZip IsAt c.args.locks.now.queues.items ps) (sym c.deref_mut.ensures.value)
+    (at_locks first.seats.by c.args.locks.now.queues.items first.seats.queues.items c.requires.first.own.queues))
+
+pub meet_passes-requires-clause-theirs : goal.meet_passes-requires-clause-theirs
+meet_passes-requires-clause-theirs g c =
+    subst (λ (ls : List (QueueLock g.row.B.Denot)). AllZip IsAt ls c.args.seats.queues.items) (sym c.deref.ensures.value)
+    (at_locks c.args.seats.by c.args.locks.now.queues.items c.args.seats.queues.items c.requires.theirs.queues)
+
+pub meet_passes-requires-clause-long : goal.meet_passes-requires-clause-long
+meet_passes-requires-clause-long g c =
+    let first = c.args.self.now in
+    let a = ap (λ (ls : List (QueueLock g.row.B.Denot)). length ls) c.deref.ensures.value in
+    let b = as_long (IsPassOf first.seats.by) c.args.locks.now.queues.items first.seats.queues.items c.requires.first.own.queues in
+    let d = ap (λ (ps : List (QueuePass g.row.B.Denot)). length ps) c.deref_mut.ensures.value in
+    let e = as_long (IsPassOf c.args.seats.by) c.args.locks.now.queues.items c.args.seats.queues.items c.requires.theirs.queues in
+    let many = c.args.seats.queues.ok.0 in
+    (omega (arith, a, b, d), omega (arith, many, b, d, e))
+
+pub meet_passes-requires-clause-first : goal.meet_passes-requires-clause-first
+meet_passes-requires-clause-first g c =
+    let first = c.args.self.now in
+    subst (λ (ps : List (QueuePass g.row.B.Denot)). AllByRecursion IsFirstPass ps) (sym c.deref_mut.ensures.value)
+    (first_passes (gave_of first) first.seats.queues.items c.requires.first.queues)
+
+pub returns-clause-first : goal.returns-clause-first
+returns-clause-first g c =
+    let old = c.args.self.now in
+    let new : FirstSeats g.row.B.Denot = record {
+      seats = record {
+        by = old.seats.by;
+        last = record { step = old.seats.last.step; stamp = c.max-first.result };
+        queues = with_items old.seats.queues c.meet_passes.new.firsts;
+        arrivals = c.meet.new.self;
+        times = c.join.new.self;
+        turns = c.join-2.new.self;
+      };
+      took = c.push.new.self;
+    } in
+    let met = c.meet_passes.ensures.met ∙ ap (λ (ps : List (QueuePass g.row.B.Denot)). all_met ps c.args.seats.queues.items) c.deref_mut.ensures.value in
+    let many = old.seats.queues.ok.0 in
+    let long = ap (λ (ps : List (QueuePass g.row.B.Denot)). length ps) met ∙ met_long old.seats.queues.items c.args.seats.queues.items in
+    let whole = with_items_is old.seats.queues c.meet_passes.new.firsts (omega (arith, many, long)) in
+    let own = subst (λ (ps : List (QueuePass g.row.B.Denot)). AllZip KeepsOwn ps c.meet_passes.new.firsts) c.deref_mut.ensures.value c.meet_passes.ensures.own_calls in
+    let pushed : c.push.new.self.items ≡ old.took.items ++ c.of-kept.result ∷ [] = search rules in
+    let m : IsMet c.args.seats old new = record {
+      took = took_one old.took.items c.push.new.self.items c.of-kept.result c.args.seats pushed c.of-kept.ensures;
+      many = one_longer old.took.items c.push.new.self.items c.of-kept.result pushed;
+      number = refl;
+      step = refl;
+      stamp = (let a = c.max-first.ensures in let b = le-max_left old.seats.last.stamp c.args.seats.last.stamp in omega (arith, a, b));
+      queues = whole ∙ met;
+      own_calls = subst (λ (ps : List (QueuePass g.row.B.Denot)). AllZip KeepsOwn old.seats.queues.items ps) (sym whole) own;
+      arrivals = c.meet.ensures.both;
+      own_arrivals = c.meet.ensures.own_calls;
+      times = c.join.ensures.both;
+      turns = c.join-2.ensures.both;
+    } in
+    first_after g.B.TableName.table c.args.locks.now c.args.seats old new c.requires.first c.requires.theirs m c.requires.out
+
+pub returns-clause-meets : goal.returns-clause-meets
+returns-clause-meets g c =
+    let old = c.args.self.now in
+    let new : FirstSeats g.row.B.Denot = record {
+      seats = record {
+        by = old.seats.by;
+        last = record { step = old.seats.last.step; stamp = c.max-first.result };
+        queues = with_items old.seats.queues c.meet_passes.new.firsts;
+        arrivals = c.meet.new.self;
+        times = c.join.new.self;
+        turns = c.join-2.new.self;
+      };
+      took = c.push.new.self;
+    } in
+    let met = c.meet_passes.ensures.met ∙ ap (λ (ps : List (QueuePass g.row.B.Denot)). all_met ps c.args.seats.queues.items) c.deref_mut.ensures.value in
+    let many = old.seats.queues.ok.0 in
+    let long = ap (λ (ps : List (QueuePass g.row.B.Denot)). length ps) met ∙ met_long old.seats.queues.items c.args.seats.queues.items in
+    let whole = with_items_is old.seats.queues c.meet_passes.new.firsts (omega (arith, many, long)) in
+    let own = subst (λ (ps : List (QueuePass g.row.B.Denot)). AllZip KeepsOwn ps c.meet_passes.new.firsts) c.deref_mut.ensures.value c.meet_passes.ensures.own_calls in
+    let pushed : c.push.new.self.items ≡ old.took.items ++ c.of-kept.result ∷ [] = search rules in
+    let m : IsMet c.args.seats old new = record {
+      took = took_one old.took.items c.push.new.self.items c.of-kept.result c.args.seats pushed c.of-kept.ensures;
+      many = one_longer old.took.items c.push.new.self.items c.of-kept.result pushed;
+      number = refl;
+      step = refl;
+      stamp = (let a = c.max-first.ensures in let b = le-max_left old.seats.last.stamp c.args.seats.last.stamp in omega (arith, a, b));
+      queues = whole ∙ met;
+      own_calls = subst (λ (ps : List (QueuePass g.row.B.Denot)). AllZip KeepsOwn old.seats.queues.items ps) (sym whole) own;
+      arrivals = c.meet.ensures.both;
+      own_arrivals = c.meet.ensures.own_calls;
+      times = c.join.ensures.both;
+      turns = c.join-2.ensures.both;
+    } in
+    meets_after g.B.TableName.table c.args.locks.now c.args.seats old new c.requires.first c.requires.theirs m

@@ -1,0 +1,80 @@
+use Rattle.std.proofs.Common.{List, ◌∙◌, ap, subst, sym}
+use Rattle.sf_calls.specs.Histories.{GoesOnWithout, IsLegal, calls_by}
+use Rattle.sf_stamped.specs.Stamps.{AnswersStamped, unstamped}
+use Rattle.sf_stamped.proofs.StampLemmas.{legal_without, rises}
+use Rattle.sf_token.specs.Arrivals.{AnswersCall}
+use Rattle.sf_actor.specs.Plain.{PlainOf}
+use Rattle.sf_shared.specs.Arriving.{ArrivalEntry}
+use Rattle.sf_shared.specs.Closing.{AreClosed}
+use Rattle.sf_shared.proofs.Ending.{IsLeft, all_last, closes, goes, last_arrivals, nobody, ordered}
+use Rattle.sf_shared.proofs.locks.Locks.close.Goals as goal
+
+pub close_queues-requires : goal.close_queues-requires
+close_queues-requires g c = all_last g.B.TableName.table c.args.self c.args.first c.requires.first c.requires.all
+
+pub close-requires-clause-took_all : goal.close-requires-clause-took_all
+close-requires-clause-took_all g c = last_arrivals g.B.TableName.table c.args.self c.args.first c.requires.first c.requires.all
+
+pub returns-clause-closed : goal.returns-clause-closed
+returns-clause-closed g c =
+    let first = c.args.first in
+    let closed = c.in-Ok.ensures in
+    let legal = subst (λ (log : List ArrivalEntry). IsLegal (AnswersStamped AnswersCall) log) closed.history closed.legal in
+    let left : IsLeft c.args.self first c.new.result = record {
+      queues = subst (λ (d : PlainOf g.row.B.Denot). AreClosed c.args.self.queues.items first.seats.queues.items d.queues) (sym c.new.ensures) c.in_ok-queues.ensures;
+      arrivals = ap (λ (d : PlainOf g.row.B.Denot). d.arrivals) c.new.ensures ∙ c.into_arrivals.ensures ∙ ap unstamped closed.history;
+      rise = rises first.seats.arrivals.seen (legal_without AnswersCall first.seats.arrivals.seen legal).1;
+      taken = λ p there. subst (λ (log : List ArrivalEntry). GoesOnWithout p.0 p.1 log) closed.history (closed.taken p there);
+      callers = λ b not. sym (ap (λ (log : List ArrivalEntry). calls_by b log) closed.history) ∙ closed.callers b not;
+      times = ap (λ (d : PlainOf g.row.B.Denot). d.times) c.new.ensures;
+      turns = ap (λ (d : PlainOf g.row.B.Denot). d.turns) c.new.ensures;
+    } in
+    closes g.B.TableName.table c.args.self first c.new.result c.requires.first left
+
+pub returns-clause-ordered : goal.returns-clause-ordered
+returns-clause-ordered g c =
+    let first = c.args.first in
+    let closed = c.in-Ok.ensures in
+    let legal = subst (λ (log : List ArrivalEntry). IsLegal (AnswersStamped AnswersCall) log) closed.history closed.legal in
+    let left : IsLeft c.args.self first c.new.result = record {
+      queues = subst (λ (d : PlainOf g.row.B.Denot). AreClosed c.args.self.queues.items first.seats.queues.items d.queues) (sym c.new.ensures) c.in_ok-queues.ensures;
+      arrivals = ap (λ (d : PlainOf g.row.B.Denot). d.arrivals) c.new.ensures ∙ c.into_arrivals.ensures ∙ ap unstamped closed.history;
+      rise = rises first.seats.arrivals.seen (legal_without AnswersCall first.seats.arrivals.seen legal).1;
+      taken = λ p there. subst (λ (log : List ArrivalEntry). GoesOnWithout p.0 p.1 log) closed.history (closed.taken p there);
+      callers = λ b not. sym (ap (λ (log : List ArrivalEntry). calls_by b log) closed.history) ∙ closed.callers b not;
+      times = ap (λ (d : PlainOf g.row.B.Denot). d.times) c.new.ensures;
+      turns = ap (λ (d : PlainOf g.row.B.Denot). d.turns) c.new.ensures;
+    } in
+    ordered g.B.TableName.table c.args.self first c.new.result c.requires.first left
+
+pub returns-clause-goes_on : goal.returns-clause-goes_on
+returns-clause-goes_on g c =
+    let first = c.args.first in
+    let closed = c.in-Ok.ensures in
+    let legal = subst (λ (log : List ArrivalEntry). IsLegal (AnswersStamped AnswersCall) log) closed.history closed.legal in
+    let left : IsLeft c.args.self first c.new.result = record {
+      queues = subst (λ (d : PlainOf g.row.B.Denot). AreClosed c.args.self.queues.items first.seats.queues.items d.queues) (sym c.new.ensures) c.in_ok-queues.ensures;
+      arrivals = ap (λ (d : PlainOf g.row.B.Denot). d.arrivals) c.new.ensures ∙ c.into_arrivals.ensures ∙ ap unstamped closed.history;
+      rise = rises first.seats.arrivals.seen (legal_without AnswersCall first.seats.arrivals.seen legal).1;
+      taken = λ p there. subst (λ (log : List ArrivalEntry). GoesOnWithout p.0 p.1 log) closed.history (closed.taken p there);
+      callers = λ b not. sym (ap (λ (log : List ArrivalEntry). calls_by b log) closed.history) ∙ closed.callers b not;
+      times = ap (λ (d : PlainOf g.row.B.Denot). d.times) c.new.ensures;
+      turns = ap (λ (d : PlainOf g.row.B.Denot). d.turns) c.new.ensures;
+    } in
+    goes g.B.TableName.table c.args.self first c.new.result c.requires.first left
+
+pub returns-clause-nobody : goal.returns-clause-nobody
+returns-clause-nobody g c =
+    let first = c.args.first in
+    let closed = c.in-Ok.ensures in
+    let legal = subst (λ (log : List ArrivalEntry). IsLegal (AnswersStamped AnswersCall) log) closed.history closed.legal in
+    let left : IsLeft c.args.self first c.new.result = record {
+      queues = subst (λ (d : PlainOf g.row.B.Denot). AreClosed c.args.self.queues.items first.seats.queues.items d.queues) (sym c.new.ensures) c.in_ok-queues.ensures;
+      arrivals = ap (λ (d : PlainOf g.row.B.Denot). d.arrivals) c.new.ensures ∙ c.into_arrivals.ensures ∙ ap unstamped closed.history;
+      rise = rises first.seats.arrivals.seen (legal_without AnswersCall first.seats.arrivals.seen legal).1;
+      taken = λ p there. subst (λ (log : List ArrivalEntry). GoesOnWithout p.0 p.1 log) closed.history (closed.taken p there);
+      callers = λ b not. sym (ap (λ (log : List ArrivalEntry). calls_by b log) closed.history) ∙ closed.callers b not;
+      times = ap (λ (d : PlainOf g.row.B.Denot). d.times) c.new.ensures;
+      turns = ap (λ (d : PlainOf g.row.B.Denot). d.turns) c.new.ensures;
+    } in
+    nobody g.B.TableName.table c.args.self first c.new.result c.requires.first left

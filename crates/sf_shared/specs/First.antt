@@ -1,0 +1,94 @@
+-- The first caller's seats, which give seats to other callers and take them in.
+use Rattle.std.specs.Prelude.{◌≡◌, ℕ, ◌+◌, true, false, List, [], ◌∷◌, ◌++◌, length, map, Contains}
+use Rattle.std.specs.List.{AllByRecursion, AllZip}
+use Rattle.std.specs.declared.snapshot.Snapshot.{Snapshot}
+use Rattle.atomic_table.specs.Seated.{TableId}
+use Rattle.sf_times.specs.Seats.{joined as joined_times, lending, split_off}
+use Rattle.sf_turns.specs.Views.{joined as joined_turns}
+use Rattle.sf_actor.specs.Known.{AreAmong, CountsRise}
+use Rattle.sf_shared.specs.declared.first.FirstSeats.{FirstSeats}
+use Rattle.sf_shared.specs.declared.locks.Locks.{Locks}
+use Rattle.sf_shared.specs.declared.seats.Seats.{Seats}
+use Rattle.sf_shared.specs.Seats.{AreSeats, QueuePass, view_of}
+
+module _ {B : Type 0} where
+  abbrev pub gave_of : FirstSeats B → List ℕ
+  gave_of first = first.seats.arrivals.gave
+
+  -- the seats that were taken in, as they were then
+  abbrev pub took_of : FirstSeats B → List (Seats B)
+  took_of first = map (λ (seats : Snapshot (Seats B)). seats.value) first.took.items
+
+  -- a pass that gave one to each of these callers, at a queue that had no calls when it was put under its lock
+  pub record Leads (gave : List ℕ) (pass : QueuePass B) : Type 0 where
+    pub is_first : pass.is_first ≡ true
+    pub gave_is : pass.gave ≡ gave
+    pub start : pass.start ≡ []
+
+  -- the first pass took in that one of the caller
+  abbrev pub TookPass : ℕ → QueuePass B → QueuePass B → Type 0
+  TookPass by first pass = Contains first.took (by, pass.seen)
+
+  -- what these seats knew was taken in
+  pub record IsTaken (first : Seats B) (buffers : TableId) (locks : Locks B) (seats : Seats B) : Type 0 where
+    pub own : AreSeats buffers locks seats
+    pub queues : AllZip (TookPass seats.by) first.queues.items seats.queues.items
+    pub arrivals : Contains first.arrivals.took (seats.by, seats.arrivals.seen)
+    pub known : AreAmong seats.times.knows.known first.times.knows.known
+    pub signals : AreAmong seats.times.knows.signals first.times.knows.signals
+    pub leaves : AreAmong seats.turns.leaves first.turns.leaves
+    pub seen : CountsRise seats.turns.seen first.turns.seen
+
+  -- The first caller's seats: each pass and seat is the first of its table. All passes gave one to the same callers, and each
+  -- seat has as many out as were given and not taken in.
+  pub record IsFirst (buffers : TableId) (locks : Locks B) (first : FirstSeats B) : Type 0 where
+    pub own : AreSeats buffers locks first.seats
+    pub queues : AllByRecursion (Leads (gave_of first)) first.seats.queues.items
+    pub arrivals : first.seats.arrivals.is_first ≡ true
+    pub start : first.seats.arrivals.start ≡ []
+    pub times : first.seats.times.knows.is_first ≡ true
+    pub turns : first.seats.turns.is_first ≡ true
+    pub times_out : first.seats.times.knows.out + length first.took.items ≡ length (gave_of first)
+    pub turns_out : first.seats.turns.out + length first.took.items ≡ length (gave_of first)
+    pub took : (seats : Seats B) → Contains (took_of first) seats → IsTaken first.seats buffers locks seats
+
+  -- all that were given were taken in
+  pub record HasAll (first : FirstSeats B) : Type 0 where
+    pub all : (by : ℕ) → Contains (gave_of first) by → Contains (map (λ (seats : Seats B). seats.by) (took_of first)) by
+    pub many : length first.took.items ≡ length (gave_of first)
+
+  -- no call on anything is known
+  pub record KnowsNothing (seats : Seats B) : Type 0 where
+    pub queues : AllByRecursion (λ (pass : QueuePass B). pass.seen ≡ []) seats.queues.items
+    pub arrivals : seats.arrivals.seen ≡ []
+
+  -- seats know the same calls and arrivals
+  pub record KnowsSame (old new : Seats B) : Type 0 where
+    pub calls : (queue : ℕ) → (view_of new).calls queue ≡ (view_of old).calls queue
+    pub arrivals : (view_of new).arrivals ≡ (view_of old).arrivals
+
+  -- seats for a caller, which know what the first ones know, and signalled nothing and left no turn
+  pub record IsGiven (by : ℕ) (first seats : Seats B) : Type 0 where
+    pub number : seats.by ≡ by
+    pub knows : KnowsSame first seats
+    pub nothing : KnowsNothing seats
+    pub times : seats.times ≡ record first.times { knows = split_off first.times.knows }
+    pub turns : seats.turns ≡ record first.turns { is_first = false; out = 0; leaves = [] }
+
+  -- the first seats, after they gave some to a caller
+  pub record Gives (by : ℕ) (old new : FirstSeats B) : Type 0 where
+    pub gave : gave_of new ≡ by ∷ gave_of old
+    pub took : took_of new ≡ took_of old
+    pub number : new.seats.by ≡ old.seats.by
+    pub knows : KnowsSame old.seats new.seats
+    pub nothing : KnowsNothing new.seats
+    pub times : new.seats.times ≡ record old.seats.times { knows = lending old.seats.times.knows }
+    pub turns : new.seats.turns ≡ record old.seats.turns { out = old.seats.turns.out + 1 }
+
+  -- the first seats, after they took others in
+  pub record Meets (seats : Seats B) (old new : FirstSeats B) : Type 0 where
+    pub gave : gave_of new ≡ gave_of old
+    pub took : took_of new ≡ took_of old ++ seats ∷ []
+    pub number : new.seats.by ≡ old.seats.by
+    pub times : new.seats.times ≡ record old.seats.times { knows = joined_times old.seats.times.knows seats.times.knows }
+    pub turns : new.seats.turns ≡ joined_turns old.seats.turns seats.turns

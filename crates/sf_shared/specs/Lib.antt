@@ -1,0 +1,9 @@
+pub mod Arriving
+pub mod Calls
+pub mod Closing
+pub mod Eyes
+pub mod First
+pub mod Moves
+pub mod Passes
+pub mod Seats
+pub mod Shared

@@ -1,0 +1,6 @@
+/// When a caller last did something: its step, and the stamp of the call.
+#[derive(Clone, Copy, Debug, Drop)]
+pub struct Clock {
+    pub step: u32,
+    pub stamp: u64,
+}

@@ -1,0 +1,114 @@
+//! The calls of a compositor that shares the locks with the actors.
+ghost use Rattle.std.specs.Prelude.{◌≡◌, ◌≤◌, IfErr, IfOk, Some};
+ghost use Rattle.sf_calls.specs.Histories.{calls_by};
+ghost use Rattle.std.specs.Prelude.{false, true, IsErr, OnErr};
+ghost use Rattle.sf_commit.specs.Handlers.{Decides, Stops, last_of};
+ghost use Rattle.sf_token.specs.Pending.{IsRisingFrom};
+ghost use Rattle.sf_shared.specs.Calls.{TookOne};
+ghost use Rattle.sf_shared.specs.Eyes.{SeatGoesOn};
+ghost use Rattle.sf_shared.specs.Seats.{sent_in};
+
+use crate::arrivals::StampedArrivals;
+use crate::clock::Clock;
+use crate::locks::Locks;
+use crate::seats::Seats;
+use sf_base::{NoMemory, Seen};
+use sf_calls::{CallFault, CallLock, Pass};
+use sf_commit::{Handler, Vsync};
+use sf_picture::Painted;
+use sf_surface::ReadLease;
+use sf_token::{ArriveCall, ArriveReply, Arrived, Batch};
+use sf_turns::{TableName, TurnSeat};
+use sf_txn::Lease;
+use std::sync::Wait;
+
+/// Takes what waits, through a pass.
+fn take_one<R: Wait, B: TableName>(
+    rt: &R,
+    lock: &CallLock<StampedArrivals<B>>,
+    pass: &mut Pass<StampedArrivals<B>>,
+    last: &mut Clock,
+) -> Result<Vec<Arrived<ReadLease<B>>>, NoMemory>
+    requires own { pass.old.table ≡ lock.now }
+    requires marked { pass.old.mark ≡ Some tt }
+    ensures same { pass.new ≡ record pass.old { seen = pass.new.seen; turns = pass.new.turns } }
+    ensures turns { pass.old.turns ≤ pass.new.turns }
+    ensures step { last.new.step ≡ last.old.step }
+    ensures stamp { last.old.stamp ≤ last.new.stamp }
+    ensures sends { sent_in (calls_by pass.old.by pass.new.seen) ≡ sent_in (calls_by pass.old.by pass.old.seen) }
+    ensures took { IfOk result (λ list. TookOne pass.old pass.new list.items) }
+    ensures stays { IfErr result (λ _. pass.new ≡ pass.old) }
+{
+    match pass.call(lock, rt, (last.stamp, ArriveCall::Take)) {
+        Ok((stamp, ArriveReply::Batch(batch))) => {
+            last.stamp = stamp;
+            let Batch { list } = batch;
+            Ok(list)
+        }
+        Err(CallFault::NoMemory(_)) => Err(NoMemory),
+        _other => unreachable!(),
+    }
+}
+
+/// A handler's vsync with a seat at the turns as its eye.
+fn vsync_through<B: TableName>(
+    turns: &mut TurnSeat<Painted>,
+    handler: &mut Handler<ReadLease<B>>,
+    arrived: Vec<Arrived<ReadLease<B>>>,
+    seen: &Seen,
+    expected: u64,
+) -> Result<Vsync<ReadLease<B>>, NoMemory>
+    requires own { turns.old.table ≡ B.table }
+    requires rising { handler.old.is_spent ≡ false → IsRisingFrom handler.old.last arrived.items (last_of handler.old.last arrived.items) }
+    ensures decides { IfOk result (λ told. Decides ⟦<ReadLease<B> as Lease>⟧ handler.old turns.old arrived.items seen.now expected told handler.new turns.new) }
+    ensures stops { OnErr result (Stops ⟦<ReadLease<B> as Lease>⟧ handler.old turns.old handler.new turns.new) }
+    ensures again { handler.old.is_spent ≡ true → IsErr result }
+    ensures goes { SeatGoesOn turns.old turns.new }
+{
+    handler.vsync(turns, arrived, seen, expected)
+}
+
+impl<B: TableName> Seats<B> {
+    ghost use Rattle.std.specs.Prelude.{◌≡◌, false, true, IfErr, IfOk, IsErr, OnErr};
+    ghost use Rattle.sf_commit.specs.Handlers.{Decides, Stops, last_of};
+    ghost use Rattle.sf_token.specs.Pending.{IsRisingFrom};
+    ghost use Rattle.sf_shared.specs.Eyes.{SeatGoesOn};
+    ghost use Rattle.sf_actor.specs.Desks.{IsAsBefore};
+    ghost use Rattle.sf_shared.specs.Moves.{ChangesArrivals, Takes};
+    ghost use Rattle.sf_shared.specs.Seats.{AreSeats, view_of};
+
+    /// Takes the transactions that arrived, and waits for its turn under the lock. Want of memory
+    /// leaves them.
+    pub fn take<R: Wait>(
+        &mut self,
+        locks: &Locks<B>,
+        rt: &R,
+    ) -> Result<Vec<Arrived<ReadLease<B>>>, NoMemory>
+        requires own { AreSeats B.table locks.now self.old }
+        ensures own { AreSeats B.table locks.now self.new }
+        ensures changes { ChangesArrivals self.old self.new }
+        ensures took { IfOk result (λ list. Takes self.old self.new list.items) }
+        ensures stays { IfErr result (λ _. IsAsBefore (view_of self.old) (view_of self.new)) }
+    {
+        take_one(rt, &locks.arrivals, &mut self.arrivals, &mut self.last)
+    }
+
+    /// A handler's vsync with the seat at the turns as its eye.
+    pub fn vsync(
+        &mut self,
+        handler: &mut Handler<ReadLease<B>>,
+        arrived: Vec<Arrived<ReadLease<B>>>,
+        seen: &Seen,
+        expected: u64,
+    ) -> Result<Vsync<ReadLease<B>>, NoMemory>
+        requires own { self.old.turns.table ≡ B.table }
+        requires rising { handler.old.is_spent ≡ false → IsRisingFrom handler.old.last arrived.items (last_of handler.old.last arrived.items) }
+        ensures decides { IfOk result (λ told. Decides ⟦<ReadLease<B> as Lease>⟧ handler.old self.old.turns arrived.items seen.now expected told handler.new self.new.turns) }
+        ensures stops { OnErr result (Stops ⟦<ReadLease<B> as Lease>⟧ handler.old self.old.turns handler.new self.new.turns) }
+        ensures again { handler.old.is_spent ≡ true → IsErr result }
+        ensures same { self.new ≡ record self.old { turns = self.new.turns } }
+        ensures goes { SeatGoesOn self.old.turns self.new.turns }
+    {
+        vsync_through(&mut self.turns, handler, arrived, seen, expected)
+    }
+}

@@ -1,0 +1,140 @@
+ghost use Rattle.std.specs.Prelude.{◌≡◌, length, map, vec_len, IfOk, OnOk};
+ghost use Rattle.std.specs.List.{AllByRecursion, AllZip};
+ghost use Rattle.sf_calls.specs.Passes.{given, giving};
+ghost use Rattle.sf_shared.specs.Passes.{IsAt, IsFirstPass, KeepsOwn, MayGive, all_met};
+
+use crate::clock::Clock;
+use crate::locks::{Locks, QueueLock};
+use crate::seats::Seats;
+use sf_base::NoMemory;
+use sf_calls::Pass;
+use sf_stamped::Stamped;
+use sf_surface::QueueObject;
+use sf_turns::TableName;
+use std::alloc::Global;
+use std::snapshot::Snapshot;
+
+/// The first caller's seats. They give seats to other callers, and take them in again.
+#[derive(Drop)]
+pub struct FirstSeats<B: TableName> {
+    pub seats: Seats<B>,
+    // Those that were taken in, for proofs alone.
+    pub(crate) took: Vec<Snapshot<Seats<B>>>,
+}
+
+/// A pass for a caller, of each of the first ones.
+fn split_passes<B: TableName>(
+    alloc: Global,
+    locks: &[QueueLock<B>],
+    firsts: &mut [Pass<Stamped<QueueObject<B>>>],
+    by: u32,
+) -> Result<Vec<Pass<Stamped<QueueObject<B>>>>, NoMemory>
+    requires own { AllZip IsAt locks.now firsts.old }
+    requires long { length locks.now ≡ length firsts.old }
+    requires first { AllByRecursion (MayGive by) firsts.old }
+    ensures gives { OnOk result (firsts.new ≡ map (giving by) firsts.old) }
+    ensures given { IfOk result (λ passes. passes.items ≡ map (given by) firsts.old) }
+{
+    let mut passes = Vec::new(alloc);
+    for place in 0..firsts.len() {
+        let pass = firsts[place].split(&locks[place].lock, by);
+        if passes.push(pass).is_err() {
+            return Err(NoMemory);
+        }
+    }
+    Ok(passes)
+}
+
+/// Takes a caller's passes in.
+fn meet_passes<B: TableName>(
+    locks: &[QueueLock<B>],
+    firsts: &mut [Pass<Stamped<QueueObject<B>>>],
+    passes: Vec<Pass<Stamped<QueueObject<B>>>>,
+)
+    requires own { AllZip IsAt locks.now firsts.old }
+    requires theirs { AllZip IsAt locks.now passes.items }
+    requires long { (length locks.now ≡ length firsts.old) × (vec_len passes ≡ length firsts.old) }
+    requires first { AllByRecursion IsFirstPass firsts.old }
+    ensures met { firsts.new ≡ all_met firsts.old passes.items }
+    ensures own_calls { AllZip KeepsOwn firsts.old firsts.new }
+{
+    let mut passes = passes.into_iter();
+    for place in 0..firsts.len() {
+        let Some(pass) = passes.next() else {
+            unreachable!()
+        };
+        firsts[place].meet(&locks[place].lock, pass);
+    }
+}
+
+impl<B: TableName> FirstSeats<B> {
+    ghost use Rattle.std.specs.Prelude.{◌≡◌, ◌<◌, [], ◌∷◌, length, Contains, IfOk};
+    ghost use Rattle.sf_shared.specs.First.{Gives, IsFirst, IsGiven, KnowsNothing, Meets, gave_of};
+    ghost use Rattle.sf_shared.specs.Seats.{AreSeats};
+
+    /// The first caller's seats, which gave none yet.
+    pub(crate) fn of(alloc: Global, seats: Seats<B>) -> FirstSeats<B>
+        ensures seats { result.seats ≡ seats }
+        ensures took { result.took.items ≡ [] }
+    {
+        FirstSeats {
+            seats,
+            took: Vec::new(alloc),
+        }
+    }
+
+    /// Seats for another caller, who was given none yet. The first caller called nothing yet either.
+    pub fn split(&mut self, alloc: Global, locks: &Locks<B>, by: u32) -> Result<Seats<B>, NoMemory>
+        requires first { IsFirst B.table locks.now self.old }
+        requires fresh { Contains (self.old.seats.by ∷ gave_of self.old) by → ⊥ }
+        requires unused { KnowsNothing self.old.seats }
+        ensures first { IfOk result (λ seats. IsFirst B.table locks.now self.new) }
+        ensures gives { IfOk result (λ seats. Gives by self.old self.new) }
+        ensures seats { IfOk result (AreSeats B.table locks.now) }
+        ensures given { IfOk result (IsGiven by self.old.seats) }
+    {
+        let seats = &mut self.seats;
+        let queues = split_passes(alloc, &locks.queues, &mut seats.queues, by)?;
+        let turns = seats.turns.split()?;
+        Ok(Seats {
+            by,
+            last: Clock {
+                step: 0,
+                stamp: seats.last.stamp,
+            },
+            queues,
+            arrivals: seats.arrivals.split(&locks.arrivals, by),
+            times: seats.times.split(&locks.times),
+            turns,
+        })
+    }
+
+    /// Takes a caller's seats in, which then are one less out.
+    pub fn meet(&mut self, locks: &Locks<B>, seats: Seats<B>) -> Result<(), NoMemory>
+        requires first { IsFirst B.table locks.now self.old }
+        requires theirs { AreSeats B.table locks.now seats }
+        requires out { length self.old.took.items < length (gave_of self.old) }
+        ensures first { IfOk result (λ done. IsFirst B.table locks.now self.new) }
+        ensures meets { IfOk result (λ done. Meets seats self.old self.new) }
+    {
+        let kept = Snapshot::of(&seats);
+        if self.took.push(kept).is_err() {
+            return Err(NoMemory);
+        }
+        let Seats {
+            by: _,
+            last,
+            queues,
+            arrivals,
+            times,
+            turns,
+        } = seats;
+        let first = &mut self.seats;
+        first.last.stamp = first.last.stamp.max(last.stamp);
+        meet_passes(&locks.queues, &mut first.queues, queues);
+        first.arrivals.meet(&locks.arrivals, arrivals);
+        first.times.join(&locks.times, times);
+        first.turns.join(turns);
+        Ok(())
+    }
+}

@@ -1,0 +1,24 @@
+//! What threads share, and what each brings. Each queue lies under a lock, and so do the arrivals;
+//! all callers hold the locks and the timelines by reference. A caller has seats: a pass for each
+//! lock, a seat at the timelines and one at the turns. The first caller's seats give seats to others
+//! and take them in again; then the queues, the arrivals and the seats are a desk of one thread, and
+//! what each caller knew goes on in what that desk knows.
+#![tactic(auto)]
+
+mod arrivals;
+mod calls;
+mod clock;
+mod compositing;
+mod first;
+mod laws;
+mod locks;
+mod seats;
+mod shared;
+
+pub use arrivals::StampedArrivals;
+pub use clock::Clock;
+pub use first::FirstSeats;
+pub use laws::first_seats_stay_first;
+pub use locks::{Locks, QueueLock};
+pub use seats::Seats;
+pub use shared::SharedDesk;

@@ -1,0 +1,211 @@
+ghost use Rattle.std.specs.Prelude.{◌≡◌, ℕ, true, [], ◌∷◌, Contains, IfOk};
+ghost use Rattle.std.specs.List.{AllByRecursion, AllZip, position};
+ghost use Rattle.sf_times.specs.Seats.{IsAlone};
+ghost use Rattle.sf_actor.specs.Desks.{known_of};
+ghost use Rattle.sf_actor.specs.Known.{GoesOn};
+ghost use Rattle.sf_actor.specs.Plain.{home_of as plain_home, view_of as plain_view};
+ghost use Rattle.sf_shared.specs.declared.seats.Seats.{Seats};
+ghost use Rattle.sf_shared.specs.Closing.{AreClosed, AreOpened, Closes, HasNoCalls, HasNoEntry, IsClosed, IsLast, IsOpened, IsOrdered, Opens};
+ghost use Rattle.sf_shared.specs.First.{HasAll, IsFirst, gave_of, took_of};
+ghost use Rattle.sf_shared.specs.Seats.{home_of, is_lock, view_of};
+
+use crate::arrivals::StampedArrivals;
+use crate::clock::Clock;
+use crate::first::FirstSeats;
+use crate::seats::Seats;
+use sf_actor::PlainDesk;
+use sf_base::{NoMemory, QueueId};
+use sf_calls::{CallLock, Pass};
+use sf_picture::Painted;
+use sf_stamped::Stamped;
+use sf_surface::{QueueObject, ReadLease};
+use sf_times::{TimeSeat, Timelines};
+use sf_token::Arrivals;
+use sf_turns::{TableName, TurnSeat};
+use std::alloc::Global;
+use std::marker::Brand;
+use std::snapshot::Snapshot;
+
+/// A queue under a lock, with its number.
+#[derive(Drop)]
+pub struct QueueLock<B: TableName> {
+    pub(crate) number: QueueId,
+    pub(crate) lock: CallLock<Stamped<QueueObject<B>>>,
+    // The queue as it was opened, for proofs alone.
+    pub(crate) opened: Snapshot<QueueObject<B>>,
+}
+
+/// What threads share by reference: each queue under a lock, the arrivals under another, and the
+/// timelines.
+#[derive(Drop)]
+pub struct Locks<B: TableName> {
+    pub(crate) queues: Vec<QueueLock<B>>,
+    pub(crate) arrivals: CallLock<StampedArrivals<B>>,
+    pub(crate) times: Timelines,
+}
+
+/// A queue without calls under a lock, with the first caller's pass.
+fn open_queue<B: TableName>(
+    alloc: Global,
+    object: QueueObject<B>,
+) -> Result<(QueueLock<B>, Pass<Stamped<QueueObject<B>>>), NoMemory>
+    requires { object.calls ≡ [] }
+    ensures { IfOk result (λ opened. IsOpened object opened.0 opened.1) }
+{
+    let number = object.queue();
+    let opened = Snapshot::of(&object);
+    match CallLock::open(alloc, Stamped::new(alloc, object), 0) {
+        Ok((lock, pass)) => Ok((
+            QueueLock {
+                number,
+                lock,
+                opened,
+            },
+            pass,
+        )),
+        Err(_) => Err(NoMemory),
+    }
+}
+
+/// Queues without calls, each under a lock.
+fn open_queues<B: TableName>(
+    alloc: Global,
+    objects: Vec<QueueObject<B>>,
+) -> Result<(Vec<QueueLock<B>>, Vec<Pass<Stamped<QueueObject<B>>>>), NoMemory>
+    requires { AllByRecursion HasNoCalls objects.items }
+    ensures { IfOk result (λ opened. AreOpened objects.items opened.0.items opened.1.items) }
+{
+    let mut locks = Vec::new(alloc);
+    let mut passes = Vec::new(alloc);
+    for object in objects {
+        let (lock, pass) = open_queue(alloc, object)?;
+        if locks.push(lock).is_err() || passes.push(pass).is_err() {
+            return Err(NoMemory);
+        }
+    }
+    Ok((locks, passes))
+}
+
+/// A queue out of its lock.
+fn close_queue<B: TableName>(
+    lock: QueueLock<B>,
+    pass: Pass<Stamped<QueueObject<B>>>,
+) -> Result<QueueObject<B>, NoMemory>
+    requires own { IsLast lock pass }
+    ensures { IfOk result (IsClosed lock pass) }
+{
+    let QueueLock {
+        number: _,
+        lock,
+        opened: _,
+    } = lock;
+    match lock.close(pass) {
+        Ok(stamped) => Ok(stamped.into_object()),
+        Err(_) => Err(NoMemory),
+    }
+}
+
+/// The queues out of their locks.
+fn close_queues<B: TableName>(
+    alloc: Global,
+    locks: Vec<QueueLock<B>>,
+    passes: Vec<Pass<Stamped<QueueObject<B>>>>,
+) -> Result<Vec<QueueObject<B>>, NoMemory>
+    requires { AllZip IsLast locks.items passes.items }
+    ensures { IfOk result (λ objects. AreClosed locks.items passes.items objects.items) }
+{
+    let mut objects = Vec::new(alloc);
+    let mut passes = passes.into_iter();
+    for lock in locks {
+        let Some(pass) = passes.next() else {
+            unreachable!()
+        };
+        let object = close_queue(lock, pass)?;
+        if objects.push(object).is_err() {
+            return Err(NoMemory);
+        }
+    }
+    Ok(objects)
+}
+
+impl<B: TableName> Locks<B> {
+    /// The place of the queue of this number.
+    pub(crate) fn place_of(&self, queue: QueueId) -> Option<usize>
+        ensures { result ≡ position (is_lock queue.0) self.now.queues.items }
+    {
+        self.queues.iter().position(|lock| lock.number.0 == queue.0)
+    }
+
+    /// What threads are to share, and the first caller's seats, with the number 0. Nothing was called
+    /// yet. Only want of memory refuses it.
+    pub fn open(
+        alloc: Global,
+        queues: Vec<QueueObject<B>>,
+        arrivals: Arrivals<ReadLease<B>, Brand>,
+        table: Timelines,
+        times: TimeSeat,
+        turns: TurnSeat<Painted>,
+    ) -> Result<(Locks<B>, FirstSeats<B>), NoMemory>
+        requires no_calls { AllByRecursion HasNoCalls queues.items }
+        requires none_arrived { arrivals ≡ [] }
+        requires own_times { times.table ≡ table }
+        requires alone { IsAlone times.knows }
+        requires own_turns { turns.table ≡ B.table }
+        requires first { (turns.is_first ≡ true) × (turns.out ≡ 0) }
+        ensures first { IfOk result (λ opened. IsFirst B.table opened.0 opened.1) }
+        ensures opened { IfOk result (λ opened. Opens queues.items times turns opened.0 opened.1) }
+    {
+        let (queues, passes) = open_queues(alloc, queues)?;
+        let Ok((lock, pass)) = CallLock::open(alloc, StampedArrivals::new(alloc, arrivals), 0)
+        else {
+            return Err(NoMemory);
+        };
+        let locks = Locks {
+            queues,
+            arrivals: lock,
+            times: table,
+        };
+        let seats = Seats {
+            by: 0,
+            last: Clock { step: 0, stamp: 0 },
+            queues: passes,
+            arrivals: pass,
+            times,
+            turns,
+        };
+        Ok((locks, FirstSeats::of(alloc, seats)))
+    }
+
+    /// The queues, the arrivals, the timelines and the first seats, once these took in all that they
+    /// gave, as a desk of one thread. It knows what the first seats know, and what each caller knew
+    /// goes on in it with no entry of that caller; nobody called but these.
+    pub fn close(self, alloc: Global, first: FirstSeats<B>) -> Result<PlainDesk<B>, NoMemory>
+        requires first { IsFirst B.table self first }
+        requires all { HasAll first }
+        ensures closed { IfOk result (Closes self first) }
+        ensures ordered { IfOk result (λ desk. IsOrdered first) }
+        ensures goes_on { IfOk result (λ desk. (seats : Seats B) → Contains (took_of first) seats
+            → GoesOn seats.by (known_of (home_of self seats) (view_of seats)) (known_of (plain_home desk) (plain_view desk))) }
+        ensures nobody { IfOk result (λ desk. (by : ℕ) → (Contains (first.seats.by ∷ gave_of first) by → ⊥) → HasNoEntry by (plain_view desk)) }
+    {
+        let Locks {
+            queues,
+            arrivals,
+            times: table,
+        } = self;
+        let FirstSeats { seats, took: _ } = first;
+        let Seats {
+            by: _,
+            last: _,
+            queues: passes,
+            arrivals: pass,
+            times,
+            turns,
+        } = seats;
+        let queues = close_queues(alloc, queues, passes)?;
+        let Ok(arrivals) = arrivals.close(pass) else {
+            return Err(NoMemory);
+        };
+        Ok(PlainDesk::new(queues, arrivals.into_arrivals(), table, times, turns))
+    }
+}

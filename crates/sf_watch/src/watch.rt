@@ -1,0 +1,114 @@
+ghost use Rattle.std.specs.Prelude.{◌<◌};
+
+use std::sync::{Condvar, Mutex, Wait};
+
+/// How many threads are watched at most.
+pub const MOST_WATCHED: usize = 16;
+
+/// What the threads tell each other.
+#[derive(Drop)]
+struct Board {
+    /// How often something was done, from 1 and wrapping: the start counts as new.
+    news: u64,
+    /// How many threads are idle, and know the latest news.
+    idle: usize,
+    /// How many do no more steps.
+    ended: usize,
+    stop: bool,
+    /// For which places no thread could be started.
+    turned_away: [bool; MOST_WATCHED],
+}
+
+/// A watch over some threads, each with a place from 0, and over whoever started them.
+#[derive(Drop)]
+pub struct Watch {
+    many: usize,
+    board: Mutex<Board>,
+    changed: Condvar,
+}
+
+impl Watch {
+    /// A watch over so many threads.
+    pub fn new(many: usize) -> Watch {
+        Watch {
+            many,
+            board: Mutex::new(Board {
+                news: 1,
+                idle: 0,
+                ended: 0,
+                stop: false,
+                turned_away: [false; MOST_WATCHED],
+            }),
+            changed: Condvar::new(),
+        }
+    }
+
+    /// The latest news. A thread reads it before it tries a step, so that it misses none.
+    pub fn news<R: Wait>(&self, rt: &R) -> u64 {
+        self.board.lock(rt).news
+    }
+
+    /// Something was done, which may let others go on: nobody counts as idle any more.
+    pub fn tell_done<R: Wait>(&self, rt: &R) {
+        let mut board = self.board.lock(rt);
+        board.news = board.news.wrapping_add(1);
+        board.idle = 0;
+        self.changed.notify_all();
+    }
+
+    /// A thread does no more steps.
+    pub fn tell_ended<R: Wait>(&self, rt: &R) {
+        let mut board = self.board.lock(rt);
+        board.ended = board.ended.saturating_add(1);
+        self.changed.notify_all();
+    }
+
+    /// All are to stop, whatever they wait for here.
+    pub fn stop<R: Wait>(&self, rt: &R) {
+        self.board.lock(rt).stop = true;
+        self.changed.notify_all();
+    }
+
+    /// A thread is idle until there are other news than it has seen. False where it is to stop.
+    pub fn idle<R: Wait>(&self, rt: &R, seen: u64) -> bool {
+        let mut board = self.board.lock(rt);
+        if board.news == seen {
+            board.idle = board.idle.saturating_add(1);
+            self.changed.notify_all();
+        }
+        let board = self
+            .changed
+            .wait_while(rt, board, |board| board.news == seen && !board.stop);
+        !board.stop
+    }
+
+    /// Whoever started the threads waits for other news than it has seen, the first time than 0. The
+    /// latest, or none where all threads are idle or have ended, or are to stop.
+    pub fn next<R: Wait>(&self, rt: &R, seen: u64) -> Option<u64> {
+        let many = self.many;
+        let board = self.board.lock(rt);
+        let board = self.changed.wait_while(rt, board, |board| {
+            board.news == seen && !board.stop && board.idle.saturating_add(board.ended) < many
+        });
+        if board.stop || board.news == seen {
+            return None;
+        }
+        Some(board.news)
+    }
+
+    /// No thread could be started for this place. Nobody waits for it.
+    pub fn turn_away<R: Wait>(&self, rt: &R, place: usize)
+        requires { place < 16 }
+    {
+        let mut board = self.board.lock(rt);
+        board.turned_away[place] = true;
+        board.ended = board.ended.saturating_add(1);
+    }
+
+    /// Whether none could be.
+    pub fn is_turned_away<R: Wait>(&self, rt: &R, place: usize) -> bool
+        requires { place < 16 }
+    {
+        self.board.lock(rt).turned_away[place]
+    }
+}
