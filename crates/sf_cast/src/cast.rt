@@ -72,7 +72,7 @@ impl<B: TableName> Cast<B> {
     ghost use Rattle.sf_actor.specs.Scripts.{picture_at};
     ghost use Rattle.sf_actor.specs.Tries.{ActorOf, Sees};
     ghost use Rattle.sf_steps.specs.declared.actor.Actor.{Actor as ActorIn};
-    ghost use Rattle.sf_cast.specs.Casts.{IsSameCast, KeepAs, Opens, StepsAt, number_of};
+    ghost use Rattle.sf_cast.specs.Casts.{IsCast, IsSameCast, KeepAs, Opens, StepsAt, number_of};
     ghost use Rattle.sf_cast.specs.Compositing.{OnlyDesk, Takes};
     ghost use Rattle.sf_cast.specs.Scripts.{AreOfScene, are_playable, permits_of};
 
@@ -103,6 +103,35 @@ impl<B: TableName> Cast<B> {
             desk,
             is_spent: false,
         })
+    }
+
+    /// A cast that goes on with actors who did some steps over this desk.
+    pub fn resume(pictures: Items<Picture>, actors: Vec<Actor<B>>, desk: PlainDesk<B>) -> Cast<B>
+        requires { IsCast B.table (record { pictures = pictures; actors = actors.items; desk = desk; is_spent = false }) }
+        ensures { result ≡ record { pictures = pictures; actors = actors.items; desk = desk; is_spent = false } }
+    {
+        Cast {
+            pictures,
+            actors,
+            desk,
+            is_spent: false,
+        }
+    }
+
+    /// The pictures, the actors by rising number, and the desk.
+    pub fn into_parts(self) -> (Items<Picture>, Vec<Actor<B>>, PlainDesk<B>)
+        ensures pictures { result.0 ≡ self.pictures }
+        ensures actors { result.1.items ≡ self.actors }
+        ensures desk { result.2 ≡ self.desk }
+        ensures kept { IsCast B.table self }
+    {
+        let Cast {
+            pictures,
+            actors,
+            desk,
+            is_spent: _,
+        } = self;
+        (pictures, actors, desk)
     }
 
     /// The actors, by rising number.

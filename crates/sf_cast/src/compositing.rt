@@ -68,7 +68,10 @@ fn take_from<B: TableName>(
             let Batch { list } = batch;
             Ok(list)
         }
-        Outcome::NoMemory(_) => Err(NoMemory),
+        Outcome::NoMemory(call) => {
+            drop(call);
+            Err(NoMemory)
+        }
         _other => unreachable!(),
     }
 }
@@ -128,10 +131,11 @@ fn let_go<B: TableName>(reply: QReply<B>)
     let QReply {
         status: _status,
         values: _values,
-        gives: _gives,
+        gives,
         ends,
         spare: _spare,
     } = reply;
+    drop(gives);
     match ends {
         None => {}
         Some(_ending) => unreachable!(),
@@ -151,7 +155,10 @@ fn settle<B: TableName>(outcome: Result<QReply<B>, CallFault<QCall<B>>>) -> Resu
             Ok(())
         }
         Err(CallFault::NotYet(_)) => unreachable!(),
-        Err(CallFault::NoMemory(_)) => Err(NoMemory),
+        Err(CallFault::NoMemory(call)) => {
+            drop(call);
+            Err(NoMemory)
+        }
     }
 }
 

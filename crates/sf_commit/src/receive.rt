@@ -18,7 +18,8 @@ pub(crate) fn receive<L: Lease + Drop>(
     }) }
 {
     for one in arrived {
-        if queues.push(one).is_err() {
+        if let Err(refused) = queues.push(one) {
+            drop(refused);
             return Err(NoMemory);
         }
     }

@@ -23,7 +23,10 @@ fn brought<B: TableName>(call: QCall<B>) -> Gives<B>
         QCall::Queue { lease, .. } => Gives::Write(lease),
         QCall::Attach(loose) | QCall::AttachRead(loose) => Gives::Free(loose),
         QCall::Release(lease, _) | QCall::DetachRead(lease) => Gives::Read(lease),
-        _other => Gives::Nothing,
+        other => {
+            drop(other);
+            Gives::Nothing
+        }
     }
 }
 
@@ -123,7 +126,10 @@ impl<B: TableName> Hands<B> {
                 self.take_back(homes, call);
                 Ok(Tried::NotYet)
             }
-            Err(CallFault::NoMemory(_)) => Err(NoMemory),
+            Err(CallFault::NoMemory(call)) => {
+                drop(call);
+                Err(NoMemory)
+            }
         }
     }
 }

@@ -94,15 +94,19 @@ fn release_overtaken<B: TableName, D: Desk<TokensOf<B>>>(
             let QReply {
                 status: _status,
                 values: _values,
-                gives: _gives,
+                gives,
                 ends,
                 spare: _spare,
             } = reply;
+            drop(gives);
             leave(desk, ends);
             Ok(())
         }
         Err(CallFault::NotYet(_)) => unreachable!(),
-        Err(CallFault::NoMemory(_)) => Err(NoMemory),
+        Err(CallFault::NoMemory(call)) => {
+            drop(call);
+            Err(NoMemory)
+        }
     }
 }
 

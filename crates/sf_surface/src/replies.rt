@@ -71,7 +71,10 @@ pub(crate) fn answer<B: TableName>(
     ensures { result ≡ plain_reply done call }
 {
     match done {
-        Ok(()) => gives(room.none(), Gives::Nothing),
+        Ok(()) => {
+            drop(call);
+            gives(room.none(), Gives::Nothing)
+        }
         Err(cause) => refused(cause, call, room),
     }
 }

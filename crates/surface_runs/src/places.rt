@@ -32,12 +32,10 @@ impl<B: TableName> Places<B> {
 
     /// Puts a token in, if there is one.
     pub fn put(&mut self, place: usize, token: Gives<B>) {
-        if let Gives::Nothing = token {
-            return;
+        if matches!(&token, Gives::Nothing) || place >= self.tokens.len() {
+            return drop(token);
         }
-        if place < self.tokens.len() {
-            self.tokens[place] = token;
-        }
+        drop(mem::replace(&mut self.tokens[place], token));
     }
 
     /// Takes a lease out, if there is one.

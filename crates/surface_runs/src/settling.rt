@@ -54,10 +54,11 @@ fn replied<B: TableName>(seat: &mut TurnSeat<Painted>, reply: QReply<B>) -> Afte
 
 /// What is left of a call that was not made: nothing, since what it brought is let go.
 fn refused<B: TableName>(fault: CallFault<(u32, QCall<B>)>) -> After<B> {
-    let answer = match fault {
+    let answer = match &fault {
         CallFault::NotYet(_) => Answer::NotYet,
         CallFault::NoMemory(_) => Answer::NoMemory,
     };
+    drop(fault);
     After {
         token: Gives::Nothing,
         answer,
