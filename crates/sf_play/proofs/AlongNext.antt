@@ -126,11 +126,11 @@ module _ {B : Type 0} where
   FrameTold scene (turn.Vsync report) play = TellsFrame scene report play
   FrameTold scene other play = Unit {0}
 
-  -- after a turn a player stands, along with the play of its scene
-  pub record PlaysOn (table : TableId) (scene : SceneValue) (marks : List QueueMark) (so : SoFar B) (came_to : Turn) (new : PlayerOf B) (place : Place) : Type 0 where
+  -- after a turn a player stands in a run of its scene, and along with the scene's play where it was so before
+  pub record PlaysOn (Was : Type 0) (table : TableId) (scene : SceneValue) (marks : List QueueMark) (so : SoFar B) (came_to : Turn) (new : PlayerOf B) (place : Place) : Type 0 where
     pub kept : StandsWith table scene marks so came_to new.play
-    pub along : PlaysSo scene kept.later new.play place
-    pub holds : HoldsAt scene kept.later new place
+    pub along : Was → PlaysSo scene kept.later new.play place
+    pub holds : Was → HoldsAt scene kept.later new place
     pub frame : FrameTold scene came_to new.play
 
   module _ (lease : Ghosts ReadLeaseOf SeatView ReadLeaseOf Issued) (frames : OfFrames lease) (of_turns : IsOfTurns lease) (tells : TellsAll lease) (table : TableId) (scene : SceneValue) (so : SoFar B)
@@ -143,17 +143,21 @@ module _ {B : Type 0} where
     known_cast : DeskKnows with_cast
     known_cast = record { knows = keeps_now.desk.knows; legal = keeps_now.desk.legal }
 
+    -- it stood along with the play
+    abbrev pub WasAlong : Type 0
+    WasAlong = PlaysSo scene so old.play old.place × HoldsAt scene so old old.place
+
     abbrev On : Place → Type 0
-    On place = PlaysOn table scene marks so came_to new place
+    On place = PlaysOn WasAlong table scene marks so came_to new place
 
     firsts : (of : ActorOf B) → Contains so.actors of → TellsFirst scene (world_so so old.play).run of (view_of old.play.cast.desk)
     firsts = first_told table scene so old.play stands rights keeps.desk.legal keeps.desk.knows keeps.own
 
     -- what a try comes to is the same for the new player
-    comes : (came : Turn) (place next : Place) → came_to ≡ came → new.play ≡ with_cast → place ≡ next → PlaysOn table scene marks so came (record new { play = with_cast }) place → On next
+    comes : (came : Turn) (place next : Place) → came_to ≡ came → new.play ≡ with_cast → place ≡ next → PlaysOn WasAlong table scene marks so came (record new { play = with_cast }) place → On next
     comes came place next is rest there on =
         subst On there
-        (subst (λ (c : Turn). PlaysOn table scene marks so c new place) (sym is) (subst (λ (p : PlayOf B). PlaysOn table scene marks so came (record new { play = p }) place) (sym rest) on))
+        (subst (λ (c : Turn). PlaysOn WasAlong table scene marks so c new place) (sym is) (subst (λ (p : PlayOf B). PlaysOn WasAlong table scene marks so came (record new { play = p }) place) (sym rest) on))
 
     as_scene : (place : ℕ) (st : Stepped) → StepsAt table (picture_at old.play.cast.pictures) place old.play.cast.actors so.actors old.play.cast.desk new.play.cast.actors new.play.cast.desk st
         → StepsAt table (picture_at scene.pictures) place old.play.cast.actors so.actors old.play.cast.desk new.play.cast.actors new.play.cast.desk st
@@ -177,7 +181,7 @@ module _ {B : Type 0} where
           let kept = left s in
           older_told table scene so old.play stands rights keeps.desk.legal keeps.desk.knows keeps.own with_cast kept.stands kept.rights s.old (got_has so.actors place s.old s.here)
 
-      tried_round : (was : Bool) → PlaysSo scene so old.play (at.Round place was) → On (at.Round (place + 1) (was || is_step came_to))
+      tried_round : (was : Bool) → (WasAlong → PlaysSo scene so old.play (at.Round place was)) → On (at.Round (place + 1) (was || is_step came_to))
       tried_round was plays = by_stepped t.stepped t.is (as_scene place t.stepped t.steps)
         where
           by_stepped : (st : Stepped) → came_to ≡ turn_by place st
@@ -187,8 +191,8 @@ module _ {B : Type 0} where
               (ap (λ (b : Bool). at.Round (place + 1) b) (sym (or_true was) ∙ ap (λ (x : Turn). was || is_step x) (sym is)))
               (record {
                 kept = did s;
-                along = round_done table scene so old.play stands place new.play.cast t.same t.acts s keeps.desk known_cast (firsts s.old (got_has so.actors place s.old s.here)) was plays;
-                holds = tt;
+                along = λ w. round_done table scene so old.play stands place new.play.cast t.same t.acts s keeps.desk known_cast (firsts s.old (got_has so.actors place s.old s.here)) was (plays w);
+                holds = λ w. tt;
                 frame = tt;
               })
           by_stepped stepped.NotYet is s =
@@ -196,16 +200,16 @@ module _ {B : Type 0} where
               (ap (λ (b : Bool). at.Round (place + 1) b) (sym (or_none was) ∙ ap (λ (x : Turn). was || is_step x) (sym is)))
               (record {
                 kept = left s;
-                along = round_waits table scene so old.play stands place new.play.cast t.same t.acts s known_cast (older s) was plays;
-                holds = tt;
+                along = λ w. round_waits table scene so old.play stands place new.play.cast t.same t.acts s known_cast (older s) was (plays w);
+                holds = λ w. tt;
                 frame = tt;
               })
           by_stepped stepped.Ended is s =
               comes turn.Idle (at.Round (place + 1) was) (at.Round (place + 1) (was || is_step came_to)) is t.rest
               (ap (λ (b : Bool). at.Round (place + 1) b) (sym (or_none was) ∙ ap (λ (x : Turn). was || is_step x) (sym is)))
-              (record { kept = ended s; along = round_ended table scene so old.play stands place new.play.cast t.same t.acts s was plays; holds = tt; frame = tt })
+              (record { kept = ended s; along = λ w. round_ended table scene so old.play stands place new.play.cast t.same t.acts s was (plays w); holds = λ w. tt; frame = tt })
 
-      tried_pick : (at' done : ℕ) (pick : Pick) → PlaysSo scene so old.play (at.Order at' done) → slice_get scene.order at' ≡ Some pick → done < pick.times
+      tried_pick : (at' done : ℕ) (pick : Pick) → (WasAlong → PlaysSo scene so old.play (at.Order at' done)) → slice_get scene.order at' ≡ Some pick → done < pick.times
           → ((of : ActorOf B) → slice_get so.actors place ≡ Some of → pick.actor ≡ of.script.number) → On (at.Order at' (done + 1))
       tried_pick at' done pick plays there less number = by_stepped t.stepped t.is (as_scene place t.stepped t.steps)
         where
@@ -215,25 +219,25 @@ module _ {B : Type 0} where
               comes (turn.Step place) (at.Order at' (done + 1)) (at.Order at' (done + 1)) is t.rest refl
               (record {
                 kept = did s;
-                along = pick_done table scene so old.play stands place new.play.cast t.same t.acts s keeps.desk known_cast (firsts s.old (got_has so.actors place s.old s.here)) at' done pick plays there less
+                along = λ w. pick_done table scene so old.play stands place new.play.cast t.same t.acts s keeps.desk known_cast (firsts s.old (got_has so.actors place s.old s.here)) at' done pick (plays w) there less
                     (number s.old s.here);
-                holds = tt;
+                holds = λ w. tt;
                 frame = tt;
               })
           by_stepped stepped.NotYet is s =
               comes turn.Idle (at.Order at' (done + 1)) (at.Order at' (done + 1)) is t.rest refl
               (record {
                 kept = left s;
-                along = pick_waits table scene so old.play stands place new.play.cast t.same t.acts s known_cast (older s) at' done pick plays there less (number s.old s.here);
-                holds = tt;
+                along = λ w. pick_waits table scene so old.play stands place new.play.cast t.same t.acts s known_cast (older s) at' done pick (plays w) there less (number s.old s.here);
+                holds = λ w. tt;
                 frame = tt;
               })
           by_stepped stepped.Ended is s =
               comes turn.Idle (at.Order at' (done + 1)) (at.Order at' (done + 1)) is t.rest refl
               (record {
                 kept = ended s;
-                along = pick_ended table scene so old.play stands place new.play.cast t.same t.acts s at' done pick plays there less (number s.old s.here);
-                holds = tt;
+                along = λ w. pick_ended table scene so old.play stands place new.play.cast t.same t.acts s at' done pick (plays w) there less (number s.old s.here);
+                holds = λ w. tt;
                 frame = tt;
               })
 
@@ -284,27 +288,27 @@ module _ {B : Type 0} where
             high = ap (λ (w : ViewOf). w.height) v.makes.view ∙ high;
           }
 
-      vsync_pick : (place done : ℕ) (pick : Pick) → PlaysSo scene so old.play (at.Order place done) → slice_get scene.order place ≡ Some pick → done < pick.times → pick.actor ≡ 0 → On (at.Order place (done + 1))
-      vsync_pick place done pick plays there less is = subst (λ (c : Turn). PlaysOn table scene marks so c new (at.Order place (done + 1))) (sym v.is) (by_commits told.commits refl)
+      vsync_pick : (place done : ℕ) (pick : Pick) → (WasAlong → PlaysSo scene so old.play (at.Order place done)) → slice_get scene.order place ≡ Some pick → done < pick.times → pick.actor ≡ 0 → On (at.Order place (done + 1))
+      vsync_pick place done pick plays there less is = subst (λ (c : Turn). PlaysOn WasAlong table scene marks so c new (at.Order place (done + 1))) (sym v.is) (by_commits told.commits refl)
         where
-          by_commits : (cs : List Decided) → told.commits ≡ cs → PlaysOn table scene marks so (turn.Vsync report) new (at.Order place (done + 1))
+          by_commits : (cs : List Decided) → told.commits ≡ cs → PlaysOn WasAlong table scene marks so (turn.Vsync report) new (at.Order place (done + 1))
           by_commits [] e = record {
             kept = silent e;
-            along = pick_silent lease frames table scene so old.play new.play report.seen told stands makes shows e place done pick plays there less is;
-            holds = tt;
+            along = λ w. pick_silent lease frames table scene so old.play new.play report.seen told stands makes shows e place done pick (plays w) there less is;
+            holds = λ w. tt;
             frame = framed so (silent e).stands;
           }
           by_commits (c ∷ cs) e = record {
             kept = some c cs e;
-            along = pick_shown lease frames table scene so old.play new.play report.seen told stands makes shows c cs e place done pick plays there less is;
-            holds = tt;
+            along = λ w. pick_shown lease frames table scene so old.play new.play report.seen told stands makes shows c cs e place done pick (plays w) there less is;
+            holds = λ w. tt;
             frame = framed (some c cs e).later (some c cs e).stands;
           }
 
-      vsync_round : (place : ℕ) (was : Bool) → PlaysSo scene so old.play (at.Round place was) → nat_lt place (length old.play.cast.actors) ≡ false → On (behind_round was report.commits new.held)
+      vsync_round : (place : ℕ) (was : Bool) → (WasAlong → PlaysSo scene so old.play (at.Round place was)) → nat_lt place (length old.play.cast.actors) ≡ false → On (behind_round was report.commits new.held)
       vsync_round place was plays past =
-          subst (λ (c : Turn). PlaysOn table scene marks so c new (behind_round was report.commits new.held)) (sym v.is)
-          (subst (PlaysOn table scene marks so (turn.Vsync report) new) (λ i. behind_round was (sym v.makes.commits i) (sym v.makes.held i)) (by_commits told.commits refl))
+          subst (λ (c : Turn). PlaysOn WasAlong table scene marks so c new (behind_round was report.commits new.held)) (sym v.is)
+          (subst (PlaysOn WasAlong table scene marks so (turn.Vsync report) new) (λ i. behind_round was (sym v.makes.commits i) (sym v.makes.held i)) (by_commits told.commits refl))
         where
           had : length (rising_actors scene) ≤ place
           had = all_had lease frames table scene so old.play new.play report.seen told stands makes place past
@@ -318,23 +322,23 @@ module _ {B : Type 0} where
           goes_on later true = tt
           goes_on later false = tt
 
-          by_commits : (cs : List Decided) → told.commits ≡ cs → PlaysOn table scene marks so (turn.Vsync report) new (behind_round was told.commits told.held)
+          by_commits : (cs : List Decided) → told.commits ≡ cs → PlaysOn WasAlong table scene marks so (turn.Vsync report) new (behind_round was told.commits told.held)
           by_commits [] e = record {
             kept = silent e;
-            along = round_silent lease frames table scene so old.play new.play report.seen told stands makes shows e place was plays had;
-            holds = ends so (was || (has_commits told.commits || list_any (λ (h : ℕ × Hold). is_time h.1) told.held))
+            along = λ w. round_silent lease frames table scene so old.play new.play report.seen told stands makes shows e place was (plays w) had;
+            holds = λ w. ends so (was || (has_commits told.commits || list_any (λ (h : ℕ × Hold). is_time h.1) told.held))
                 (v.makes.held ∙ sym (holds_silent lease frames table scene so old.play new.play report.seen told stands makes shows e));
             frame = framed so (silent e).stands;
           }
           by_commits (c ∷ cs) e = record {
             kept = some c cs e;
-            along = round_shown lease frames table scene so old.play new.play report.seen told stands makes shows c cs e place was plays had;
-            holds = subst (λ (ds : List Decided). HoldsAt scene (some c cs e).later new (behind_round was ds told.held)) (sym e) (goes_on (some c cs e).later was);
+            along = λ w. round_shown lease frames table scene so old.play new.play report.seen told stands makes shows c cs e place was (plays w) had;
+            holds = λ w. subst (λ (ds : List Decided). HoldsAt scene (some c cs e).later new (behind_round was ds told.held)) (sym e) (goes_on (some c cs e).later was);
             frame = framed (some c cs e).later (some c cs e).stands;
           }
 
     -- the turn of a pick
-    picks_on : (place done : ℕ) (pick : Pick) → PlaysSo scene so old.play (at.Order place done) → slice_get scene.order place ≡ Some pick → done < pick.times → (n : ℕ) → pick.actor ≡ n
+    picks_on : (place done : ℕ) (pick : Pick) → (WasAlong → PlaysSo scene so old.play (at.Order place done)) → slice_get scene.order place ≡ Some pick → done < pick.times → (n : ℕ) → pick.actor ≡ n
         → Picks lease table so.actors n old new came_to → On (at.Order place (done + 1))
     picks_on place done pick plays there less zero is picks = vsync_pick picks place done pick plays there less is
     picks_on place done pick plays there less (suc n) is picks = by_place (position is_it old.play.cast.actors) refl picks.0
@@ -370,9 +374,8 @@ module _ {B : Type 0} where
                     ∙ number_kept table (picture_at scene.pictures) (home_of old.play.cast.desk) (view_of old.play.cast.desk) old.play.cast.actors so.actors at' (get_or old.play.cast.actors at' d) of stands.keep
                     (slice_get-get_or old.play.cast.actors at' d found.0) here)
 
-    turn_on : (from : Place) → settled old.play.order old.place ≡ from → TurnsAt lease table so.actors from old new came_to → PlaysSo scene so old.play from → PlaysSo scene so old.play old.place
-        → HoldsAt scene so old old.place → On new.place
-    turn_on (at.Order place done) e turns plays here held =
+    turn_on : (from : Place) → settled old.play.order old.place ≡ from → TurnsAt lease table so.actors from old new came_to → (WasAlong → PlaysSo scene so old.play from) → On new.place
+    turn_on (at.Order place done) e turns plays =
         let times : All (λ (pick : Pick). 1 ≤ pick.times) old.play.order =
         subst (All (λ (pick : Pick). 1 ≤ pick.times)) (sym stands.of_scene.order)
         (All-weaker (IsPick scene.actors) (λ (pick : Pick). 1 ≤ pick.times) (λ pick is. is.low) scene.order stands.of_scene.limits.order.picks) in
@@ -384,18 +387,18 @@ module _ {B : Type 0} where
       where
         one_pick : (a b : Pick) → Some a ≡ Some b → a ≡ b
         one_pick a b e = cc
-    turn_on (at.Round place was) e turns plays here held = by_test (nat_lt place (length old.play.cast.actors)) refl turns
+    turn_on (at.Round place was) e turns plays = by_test (nat_lt place (length old.play.cast.actors)) refl turns
       where
         by_test : (b : Bool) → nat_lt place (length old.play.cast.actors) ≡ b → RoundsIf lease table so.actors b place was old new came_to → On new.place
         by_test true low goes = subst On (sym goes.next) (tried_round place goes.tries was plays)
         by_test false past ends = subst On (sym ends.next) (vsync_round ends.vsync place was plays past)
-    turn_on at.End e turns plays here held =
-        subst (λ (c : Turn). PlaysOn table scene marks so c new new.place) (sym turns.0)
-        (subst (λ (p : PlayerOf B). PlaysOn table scene marks so turn.End p p.place) (sym turns.1)
-        (record { kept = nothing_with table scene marks so old.play stands rights marked keeps.desk.legal keeps.desk.knows keeps.own turn.End refl; along = here; holds = held; frame = tt }))
+    turn_on at.End e turns plays =
+        subst (λ (c : Turn). PlaysOn WasAlong table scene marks so c new new.place) (sym turns.0)
+        (subst (λ (p : PlayerOf B). PlaysOn WasAlong table scene marks so turn.End p p.place) (sym turns.1)
+        (record { kept = nothing_with table scene marks so old.play stands rights marked keeps.desk.legal keeps.desk.knows keeps.own turn.End refl; along = λ w. w.0; holds = λ w. w.1; frame = tt }))
 
     -- each turn
-    pub turns_on : Turns lease table so.actors old new came_to → PlaysSo scene so old.play old.place → HoldsAt scene so old old.place → On new.place
-    turns_on turns plays held =
-        turn_on (settled old.play.order old.place) refl turns
-        (subst (λ (order : List Pick). PlaysSo scene so old.play (settled order old.place)) (sym stands.of_scene.order) (plays_settled scene so.events (world_so so old.play) old.place plays)) plays held
+    pub turns_on : Turns lease table so.actors old new came_to → On new.place
+    turns_on turns =
+        turn_on (settled old.play.order old.place) refl turns (λ w.
+        subst (λ (order : List Pick). PlaysSo scene so old.play (settled order old.place)) (sym stands.of_scene.order) (plays_settled scene so.events (world_so so old.play) old.place w.0))

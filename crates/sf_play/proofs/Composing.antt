@@ -5,7 +5,7 @@ use Rattle.std.specs.List.{All, AllZip, cons_option, filter_map, find, position,
 use Rattle.std.specs.Option.{option_map, unwrap_or}
 use Rattle.std.proofs.lemmas.Bool.{cases_Bool, eqb-true, lt-ltb}
 use Rattle.std.proofs.lemmas.List.Elements.{All-cons, All-contains, All-filter, All-head, All-nil, All-tail, All-weaker}
-use Rattle.std.proofs.lemmas.Option.{none-some, same_Some, slice_get-map, slice_get_within}
+use Rattle.std.proofs.lemmas.Option.{get_or_from_slice_get, none-some, same_Some, slice_get-map, slice_get_within}
 use Rattle.std.proofs.lemmas.List.{length-map}
 use Rattle.std.proofs.lemmas.List.Folds.{find_at}
 use Rattle.sf_base.specs.Geometry.{LiesWithin}
@@ -38,11 +38,10 @@ use Rattle.sf_tree.specs.Trees.{TreeOf}
 use Rattle.sf_scene.specs.Scene.{SceneValue, has_queue}
 use Rattle.sf_actor.specs.Desks.{mark_among}
 use Rattle.sf_actor.specs.Scripts.{picture_at}
-use Rattle.sf_compose.proofs.ReadingLemmas.{AreReadable-sources}
-use Rattle.sf_compose.specs.Readings.{AreReadable}
+use Rattle.sf_compose.specs.Readings.{AreReadable, IsReadable, no_picture}
 use Rattle.sf_compose.proofs.RowLemmas.{frame_bytes-same}
 use Rattle.sf_compose.specs.Frames.{frame_bytes}
-use Rattle.sf_compose.specs.Sources.{HasSource, HasSources, IsSource}
+use Rattle.sf_compose.specs.Sources.{HasSource, HasSources}
 use Rattle.sf_surface.specs.Tokens.{ReadLeaseOf}
 use Rattle.sf_txn.specs.Buffers.{Shows}
 use Rattle.sf_commit.specs.Handlers.{Decides, HandlerOf, source_of}
@@ -50,7 +49,7 @@ use Rattle.sf_commit.specs.Releases.{VsyncOf}
 use Rattle.sf_commit.specs.OnLayers.{OnLayer, is_on, shown_on}
 use Rattle.sf_commit.specs.Standing.{Stands, shown_at}
 use Rattle.sf_run.proofs.Desking.{desk_called}
-use Rattle.sf_run.proofs.OrderLemmas.{found_has}
+use Rattle.sf_run.proofs.Keeping.{got_has}
 use Rattle.sf_run.proofs.Taking.{shows_picture}
 use Rattle.sf_run.specs.Actors.{AreCalls}
 use Rattle.sf_play.proofs.Seeing.{one_passes}
@@ -135,49 +134,108 @@ source_read on drawn =
     let many = length-map on shown_on in
     (λ i. unwrap_or (cond (nat_lt (sym place i) (sym many i)) (Some (sym place i)) None) 0)
 
-module _ (picture : ℕ → Picture) (layers : List Layer) (width height : ℕ) (on : List (OnLayer ReadLeaseOf)) (stands : Stands layers on) (shows : All (λ (one : OnLayer ReadLeaseOf). Shows one.shown one.lease.turn.expects) on)
-    (expects : All (λ (one : OnLayer ReadLeaseOf). one.lease.turn.expects ≡ picture one.shown.picture) on) where
+module _ (layers : List Layer) (width height : ℕ) (on : List (OnLayer ReadLeaseOf)) (stands : Stands layers on) (shows : All (λ (one : OnLayer ReadLeaseOf). Shows one.shown one.lease.turn.expects) on) where
   abbrev contents : List Picture
   contents = map expected_by on
 
-  one_source : (layer : Layer) (drawn : Drawn) (shown : Shown) → layer_of layers layer.number ≡ Some layer → Draws layers width height layer drawn → drawn.content ≡ content.Buffer shown → IsSource picture contents shown (source_of on drawn)
-  one_source layer drawn shown found draws is = by_found (find (is_on drawn.layer) on) refl
+  -- the buffer that a drawn layer shows is on it
+  record IsOn (shown : Shown) (source : ℕ) : Type 0 where
+    one : OnLayer ReadLeaseOf
+    same : shown ≡ one.shown
+    there : slice_get on source ≡ Some one
+
+  on_layer : (layer : Layer) (drawn : Drawn) (shown : Shown) → layer_of layers layer.number ≡ Some layer → Draws layers width height layer drawn → drawn.content ≡ content.Buffer shown → IsOn shown (source_of on drawn)
+  on_layer layer drawn shown found draws is = by_found (find (is_on drawn.layer) on) refl
     where
       has : Some shown ≡ option_map (λ (one : OnLayer ReadLeaseOf). one.shown) (find (is_on drawn.layer) on)
       has =
           sym (ap shown_at found ∙ content_shown layer shown (ap (λ (c : Content). Some c) (sym is) ∙ draws.content))
           ∙ stands.same layer.number ∙ ap (λ (id : LayerId). option_map (λ (one : OnLayer ReadLeaseOf). one.shown) (find (is_on id) on)) (sym draws.number)
 
-      by_found : (o : Option (OnLayer ReadLeaseOf)) → find (is_on drawn.layer) on ≡ o → IsSource picture contents shown (source_of on drawn)
+      by_found : (o : Option (OnLayer ReadLeaseOf)) → find (is_on drawn.layer) on ≡ o → IsOn shown (source_of on drawn)
       by_found None e = absurd (some-none shown (has ∙ ap (option_map (λ (one : OnLayer ReadLeaseOf). one.shown)) e))
       by_found (Some one) e =
-          let same : shown ≡ one.shown = same_Some shown one.shown (has ∙ ap (option_map (λ (one : OnLayer ReadLeaseOf). one.shown)) e) in
           let at = found_at (is_on drawn.layer) on one e in
-          let source : source_of on drawn ≡ at.place = ap (λ (o : Option ℕ). unwrap_or o 0) at.first in
-          let expected = found_has (λ (x : OnLayer ReadLeaseOf). x.lease.turn.expects ≡ picture x.shown.picture) (is_on drawn.layer) on one expects e in
-          let pictured : one.lease.turn.expects ≡ picture shown.picture = expected ∙ ap (λ (s : Shown). picture s.picture) (sym same) in
-          let inside = found_has (λ (x : OnLayer ReadLeaseOf). Shows x.shown x.lease.turn.expects) (is_on drawn.layer) on one shows e in
           record {
-            content = ap (slice_get contents) source ∙ slice_get-map expected_by on at.place ∙ ap (option_map expected_by) at.there ∙ ap (λ (p : Picture). Some p) pictured;
-            crop = subst (λ (p : Picture). LiesWithin shown.crop p.width p.height) pictured (subst (λ (s : Shown). LiesWithin s.crop one.lease.turn.expects.width one.lease.turn.expects.height) (sym same) inside.crop);
+            one = one;
+            same = same_Some shown one.shown (has ∙ ap (option_map (λ (one : OnLayer ReadLeaseOf). one.shown)) e);
+            there = ap (slice_get on) (ap (λ (o : Option ℕ). unwrap_or o 0) at.first) ∙ at.there;
           }
 
-  drawn_source : (layer : Layer) (drawn : Drawn) (c : Content) → drawn.content ≡ c → layer_of layers layer.number ≡ Some layer → Draws layers width height layer drawn → HasSource picture contents c (source_of on drawn)
-  drawn_source layer drawn (content.Colour colour) is found draws = tt
-  drawn_source layer drawn (content.Buffer shown) is found draws = one_source layer drawn shown found draws is
+  -- its picture is among the contents, and has its crop
+  content_there : (shown : Shown) (source : ℕ) (is : IsOn shown source) → slice_get contents source ≡ Some is.one.lease.turn.expects
+  content_there shown source is = slice_get-map expected_by on source ∙ ap (option_map expected_by) is.there
 
-  all_sources : (ls : List Layer) (ds : List Drawn) → All (λ (layer : Layer). layer_of layers layer.number ≡ Some layer) ls → AllZip (Draws layers width height) ls ds
-      → AllZip (λ (drawn : Drawn) (source : ℕ). HasSource picture contents drawn.content source) ds (map (source_of on) ds)
-  all_sources [] [] found draws = tt
-  all_sources [] (d ∷ ds) found draws = absurd draws
-  all_sources (l ∷ ls) [] found draws = absurd draws
-  all_sources (l ∷ ls) (d ∷ ds) found draws = (
-    drawn_source l d d.content refl (All-head (λ (layer : Layer). layer_of layers layer.number ≡ Some layer) l ls found) draws.0,
-    all_sources ls ds (All-tail (λ (layer : Layer). layer_of layers layer.number ≡ Some layer) l ls found) draws.1,
+  crop_inside : (shown : Shown) (source : ℕ) (is : IsOn shown source) → LiesWithin shown.crop is.one.lease.turn.expects.width is.one.lease.turn.expects.height
+  crop_inside shown source is =
+      let inside = All-contains (λ (x : OnLayer ReadLeaseOf). Shows x.shown x.lease.turn.expects) on is.one shows (got_has on source is.one is.there) in
+      subst (λ (s : Shown). LiesWithin s.crop is.one.lease.turn.expects.width is.one.lease.turn.expects.height) (sym is.same) inside.crop
+
+  -- what is said of each drawn layer
+  each_drawn : (P : Content → ℕ → Type 0)
+      → ((layer : Layer) (drawn : Drawn) (c : Content) → drawn.content ≡ c → layer_of layers layer.number ≡ Some layer → Draws layers width height layer drawn → P c (source_of on drawn))
+      → (ls : List Layer) (ds : List Drawn) → All (λ (layer : Layer). layer_of layers layer.number ≡ Some layer) ls → AllZip (Draws layers width height) ls ds
+      → AllZip (λ (drawn : Drawn) (source : ℕ). P drawn.content source) ds (map (source_of on) ds)
+  each_drawn P one [] [] found draws = tt
+  each_drawn P one [] (d ∷ ds) found draws = absurd draws
+  each_drawn P one (l ∷ ls) [] found draws = absurd draws
+  each_drawn P one (l ∷ ls) (d ∷ ds) found draws = (
+    one l d d.content refl (All-head (λ (layer : Layer). layer_of layers layer.number ≡ Some layer) l ls found) draws.0,
+    each_drawn P one ls ds (All-tail (λ (layer : Layer). layer_of layers layer.number ≡ Some layer) l ls found) draws.1,
   )
 
-  pub sources_found : (view : ViewOf) → Views layers width height view → HasSources picture view contents (map (source_of on) view.drawn)
-  sources_found view views = record { all = all_sources (drawn_in layers (draw_order layers)) view.drawn (drawn_found layers (draw_order layers)) views.drawn }
+  drawn_readable : (layer : Layer) (drawn : Drawn) (c : Content) → drawn.content ≡ c → layer_of layers layer.number ≡ Some layer → Draws layers width height layer drawn → IsReadable contents c (source_of on drawn)
+  drawn_readable layer drawn (content.Colour colour) is found draws = tt
+  drawn_readable layer drawn (content.Buffer shown) is found draws =
+      let source = source_of on drawn in
+      let at = on_layer layer drawn shown found draws is in
+      let there = content_there shown source at in
+      record {
+        within = slice_get_within contents source at.one.lease.turn.expects there;
+        crop = subst (λ (p : Picture). LiesWithin shown.crop p.width p.height) (sym (get_or_from_slice_get contents source at.one.lease.turn.expects no_picture there)) (crop_inside shown source at);
+      }
+
+  -- what each drawn layer shows can be read
+  pub readable_found : (view : ViewOf) → Views layers width height view → AreReadable contents view.drawn (map (source_of on) view.drawn)
+  readable_found view views = record { all = each_drawn (IsReadable contents) drawn_readable (drawn_in layers (draw_order layers)) view.drawn (drawn_found layers (draw_order layers)) views.drawn }
+
+  module _ (picture : ℕ → Picture) (expects : All (λ (one : OnLayer ReadLeaseOf). one.lease.turn.expects ≡ picture one.shown.picture) on) where
+    drawn_source : (layer : Layer) (drawn : Drawn) (c : Content) → drawn.content ≡ c → layer_of layers layer.number ≡ Some layer → Draws layers width height layer drawn → HasSource picture contents c (source_of on drawn)
+    drawn_source layer drawn (content.Colour colour) is found draws = tt
+    drawn_source layer drawn (content.Buffer shown) is found draws =
+        let source = source_of on drawn in
+        let at = on_layer layer drawn shown found draws is in
+        let expected = All-contains (λ (x : OnLayer ReadLeaseOf). x.lease.turn.expects ≡ picture x.shown.picture) on at.one expects (got_has on source at.one at.there) in
+        let pictured : at.one.lease.turn.expects ≡ picture shown.picture = expected ∙ ap (λ (s : Shown). picture s.picture) (sym at.same) in
+        record {
+          content = content_there shown source at ∙ ap (λ (p : Picture). Some p) pictured;
+          crop = subst (λ (p : Picture). LiesWithin shown.crop p.width p.height) pictured (crop_inside shown source at);
+        }
+
+    -- each drawn layer finds its picture among the contents
+    pub sources_found : (view : ViewOf) → Views layers width height view → HasSources picture view contents (map (source_of on) view.drawn)
+    sources_found view views = record { all = each_drawn (HasSource picture contents) drawn_source (drawn_in layers (draw_order layers)) view.drawn (drawn_found layers (draw_order layers)) views.drawn }
+
+-- what a vsync tells of its view and its sources is of the handler that it leaves
+module _ {R C : Type 0} (lease : Ghosts ReadLeaseOf SeatView R C) (old new : HandlerOf ReadLeaseOf) (eye after : SeatView) (arrived : List (Arrival ReadLeaseOf)) (seen : Seen) (expected : ℕ) (told : VsyncOf ReadLeaseOf)
+    (d : Decides lease old eye arrived seen expected told new after) where
+  pub views_told : Views new.tree.layers old.width old.height told.view
+  views_told = subst (λ (t : TreeOf). Views t.layers old.width old.height told.view) (sym (ap (λ (h : HandlerOf ReadLeaseOf). h.tree) d.settled.state)) d.settled.view
+
+  pub sources_told : told.sources ≡ map (source_of new.on) told.view.drawn
+  sources_told =
+      d.settled.sources
+      ∙ each_read told.view.drawn
+      ∙ ap (λ (h : HandlerOf ReadLeaseOf). map (source_of h.on) told.view.drawn) (sym d.settled.state)
+    where
+      each_read : (ds : List Drawn) → map (source_of d.end.stage.on) ds ≡ map (source_of (map shown_on d.end.stage.on)) ds
+      each_read [] = refl
+      each_read (drawn ∷ ds) = (λ i. source_read d.end.stage.on drawn i ∷ each_read ds i)
+
+  -- so its view can be composed from the buffers on layers, whatever scene it is of
+  pub readable_told : Stands new.tree.layers new.on → All (λ (one : OnLayer ReadLeaseOf). Shows one.shown one.lease.turn.expects) new.on → AreReadable (map expected_by new.on) told.view.drawn told.sources
+  readable_told standing shows =
+      subst (AreReadable (map expected_by new.on) told.view.drawn) (sym sources_told) (readable_found new.tree.layers old.width old.height new.on standing shows told.view views_told)
 
 module _ {B : Type 0} where
   -- the calls on the desk are those of the scene, where they are legal
@@ -209,29 +267,19 @@ module _ {B : Type 0} where
     views =
         subst (λ (h : ℕ). Views new.handler.tree.layers scene.width h told.view) (sym (ap (λ (h : HandlerOf ReadLeaseOf). h.height) d.settled.state) ∙ stands.of_scene.height)
         (subst (λ (w : ℕ). Views new.handler.tree.layers w old.height told.view) (sym (ap (λ (h : HandlerOf ReadLeaseOf). h.width) d.settled.state) ∙ stands.of_scene.width)
-        (subst (λ (t : TreeOf). Views t.layers old.width old.height told.view) (sym (ap (λ (h : HandlerOf ReadLeaseOf). h.tree) d.settled.state)) d.settled.view))
+        (views_told lease old new.handler eye after arrived seen expected told d))
 
     expects : All (λ (one : OnLayer ReadLeaseOf). one.lease.turn.expects ≡ picture_at scene.pictures one.shown.picture) new.handler.on
     expects = All-weaker (λ (one : OnLayer ReadLeaseOf). IsBufferLent (view_in new) one.shown one.lease) (λ (one : OnLayer ReadLeaseOf). one.lease.turn.expects ≡ picture_at scene.pictures one.shown.picture)
         (λ (one : OnLayer ReadLeaseOf). buffer_expects table scene so new stands (calls_are table scene so new stands legal) one) new.handler.on stands.leases.on
 
-    sources_are : told.sources ≡ map (source_of new.handler.on) told.view.drawn
-    sources_are =
-        d.settled.sources
-        ∙ each_read told.view.drawn
-        ∙ ap (λ (h : HandlerOf ReadLeaseOf). map (source_of h.on) told.view.drawn) (sym d.settled.state)
-      where
-        each_read : (ds : List Drawn) → map (source_of d.end.stage.on) ds ≡ map (source_of (map shown_on d.end.stage.on)) ds
-        each_read [] = refl
-        each_read (drawn ∷ ds) = (λ i. source_read d.end.stage.on drawn i ∷ each_read ds i)
-
     -- each drawn layer of the view finds its picture among the contents
     pub has_sources : HasSources (picture_at scene.pictures) told.view (map expected_by new.handler.on) told.sources
-    has_sources = subst (HasSources (picture_at scene.pictures) told.view (map expected_by new.handler.on)) (sym sources_are)
-        (sources_found (picture_at scene.pictures) new.handler.tree.layers scene.width scene.height new.handler.on standing shows expects told.view views)
+    has_sources = subst (HasSources (picture_at scene.pictures) told.view (map expected_by new.handler.on)) (sym (sources_told lease old new.handler eye after arrived seen expected told d))
+        (sources_found new.handler.tree.layers scene.width scene.height new.handler.on standing shows (picture_at scene.pictures) expects told.view views)
 
     pub readable : AreReadable (map expected_by new.handler.on) told.view.drawn told.sources
-    readable = AreReadable-sources (picture_at scene.pictures) told.view (map expected_by new.handler.on) told.sources has_sources
+    readable = readable_told lease old new.handler eye after arrived seen expected told d standing shows
 
     -- the frame that is due is the image of the view, which has the scene's size
     pub frame_due_is : frame_of_layers (picture_at scene.pictures) new.handler.tree.layers scene.width scene.height ≡ frame_bytes (λ x y. view_image (picture_at scene.pictures) told.view (pos x) (pos y)) told.view.width told.view.height

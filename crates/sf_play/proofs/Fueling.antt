@@ -40,7 +40,7 @@ places_last place past (d ∷ later) done =
     let rest = places_last (place + 1) (next place past d) later done in
     (rest.0, ap (λ (ats : List DoneAt). record { place = place; past = past; done = d } ∷ ats) rest.1)
 
-one_sent : (place : ℕ) (answer : Answered) (sent : Option (Contents FrameOf)) → length (sent_with place answer sent) ≤ 1
+pub one_sent : (place : ℕ) (answer : Answered) (sent : Option (Contents FrameOf)) → length (sent_with place answer sent) ≤ 1
 one_sent place (answered.Sent number) (Some txn) = omega arith
 one_sent place answer sent = omega arith
 
@@ -72,7 +72,7 @@ drop_front zero xs ys low = refl
 drop_front (suc n) [] ys low = absurd (omega (arith, low))
 drop_front (suc n) (x ∷ xs) ys low = drop_front n xs ys (omega (arith, low))
 
-few_weigh : (now : ℕ) (arrivals : List (Arrival ReadLeaseOf)) → to_commit now arrivals ≤ 2001 * length arrivals
+pub few_weigh : (now : ℕ) (arrivals : List (Arrival ReadLeaseOf)) → to_commit now arrivals ≤ 2001 * length arrivals
 few_weigh now [] = omega arith
 few_weigh now (arrived ∷ later) =
     let rest = few_weigh now later in
@@ -86,7 +86,7 @@ few_weigh now (arrived ∷ later) =
 
 module _ {B : Type 0} where
   -- what an actor sent is as many as its trace sends
-  sent_many : (pictures : ℕ → Picture) (home : DeskHome) (view : DeskView B) (of : ActorOf B) → Keeps pictures home of view
+  pub sent_many : (pictures : ℕ → Picture) (home : DeskHome) (view : DeskView B) (of : ActorOf B) → Keeps pictures home of view
       → length (filter (is_sent_by of.script.number) view.arrivals) ≡ length (sends_of of.trace)
   sent_many pictures home view of keeps =
       let own = filter (is_sent_by of.script.number) view.arrivals in

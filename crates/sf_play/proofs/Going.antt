@@ -1,4 +1,4 @@
--- Each turn of a player goes along with the play of its scene, up to its end.
+-- Each turn of a player goes on with a run of its scene, up to its end, and along with the scene's play.
 use Rattle.std.proofs.Common.{◌≡◌, ◌≢◌, ℕ, zero, suc, ◌+◌, ◌<◌, ◌==◌, Bool, true, false, List, length, map, Option, Some, None, refl, ap, sym, ◌∙◌, subst, arith}
 use Rattle.std.specs.Prelude.{nat_lt, slice_get, if◌then◌else◌}
 use Rattle.std.specs.List.{position}
@@ -24,22 +24,22 @@ use Rattle.sf_run.specs.Stopping.{stuck_among}
 use Rattle.sf_rights.specs.Vsyncs.{IsOfTurns}
 use Rattle.sf_report.specs.declared.report.VsyncReport.{VsyncReport}
 use Rattle.sf_play.proofs.AlongEnds.{ends_play}
-use Rattle.sf_play.proofs.AlongNext.{FrameTold, PlaysOn, turns_on}
-use Rattle.sf_play.proofs.Happening.{may_turn, nothing_happens, shows_fit}
+use Rattle.sf_play.proofs.AlongNext.{FrameTold, PlaysOn, WasAlong, turns_on}
+use Rattle.sf_play.proofs.Happening.{ends_run, may_turn, nothing_happens}
 use Rattle.sf_play.proofs.Leasing.{OfFrames}
 use Rattle.sf_play.proofs.Ledging.{TellsAll, looks_written}
 use Rattle.sf_play.proofs.Lessening.{turns_lessen, vsyncs_last}
-use Rattle.sf_play.proofs.Makers.{draws_came, older_told}
+use Rattle.sf_play.proofs.Makers.{older_told}
 use Rattle.sf_play.proofs.Resting.{turns_rest}
 use Rattle.sf_play.specs.Alongs.{PlaysSo, world_so}
 use Rattle.sf_play.specs.Ending.{IsAtEnd, LooksTell, RestsAt, has_shown, shows_at_end}
 use Rattle.sf_play.specs.Fuel.{fuel, vsyncs_left}
-use Rattle.sf_play.specs.Going.{EndsPlay, GoesAlong, LeavesLess, Tells}
+use Rattle.sf_play.specs.Going.{EndsPlay, EndsRun, GoesAlong, GoesOn, LeavesLess, Tells}
 use Rattle.sf_play.specs.Happening.{StandsAt}
 use Rattle.sf_play.specs.Places.{behind, settled, settled_at}
 use Rattle.sf_play.specs.Players.{PlayerOf, SoFar, Stands, arrived_at, home_in, run_so, view_in}
 use Rattle.sf_play.specs.Playing.{KeepsItself, KeepsRights}
-use Rattle.sf_play.specs.Standing.{HoldsAt, StandsAlong}
+use Rattle.sf_play.specs.Standing.{HoldsAt, StandsAlong, StandsInRun}
 use Rattle.sf_play.specs.Turning.{Picks, RoundsIf, TriesIf, Turns, TurnsAt, turn_by}
 use Rattle.sf_play.specs.declared.place.Place.{Place}
 use Rattle.sf_play.specs.declared.place.Place.TheVariants as at
@@ -110,16 +110,16 @@ module _ {B : Type 0} {R C : Type 0} (lease : Ghosts ReadLeaseOf SeatView R C) (
   leaves_less (turn.Vsync report) turns = lessened (turn.Vsync report) (λ e. cc (e)) turns
   leaves_less turn.End turns = ends_there lease table so.actors old new turn.End turns refl
 
-module _ {B : Type 0} (lease : Ghosts ReadLeaseOf SeatView ReadLeaseOf Issued) (table : TableId) (scene : SceneValue) (so : SoFar B) (player : PlayerOf B) (is : StandsAlong table scene so player) (keeps : KeepsItself lease table player.play)
-    (ended : player.place ≡ at.End) where
+module _ {B : Type 0} (table : TableId) (scene : SceneValue) (so : SoFar B) (player : PlayerOf B) (is : StandsAlong table scene so player) (ended : player.place ≡ at.End) where
   at_end : IsAtEnd scene so player
-  at_end = subst (RestsAt scene so player) ended is.stands.rests
+  at_end = subst (RestsAt scene so player) ended is.in_run.stands.rests
 
   -- what it shows is what the play of the scene shows
   shows_same : shows_at_end scene so player ≡ shows_of scene so.events (world_so so player.play)
   shows_same =
       let held = subst (HoldsAt scene so player) ended is.holds in
-      let stuck = are_stuck scene so.actors (home_in player.play) (view_in player.play) (stuck_among so.actors) is.stands.stands.of_scene.limits is.stands.stands.tell.actors refl at_end.rest in
+      let stands = is.in_run.stands.stands in
+      let stuck = are_stuck scene so.actors (home_in player.play) (view_in player.play) (stuck_among so.actors) stands.of_scene.limits stands.tell.actors refl at_end.rest in
       λ i. record {
         events = so.events;
         arrived = map entry_of (arrived_at player.play);
@@ -129,8 +129,8 @@ module _ {B : Type 0} (lease : Ghosts ReadLeaseOf SeatView ReadLeaseOf Issued) (
       }
 
   -- the records at the end are those of the play of the scene
-  pub ends_told : EndsPlay scene so player
-  ends_told = record {
+  pub ends_told : EndsRun scene so player → EndsPlay scene so player
+  ends_told fits = record {
     are = record {
       events = so.events;
       world = world_so so player.play;
@@ -143,54 +143,69 @@ module _ {B : Type 0} (lease : Ghosts ReadLeaseOf SeatView ReadLeaseOf Issued) (
       fit = fit;
       run = run_so so player.play;
       arrivals = arrived_at player.play;
-      fits = shows_fit table scene so player is.stands ended keeps.desk.knows keeps.desk.legal
-          (draws_came table scene so player.play is.stands.stands is.rights keeps.desk.legal keeps.desk.knows keeps.own);
+      fits = fits;
     };
   }
 
 module _ {B : Type 0} (lease : Ghosts ReadLeaseOf SeatView ReadLeaseOf Issued) (frames : OfFrames lease) (of_turns : IsOfTurns lease) (tells : TellsAll lease) (table : TableId) (scene : SceneValue) (so : SoFar B)
-    (old new : PlayerOf B) (came_to : Turn) (was : StandsAlong table scene so old) (keeps : KeepsItself lease table old.play) (keeps_now : KeepsItself lease table new.play)
-    (turns : Turns lease table so.actors old new came_to) where
-  on : PlaysOn table scene (map mark_declared (rising_queues scene)) so came_to new new.place
-  on = turns_on lease frames of_turns tells table scene so old new came_to (map mark_declared (rising_queues scene)) was.stands.stands was.rights was.marks keeps keeps_now turns was.along was.holds
+    (old new : PlayerOf B) (came_to : Turn) (keeps : KeepsItself lease table old.play) (keeps_now : KeepsItself lease table new.play) (turns : Turns lease table so.actors old new came_to) where
+  module _ (was : StandsInRun table scene so old) where
+    on : PlaysOn (WasAlong lease frames of_turns tells table scene so old new came_to (map mark_declared (rising_queues scene)) was.stands.stands was.rights was.marks keeps keeps_now)
+        table scene (map mark_declared (rising_queues scene)) so came_to new new.place
+    on = turns_on lease frames of_turns tells table scene so old new came_to (map mark_declared (rising_queues scene)) was.stands.stands was.rights was.marks keeps keeps_now turns
 
-  abbrev later : SoFar B
-  later = on.kept.later
+    abbrev later : SoFar B
+    later = on.kept.later
 
-  -- where nothing was shown, looks tell what is owed and what is written
-  looks : has_shown came_to ≡ false → LooksTell lease table scene so old.play new.play
-  looks none =
-      let same : later ≡ so = nothing_happens scene came_to new.play so later none on.kept.happens in
-      record {
-        older = older_told table scene so old.play was.stands.stands was.rights keeps.desk.legal keeps.desk.knows keeps.own new.play
-            (subst (λ (s : SoFar B). Stands table scene s new.play) same on.kept.stands) (subst (λ (s : SoFar B). KeepsRights table scene s new.play) same on.kept.rights);
-        written = λ seen told v. looks_written lease frames of_turns tells table scene so old.play new.play seen told was.stands.stands was.rights.ledger v keeps.desk.legal keeps.desk.knows keeps.own;
-      }
+    -- where nothing was shown, looks tell what is owed and what is written
+    looks : has_shown came_to ≡ false → LooksTell lease table scene so old.play new.play
+    looks none =
+        let same : later ≡ so = nothing_happens scene came_to new.play so later none on.kept.happens in
+        record {
+          older = older_told table scene so old.play was.stands.stands was.rights keeps.desk.legal keeps.desk.knows keeps.own new.play
+              (subst (λ (s : SoFar B). Stands table scene s new.play) same on.kept.stands) (subst (λ (s : SoFar B). KeepsRights table scene s new.play) same on.kept.rights);
+          written = λ seen told v. looks_written lease frames of_turns tells table scene so old.play new.play seen told was.stands.stands was.rights.ledger v keeps.desk.legal keeps.desk.knows keeps.own;
+        }
 
-  pub same_order : new.play.order ≡ old.play.order
-  same_order = on.kept.stands.of_scene.order ∙ sym was.stands.stands.of_scene.order
+    pub same_order : new.play.order ≡ old.play.order
+    same_order = on.kept.stands.of_scene.order ∙ sym was.stands.stands.of_scene.order
 
-  stands_now : StandsAt table scene later new
-  stands_now =
-      let last = vsyncs_last lease table so.actors old new came_to (may_turn lease table scene so old.play was.stands.stands) turns in
-      let early = was.stands.early in
-      let left = ap (λ (order : List Pick). vsyncs_left order new.play new.place) same_order in
-      record {
-        stands = on.kept.stands;
-        rests = turns_rest lease frames table scene so old new later came_to was.stands.stands on.kept.stands keeps_now.desk.legal (λ none. nothing_happens scene came_to new.play so later none on.kept.happens) looks turns
-            was.stands.rests;
-        early = omega (arith, early, left, last);
-      }
+    stands_now : StandsAt table scene later new
+    stands_now =
+        let last = vsyncs_last lease table so.actors old new came_to (may_turn lease table scene so old.play was.stands.stands) turns in
+        let early = was.stands.early in
+        let left = ap (λ (order : List Pick). vsyncs_left order new.play new.place) same_order in
+        record {
+          stands = on.kept.stands;
+          rests = turns_rest lease frames table scene so old new later came_to was.stands.stands on.kept.stands keeps_now.desk.legal (λ none. nothing_happens scene came_to new.play so later none on.kept.happens) looks turns
+              was.stands.rests;
+          early = omega (arith, early, left, last);
+        }
 
-  along_now : StandsAlong table scene later new
-  along_now = record { stands = stands_now; rights = on.kept.rights; along = on.along; holds = on.holds; marks = on.kept.queues }
+    in_run_now : StandsInRun table scene later new
+    in_run_now = record { stands = stands_now; rights = on.kept.rights; marks = on.kept.queues }
 
-  told : (came : Turn) → came_to ≡ came → Tells scene came later new
-  told (turn.Step place) e = tt
-  told turn.Idle e = tt
-  told (turn.Vsync report) e = subst (λ (c : Turn). FrameTold scene c new.play) e on.frame
-  told turn.End e = ends_told lease table scene later new along_now keeps_now (ends_there lease table so.actors old new came_to turns e).1
+    -- at the end it shows what fits the run
+    ends_now : came_to ≡ turn.End → EndsRun scene later new
+    ends_now e = ends_run table scene later new in_run_now (ends_there lease table so.actors old new came_to turns e).1 keeps_now.desk keeps_now.own
 
-  -- each turn goes along with the play of the scene
-  pub goes_along : GoesAlong table scene so came_to new
-  goes_along = record { later = later; happens = on.kept.happens; tells = told came_to refl; stands = along_now }
+    told : (Ends : SoFar B → PlayerOf B → Type 0) → (came_to ≡ turn.End → Ends later new) → (came : Turn) → came_to ≡ came → Tells Ends scene came later new
+    told Ends ends (turn.Step place) e = tt
+    told Ends ends turn.Idle e = tt
+    told Ends ends (turn.Vsync report) e = subst (λ (c : Turn). FrameTold scene c new.play) e on.frame
+    told Ends ends turn.End e = ends e
+
+    -- each turn goes on with a run of the scene
+    pub goes_on : GoesOn table scene so came_to new
+    goes_on = record { later = later; happens = on.kept.happens; tells = told (EndsRun scene) ends_now came_to refl; stands = in_run_now }
+
+  -- and along with the play of the scene
+  module _ (was : StandsAlong table scene so old) where
+    along_now : StandsAlong table scene (later was.in_run) new
+    along_now = record { in_run = in_run_now was.in_run; along = (on was.in_run).along (was.along, was.holds); holds = (on was.in_run).holds (was.along, was.holds) }
+
+    ended_now : came_to ≡ turn.End → EndsPlay scene (later was.in_run) new
+    ended_now e = ends_told table scene (later was.in_run) new along_now (ends_there lease table so.actors old new came_to turns e).1 (ends_now was.in_run e)
+
+    pub goes_along : GoesAlong table scene so came_to new
+    goes_along = record { later = later was.in_run; happens = (on was.in_run).kept.happens; tells = told was.in_run (EndsPlay scene) ended_now came_to refl; stands = along_now }

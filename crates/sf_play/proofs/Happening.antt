@@ -34,10 +34,14 @@ use Rattle.sf_play.proofs.Ending.{fits_at_end}
 use Rattle.sf_play.proofs.Lasting.{vsyncs_fit}
 use Rattle.sf_play.proofs.Ledging.{IsLegalDesk}
 use Rattle.sf_play.proofs.Lessening.{MayTurn}
+use Rattle.sf_play.proofs.Makers.{draws_came}
+use Rattle.sf_play.specs.Alongs.{DeskKnows}
 use Rattle.sf_play.specs.Ending.{RestsAt, has_shown, shows_at_end}
 use Rattle.sf_play.specs.Fuel.{vsyncs_left}
+use Rattle.sf_play.specs.Going.{EndsRun}
 use Rattle.sf_play.specs.Happening.{Happens, StandsAt}
 use Rattle.sf_play.specs.Players.{PlayOf, PlayerOf, SoFar, Stands, arrived_at, home_in, run_so, view_in}
+use Rattle.sf_play.specs.Standing.{StandsInRun}
 use Rattle.sf_play.specs.declared.place.Place.TheVariants as at
 use Rattle.sf_play.specs.declared.turn.Turn.{Turn}
 use Rattle.sf_play.specs.declared.turn.Turn.TheVariants as turn
@@ -73,6 +77,12 @@ module _ {B : Type 0} where
   pub shows_fit : (table : TableId) (scene : SceneValue) (so : SoFar B) (player : PlayerOf B) → StandsAt table scene so player → player.place ≡ at.End → KnowsAll (view_in player.play) → IsLegalDesk player.play.cast.desk
       → DrawAfterOwed scene (run_so so player.play) → Fits scene (shows_at_end scene so player) (run_so so player.play) (arrived_at player.play)
   shows_fit table scene so player was ended knows legal turns = fits_at_end table scene so player was.stands knows legal turns (subst (RestsAt scene so player) ended was.rests)
+
+  -- whoever did its steps
+  pub ends_run : (table : TableId) (scene : SceneValue) (so : SoFar B) (player : PlayerOf B) → StandsInRun table scene so player → player.place ≡ at.End → DeskKnows player.play
+      → player.play.cast.desk.turns.table ≡ table → EndsRun scene so player
+  ends_run table scene so player is ended desk own =
+      shows_fit table scene so player is.stands ended desk.knows desk.legal (draws_came table scene so player.play is.stands.stands is.rights desk.legal desk.knows own)
 
   -- the actors of a play have the scripts of the scene
   scripts_are : (table : TableId) (pictures : ℕ → Picture) (home : DeskHome) (view : DeskView B) (actors : List (Actor B)) (ofs : List (ActorOf B)) → KeepAs table pictures home view actors ofs

@@ -198,7 +198,7 @@ rises numbers (suc k) up low =
     let place = ap (λ (n : ℕ). get_or numbers n 0) same in
     omega (arith, before, step, place)
 
-many_below : (numbers : List ℕ) (most : ℕ) → IsStrictlyIncreasing numbers → All (λ (n : ℕ). (1 ≤ n) × (n ≤ most)) numbers → length numbers ≤ most
+pub many_below : (numbers : List ℕ) (most : ℕ) → IsStrictlyIncreasing numbers → All (λ (n : ℕ). (1 ≤ n) × (n ≤ most)) numbers → length numbers ≤ most
 many_below [] most up within = omega arith
 many_below (n ∷ later) most up within =
     let last = rises (n ∷ later) (length later) up (omega arith) in

@@ -14,11 +14,13 @@ pub mod Going
 pub mod Happening
 pub mod Holding
 pub mod Lasting
+pub mod Late
 pub mod Leasing
 pub mod Ledging
 pub mod Lessening
 pub mod Makers
 pub mod Nexting
+pub mod Numbering
 pub mod Picking
 pub mod Releasing
 pub mod Resting
@@ -27,5 +29,6 @@ pub mod Seeing
 pub mod Stepping
 pub mod Stocks
 pub mod Together
+pub mod Trying
 pub mod Turning
 pub mod Waiting

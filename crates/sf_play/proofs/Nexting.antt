@@ -11,15 +11,15 @@ use Rattle.sf_actor.specs.Scripts.{picture_at}
 use Rattle.sf_actor.specs.Tries.{ActorOf}
 use Rattle.sf_cast.specs.Casts.{KeepAs}
 use Rattle.sf_rights.specs.Vsyncs.{IsOfTurns}
-use Rattle.sf_play.proofs.Going.{goes_along, leaves_less, same_order}
+use Rattle.sf_play.proofs.Going.{goes_along, goes_on, leaves_less, same_order}
 use Rattle.sf_play.proofs.Leasing.{OfFrames}
 use Rattle.sf_play.proofs.Ledging.{TellsAll}
 use Rattle.sf_play.proofs.Picking.{turns_freed}
-use Rattle.sf_play.specs.Going.{GoesAlong, LeavesLess}
+use Rattle.sf_play.specs.Going.{GoesAlong, GoesOn, LeavesLess}
 use Rattle.sf_play.specs.Places.{settled}
 use Rattle.sf_play.specs.Players.{PlayerOf, SoFar}
 use Rattle.sf_play.specs.Playing.{KeepsItself, MayMakeVsync}
-use Rattle.sf_play.specs.Standing.{IsPlayer, IsStanding, StandsAlong}
+use Rattle.sf_play.specs.Standing.{IsPlayer, IsStanding, StandsAlong, StandsInRun}
 use Rattle.sf_play.specs.Turning.{KeepsCast, Turns, TurnsAt}
 use Rattle.sf_play.specs.declared.place.Place.{Place}
 use Rattle.sf_play.specs.declared.turn.Turn.{Turn}
@@ -46,19 +46,22 @@ module _ {B : Type 0} (lease : Ghosts ReadLeaseOf SeatView ReadLeaseOf Issued) (
       (subst (λ (p : Place). TurnsAt lease table ofs p (record inside { is_spent = true }) later came_to) there (turns ofs keep))
 
   module _ (frames : OfFrames lease) (of_turns : IsOfTurns lease) (tells : TellsAll lease) (keeps : KeepsItself lease table inside.play) (keeps_now : KeepsItself lease table later.play) where
-    keep_of : (scene : SceneValue) (so : SoFar B) → StandsAlong table scene so inside → KeepsCast table inside.play so.actors
-    keep_of scene so was =
-        subst (λ (pictures : List Picture). KeepAs table (picture_at pictures) (home_of inside.play.cast.desk) (view_of inside.play.cast.desk) inside.play.cast.actors so.actors)
-        (sym was.stands.stands.of_scene.pictures) was.stands.stands.keep
+    turn_of : (scene : SceneValue) (so : SoFar B) → StandsInRun table scene so inside → Turns lease table so.actors inside freed came_to
+    turn_of scene so was =
+        turned so.actors (subst (λ (pictures : List Picture). KeepAs table (picture_at pictures) (home_of inside.play.cast.desk) (view_of inside.play.cast.desk) inside.play.cast.actors so.actors)
+        (sym was.stands.stands.of_scene.pictures) was.stands.stands.keep)
 
-    pub goes : (scene : SceneValue) (so : SoFar B) → StandsAlong table scene so inside → GoesAlong table scene so came_to freed
-    goes scene so was = goes_along lease frames of_turns tells table scene so inside freed came_to was keeps keeps_now (turned so.actors (keep_of scene so was))
+    pub goes : (scene : SceneValue) (so : SoFar B) → StandsInRun table scene so inside → GoesOn table scene so came_to freed
+    goes scene so was = goes_on lease frames of_turns tells table scene so inside freed came_to keeps keeps_now (turn_of scene so was) was
+
+    pub goes_with : (scene : SceneValue) (so : SoFar B) → StandsAlong table scene so inside → GoesAlong table scene so came_to freed
+    goes_with scene so was = goes_along lease frames of_turns tells table scene so inside freed came_to keeps keeps_now (turn_of scene so was.in_run) was
 
     pub less : IsStanding table inside → LeavesLess came_to inside freed
     less is =
-        let turn = turned is.so.actors (keep_of is.scene is.so is.stands) in
+        let turn = turn_of is.scene is.so is.stands in
         leaves_less lease table is.scene is.so inside freed is.stands.stands.stands
-        (same_order lease frames of_turns tells table is.scene is.so inside freed came_to is.stands keeps keeps_now turn) came_to turn
+        (same_order lease frames of_turns tells table is.scene is.so inside freed came_to keeps keeps_now turn is.stands) came_to turn
 
     pub stays : IsStanding table inside → IsPlayer table freed
     stays is =

@@ -19,12 +19,17 @@ use Rattle.sf_play.specs.Places.{behind, settled, settled_at}
 use Rattle.sf_play.specs.Players.{PlayerOf}
 use Rattle.sf_play.specs.Playing.{MakesReport}
 use Rattle.sf_report.specs.Reports.{has_commits}
-use Rattle.sf_play.specs.Turning.{Picks, Rounds, RoundsIf, TakesPick, TriesIf, TriesStep, TurnsAt, TurnsVsync}
+use Rattle.sf_play.specs.Turning.{Picks, Rounds, RoundsIf, TakesPick, TriesIf, TriesStep, TurnsAt, TurnsVsync, picked_place}
 use Rattle.sf_play.specs.declared.place.Place.{Place}
 use Rattle.sf_play.specs.declared.place.Place.TheVariants as at
 use Rattle.sf_report.specs.declared.report.VsyncReport.{VsyncReport}
 use Rattle.sf_play.specs.declared.turn.Turn.{Turn}
 use Rattle.sf_play.specs.declared.turn.Turn.TheVariants as turn
+
+-- the place of the actor that a pick names, where it is not a vsync
+pub picked_there : {B : Type 0} (actors : List (Actor B)) (number : ℕ) → (number ≡ 0 → ⊥) → position (λ (actor : Actor B). number_of actor == number) actors ≡ picked_place actors number
+picked_there actors zero unmet = absurd (unmet refl)
+picked_there actors (suc n) unmet = refl
 
 module _ {B : Type 0} {R C : Type 0} (lease : Ghosts ReadLeaseOf SeatView R C) (table : TableId) (ofs : List (ActorOf B)) where
   -- a pick of an actor tries its next step

@@ -113,11 +113,13 @@ module _ {B : Type 0} (table : TableId) (scene : SceneValue) (limits : IsWithinL
         let player : PlayerOf B = record { play = play; place = place; held = held; is_spent = false } in
         let stands = stands_at_first table scene limits seat stock play opens period order handler none in
         record {
-          stands = begins_stand table scene so player stands version first none (ap (λ (h : HandlerOf ReadLeaseOf). h.pending) handler) opens.none_arrived;
-          rights = rights_first;
+          in_run = record {
+            stands = begins_stand table scene so player stands version first none (ap (λ (h : HandlerOf ReadLeaseOf). h.pending) handler) opens.none_arrived;
+            rights = rights_first;
+            marks = marks_first;
+          };
           along = subst (PlaysSo scene so play) (sym first) (begins_along table scene seat stock play opens none);
           holds = subst (HoldsAt scene so player) (sym first) tt;
-          marks = marks_first;
         }
 
 -- a player that did nothing yet
@@ -143,4 +145,4 @@ module _ {B : Type 0} (table : TableId) (scene : SceneValue) (limits : IsWithinL
       }
 
   pub begins_player : IsPlayer table player
-  begins_player = record { unlent = begins.stands.stands.stands.of_scene.unlent; stands = λ unspent. record { scene = scene; so = begins.so; stands = begins.stands } }
+  begins_player = record { unlent = begins.stands.in_run.stands.stands.of_scene.unlent; stands = λ unspent. record { scene = scene; so = begins.so; stands = begins.stands.in_run } }

@@ -1,5 +1,6 @@
 -- What a play shows at its end, and what it keeps of who rests.
-use Rattle.std.specs.Prelude.{◌≡◌, Bool, true, false, All, Contains, length, map, take}
+use Rattle.std.specs.Prelude.{◌≡◌, ◌++◌, Bool, true, false, List, All, Contains, length, map, take}
+use Rattle.std.specs.List.{flat_map}
 use Rattle.sf_surface.specs.Tokens.{ReadLeaseOf}
 use Rattle.sf_turns.specs.Views.{SeatView}
 use Rattle.sf_txn.specs.declared.lease.Lease.{Ghosts}
@@ -10,11 +11,14 @@ use Rattle.sf_scene.specs.Scene.{SceneValue}
 use Rattle.sf_actor.specs.Known.{frame_of}
 use Rattle.sf_actor.specs.Makers.{Run}
 use Rattle.sf_actor.specs.Tries.{ActorOf}
+use Rattle.sf_record.specs.declared.event.Event.{Event}
+use Rattle.sf_record.specs.declared.event.Event.TheVariants as event
 use Rattle.sf_run.specs.Arrivals.{entry_of}
 use Rattle.sf_run.specs.Histories.{history_shown, rising_queues}
 use Rattle.sf_run.specs.Holds.{AreHeld, uncommitted}
-use Rattle.sf_run.specs.Played.{Shows, end_of}
+use Rattle.sf_run.specs.Played.{Shows, end_of, reply_events}
 use Rattle.sf_run.specs.Progress.{ShowsWhatIsWritten, held_shown}
+use Rattle.sf_run.specs.Runs.{rising_actors}
 use Rattle.sf_run.specs.Stopping.{TellsOlder, stuck_among}
 use Rattle.sf_run.specs.Stuck.{IsNotReady, next_step}
 use Rattle.sf_run.specs.Vsyncs.{commits_in, vsyncs_in}
@@ -32,6 +36,10 @@ has_shown (turn.Step place) = true
 has_shown (turn.Vsync report) = has_commits report.commits
 has_shown other = false
 
+-- the same events where threads ran: the vsyncs, and behind them the replies to the steps of each actor
+abbrev pub late_events : SceneValue → Run → List Event → List Event
+late_events scene run events = map event.Vsync (vsyncs_in events) ++ flat_map (reply_events run) (rising_actors scene)
+
 module _ {B : Type 0} where
   -- the events so far; and at the end what arrived, the histories of the queues, what the last vsync held, and who is stuck
   abbrev pub shows_at_end : SceneValue → SoFar B → PlayerOf B → Shows
@@ -42,6 +50,10 @@ module _ {B : Type 0} where
     held = map held_shown player.held;
     stuck = stuck_among so.actors;
   }
+
+  -- the same, with the replies behind the last vsync
+  abbrev pub shows_late : SceneValue → SoFar B → PlayerOf B → Shows
+  shows_late scene so player = record (shows_at_end scene so player) { events = late_events scene (run_so so player.play) so.events }
 
   -- an actor has no next step, or it is not ready at it
   abbrev pub Rests : SceneValue → Run → ActorOf B → Type 0

@@ -1,4 +1,4 @@
--- What a turn of a player tells who shows it: it goes along with the play of the scene, up to its end.
+-- What a turn of a player tells who shows it: it goes on with a run of the scene, up to its end, and along with the scene's play.
 use Rattle.std.specs.Prelude.{◌≡◌, ℕ, ◌<◌, pos, List, map, All}
 use Rattle.atomic_table.specs.Seated.{TableId}
 use Rattle.sf_compose.specs.Frames.{frame_bytes}
@@ -11,14 +11,14 @@ use Rattle.sf_record.specs.Fitting.{RecordFits}
 use Rattle.sf_record.specs.declared.record.Record.{Record}
 use Rattle.sf_run.specs.Ends.{ArePlayRecords}
 use Rattle.sf_run.specs.Frames.{frame_of_layers}
-use Rattle.sf_run.specs.Played.{Played, records_of}
+use Rattle.sf_run.specs.Played.{Fits, Played, records_of}
 use Rattle.sf_report.specs.declared.report.VsyncReport.{VsyncReport}
 use Rattle.sf_play.specs.Ending.{shows_at_end}
 use Rattle.sf_play.specs.Fuel.{fuel}
 use Rattle.sf_play.specs.Happening.{Happens}
-use Rattle.sf_play.specs.Players.{PlayOf, PlayerOf, SoFar}
+use Rattle.sf_play.specs.Players.{PlayOf, PlayerOf, SoFar, arrived_at, run_so}
 use Rattle.sf_play.specs.Playing.{expected_by}
-use Rattle.sf_play.specs.Standing.{StandsAlong}
+use Rattle.sf_play.specs.Standing.{StandsAlong, StandsInRun}
 use Rattle.sf_play.specs.declared.place.Place.TheVariants as at
 use Rattle.sf_play.specs.declared.turn.Turn.{Turn}
 use Rattle.sf_play.specs.declared.turn.Turn.TheVariants as turn
@@ -44,17 +44,28 @@ module _ {B : Type 0} where
     pub are : ArePlayRecords scene (records_so scene so player)
     pub means : All RecordFits (records_so scene so player) → Played scene (records_so scene so player)
 
-  -- what a turn tells beside what happened
-  abbrev pub Tells : SceneValue → Turn → SoFar B → PlayerOf B → Type 0
-  Tells scene (turn.Vsync report) so player = TellsFrame scene report player.play
-  Tells scene turn.End so player = EndsPlay scene so player
-  Tells scene other so player = Unit {0}
+  -- at its end what a player has shown fits the run that its actors tell
+  abbrev pub EndsRun : SceneValue → SoFar B → PlayerOf B → Type 0
+  EndsRun scene so player = Fits scene (shows_at_end scene so player) (run_so so player.play) (arrived_at player.play)
+
+  -- what a turn tells beside what happened: a vsync its frame, and the end what is then
+  abbrev pub Tells : (SoFar B → PlayerOf B → Type 0) → SceneValue → Turn → SoFar B → PlayerOf B → Type 0
+  Tells Ends scene (turn.Vsync report) so player = TellsFrame scene report player.play
+  Tells Ends scene turn.End so player = Ends so player
+  Tells Ends scene other so player = Unit {0}
+
+  -- a turn goes on with a run of the scene: this much has happened since, and the player stands in the run with it
+  pub record GoesOn (table : TableId) (scene : SceneValue) (so : SoFar B) (came_to : Turn) (new : PlayerOf B) : Type 0 where
+    pub later : SoFar B
+    pub happens : Happens scene came_to new.play so later
+    pub tells : Tells (EndsRun scene) scene came_to later new
+    pub stands : StandsInRun table scene later new
 
   -- a turn goes along with the play of the scene: this much has happened since, and the player stands along with it
   pub record GoesAlong (table : TableId) (scene : SceneValue) (so : SoFar B) (came_to : Turn) (new : PlayerOf B) : Type 0 where
     pub later : SoFar B
     pub happens : Happens scene came_to new.play so later
-    pub tells : Tells scene came_to later new
+    pub tells : Tells (EndsPlay scene) scene came_to later new
     pub stands : StandsAlong table scene later new
 
   -- how much is left of a player's play

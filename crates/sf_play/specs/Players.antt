@@ -1,5 +1,5 @@
 -- What contracts see of a player, and what it keeps: what it has shown so far is the beginning of a played run.
-use Rattle.std.specs.Prelude.{◌≡◌, ℕ, ◌≤◌, Bool, true, false, List, All, length, take, None, Contains}
+use Rattle.std.specs.Prelude.{◌≡◌, ℕ, ◌≤◌, Bool, true, false, List, [], All, length, take, None, Contains}
 use Rattle.atomic_table.specs.Seated.{TableId}
 use Rattle.sf_layer.specs.declared.shown.Shown.{Shown}
 use Rattle.sf_ready.specs.declared.hold.Hold.{Hold}
@@ -36,6 +36,7 @@ use Rattle.sf_run.specs.Stages.{VsyncAt, told_of}
 use Rattle.sf_run.specs.Telling.{TellRun}
 use Rattle.sf_run.specs.Vsyncs.{AreVsyncs, vsyncs_in}
 use Rattle.sf_play.specs.declared.place.Place.{Place}
+use Rattle.sf_play.specs.declared.place.Place.TheVariants as at
 
 -- a play: the period and the order of the scene, the actors over their desk, the compositor, and how many vsyncs there were
 pub record PlayOf (B : Type 0) : Type 0 where
@@ -51,6 +52,15 @@ pub record PlayerOf (B : Type 0) : Type 0 where
   pub place : Place
   pub held : List (ℕ × Hold)
   pub is_spent : Bool
+
+-- a player that begins with a round, where so many vsyncs were made and nothing is held yet
+abbrev pub before_round : {B : Type 0} → ℕ → List Pick → CastOf B → HandlerOf ReadLeaseOf → ℕ → PlayerOf B
+before_round {B} period order cast handler vsyncs = record {
+  play = record { period = period; order = order; cast = cast; handler = handler; vsyncs = vsyncs };
+  place = at.Round 0 false;
+  held = [];
+  is_spent = false;
+}
 
 -- what happened so far: the actors as contracts see them, and what was shown
 pub record SoFar (B : Type 0) : Type 0 where

@@ -1,4 +1,5 @@
--- What a player keeps: it stands along with the play of its scene, which determines what it shows.
+-- What a player keeps: it stands in a run of its scene, whoever did the steps before. One that did them all itself stands along
+-- with the play of its scene, too, which determines what it shows.
 use Rattle.std.specs.Prelude.{◌≡◌, false, [], None, map}
 use Rattle.atomic_table.specs.Seated.{TableId}
 use Rattle.sf_scene.specs.Scene.{SceneValue}
@@ -18,20 +19,24 @@ module _ {B : Type 0} where
   HoldsAt scene so player at.End = player.held ≡ held_in scene (world_so so player.play)
   HoldsAt scene so player other = Unit {0}
 
-  -- A player that has shown this much stands, with the ledger of its rights and its queues by rising number, and has come as far
-  -- as the play of the scene that showed as much.
-  pub record StandsAlong (table : TableId) (scene : SceneValue) (so : SoFar B) (player : PlayerOf B) : Type 0 where
+  -- A player that has shown this much stands in a run of the scene: at its place, with the ledger of its rights and its queues by
+  -- rising number.
+  pub record StandsInRun (table : TableId) (scene : SceneValue) (so : SoFar B) (player : PlayerOf B) : Type 0 where
     pub stands : StandsAt table scene so player
     pub rights : KeepsRights table scene so player.play
-    pub along : PlaysSo scene so player.play player.place
-    pub holds : HoldsAt scene so player player.place
     pub marks : (home_in player.play).marks ≡ map mark_declared (rising_queues scene)
 
-  -- it stands along with the play of some scene
+  -- it has come as far, too, as the play of the scene that showed as much
+  pub record StandsAlong (table : TableId) (scene : SceneValue) (so : SoFar B) (player : PlayerOf B) : Type 0 where
+    pub in_run : StandsInRun table scene so player
+    pub along : PlaysSo scene so player.play player.place
+    pub holds : HoldsAt scene so player player.place
+
+  -- it stands in a run of some scene
   pub record IsStanding (table : TableId) (player : PlayerOf B) : Type 0 where
     pub scene : SceneValue
     pub so : SoFar B
-    pub stands : StandsAlong table scene so player
+    pub stands : StandsInRun table scene so player
 
   -- what a player keeps of itself
   pub record IsPlayer (table : TableId) (player : PlayerOf B) : Type 0 where

@@ -50,6 +50,25 @@ module _ {B : Type 0} where
     pub acts : new.cast.is_spent ≡ false
     pub rest : new ≡ record old { cast = new.cast }
 
+  -- the place of the actor whose next step a pick tries: a pick of 0 is a vsync
+  abbrev pub picked_place : List (Actor B) → ℕ → Option ℕ
+  picked_place actors zero = None
+  picked_place actors (suc n) = position (λ (actor : Actor B). number_of actor == suc n) actors
+
+  abbrev pub place_by : List (Actor B) → Option Pick → Option ℕ
+  place_by actors None = None
+  place_by actors (Some pick) = picked_place actors pick.actor
+
+  -- that of the turn at a place, if it tries one
+  abbrev pub tried_from : PlayOf B → Place → Option ℕ
+  tried_from play (at.Order place done) = place_by play.cast.actors (slice_get play.order place)
+  tried_from play (at.Round place stepped) = if nat_lt place (length play.cast.actors) then Some place else None
+  tried_from play at.End = None
+
+  -- that of the next turn of a player
+  abbrev pub next_tried : PlayerOf B → Option ℕ
+  next_tried player = tried_from player.play (settled player.play.order player.place)
+
 module _ {B : Type 0} {R C : Type 0} (lease : Ghosts ReadLeaseOf SeatView R C) (table : TableId) (ofs : List (ActorOf B)) where
   -- a vsync was made
   pub record TurnsVsync (old new : PlayerOf B) (came_to : Turn) : Type 0 where

@@ -8,7 +8,8 @@ ghost use Rattle.sf_surface.specs.Tokens.{ReadLeaseOf};
 ghost use Rattle.sf_turns.specs.Counts.{range};
 ghost use Rattle.sf_play.specs.Giving.{GivesFrames};
 ghost use Rattle.sf_play.specs.Playing.{KeepsItself, MakesReport, MayMakeVsync, expected_by};
-ghost use Rattle.sf_play.specs.Standing.{Begins};
+ghost use Rattle.sf_play.specs.Players.{before_round};
+ghost use Rattle.sf_play.specs.Standing.{Begins, IsStanding};
 
 use crate::place::Place;
 use sf_base::{Items, NoMemory};
@@ -116,6 +117,32 @@ impl<B: TableName> Player<B> {
             held: Items::new(Vec::new(alloc)),
             is_spent: false,
         })
+    }
+
+    /// A player that goes on with a run whose actors did their steps elsewhere and are together again,
+    /// and in which so many vsyncs were made: it does rounds, up to the first in which nothing is done.
+    /// The order is the scene's, of which no pick is left.
+    pub fn resume(
+        alloc: Global,
+        period: u64,
+        order: Items<Pick>,
+        cast: Cast<B>,
+        handler: Handler<ReadLease<B>>,
+        vsyncs: u32,
+    ) -> Player<B>
+        requires { IsStanding B.table (before_round period order cast handler vsyncs) }
+        ensures { result ≡ before_round period order cast handler vsyncs }
+    {
+        Player {
+            period,
+            order,
+            cast,
+            handler,
+            vsyncs,
+            place: Place::Round(0, false),
+            held: Items::new(Vec::new(alloc)),
+            is_spent: false,
+        }
     }
 
     /// The actors and their desk.

@@ -1,17 +1,17 @@
-ghost use Rattle.std.specs.Prelude.{◌≡◌, ◌<◌, ◌||◌, ℕ, true, false, if◌then◌else◌, List, length, IfErr, IfOk, IsErr};
+ghost use Rattle.std.specs.Prelude.{◌≡◌, ◌<◌, ◌||◌, ℕ, true, false, if◌then◌else◌, List, length, IfErr, IfOk, IfSome, IsErr};
 ghost use Rattle.std.specs.List.{list_any};
 ghost use Rattle.sf_ready.specs.declared.hold.Hold.{Hold as HoldValue};
 ghost use Rattle.sf_run.specs.Progress.{is_time};
 ghost use Rattle.sf_actor.specs.Tries.{ActorOf};
 ghost use Rattle.sf_scene.specs.Scene.{SceneValue};
-ghost use Rattle.sf_play.specs.Going.{GoesAlong, LeavesLess};
+ghost use Rattle.sf_play.specs.Going.{GoesAlong, GoesOn, LeavesLess};
 ghost use Rattle.sf_play.specs.Places.{settled};
 ghost use Rattle.sf_play.specs.Players.{SoFar};
 ghost use Rattle.sf_play.specs.Playing.{MayMakeVsync};
-ghost use Rattle.sf_play.specs.Standing.{StandsAlong};
+ghost use Rattle.sf_play.specs.Standing.{StandsAlong, StandsInRun};
 ghost use Rattle.sf_play.specs.declared.place.Place.TheVariants as at;
 ghost use Rattle.sf_report.specs.Reports.{has_commits};
-ghost use Rattle.sf_play.specs.Turning.{KeepsCast, Picks, Rounds, TriesStep, Turns, TurnsAt, is_step, turn_by};
+ghost use Rattle.sf_play.specs.Turning.{KeepsCast, Picks, Rounds, TriesStep, Turns, TurnsAt, is_step, next_tried, picked_place, turn_by};
 
 use crate::place::Place;
 use crate::player::Player;
@@ -157,11 +157,39 @@ impl<B: TableName> Player<B> {
         }
     }
 
+    /// The place of the actor whose next step a pick of this number tries: a pick of 0 is a vsync.
+    fn picked_place(&self, number: u32) -> Option<usize>
+        ensures names { result ≡ picked_place self.now.play.cast.actors number }
+        ensures there { IfSome result (λ place. place < length self.now.play.cast.actors) }
+    {
+        if number == 0 {
+            return None;
+        }
+        self.cast.place_of(number)
+    }
+
+    /// The place, from 0, of the actor whose next step the next turn tries, if it tries one.
+    pub fn next_actor(&self) -> Option<usize>
+        ensures names { result ≡ next_tried self.now }
+        ensures there { IfSome result (λ place. place < length self.now.play.cast.actors) }
+    {
+        match self.place.settled(self.order.as_slice()) {
+            Place::Order(place, _) => match self.order.as_slice().get(place) {
+                Some(pick) => self.picked_place(pick.actor),
+                None => None,
+            },
+            Place::Round(place, _) if place < self.cast.actors().len() => Some(place),
+            _ => None,
+        }
+    }
+
     /// Does the next turn of the play. A player that found no memory does nothing any more.
     pub fn next(&mut self) -> Result<Turn, NoMemory>
         ensures turns { (ofs : List (ActorOf B)) → KeepsCast B.table self.old.play ofs
             → IfOk result (Turns ⟦<ReadLease<B> as Lease>⟧ B.table ofs self.old self.new) }
-        ensures on { (scene : SceneValue) (so : SoFar B) → StandsAlong B.table scene so self.old
+        ensures on { (scene : SceneValue) (so : SoFar B) → StandsInRun B.table scene so self.old
+            → IfOk result (λ turn. GoesOn B.table scene so turn self.new) }
+        ensures along { (scene : SceneValue) (so : SoFar B) → StandsAlong B.table scene so self.old
             → IfOk result (λ turn. GoesAlong B.table scene so turn self.new) }
         ensures less { IfOk result (λ turn. LeavesLess turn self.old self.new) }
         ensures no_memory { IfErr result (λ _. self.new.is_spent ≡ true) }

@@ -36,7 +36,7 @@ use Rattle.sf_run.specs.Stopping.{stuck_among}
 use Rattle.sf_run.specs.Telling.{arrival_recorded}
 use Rattle.sf_play.specs.Ending.{shows_at_end}
 use Rattle.sf_play.specs.Players.{PlayerOf, SoFar, home_in, run_so}
-use Rattle.sf_play.specs.Standing.{StandsAlong}
+use Rattle.sf_play.specs.Standing.{StandsInRun}
 use Rattle.sf_show.specs.Closings.{closing_of, history_of, stuck_at, stuck_entry}
 
 -- numbers each of which stands once
@@ -177,7 +177,7 @@ module _ {B : Type 0} where
       stuck_first actor.script (length actor.replies.items) (stuck_at actors) ∙ (λ i. stuck_with (sym script i) (sym trace i) ++ later i)
 
   -- a script is short enough for the numbers of its steps
-  pub few_steps : (table : TableId) (scene : SceneValue) (so : SoFar B) (player : PlayerOf B) → StandsAlong table scene so player
+  pub few_steps : (table : TableId) (scene : SceneValue) (so : SoFar B) (player : PlayerOf B) → StandsInRun table scene so player
       → All (λ (actor : Actor B). length actor.script.steps ≤ 4294967295) player.play.cast.actors
   few_steps table scene so player stands =
       of_all (λ (actor : Actor B). length actor.script.steps ≤ 4294967295) player.play.cast.actors (λ actor there.
@@ -219,7 +219,7 @@ module _ {B : Type 0} where
       (λ i. record { queue = number i; entries = entries i } ∷ later i)
 
   -- what is written at the end is what the player shows
-  pub closing_is : (table : TableId) (scene : SceneValue) (so : SoFar B) (player : PlayerOf B) → StandsAlong table scene so player
+  pub closing_is : (table : TableId) (scene : SceneValue) (so : SoFar B) (player : PlayerOf B) → StandsInRun table scene so player
       → let shows = shows_at_end scene so player in closing_of player ≡ closing shows.arrived shows.histories shows.held shows.stuck
   closing_is table scene so player stands =
       let desk = player.play.cast.desk in

@@ -61,7 +61,7 @@ module _ {B : Type 0} (table : TableId) (scene : SceneValue) (first : Record) (t
 
 module _ {B : Type 0} (table : TableId) (scene : SceneValue) (a b c : Option (List ℕ)) (player : PlayerOf B) (has : HasWritten table scene a b player) where
   all_records : (opening scene ∷ events_records has.so.events) ++ closing_of player ≡ records_so scene has.so player
-  all_records = ap (λ (rs : List Record). (opening scene ∷ events_records has.so.events) ++ rs) (closing_is table scene has.so player has.stands)
+  all_records = ap (λ (rs : List Record). (opening scene ∷ events_records has.so.events) ++ rs) (closing_is table scene has.so player has.stands.in_run)
 
   -- the closing records were written behind all others, or a part of them
   pub run_written : (r : Result (Unit {0}) RunFault) → OnOk r (Writes b c (closing_of player)) → OnOk r (WroteRun scene a c)

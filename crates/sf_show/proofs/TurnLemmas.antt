@@ -201,7 +201,7 @@ module _ {B : Type 0} where
       → WritesPart start now (opening scene ∷ events_records so.events) → CutRun scene start now
   cut_so_far table scene start now so player stands part =
       let along = stands.along in
-      let begins = has_records scene along.playing stands.stands.stands.of_scene.limits along.begun in
+      let begins = has_records scene along.playing stands.in_run.stands.stands.of_scene.limits along.begun in
       record {
         records = begins.0;
         is_play = begins.1;

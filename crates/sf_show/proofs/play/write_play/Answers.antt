@@ -22,7 +22,7 @@ pub write_closing-requires : goal.write_closing-requires
 write_closing-requires g c =
     let has = c.in-Ok-show_turns.ensures.ok c.requires.ready.0 (g.K.Sink.taken c.args.sink.now)
     (has_begun g.B.TableName.table c.requires.ready.0 c.args.first c.args.timelines.now c.args.player.now c.requires.ready.1 _ _ (c.in-Ok.ensures.ok c.args.first refl)) in
-    few_steps g.B.TableName.table c.requires.ready.0 has.so c.show_turns.new.player has.stands
+    few_steps g.B.TableName.table c.requires.ready.0 has.so c.show_turns.new.player has.stands.in_run
 
 pub returns-clause-ok : goal.returns-clause-ok
 returns-clause-ok g c = λ scene ready.

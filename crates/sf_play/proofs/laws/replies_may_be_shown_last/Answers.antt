@@ -1,0 +1,8 @@
+use Rattle.sf_play.proofs.Late.{fits_late, played_live}
+use Rattle.sf_play.proofs.laws.replies_may_be_shown_last.Goals as goal
+
+pub returns-clause-fits : goal.returns-clause-fits
+returns-clause-fits g c = fits_late
+
+pub returns-clause-live : goal.returns-clause-live
+returns-clause-live g c = played_live

@@ -1,0 +1,5 @@
+use Rattle.sf_play.proofs.Happening.{ends_run}
+use Rattle.sf_play.proofs.laws.what_stands_at_its_end_fits.Goals as goal
+
+pub returns : goal.returns
+returns g c = ends_run

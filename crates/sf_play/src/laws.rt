@@ -1,0 +1,52 @@
+ghost use Rattle.std.specs.Prelude.{◌≡◌, ℕ, ◌+◌, ◌<◌, ◌≤◌, All, List, Some, false};
+ghost use Rattle.atomic_table.specs.Seated.{TableId};
+ghost use Rattle.sf_scene.specs.Scene.{SceneValue};
+ghost use Rattle.sf_actor.specs.Tries.{ActorOf};
+ghost use Rattle.sf_record.specs.Fitting.{RecordFits};
+ghost use Rattle.sf_run.specs.Played.{Fits, PlayedLive, records_of};
+ghost use Rattle.sf_play.specs.Alongs.{DeskKnows};
+ghost use Rattle.sf_play.specs.Ending.{shows_late};
+ghost use Rattle.sf_play.specs.Fuel.{vsyncs_left};
+ghost use Rattle.sf_play.specs.Going.{EndsRun};
+ghost use Rattle.sf_play.specs.Players.{PlayOf, PlayerOf, SoFar, Stands, arrived_at, run_so};
+ghost use Rattle.sf_play.specs.Standing.{StandsInRun};
+ghost use Rattle.sf_play.specs.Turning.{TriesStep, Turns, next_tried};
+ghost use Rattle.sf_play.specs.declared.place.Place.TheVariants as at;
+ghost use Rattle.sf_play.specs.declared.turn.Turn.{Turn as TurnOf};
+ghost use Rattle.sf_play.specs.declared.turn.Turn.TheVariants as turn;
+
+use sf_surface::ReadLease;
+use sf_turns::TableName;
+use sf_txn::Lease;
+
+/// The rounds behind a run of a scene of version 1 have vsyncs whose numbers fit 32 bits, where no more
+/// than 2^31 were made before.
+pub fn the_vsyncs_of_rounds_can_be_numbered<B: TableName>()
+    ensures { (table : TableId) (scene : SceneValue) (so : SoFar B) (play : PlayOf B) → Stands table scene so play → scene.version ≡ 1 → play.vsyncs ≤ 2147483648
+        → play.vsyncs + vsyncs_left play.order play (at.Round 0 false) < 4294967295 }
+{}
+
+/// The actor that `Player::next_actor` names is the one whose step the next turn tries, and no other
+/// does a step.
+pub fn the_next_actor_is_the_one_that_is_tried<B: TableName>()
+    ensures tried { (ofs : List (ActorOf B)) (old new : PlayerOf B) (came_to : TurnOf) (place : ℕ) → Turns ⟦<ReadLease<B> as Lease>⟧ B.table ofs old new came_to
+        → next_tried old ≡ Some place → TriesStep B.table place ofs old.play new.play came_to }
+    ensures no_other { (ofs : List (ActorOf B)) (old new : PlayerOf B) (came_to : TurnOf) (place : ℕ) → Turns ⟦<ReadLease<B> as Lease>⟧ B.table ofs old new came_to
+        → came_to ≡ turn.Step place → next_tried old ≡ Some place }
+{}
+
+/// Whoever did the steps of a run: where a player that stands in it is at its end, what was shown
+/// fits the run that the actors tell.
+pub fn what_stands_at_its_end_fits<B: TableName>()
+    ensures { (table : TableId) (scene : SceneValue) (so : SoFar B) (player : PlayerOf B) → StandsInRun table scene so player → player.place ≡ at.End
+        → DeskKnows player.play → player.play.cast.desk.turns.table ≡ table → EndsRun scene so player }
+{}
+
+/// So it does where the replies are shown behind the last vsync, by actor and step; these are the
+/// records of a live run.
+pub fn replies_may_be_shown_last<B: TableName>()
+    ensures fits { (table : TableId) (scene : SceneValue) (so : SoFar B) (player : PlayerOf B) → StandsInRun table scene so player → EndsRun scene so player
+        → Fits scene (shows_late scene so player) (run_so so player.play) (arrived_at player.play) }
+    ensures live { (table : TableId) (scene : SceneValue) (so : SoFar B) (player : PlayerOf B) → StandsInRun table scene so player → EndsRun scene so player
+        → All RecordFits (records_of scene (shows_late scene so player)) → PlayedLive scene (records_of scene (shows_late scene so player)) }
+{}
