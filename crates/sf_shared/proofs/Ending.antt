@@ -28,7 +28,7 @@ use Rattle.sf_shared.specs.declared.locks.Locks.{Locks}
 use Rattle.sf_shared.specs.declared.locks.QueueLock.{QueueLock}
 use Rattle.sf_shared.specs.declared.seats.Seats.{Seats}
 use Rattle.sf_shared.specs.Arriving.{ArrivalEntry, Arrived, Arriving}
-use Rattle.sf_shared.specs.Closing.{AreClosed, Closes, HasNoEntry, HasOwn, IsClosed, IsLast, IsOrdered}
+use Rattle.sf_shared.specs.Closing.{AreClosed, Closes, GoesOnIn, HasNoEntry, IsClosed, IsLast, IsOrdered}
 use Rattle.sf_shared.specs.First.{HasAll, IsFirst, Leads, TookPass, gave_of, took_of}
 use Rattle.sf_shared.specs.Seats.{IsPassOf, QueueEntry, QueuePass, calls_known, home_of, is_at, lock_mark, mark_in, view_of}
 use Rattle.sf_shared.proofs.Going.{calls_unstamped, goes_unstamped, sent_goes}
@@ -157,15 +157,15 @@ module _ {B : Type 0} where
   closed_rise (l ∷ locks) (p ∷ passes) [] closed = absurd closed
   closed_rise (l ∷ locks) (p ∷ passes) (o ∷ objects) closed = (closed.0.rise, closed_rise locks passes objects closed.1)
 
-  closed_own : (by : ℕ) (locks : List (QueueLock B)) (passes others : List (QueuePass B)) (objects : List (ObjectOf B)) → AreClosed locks passes objects → AllZip (TookPass by) passes others → AllZip (HasOwn by) passes others
-  closed_own by [] [] [] objects closed took = tt
-  closed_own by [] [] (q ∷ others) objects closed took = absurd took
-  closed_own by [] (p ∷ passes) others objects closed took = absurd closed
-  closed_own by (l ∷ locks) [] others objects closed took = absurd closed
-  closed_own by (l ∷ locks) (p ∷ passes) [] objects closed took = absurd took
-  closed_own by (l ∷ locks) (p ∷ passes) (q ∷ others) [] closed took = absurd closed
-  closed_own by (l ∷ locks) (p ∷ passes) (q ∷ others) (o ∷ objects) closed took =
-      ((closed.0.taken (by, q.seen) took.0).calls, closed_own by locks passes others objects closed.1 took.1)
+  closed_on : (by : ℕ) (locks : List (QueueLock B)) (passes others : List (QueuePass B)) (objects : List (ObjectOf B)) → AreClosed locks passes objects → AllZip (TookPass by) passes others → AllZip (GoesOnIn by) passes others
+  closed_on by [] [] [] objects closed took = tt
+  closed_on by [] [] (q ∷ others) objects closed took = absurd took
+  closed_on by [] (p ∷ passes) others objects closed took = absurd closed
+  closed_on by (l ∷ locks) [] others objects closed took = absurd closed
+  closed_on by (l ∷ locks) (p ∷ passes) [] objects closed took = absurd took
+  closed_on by (l ∷ locks) (p ∷ passes) (q ∷ others) [] closed took = absurd closed
+  closed_on by (l ∷ locks) (p ∷ passes) (q ∷ others) (o ∷ objects) closed took =
+      (closed.0.taken (by, q.seen) took.0, closed_on by locks passes others objects closed.1 took.1)
 
   same_place : (by other queue : ℕ) (lock : QueueLock B) (p q : QueuePass B) → IsPassOf by lock p → IsPassOf other lock q → is_at queue q ≡ is_at queue p
   same_place by other queue lock p q own theirs = ap (λ m. (mark_in m).queue.0 == queue) (theirs.marked ∙ sym own.marked)
@@ -220,6 +220,7 @@ module _ {B : Type 0} where
       marks = closed_marks locks.queues.items first.seats.queues.items desk.queues left.queues;
       calls = calls_left;
       arrivals = arrivals_left;
+      arrived = left.arrivals;
       times = left.times;
       turns = left.turns;
     }
@@ -228,8 +229,8 @@ module _ {B : Type 0} where
     ordered = record {
       queues = closed_rise locks.queues.items first.seats.queues.items desk.queues left.queues;
       arrivals = left.rise;
-      own_calls = λ seats there. closed_own seats.by locks.queues.items first.seats.queues.items seats.queues.items desk.queues left.queues (is.took seats there).queues;
-      own_arrivals = λ seats there. (left.taken (seats.by, seats.arrivals.seen) (is.took seats there).arrivals).calls;
+      queues_on = λ seats there. closed_on seats.by locks.queues.items first.seats.queues.items seats.queues.items desk.queues left.queues (is.took seats there).queues;
+      arrivals_on = λ seats there. left.taken (seats.by, seats.arrivals.seen) (is.took seats there).arrivals;
     }
 
     pub goes : (seats : Seats B) → Contains (took_of first) seats → GoesOn seats.by (known_of (home_of locks seats) (view_of seats)) (known_of (plain_home desk) (plain_view desk))

@@ -19,7 +19,7 @@ use Rattle.sf_shared.specs.declared.seats.Seats.{Seats}
 use Rattle.sf_shared.specs.Arriving.{ArrivalsPass}
 use Rattle.sf_shared.specs.First.{Gives, IsFirst, IsGiven, IsTaken, KnowsNothing, Leads, TookPass, gave_of}
 use Rattle.sf_shared.specs.Passes.{IsAt, MayGive}
-use Rattle.sf_shared.specs.Seats.{AreSeats, IsInOrder, IsPassOf, QueuePass, calls_known, calls_made, moment, moments_of, sent_in}
+use Rattle.sf_shared.specs.Seats.{AreSeats, IsInOrder, IsPassOf, QueuePass, calls_known, calls_made, moment, moments_of, sent_in, takes_in}
 
 pub zip_map : {X Y Z : Type 0} (R : X → Y → Type 0) (S : X → Z → Type 0) (f : Y → Z) (xs : List X) (ys : List Y) → ((x : X) (y : Y) → R x y → S x (f y)) → AllZip R xs ys → AllZip S xs (map f ys)
 zip_map R S f [] [] each all = tt
@@ -138,6 +138,7 @@ module _ {B : Type 0} where
       in_order =
           subst (λ (c : Clock). IsInOrder c (moments_of new.seats)) (sym s.last)
           (subst (λ (xs : List (ℕ × ℕ)). IsInOrder old.seats.last xs) (sym same_order) first.own.in_order);
+      takes = λ other. absurd (other (s.number ∙ first.number));
     }
 
     leads_all : AllByRecursion (Leads (gave_of new)) new.seats.queues.items
@@ -165,6 +166,7 @@ module _ {B : Type 0} where
         let took = ap (λ ts. length ts.items) s.took in
         record {
           own = own_seats;
+          number = s.number ∙ first.number;
           queues = leads_all;
           arrivals = ap (λ (p : ArrivalsPass). p.is_first) s.arrivals ∙ first.arrivals;
           start = ap (λ (p : ArrivalsPass). p.start) s.arrivals ∙ first.start;
@@ -219,6 +221,7 @@ module _ {B : Type 0} where
       own_times = ap (λ (v : TimesView). v.table) s.given_times ∙ first.own.own_times;
       own_turns = ap (λ (v : TurnsView). v.table) s.given_turns ∙ first.own.own_turns;
       in_order = subst (λ (xs : List (ℕ × ℕ)). IsInOrder seats.last xs) (sym given_moments) (none_in_order seats.last);
+      takes = λ other. ap (λ calls. takes_in (calls_by seats.by calls)) given_arrived;
     }
 
     pub given_is : IsGiven by old.seats seats

@@ -62,4 +62,5 @@ module _ {B : Type 0} where
     own_times = are.own_times ∙ ap (first_or was.times) (ap rest_of home.tables);
     own_turns = are.own_turns;
     in_order = are.in_order;
+    takes = are.takes;
   }

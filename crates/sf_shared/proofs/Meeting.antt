@@ -9,7 +9,7 @@ use Rattle.std.proofs.Math.Nat.{le-max_left, le-max_right}
 use Rattle.atomic_table.specs.Seated.{TableId}
 use Rattle.sf_base.specs.Points.{greatest}
 use Rattle.sf_base.proofs.PointLemmas.{greatest-append}
-use Rattle.sf_calls.specs.Histories.{calls_by}
+use Rattle.sf_calls.specs.Histories.{GoesOnWithout, calls_by}
 use Rattle.sf_calls.specs.Passes.{met}
 use Rattle.sf_times.specs.Seats.{joined as joined_times}
 use Rattle.sf_times.specs.Views.{SeatView as TimesView}
@@ -57,7 +57,7 @@ module _ {B : Type 0} where
   met_moments by (l ∷ locks) [] new own kept = absurd own
   met_moments by (l ∷ locks) (p ∷ old) [] own kept = absurd kept
   met_moments by (l ∷ locks) (p ∷ old) (q ∷ new) own kept =
-      let same = subst (λ (b : ℕ). calls_by b q.seen ≡ calls_by b p.seen) own.0.number kept.0 in
+      let same = subst (λ (b : ℕ). calls_by b q.seen ≡ calls_by b p.seen) own.0.number kept.0.calls in
       ap₂ (λ (xs ys : List (ℕ × ℕ)). xs ++ ys) (ap (map moment) same) (met_moments by locks old new own.1 kept.1)
 
   -- what was taken in before, and what is taken in now
@@ -101,7 +101,7 @@ module _ {B : Type 0} where
     pub queues : new.seats.queues.items ≡ all_met old.seats.queues.items seats.queues.items
     pub own_calls : AllZip KeepsOwn old.seats.queues.items new.seats.queues.items
     pub arrivals : new.seats.arrivals ≡ met old.seats.arrivals seats.arrivals
-    pub own_arrivals : calls_by old.seats.arrivals.by new.seats.arrivals.seen ≡ calls_by old.seats.arrivals.by old.seats.arrivals.seen
+    pub own_arrivals : GoesOnWithout old.seats.arrivals.by old.seats.arrivals.seen new.seats.arrivals.seen
     pub times : new.seats.times ≡ record old.seats.times { knows = joined_times old.seats.times.knows seats.times.knows }
     pub turns : new.seats.turns ≡ joined_turns old.seats.turns seats.turns
 
@@ -114,14 +114,14 @@ module _ {B : Type 0} where
         subst (λ (ps : List (QueuePass B)). AllZip (IsPassOf old.seats.by) locks.queues.items ps) (sym m.queues)
         (met_own old.seats.by locks.queues.items old.seats.queues.items seats.queues.items first.own.queues)
 
-    own_sends : calls_by old.seats.by new.seats.arrivals.seen ≡ calls_by old.seats.by old.seats.arrivals.seen
-    own_sends = subst (λ (b : ℕ). calls_by b new.seats.arrivals.seen ≡ calls_by b old.seats.arrivals.seen) first.own.number m.own_arrivals
+    arrivals_go : GoesOnWithout old.seats.by old.seats.arrivals.seen new.seats.arrivals.seen
+    arrivals_go = subst (λ (b : ℕ). GoesOnWithout b old.seats.arrivals.seen new.seats.arrivals.seen) first.own.number m.own_arrivals
 
     moments_same : moments_of new.seats ≡ moments_of old.seats
     moments_same =
         ap (λ (b : ℕ). calls_made b new.seats.queues.items ++ sent_in (calls_by b new.seats.arrivals.seen)) m.number
         ∙ ap₂ (λ (xs ys : List (ℕ × ℕ)). xs ++ ys)
-        (met_moments old.seats.by locks.queues.items old.seats.queues.items new.seats.queues.items first.own.queues m.own_calls) (ap sent_in own_sends)
+        (met_moments old.seats.by locks.queues.items old.seats.queues.items new.seats.queues.items first.own.queues m.own_calls) (ap sent_in arrivals_go.calls)
 
     in_order : IsInOrder new.seats.last (moments_of new.seats)
     in_order = subst (λ (xs : List (ℕ × ℕ)). IsInOrder new.seats.last xs) (sym moments_same) (record {
@@ -139,6 +139,7 @@ module _ {B : Type 0} where
       own_times = ap (λ (v : TimesView). v.table) m.times ∙ first.own.own_times;
       own_turns = ap (λ (v : TurnsView). v.table) m.turns ∙ first.own.own_turns;
       in_order = in_order;
+      takes = λ other. absurd (other (m.number ∙ first.number));
     }
 
     leads_all : AllByRecursion (Leads (gave_of new)) new.seats.queues.items
@@ -211,6 +212,7 @@ module _ {B : Type 0} where
         let many = m.many in
         record {
           own = own_seats;
+          number = m.number ∙ first.number;
           queues = leads_all;
           arrivals = ap (λ (p : ArrivalsPass). p.is_first) m.arrivals ∙ first.arrivals;
           start = ap (λ (p : ArrivalsPass). p.start) m.arrivals ∙ first.start;
@@ -222,7 +224,7 @@ module _ {B : Type 0} where
         }
 
     pub meets_after : Meets seats old new
-    meets_after = record { gave = gave_same; took = m.took; number = m.number; times = m.times; turns = m.turns }
+    meets_after = record { gave = gave_same; took = m.took; number = m.number; times = m.times; turns = m.turns; queues = m.own_calls; arrivals = arrivals_go }
 
 -- The first passes met those of a caller, one after another.
 module _ {B : Type 0} where
@@ -235,7 +237,7 @@ module _ {B : Type 0} where
 
   all_kept : (old : List (QueuePass B)) → AllZip KeepsOwn old old
   all_kept [] = tt
-  all_kept (p ∷ old) = (refl, all_kept old)
+  all_kept (p ∷ old) = (record { begins = ([], refl); calls = refl }, all_kept old)
 
   none_met : (old : List (QueuePass B)) → all_met old [] ≡ old
   none_met [] = refl
@@ -293,7 +295,7 @@ module _ {B : Type 0} where
   pub now_long : (old now all rest : List (QueuePass B)) (place : ℕ) → MeetSoFar old now all rest place → length now ≡ length old
   now_long old now all rest place so = ap (λ (ps : List (QueuePass B)). length ps) so.now_is ∙ met_long old so.taken
 
-  pub meet_goes_on : (old now all before rest : List (QueuePass B)) (place : ℕ) (note d next : QueuePass B) → MeetSoFar old now all before place → before ≡ note ∷ rest → place < length old → next ≡ met (get_or now place d) note → calls_by (get_or now place d).by next.seen ≡ calls_by (get_or now place d).by (get_or now place d).seen → MeetSoFar old (set now place next) all rest (place + 1)
+  pub meet_goes_on : (old now all before rest : List (QueuePass B)) (place : ℕ) (note d next : QueuePass B) → MeetSoFar old now all before place → before ≡ note ∷ rest → place < length old → next ≡ met (get_or now place d) note → KeepsOwn (get_or now place d) next → MeetSoFar old (set now place next) all rest (place + 1)
   meet_goes_on old now all before rest place note d next so comes low is own =
       let here = met_there old now all before place d so in
       record {

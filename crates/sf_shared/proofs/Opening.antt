@@ -176,6 +176,7 @@ module _ {B : Type 0} where
       own_times = ap (λ (v : TimesView). v.table) m.times_is ∙ m.own_times;
       own_turns = ap (λ (v : TurnsView). v.table) m.turns_is ∙ own;
       in_order = subst (λ (xs : List (ℕ × ℕ)). IsInOrder first.seats.last xs) (sym moments) (none_in_order first.seats.last);
+      takes = λ other. absurd (other m.number);
     }
 
     pub first_made : IsFirst buffers locks first
@@ -184,6 +185,7 @@ module _ {B : Type 0} where
         let took = ap (λ ts. length ts) m.took in
         record {
           own = own_seats;
+          number = m.number;
           queues = subst (λ (bs : List ℕ). AllByRecursion (Leads bs) first.seats.queues.items) (sym gave_none) (opened_leads objects locks.queues.items first.seats.queues.items m.queues);
           arrivals = ap (λ (p : ArrivalsPass). p.is_first) m.arrivals;
           start = ap (λ (p : ArrivalsPass). p.start) m.arrivals;

@@ -74,6 +74,19 @@ order_made before after old new order step stamp adds = record {
   ];
 }
 
+-- what is new among these has a stamp above this one
+abbrev Later : ℕ → List (ℕ × ℕ) → List (ℕ × ℕ) → Type 0
+Later stamp old new = (m : ℕ × ℕ) → Contains new m → Contains old m ⊎ (stamp < m.1)
+
+later_made : (before after : Clock) (old new : List (ℕ × ℕ)) → before.stamp < after.stamp → AddsOne (after.step, after.stamp) old new → Later before.stamp old new
+later_made before after old new stamp adds m there = elim (adds m there) [
+  | inl was ↦ inl was
+  | inr one ↦ inr (let a = ap (λ (p : ℕ × ℕ). p.1) one in omega (arith, a, stamp))
+]
+
+pub later_same : (stamp : ℕ) (old new : List (ℕ × ℕ)) → new ≡ old → Later stamp old new
+later_same stamp old new is m there = inl (subst (λ (xs : List (ℕ × ℕ)). Contains xs m) is there)
+
 order_same : (before after : Clock) (old new : List (ℕ × ℕ)) → IsInOrder before old → after ≡ before → new ≡ old → IsInOrder after new
 order_same before after old new order last is =
     subst (λ (c : Clock). IsInOrder c new) (sym last) (subst (λ (xs : List (ℕ × ℕ)). IsInOrder before xs) (sym is) order)
@@ -88,7 +101,28 @@ order_sent before after calls old new order (inl made) =
     order_made before after (calls ++ old) (calls ++ new) order made.step made.stamp (adds_right (after.step, after.stamp) calls old new (adds_cons (after.step, after.stamp) old new made.moments))
 order_sent before after calls old new order (inr none) = order_same before after (calls ++ old) (calls ++ new) order none.last (ap (λ (xs : List (ℕ × ℕ)). calls ++ xs) none.moments)
 
+pub later_sent : (before after : Clock) (calls old new : List (ℕ × ℕ)) → Ticks before after old new → Later before.stamp (calls ++ old) (calls ++ new)
+later_sent before after calls old new (inl made) =
+    later_made before after (calls ++ old) (calls ++ new) made.stamp (adds_right (after.step, after.stamp) calls old new (adds_cons (after.step, after.stamp) old new made.moments))
+later_sent before after calls old new (inr none) = later_same before.stamp (calls ++ old) (calls ++ new) (ap (λ (xs : List (ℕ × ℕ)). calls ++ xs) none.moments)
+
 module _ {B : Type 0} where
+  pub later_called : (before after : Clock) (by : ℕ) (passes : List (QueuePass B)) (place : ℕ) (one next : QueuePass B) (sends : List (ℕ × ℕ)) → one ≡ get_or passes place one → one.by ≡ by → place < length passes → Ticks before after (map moment (calls_by one.by one.seen)) (map moment (calls_by one.by next.seen)) → Later before.stamp (calls_made by passes ++ sends) (calls_made by (set passes place next) ++ sends)
+  later_called before after by passes place one next sends there number low ticks =
+      by_case (subst (λ (b : ℕ). Ticks before after (map moment (calls_by b one.seen)) (map moment (calls_by b next.seen))) number ticks)
+    where
+      was : map moment (calls_by by one.seen) ≡ map moment (calls_by by (get_or passes place one).seen)
+      was = ap (λ (p : QueuePass B). map moment (calls_by by p.seen)) there
+
+      by_case : Ticks before after (map moment (calls_by by one.seen)) (map moment (calls_by by next.seen)) → Later before.stamp (calls_made by passes ++ sends) (calls_made by (set passes place next) ++ sends)
+      by_case (inl made) =
+          later_made before after (calls_made by passes ++ sends) (calls_made by (set passes place next) ++ sends) made.stamp
+          (adds_left (after.step, after.stamp) (calls_made by passes) (calls_made by (set passes place next)) sends
+          (adds_at (after.step, after.stamp) by passes place one next low (made.moments ∙ ap (λ (xs : List (ℕ × ℕ)). (after.step, after.stamp) ∷ xs) was)))
+      by_case (inr none) =
+          later_same before.stamp (calls_made by passes ++ sends) (calls_made by (set passes place next) ++ sends)
+          (ap (λ (xs : List (ℕ × ℕ)). xs ++ sends) (same_at by passes place one next low (none.moments ∙ was)))
+
   -- after a call on a queue, or none
   pub order_called : (before after : Clock) (by : ℕ) (passes : List (QueuePass B)) (place : ℕ) (one next : QueuePass B) (sends : List (ℕ × ℕ)) → IsInOrder before (calls_made by passes ++ sends) → one ≡ get_or passes place one → one.by ≡ by → place < length passes → Ticks before after (map moment (calls_by one.by one.seen)) (map moment (calls_by one.by next.seen)) → IsInOrder after (calls_made by (set passes place next) ++ sends)
   order_called before after by passes place one next sends order there number low ticks =

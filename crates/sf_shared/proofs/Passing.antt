@@ -1,5 +1,5 @@
 -- A call through one of a caller's passes, on the queue of a number.
-use Rattle.std.proofs.Common.{◌≡◌, ◌≢◌, ℕ, zero, suc, ◌+◌, ◌<◌, ◌≤◌, ◌==◌, Bool, true, false, List, [], ◌∷◌, inl, inr, length, get_or, set, Option, Some, None, arith, ap, ◌∙◌, sym, refl, subst}
+use Rattle.std.proofs.Common.{◌≡◌, ◌≢◌, ℕ, zero, suc, ◌+◌, ◌<◌, ◌≤◌, ◌==◌, Bool, true, false, List, [], ◌∷◌, inl, inr, length, get_or, set, Option, Some, None, ◌||◌, arith, ap, ap₂, ◌∙◌, sym, refl, subst}
 use Rattle.std.specs.Prelude.{map, nat_lt, IfOk, Result, Ok, Err}
 use Rattle.std.specs.List.{AllZip, list_any, position, position_or_len}
 use Rattle.std.proofs.lemmas.List.{set-get_or}
@@ -131,6 +131,13 @@ module _ {B : Type 0} where
     | inl met ↦ (let f = rw met at h in absurd (omega (arith, f)))
     | inr unmet ↦ (let f = rw unmet at h in rw (mark_at by queue l p own.0 ∙ unmet) (none_there by locks passes queue own.1 (omega (arith, f))))
   ]
+
+  -- a desk has the queues that are under locks
+  pub has_as : (by queue : ℕ) (locks : List (QueueLock B)) (passes : List (QueuePass B)) → AllZip (IsPassOf by) locks passes → list_any (λ (mark : QueueMark). mark.queue.0 == queue) (map lock_mark locks) ≡ list_any (is_lock queue) locks
+  has_as by queue [] passes own = refl
+  has_as by queue (l ∷ locks) [] own = absurd own
+  has_as by queue (l ∷ locks) (p ∷ passes) own =
+      ap₂ (λ (a b : Bool). a || b) (ap (λ (q : QueueId). q.0 == queue) (sym own.0.numbered)) (has_as by queue locks passes own.1)
 
   -- a desk without the queue does not have it
   pub no_queue : (by queue : ℕ) (locks : List (QueueLock B)) (passes : List (QueuePass B)) (home : DeskHome) → AllZip (IsPassOf by) locks passes → home.marks ≡ map lock_mark locks → position (is_lock queue) locks ≡ None → has_queue home queue ≡ true → ⊥

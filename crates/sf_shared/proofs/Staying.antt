@@ -2,9 +2,12 @@
 use Rattle.std.proofs.Common.{◌≡◌, ℕ, List, [], ◌∷◌, length, arith, ap, ◌∙◌, sym, refl, subst}
 use Rattle.std.specs.Prelude.{map, Contains}
 use Rattle.std.specs.List.{AllByRecursion, AllZip}
+use Rattle.std.proofs.lemmas.List.Elements.{Contains-append_left}
 use Rattle.atomic_table.specs.Seated.{TableId}
 use Rattle.sf_actor.specs.Known.{AreAmong, CountsRise}
 use Rattle.sf_surface.specs.Reading.{EyeMark}
+use Rattle.sf_times.specs.Seats.{all_loaded}
+use Rattle.sf_times.specs.Views.{SeatView as TimesView}
 use Rattle.sf_shared.specs.declared.first.FirstSeats.{FirstSeats}
 use Rattle.sf_shared.specs.declared.locks.Locks.{Locks}
 use Rattle.sf_shared.specs.declared.seats.Seats.{Seats}
@@ -48,6 +51,7 @@ module _ {B : Type 0} where
       let many = ap (λ ts. length ts.items) same in
       record {
         own = own;
+        number = stays.number ∙ first.number;
         queues =
             subst (λ (bs : List ℕ). AllByRecursion (Leads bs) new.seats.queues.items) (sym gave)
             (lead_on (gave_of old) old.seats.queues.items new.seats.queues.items stays.passes first.queues);
@@ -98,6 +102,20 @@ module _ {B : Type 0} where
     turns = (ap (λ (s : Seats B). s.turns.is_first) changes.same, ap (λ (s : Seats B). s.turns.out) changes.same);
     leaves = subst (λ (ps : List (ℕ × ℕ)). AreAmong old.turns.leaves ps) (sym (ap (λ (s : Seats B). s.turns.leaves) changes.same)) (λ p there. there);
     seen = subst (λ (ps : List (ℕ × ℕ)). CountsRise old.turns.seen ps) (sym (ap (λ (s : Seats B). s.turns.seen) changes.same)) (λ b. omega arith);
+  }
+
+  -- after a look at all timelines
+  pub stays_seen : (old new : Seats B) (points : List (ℕ × ℕ)) → new ≡ record old { times = new.times } → new.times ≡ record old.times { knows = all_loaded old.times.knows points } → Stays old new
+  stays_seen old new points same seen = record {
+    number = ap (λ (s : Seats B). s.by) same;
+    passes = subst (λ (ps : List (QueuePass B)). AllZip MovesPass old.queues.items ps) (sym (ap (λ (s : Seats B). s.queues.items) same)) (all_move old.queues.items);
+    arrivals = (let is = ap (λ (s : Seats B). s.arrivals) same in subst (λ (p : ArrivalsPass). p ≡ record old.arrivals { seen = p.seen; turns = p.turns }) (sym is) refl);
+    times = (ap (λ (v : TimesView). v.knows.is_first) seen, ap (λ (v : TimesView). v.knows.out) seen);
+    known = subst (λ (ps : List (ℕ × ℕ)). AreAmong old.times.knows.known ps) (sym (ap (λ (v : TimesView). v.knows.known) seen)) (λ p there. Contains-append_left old.times.knows.known points p there);
+    signals = subst (λ (ps : List (ℕ × ℕ)). AreAmong old.times.knows.signals ps) (sym (ap (λ (v : TimesView). v.knows.signals) seen)) (λ p there. there);
+    turns = (ap (λ (s : Seats B). s.turns.is_first) same, ap (λ (s : Seats B). s.turns.out) same);
+    leaves = subst (λ (ps : List (ℕ × ℕ)). AreAmong old.turns.leaves ps) (sym (ap (λ (s : Seats B). s.turns.leaves) same)) (λ p there. there);
+    seen = subst (λ (ps : List (ℕ × ℕ)). CountsRise old.turns.seen ps) (sym (ap (λ (s : Seats B). s.turns.seen) same)) (λ b. omega arith);
   }
 
   pub stays_looked : (old new : Seats B) → new ≡ record old { turns = new.turns } → SeatGoesOn old.turns new.turns → Stays old new

@@ -7,7 +7,7 @@ use Rattle.sf_surface.specs.declared.call.QReply.{QReply}
 use Rattle.sf_surface.specs.declared.mark.QueueMark.{QueueMark}
 use Rattle.sf_surface.specs.Histories.{Answers, Made}
 use Rattle.sf_surface.specs.Tokens.{ReadLeaseOf}
-use Rattle.sf_token.specs.Arrivals.{sent, waiting}
+use Rattle.sf_token.specs.Arrivals.{AnswersCall, sent, waiting}
 use Rattle.sf_token.specs.declared.arrivals.ArriveCall.TheVariants as arrive
 use Rattle.sf_token.specs.declared.arrivals.ArriveReply.TheVariants as reply
 use Rattle.sf_token.specs.Pending.{Arrival}
@@ -45,6 +45,7 @@ pub record TookOne (old new : ArrivalsPass) (list : List (Arrival ReadLeaseOf)) 
   pub earlier : ArrivalCalls
   pub newest : unstamped new.seen ≡ entry old.by arrive.Take (reply.Batch list) ∷ earlier
   pub waits : list ≡ waiting earlier
+  pub legal : IsLegal AnswersCall (unstamped new.seen)
   pub goes_on : GoesOnWithout old.by (unstamped old.seen) earlier
 
 -- The moments of what a caller did before and after a call: the call was made now, after all of those, or it was not made.

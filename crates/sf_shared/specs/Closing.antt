@@ -71,21 +71,21 @@ module _ {B : Type 0} where
     pub marks : map mark_of desk.queues ≡ marks_of locks
     pub calls : (queue : ℕ) → (plain_view desk).calls queue ≡ (view_of first.seats).calls queue
     pub arrivals : (plain_view desk).arrivals ≡ (view_of first.seats).arrivals
+    pub arrived : desk.arrivals ≡ unstamped first.seats.arrivals.seen
     pub times : desk.times ≡ first.seats.times
     pub turns : desk.turns ≡ first.seats.turns
 
-  -- one caller's calls are those that its own pass knew
-  abbrev pub HasOwn : ℕ → QueuePass B → QueuePass B → Type 0
-  HasOwn by last own = calls_by by last.seen ≡ calls_by by own.seen
+  -- what one caller's pass knew goes on in what the last one knows, without a further call of that caller
+  abbrev pub GoesOnIn : ℕ → QueuePass B → QueuePass B → Type 0
+  GoesOnIn by last own = GoesOnWithout by own.seen last.seen
 
-  -- Along the calls on each queue, and along those on the arrivals, the stamps rise. The calls of each caller whose seats were
-  -- taken in are those that its passes knew, which it made in order.
+  -- Along the calls on each queue, and along those on the arrivals, the stamps rise. What each caller knew whose seats were taken in
+  -- goes on without a further call of it; its own calls it made in order.
   pub record IsOrdered (first : FirstSeats B) : Type 0 where
     pub queues : AllByRecursion (λ (pass : QueuePass B). StampsRise pass.seen) first.seats.queues.items
     pub arrivals : StampsRise first.seats.arrivals.seen
-    pub own_calls : (seats : Seats B) → Contains (took_of first) seats → AllZip (HasOwn seats.by) first.seats.queues.items seats.queues.items
-    pub own_arrivals : (seats : Seats B) → Contains (took_of first) seats
-        → calls_by seats.by first.seats.arrivals.seen ≡ calls_by seats.by seats.arrivals.seen
+    pub queues_on : (seats : Seats B) → Contains (took_of first) seats → AllZip (GoesOnIn seats.by) first.seats.queues.items seats.queues.items
+    pub arrivals_on : (seats : Seats B) → Contains (took_of first) seats → GoesOnWithout seats.by seats.arrivals.seen first.seats.arrivals.seen
 
   -- no call and no arrival is the caller's
   pub record HasNoEntry (by : ℕ) (view : DeskView B) : Type 0 where

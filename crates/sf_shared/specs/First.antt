@@ -3,12 +3,14 @@ use Rattle.std.specs.Prelude.{◌≡◌, ℕ, ◌+◌, true, false, List, [], �
 use Rattle.std.specs.List.{AllByRecursion, AllZip}
 use Rattle.std.specs.declared.snapshot.Snapshot.{Snapshot}
 use Rattle.atomic_table.specs.Seated.{TableId}
+use Rattle.sf_calls.specs.Histories.{GoesOnWithout}
 use Rattle.sf_times.specs.Seats.{joined as joined_times, lending, split_off}
 use Rattle.sf_turns.specs.Views.{joined as joined_turns}
 use Rattle.sf_actor.specs.Known.{AreAmong, CountsRise}
 use Rattle.sf_shared.specs.declared.first.FirstSeats.{FirstSeats}
 use Rattle.sf_shared.specs.declared.locks.Locks.{Locks}
 use Rattle.sf_shared.specs.declared.seats.Seats.{Seats}
+use Rattle.sf_shared.specs.Passes.{KeepsOwn}
 use Rattle.sf_shared.specs.Seats.{AreSeats, QueuePass, view_of}
 
 module _ {B : Type 0} where
@@ -43,6 +45,7 @@ module _ {B : Type 0} where
   -- seat has as many out as were given and not taken in.
   pub record IsFirst (buffers : TableId) (locks : Locks B) (first : FirstSeats B) : Type 0 where
     pub own : AreSeats buffers locks first.seats
+    pub number : first.seats.by ≡ 0
     pub queues : AllByRecursion (Leads (gave_of first)) first.seats.queues.items
     pub arrivals : first.seats.arrivals.is_first ≡ true
     pub start : first.seats.arrivals.start ≡ []
@@ -85,10 +88,12 @@ module _ {B : Type 0} where
     pub times : new.seats.times ≡ record old.seats.times { knows = lending old.seats.times.knows }
     pub turns : new.seats.turns ≡ record old.seats.turns { out = old.seats.turns.out + 1 }
 
-  -- the first seats, after they took others in
+  -- The first seats, after they took others in: what they knew goes on without a further call of the first caller.
   pub record Meets (seats : Seats B) (old new : FirstSeats B) : Type 0 where
     pub gave : gave_of new ≡ gave_of old
     pub took : took_of new ≡ took_of old ++ seats ∷ []
     pub number : new.seats.by ≡ old.seats.by
     pub times : new.seats.times ≡ record old.seats.times { knows = joined_times old.seats.times.knows seats.times.knows }
     pub turns : new.seats.turns ≡ joined_turns old.seats.turns seats.turns
+    pub queues : AllZip KeepsOwn old.seats.queues.items new.seats.queues.items
+    pub arrivals : GoesOnWithout old.seats.by old.seats.arrivals.seen new.seats.arrivals.seen

@@ -1,35 +1,44 @@
 -- What calls change of a caller's seats.
-use Rattle.std.specs.Prelude.{◌≡◌, ◌≤◌, List}
+use Rattle.std.specs.Prelude.{◌≡◌, ℕ, ◌<◌, ◌≤◌, ◌⊎◌, List, Contains}
 use Rattle.std.specs.List.{AllZip}
+use Rattle.sf_stamped.specs.Stamps.{newest_stamp}
 use Rattle.sf_surface.specs.Tokens.{ReadLeaseOf}
 use Rattle.sf_token.specs.Pending.{Arrival}
 use Rattle.sf_actor.specs.Known.{AreAmong, ArriveWithout, CountsRise}
 use Rattle.sf_shared.specs.declared.seats.Seats.{Seats}
 use Rattle.sf_shared.specs.Calls.{TookOne}
-use Rattle.sf_shared.specs.Seats.{QueuePass, view_of}
+use Rattle.sf_shared.specs.Seats.{QueuePass, moments_of, view_of}
 
 module _ {B : Type 0} where
   -- what a pass knows, and how many turns it had
   abbrev pub MovesPass : QueuePass B → QueuePass B → Type 0
   MovesPass old new = new ≡ record old { seen = new.seen; turns = new.turns }
 
+  -- each call and each transaction that the caller made or sent since has a stamp above that of its last call before
+  abbrev pub MadeLater : Seats B → Seats B → Type 0
+  MadeLater old new = (m : ℕ × ℕ) → Contains (moments_of new) m → Contains (moments_of old) m ⊎ (old.last.stamp < m.1)
+
   -- a call on a queue: it changes what passes at queues know, how many turns they had, and which call is the last
   pub record ChangesPasses (old new : Seats B) : Type 0 where
     pub same : new ≡ record old { queues = new.queues; last = new.last }
     pub passes : AllZip MovesPass old.queues.items new.queues.items
     pub last : old.last.stamp ≤ new.last.stamp
+    pub later : MadeLater old new
 
   -- a call on the arrivals: it changes what the pass there knows, how many turns it had, and which call is the last
   pub record ChangesArrivals (old new : Seats B) : Type 0 where
     pub same : new ≡ record old { arrivals = new.arrivals; last = new.last }
     pub pass : new.arrivals ≡ record old.arrivals { seen = new.arrivals.seen; turns = new.arrivals.turns }
     pub last : old.last.stamp ≤ new.last.stamp
+    pub later : MadeLater old new
 
   -- What waits was taken. The desk knows of all that was sent before; these arrivals go on without one of the caller, and what it
-  -- got is what was sent since anybody last took.
+  -- got is what was sent since anybody last took. The take has the newest stamp, above that of the caller's last call before.
   pub record Takes (old new : Seats B) (list : List (Arrival ReadLeaseOf)) : Type 0 where
     pub took : TookOne old.arrivals new.arrivals list
     pub goes_on : ArriveWithout old.by (view_of old).arrivals (view_of new).arrivals
+    pub stamp : newest_stamp new.arrivals.seen ≡ new.last.stamp
+    pub rose : old.last.stamp < new.last.stamp
 
   -- seats after calls, signals, looks and drawings: what they knew they know, and they gave and took in what they did before
   pub record Stays (old new : Seats B) : Type 0 where

@@ -1,6 +1,6 @@
 -- Passes that are given and taken in, one for each lock.
 use Rattle.std.specs.Prelude.{◌≡◌, ℕ, true, List, [], ◌∷◌, Contains}
-use Rattle.sf_calls.specs.Histories.{calls_by}
+use Rattle.sf_calls.specs.Histories.{GoesOnWithout}
 use Rattle.sf_calls.specs.Passes.{met}
 use Rattle.sf_shared.specs.declared.locks.QueueLock.{QueueLock}
 use Rattle.sf_shared.specs.Seats.{QueuePass}
@@ -23,6 +23,6 @@ module _ {B : Type 0} where
   all_met (pass ∷ passes) [] = pass ∷ passes
   all_met (pass ∷ passes) (note ∷ notes) = met pass note ∷ all_met passes notes
 
-  -- a pass knows the same calls of its own caller
+  -- what a pass knows goes on from what it knew without a further call of its own caller
   abbrev pub KeepsOwn : QueuePass B → QueuePass B → Type 0
-  KeepsOwn old new = calls_by old.by new.seen ≡ calls_by old.by old.seen
+  KeepsOwn old new = GoesOnWithout old.by old.seen new.seen

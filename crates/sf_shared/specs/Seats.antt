@@ -101,6 +101,15 @@ sent_in (call ∷ earlier) = at (call.call.1) ++ sent_in earlier
     at (arrive.Send step txn) = (step, stamp_of call) ∷ []
     at arrive.Take = []
 
+-- the stamps of those of these calls that took what waited
+abbrev pub takes_in : List ArrivalEntry → List ℕ
+takes_in [] = []
+takes_in (call ∷ earlier) = at (call.call.1) ++ takes_in earlier
+  where
+    at : Arriving → List ℕ
+    at (arrive.Send step txn) = []
+    at arrive.Take = stamp_of call ∷ []
+
 -- The caller's calls are made in order: none has a step or a stamp beyond the last one's, and one of a later step has a greater
 -- stamp.
 pub record IsInOrder (last : Clock) (moments : List (ℕ × ℕ)) : Type 0 where
@@ -120,7 +129,8 @@ module _ {B : Type 0} where
     pub marked : pass.mark ≡ Some (lock_mark lock)
     pub numbered : lock.number ≡ (lock_mark lock).queue
 
-  -- a caller's passes and seats are ones of these locks and timelines, and of this table of turns; what it did, it did in order
+  -- A caller's passes and seats are ones of these locks and timelines, and of this table of turns; what it did, it did in order; and
+  -- none but the first caller, whose number is 0, takes what arrived.
   pub record AreSeats (buffers : TableId) (locks : Locks B) (seats : Seats B) : Type 0 where
     pub queues : AllZip (IsPassOf seats.by) locks.queues.items seats.queues.items
     pub own_arrivals : seats.arrivals.table ≡ locks.arrivals
@@ -129,3 +139,4 @@ module _ {B : Type 0} where
     pub own_times : seats.times.table ≡ locks.times
     pub own_turns : seats.turns.table ≡ buffers
     pub in_order : IsInOrder seats.last (moments_of seats)
+    pub takes : (seats.by ≡ 0 → ⊥) → takes_in (calls_by seats.by seats.arrivals.seen) ≡ []

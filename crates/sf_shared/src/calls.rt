@@ -3,7 +3,7 @@ ghost use Rattle.sf_calls.specs.Calling.{IfFaultNoMemory, IfFaultNotYet};
 ghost use Rattle.sf_calls.specs.Histories.{calls_by};
 ghost use Rattle.sf_surface.specs.Marks.{PermitFits, SpareFits};
 ghost use Rattle.sf_shared.specs.Calls.{MadeOne, SentOne, Ticks, WaitsOne};
-ghost use Rattle.sf_shared.specs.Seats.{IsPassOf, lock_mark, moment, sent_in};
+ghost use Rattle.sf_shared.specs.Seats.{IsPassOf, lock_mark, moment, sent_in, takes_in};
 
 use crate::arrivals::StampedArrivals;
 use crate::clock::Clock;
@@ -65,6 +65,7 @@ pub(crate) fn send_one<R: Wait, B: TableName>(
     ensures same { pass.new ≡ record pass.old { seen = pass.new.seen; turns = pass.new.turns } }
     ensures turns { pass.old.turns ≤ pass.new.turns }
     ensures ticks { Ticks last.old last.new (sent_in (calls_by pass.old.by pass.old.seen)) (sent_in (calls_by pass.old.by pass.new.seen)) }
+    ensures takes { takes_in (calls_by pass.old.by pass.new.seen) ≡ takes_in (calls_by pass.old.by pass.old.seen) }
     ensures sent { IfOk result (SentOne pass.old pass.new step txn) }
     ensures back { IfErr result (λ back. (back.1 ≡ txn) × (pass.new ≡ pass.old)) }
 {

@@ -1,8 +1,9 @@
 //! The calls of a compositor that shares the locks with the actors.
-ghost use Rattle.std.specs.Prelude.{◌≡◌, ◌≤◌, IfErr, IfOk, Some};
+ghost use Rattle.std.specs.Prelude.{◌≡◌, ◌<◌, ◌≤◌, IfErr, IfOk, Some};
 ghost use Rattle.sf_calls.specs.Histories.{calls_by};
 ghost use Rattle.std.specs.Prelude.{false, true, IsErr, OnErr};
 ghost use Rattle.sf_commit.specs.Handlers.{Decides, Stops, last_of};
+ghost use Rattle.sf_stamped.specs.Stamps.{newest_stamp};
 ghost use Rattle.sf_token.specs.Pending.{IsRisingFrom};
 ghost use Rattle.sf_shared.specs.Calls.{TookOne};
 ghost use Rattle.sf_shared.specs.Eyes.{SeatGoesOn};
@@ -37,6 +38,7 @@ fn take_one<R: Wait, B: TableName>(
     ensures stamp { last.old.stamp ≤ last.new.stamp }
     ensures sends { sent_in (calls_by pass.old.by pass.new.seen) ≡ sent_in (calls_by pass.old.by pass.old.seen) }
     ensures took { IfOk result (λ list. TookOne pass.old pass.new list.items) }
+    ensures newest { IfOk result (λ list. (newest_stamp pass.new.seen ≡ last.new.stamp) × (last.old.stamp < last.new.stamp)) }
     ensures stays { IfErr result (λ _. pass.new ≡ pass.old) }
 {
     match pass.call(lock, rt, (last.stamp, ArriveCall::Take)) {
@@ -74,17 +76,30 @@ impl<B: TableName> Seats<B> {
     ghost use Rattle.sf_token.specs.Pending.{IsRisingFrom};
     ghost use Rattle.sf_shared.specs.Eyes.{SeatGoesOn};
     ghost use Rattle.sf_actor.specs.Desks.{IsAsBefore};
-    ghost use Rattle.sf_shared.specs.Moves.{ChangesArrivals, Takes};
-    ghost use Rattle.sf_shared.specs.Seats.{AreSeats, view_of};
+    ghost use Rattle.sf_actor.specs.Tries.{Sees};
+    ghost use Rattle.sf_shared.specs.Moves.{ChangesArrivals, Stays, Takes};
+    ghost use Rattle.sf_shared.specs.Seats.{AreSeats, home_of, view_of};
 
-    /// Takes the transactions that arrived, and waits for its turn under the lock. Want of memory
-    /// leaves them.
+    /// Looks at all timelines.
+    pub fn see(&mut self, locks: &Locks<B>) -> Seen
+        requires own { AreSeats B.table locks.now self.old }
+        ensures own { AreSeats B.table locks.now self.new }
+        ensures sees { Sees (home_of locks.now self.old) (view_of self.old) (view_of self.new) result }
+        ensures same { self.new ≡ record self.old { times = self.new.times } }
+        ensures stays { Stays self.old self.new }
+    {
+        self.times.see_all(&locks.times)
+    }
+
+    /// Takes the transactions that arrived, and waits for its turn under the lock: the first caller's
+    /// right, whose number is 0. Want of memory leaves them.
     pub fn take<R: Wait>(
         &mut self,
         locks: &Locks<B>,
         rt: &R,
     ) -> Result<Vec<Arrived<ReadLease<B>>>, NoMemory>
         requires own { AreSeats B.table locks.now self.old }
+        requires first { self.old.by ≡ 0 }
         ensures own { AreSeats B.table locks.now self.new }
         ensures changes { ChangesArrivals self.old self.new }
         ensures took { IfOk result (λ list. Takes self.old self.new list.items) }

@@ -1,13 +1,13 @@
 ghost use Rattle.std.specs.Prelude.{◌≡◌, ℕ, true, [], ◌∷◌, Contains, IfOk};
-ghost use Rattle.std.specs.List.{AllByRecursion, AllZip, position};
+ghost use Rattle.std.specs.List.{AllByRecursion, AllZip, list_any, position};
 ghost use Rattle.sf_times.specs.Seats.{IsAlone};
-ghost use Rattle.sf_actor.specs.Desks.{known_of};
+ghost use Rattle.sf_actor.specs.Desks.{has_queue, known_of};
 ghost use Rattle.sf_actor.specs.Known.{GoesOn};
 ghost use Rattle.sf_actor.specs.Plain.{home_of as plain_home, view_of as plain_view};
 ghost use Rattle.sf_shared.specs.declared.seats.Seats.{Seats};
 ghost use Rattle.sf_shared.specs.Closing.{AreClosed, AreOpened, Closes, HasNoCalls, HasNoEntry, IsClosed, IsLast, IsOpened, IsOrdered, Opens};
 ghost use Rattle.sf_shared.specs.First.{HasAll, IsFirst, gave_of, took_of};
-ghost use Rattle.sf_shared.specs.Seats.{home_of, is_lock, view_of};
+ghost use Rattle.sf_shared.specs.Seats.{AreSeats, home_of, is_lock, view_of};
 
 use crate::arrivals::StampedArrivals;
 use crate::clock::Clock;
@@ -128,12 +128,26 @@ fn close_queues<B: TableName>(
     Ok(objects)
 }
 
+/// Whether one of these locks has a queue of this number.
+fn is_there<B: TableName>(locks: &[QueueLock<B>], queue: QueueId) -> bool
+    ensures { result ≡ list_any (is_lock queue.0) locks.now }
+{
+    locks.iter().any(|lock| lock.number.0 == queue.0)
+}
+
 impl<B: TableName> Locks<B> {
     /// The place of the queue of this number.
     pub(crate) fn place_of(&self, queue: QueueId) -> Option<usize>
         ensures { result ≡ position (is_lock queue.0) self.now.queues.items }
     {
         self.queues.iter().position(|lock| lock.number.0 == queue.0)
+    }
+
+    /// Whether there is a queue of this number.
+    pub fn has_queue(&self, queue: QueueId) -> bool
+        ensures { (seats : Seats B) → AreSeats B.table self.now seats → has_queue (home_of self.now seats) queue.0 ≡ result }
+    {
+        is_there(&self.queues, queue)
     }
 
     /// What threads are to share, and the first caller's seats, with the number 0. Nothing was called

@@ -50,7 +50,7 @@ pub loop-place-preserved : goal.loop-place-preserved
 loop-place-preserved g c =
     let at = c.loop-place in
     meet_goes_on c.args.firsts.now at.firsts c.args.passes.items (into_iter_items at.passes) (into_iter_items c.next.new.self) at.place c.in-Some.pass c.index-firsts-place.result c.meet.new.self
-    at.invariant c.in-Some.ensures.items c.loop-place-test.true c.meet.ensures.both c.meet.ensures.own_calls
+    at.invariant c.in-Some.ensures.items c.loop-place-test.true c.meet.ensures.both (record { begins = c.meet.ensures.begins; calls = c.meet.ensures.own_calls })
 
 pub returns-clause-met : goal.returns-clause-met
 returns-clause-met g c =

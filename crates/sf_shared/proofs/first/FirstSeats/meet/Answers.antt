@@ -70,7 +70,7 @@ returns-clause-first g c =
       queues = whole ∙ met;
       own_calls = subst (λ (ps : List (QueuePass g.row.B.Denot)). AllZip KeepsOwn old.seats.queues.items ps) (sym whole) own;
       arrivals = c.meet.ensures.both;
-      own_arrivals = c.meet.ensures.own_calls;
+      own_arrivals = record { begins = c.meet.ensures.begins; calls = c.meet.ensures.own_calls };
       times = c.join.ensures.both;
       turns = c.join-2.ensures.both;
     } in
@@ -105,7 +105,7 @@ returns-clause-meets g c =
       queues = whole ∙ met;
       own_calls = subst (λ (ps : List (QueuePass g.row.B.Denot)). AllZip KeepsOwn old.seats.queues.items ps) (sym whole) own;
       arrivals = c.meet.ensures.both;
-      own_arrivals = c.meet.ensures.own_calls;
+      own_arrivals = record { begins = c.meet.ensures.begins; calls = c.meet.ensures.own_calls };
       times = c.join.ensures.both;
       turns = c.join-2.ensures.both;
     } in

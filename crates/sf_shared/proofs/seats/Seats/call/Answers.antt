@@ -3,7 +3,7 @@ use Rattle.sf_token.specs.Arrivals.{sent}
 use Rattle.sf_calls.specs.Histories.{calls_by}
 use Rattle.sf_stamped.specs.Stamps.{unstamped}
 use Rattle.sf_shared.specs.Seats.{home_of, sent_in}
-use Rattle.sf_shared.proofs.Ordering.{order_called, stamp_rises}
+use Rattle.sf_shared.proofs.Ordering.{later_called, order_called, stamp_rises}
 use Rattle.sf_shared.proofs.Passing.{IsAfter, if_made, if_waits, low_place, moves, no_queue, of_own, own_after, to_own, was_at}
 use Rattle.sf_shared.proofs.seats.Seats.call.Goals as goal
 
@@ -54,6 +54,7 @@ returns-clause-own g c =
           order_called seats.last c.call_one.new.last seats.by seats.queues.items c.in-Some.place one next (sent_in (calls_by seats.by seats.arrivals.seen)) c.requires.own.in_order
           c.index_mut.ensures.value was.number
           (low_place seats.by c.args.queue.0 c.in-Some.place locks seats.queues.items c.requires.own.queues first) c.call_one.ensures.ticks;
+      takes = c.requires.own.takes;
     }
 
 pub returns-clause-changes : goal.returns-clause-changes
@@ -77,6 +78,10 @@ returns-clause-changes g c =
       same = refl;
       passes = moves seats.by locks seats.queues.items c.args.queue.0 c.in-Some.place lock one next after c.call_one.ensures.same;
       last = stamp_rises seats.last c.call_one.new.last _ _ c.call_one.ensures.ticks;
+      later =
+          later_called seats.last c.call_one.new.last seats.by seats.queues.items c.in-Some.place one next (sent_in (calls_by seats.by seats.arrivals.seen))
+          c.index_mut.ensures.value was.number
+          (low_place seats.by c.args.queue.0 c.in-Some.place locks seats.queues.items c.requires.own.queues first) c.call_one.ensures.ticks;
     }
 
 pub returns-clause-made : goal.returns-clause-made

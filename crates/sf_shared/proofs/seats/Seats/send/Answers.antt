@@ -1,9 +1,9 @@
-use Rattle.std.proofs.Common.{ℕ, ◌∙◌, ap, subst}
+use Rattle.std.proofs.Common.{ℕ, ◌≡◌, ◌∙◌, ap, refl, subst}
 use Rattle.sf_calls.specs.Histories.{calls_by}
 use Rattle.sf_shared.specs.Arriving.{ArrivalsPass}
 use Rattle.sf_shared.specs.Calls.{Ticks}
-use Rattle.sf_shared.specs.Seats.{calls_made, sent_in}
-use Rattle.sf_shared.proofs.Ordering.{order_sent}
+use Rattle.sf_shared.specs.Seats.{calls_made, sent_in, takes_in}
+use Rattle.sf_shared.proofs.Ordering.{later_sent, order_sent, stamp_rises}
 use Rattle.sf_shared.proofs.seats.Seats.send.Goals as goal
 
 pub returns-clause-own : goal.returns-clause-own
@@ -20,4 +20,18 @@ returns-clause-own g c =
       own_times = own.own_times;
       own_turns = own.own_turns;
       in_order = order_sent seats.last c.send_one.new.last (calls_made seats.by seats.queues.items) (sent_in (calls_by seats.by seats.arrivals.seen)) (sent_in (calls_by seats.by new.seen)) own.in_order ticks;
+      takes = λ other.
+          subst (λ (b : ℕ). takes_in (calls_by b new.seen) ≡ takes_in (calls_by b seats.arrivals.seen)) own.number c.send_one.ensures.takes ∙ own.takes other;
+    }
+
+pub returns-clause-changes : goal.returns-clause-changes
+returns-clause-changes g c =
+    let seats = c.args.self.now in
+    let new = c.send_one.new.pass in
+    let ticks = subst (λ (b : ℕ). Ticks seats.last c.send_one.new.last (sent_in (calls_by b seats.arrivals.seen)) (sent_in (calls_by b new.seen))) c.requires.own.number c.send_one.ensures.ticks in
+    record {
+      same = refl;
+      pass = c.send_one.ensures.same;
+      last = stamp_rises seats.last c.send_one.new.last _ _ ticks;
+      later = later_sent seats.last c.send_one.new.last (calls_made seats.by seats.queues.items) (sent_in (calls_by seats.by seats.arrivals.seen)) (sent_in (calls_by seats.by new.seen)) ticks;
     }
