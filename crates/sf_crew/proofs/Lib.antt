@@ -1,0 +1,16 @@
+pub mod AttendLemmas
+pub mod BoardLemmas
+pub mod CrossingActors
+pub mod CrossingArrivals
+pub mod CrossingCrews
+pub mod CrossingObjects
+pub mod CrossingSeats
+pub mod CrossingSends
+pub mod CrossingSlots
+pub mod CrossingTokens
+pub mod CrossingTurns
+pub mod Doing
+pub mod HandLemmas
+pub mod MeetLemmas
+pub mod WalkLemmas
+pub mod Zips

@@ -1,0 +1,10 @@
+use Rattle.std.specs.List.{AllZip}
+use Rattle.sf_crew.specs.Hands.{Stays}
+use Rattle.sf_crew.proofs.here.try_here.Given as goal
+
+abbrev pub invariant-loop-hand : goal.invariant-loop-hand
+invariant-loop-hand g l = record {
+  can_next : (goal.iterator-loop-hand g).can_next l.hand-iterator;
+  is_finite : (goal.iterator-loop-hand g).is_finite l.hand-iterator;
+  tried : AllZip (Stays {B = g.row.B.Denot} g.B.TableName.table l.locks l.pictures) l.yielded l.tried.items;
+}

@@ -1,0 +1,11 @@
+use Rattle.std.specs.List.{AllZip}
+use Rattle.sf_crew.specs.Hands.{Stays}
+use Rattle.sf_crew.specs.Visits.{Attends}
+use Rattle.sf_crew.proofs.run.attend.Given as goal
+
+abbrev pub invariant-loop : goal.invariant-loop
+invariant-loop g l = record {
+  steps : (goal.iterator-loop g).can_next l.iterator' × (goal.iterator-loop g).is_finite l.iterator';
+  attends : Attends {B = g.row.B.Denot} {V = g.row.V.Denot} g.V.Visit.keeps g.B.TableName.table l.locks l.fn.first l.first l.visitor;
+  hands : AllZip (Stays {B = g.row.B.Denot} g.B.TableName.table l.locks l.pictures) l.fn.hands.items l.hands.items;
+}

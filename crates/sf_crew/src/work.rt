@@ -1,0 +1,57 @@
+ghost use Rattle.std.specs.Prelude.{◌<◌};
+ghost use Rattle.sf_crew.specs.Crews.{Aboard};
+ghost use Rattle.sf_crew.specs.Backs.{IfWhole};
+
+use crate::crew::{Back, Crew};
+use crate::turn::turn;
+use sf_actor::Stepped;
+use sf_io::Gate;
+use sf_picture::Picture;
+use sf_shared::Locks;
+use sf_turns::TableName;
+use sf_watch::Watch;
+use std::sync::Wait;
+
+/// Tries a crew's steps, one after the other, until it has done all or is stopped; while a step can't
+/// be done it sleeps. One for which no thread could be started is left as it is. For want of memory
+/// all are stopped.
+pub(crate) fn work<R: Wait, G: Gate, B: TableName>(
+    rt: &R,
+    locks: &Locks<B>,
+    pictures: &[Picture],
+    watch: &Watch,
+    gate: &G,
+    place: usize,
+    crew: Crew<B>,
+) -> Back<B>
+    requires place { place < 16 }
+    requires aboard { Aboard B.table locks.now pictures.now crew }
+    ensures { IfWhole B.table locks.now pictures.now crew result }
+{
+    let mut crew = crew;
+    if watch.is_turned_away(rt, place) {
+        return Back::Whole(crew);
+    }
+    for _ in rt.forever() {
+        let seen = watch.news(rt);
+        let (turned, stepped) = turn(rt, locks, pictures, gate, crew);
+        crew = turned;
+        match stepped {
+            Ok(Stepped::Done) => watch.tell_done(rt),
+            Ok(Stepped::NotYet) => {
+                if !watch.idle(rt, seen) {
+                    return Back::Whole(crew);
+                }
+            }
+            Ok(Stepped::Ended) => {
+                watch.tell_ended(rt);
+                return Back::Whole(crew);
+            }
+            Err(_) => {
+                watch.stop(rt);
+                return Back::Spent(crew);
+            }
+        }
+    }
+    unreachable!()
+}
