@@ -1,0 +1,5 @@
+pub mod Giving
+pub mod Going
+pub mod Taking
+pub mod Shown
+pub mod Sits

@@ -1,0 +1,10 @@
+//! A compositor among threads: over the first caller's seats at what all share it commits what
+//! arrived, vsync by vsync, and shows it, while the actors run in threads of their own.
+#![tactic(auto)]
+
+mod compositor;
+mod release;
+mod showing;
+mod vsync;
+
+pub use compositor::Compositor;

@@ -1,0 +1,79 @@
+ghost use Rattle.std.specs.Prelude.{◌≡◌, ◌+◌, ◌<◌, ◌≤◌, All, IsErrOf, OnOk};
+ghost use Rattle.sf_io.specs.Causes.{Rose};
+ghost use Rattle.sf_run.specs.Progress.{is_time};
+ghost use Rattle.sf_shared.specs.Seats.{AreSeats};
+ghost use Rattle.sf_compositor.specs.Sitting.{MaySit, ShowsVsync};
+
+use crate::vsync::make_vsync;
+use sf_commit::Handler;
+use sf_io::Sink;
+use sf_ready::Hold;
+use sf_record::RunFault;
+use sf_screen::Screen;
+use sf_shared::{Locks, Seats};
+use sf_show::show_vsync;
+use sf_surface::ReadLease;
+use sf_turns::TableName;
+use sf_txn::Lease;
+use std::alloc::Global;
+use std::sync::Wait;
+use std::thread::Threads;
+
+/// Whether it is held until its time.
+fn is_time(entry: &(u32, Hold)) -> bool
+    ensures { result ≡ is_time entry.now.1 }
+{
+    match entry.1 {
+        Hold::Time(_) => true,
+        _ => false,
+    }
+}
+
+/// Makes the next vsync and writes its records; so many workers compose its frame. Whether another
+/// one may do more with nothing else done: it committed something, or something waits for its time.
+pub(crate) fn show_next<R: Threads + Wait + Sync, K: Sink, B: TableName>(
+    rt: &R,
+    alloc: Global,
+    workers: u32,
+    sink: &mut K,
+    timelines: &[u32],
+    screen: &mut Screen,
+    locks: &Locks<B>,
+    seats: &mut Seats<B>,
+    handler: &mut Handler<ReadLease<B>>,
+    period: u64,
+    before: u32,
+) -> Result<bool, RunFault>
+    requires some { 1 ≤ workers }
+    requires few { workers ≤ 16 }
+    requires timelines { All (λ timeline. (1 ≤ timeline) × (timeline ≤ 64)) timelines.now }
+    requires period { period ≤ 1000000000 }
+    requires early { before < 2147483648 }
+    requires own { AreSeats B.table locks.now seats.old }
+    requires first { seats.old.by ≡ 0 }
+    requires may { MaySit screen.old (record { handler = handler.old; seats = seats.old; number = before }) }
+    ensures shows { OnOk result (ShowsVsync ⟦<ReadLease<B> as Lease>⟧ B.table locks.now period timelines.now (K.taken sink.old) (K.taken sink.new) screen.old screen.new
+        (record { handler = handler.old; seats = seats.old; number = before }) (record { handler = handler.new; seats = seats.new; number = before + 1 })) }
+    ensures may { OnOk result (MaySit screen.new (record { handler = handler.new; seats = seats.new; number = before + 1 })) }
+    ensures later { K.faults sink.old ≤ K.faults sink.new }
+    ensures failed { IsErrOf result RunFault.WriteFault → Rose (K.faults sink.old) (K.faults sink.new) }
+{
+    let (report, held) = match make_vsync(rt, locks, seats, handler, period, before) {
+        Ok(made) => made,
+        Err(_) => return Err(RunFault::NoMemory),
+    };
+    let goes_on = report.has_commits() || held.as_slice().iter().any(is_time);
+    match show_vsync(
+        rt,
+        alloc,
+        workers,
+        sink,
+        timelines,
+        screen,
+        handler.contents(),
+        report,
+    ) {
+        Ok(()) => Ok(goes_on),
+        Err(fault) => Err(fault),
+    }
+}
