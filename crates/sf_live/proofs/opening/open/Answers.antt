@@ -1,0 +1,56 @@
+use Rattle.std.proofs.Common.{◌≤◌, List, ◌∷◌, length, ◌∙◌, ap, sym, subst}
+use Rattle.std.specs.Prelude.{map}
+use Rattle.std.specs.List.{AllByRecursion}
+use Rattle.std.specs.List.Sorted.{IsStrictlyIncreasing}
+use Rattle.std.proofs.lemmas.List.Sorted.{All-permutation}
+use Rattle.sf_picture.specs.declared.picture.Picture.{Picture}
+use Rattle.sf_scene.specs.declared.step.ActorScript.{ActorScript}
+use Rattle.sf_surface.specs.Objects.{mark_of}
+use Rattle.sf_actor.specs.Plain.{PlainOf, home_of, view_of}
+use Rattle.sf_actor.specs.Scripts.{picture_at}
+use Rattle.sf_steps.specs.declared.actor.Actor.{Actor}
+use Rattle.sf_shared.specs.Closing.{HasNoCalls}
+use Rattle.sf_crew.specs.Boarding.{IsNewcomer, number_of}
+use Rattle.sf_live.proofs.Newcomers.{few_opened, newcomers, numbers_same, opened_bare, rise_behind}
+use Rattle.sf_live.proofs.opening.open.Goals as goal
+
+pub share-requires : goal.share-requires
+share-requires g c =
+    let opens = c.in_ok-cast.ensures in
+    record {
+      no_calls =
+          subst (λ (d : PlainOf g.row.B.Denot). AllByRecursion HasNoCalls d.queues) (sym c.into_parts-pictures.ensures.desk)
+          (opened_bare c.args.queues.now c.in_ok-cast.cast.desk.queues opens.queues_opened);
+      none_arrived = ap (λ (d : PlainOf g.row.B.Denot). d.arrivals) c.into_parts-pictures.ensures.desk ∙ opens.none_arrived;
+    }
+
+pub returns-clause-few : goal.returns-clause-few
+returns-clause-few g c =
+    let cast = c.in_ok-cast.cast in
+    let opens = c.in_ok-cast.ensures in
+    let kept = c.into_parts-pictures.ensures.kept in
+    subst (λ (actors : List (Actor g.row.B.Denot)). length actors ≤ 16) (sym c.into_parts-pictures.ensures.actors)
+    (few_opened g.B.TableName.table (picture_at cast.pictures) (home_of cast.desk) (view_of cast.desk) cast.actors opens.declared c.args.stock.buffers opens.keep
+    (All-permutation (λ (script : ActorScript). script.number ≤ 16) c.args.scripts opens.declared opens.sorted.permutation c.requires.numbers) kept.numbered
+    (subst IsStrictlyIncreasing (sym (numbers_same cast.actors)) kept.rising))
+
+pub returns-clause-rising : goal.returns-clause-rising
+returns-clause-rising g c =
+    let cast = c.in_ok-cast.cast in
+    let kept = c.into_parts-pictures.ensures.kept in
+    let first = c.in_ok-locks.first.seats.by in
+    subst (λ (actors : List (Actor g.row.B.Denot)). IsStrictlyIncreasing (first ∷ map number_of actors)) (sym c.into_parts-pictures.ensures.actors)
+    (rise_behind first cast.actors c.in_ok-locks.ensures.opened.number kept.numbered (subst IsStrictlyIncreasing (sym (numbers_same cast.actors)) kept.rising))
+
+pub returns-clause-newcomers : goal.returns-clause-newcomers
+returns-clause-newcomers g c =
+    let cast = c.in_ok-cast.cast in
+    let opens = c.in_ok-cast.ensures in
+    let kept = c.into_parts-pictures.ensures.kept in
+    let shared = c.in_ok-locks.ensures.opened in
+    let locks = c.in_ok-locks.locks in
+    let seats = c.in_ok-locks.first.seats in
+    subst (λ (actors : List (Actor g.row.B.Denot)). AllByRecursion (IsNewcomer g.B.TableName.table locks c.into_parts-pictures.result.0 seats) actors) (sym c.into_parts-pictures.ensures.actors)
+    (subst (λ (pictures : List Picture). AllByRecursion (IsNewcomer g.B.TableName.table locks pictures seats) cast.actors) (sym c.into_parts-pictures.ensures.pictures)
+    (newcomers g.B.TableName.table locks cast.pictures seats (home_of cast.desk) (view_of cast.desk) cast.actors opens.declared c.args.stock.buffers shared.nothing
+    (shared.marks ∙ ap (λ (d : PlainOf g.row.B.Denot). map mark_of d.queues) c.into_parts-pictures.ensures.desk) opens.keep kept.plays))

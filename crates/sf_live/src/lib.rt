@@ -1,0 +1,7 @@
+//! A scene that is played live: each actor in a thread of its own over what all share, while the
+//! compositor commits and shows, and the rounds of a play once no thread can go on.
+#![tactic(auto)]
+
+mod opening;
+
+pub use opening::{Opened, open};

@@ -1,0 +1,83 @@
+ghost use Rattle.std.specs.Prelude.{◌≡◌, ◌≤◌, All, true, [], ◌∷◌, length, map, IfOk};
+ghost use Rattle.std.specs.List.{AllByRecursion};
+ghost use Rattle.std.specs.List.Sorted.{IsStrictlyIncreasing};
+ghost use Rattle.sf_scene.specs.declared.step.ActorScript.{ActorScript as ScriptValue};
+ghost use Rattle.sf_turns.specs.Counts.{range};
+ghost use Rattle.sf_cast.specs.Scripts.{AreOfScene, are_playable, permits_of};
+ghost use Rattle.sf_shared.specs.Closing.{HasNoCalls, Opens};
+ghost use Rattle.sf_shared.specs.First.{IsFirst, KnowsNothing, gave_of};
+ghost use Rattle.sf_crew.specs.Boarding.{IsNewcomer, number_of};
+
+use sf_actor::PlainDesk;
+use sf_base::{Items, NoMemory};
+use sf_cast::Cast;
+use sf_picture::{Painted, Picture};
+use sf_scene::{ActorScript, QueueDecl};
+use sf_shared::{FirstSeats, Locks};
+use sf_steps::Actor;
+use sf_turns::{Stock, TableName, TurnSeat};
+use std::alloc::Global;
+
+/// A scene before anything was done: its pictures, its actors by rising number, what they are to
+/// share, and the first seats, which are the compositor's.
+#[derive(Drop)]
+pub struct Opened<B: TableName> {
+    pub pictures: Items<Picture>,
+    pub actors: Vec<Actor<B>>,
+    pub locks: Locks<B>,
+    pub first: FirstSeats<B>,
+}
+
+/// A desk's queues, arrivals and timelines under locks, with the first seats at them.
+fn share<B: TableName>(
+    alloc: Global,
+    desk: PlainDesk<B>,
+) -> Result<(Locks<B>, FirstSeats<B>), NoMemory>
+    requires no_calls { AllByRecursion HasNoCalls desk.queues }
+    requires none_arrived { desk.arrivals ≡ [] }
+    ensures first { IfOk result (λ opened. IsFirst B.table opened.0 opened.1) }
+    ensures opened { IfOk result (λ opened. Opens desk.queues desk.times desk.turns opened.0 opened.1) }
+{
+    let PlainDesk {
+        queues,
+        arrivals,
+        table,
+        times,
+        turns,
+    } = desk;
+    Locks::open(alloc, queues, arrivals, table, times, turns)
+}
+
+/// Opens a scene's actors and queues. It takes the seat and the whole stock of the turns, with a
+/// permit for each dequeue.
+pub fn open<B: TableName>(
+    alloc: Global,
+    queues: &[QueueDecl],
+    pictures: Items<Picture>,
+    scripts: Items<ActorScript>,
+    seat: TurnSeat<Painted>,
+    stock: Stock<Painted>,
+) -> Result<Opened<B>, NoMemory>
+    requires scene { AreOfScene queues.now pictures scripts }
+    requires playable { are_playable scripts ≡ true }
+    requires numbers { All (λ (script : ScriptValue). script.number ≤ 16) scripts }
+    requires own { (seat.table ≡ B.table) × (stock.table ≡ B.table) }
+    requires first { (seat.is_first ≡ true) × (seat.out ≡ 0) }
+    requires whole { stock.buffers ≡ range 0 (permits_of scripts) }
+    ensures first { IfOk result (λ opened. IsFirst B.table opened.locks opened.first) }
+    ensures none { IfOk result (λ opened. gave_of opened.first ≡ []) }
+    ensures unused { IfOk result (λ opened. KnowsNothing opened.first.seats) }
+    ensures few { IfOk result (λ opened. length opened.actors.items ≤ 16) }
+    ensures rising { IfOk result (λ opened. IsStrictlyIncreasing (opened.first.seats.by ∷ map number_of opened.actors.items)) }
+    ensures newcomers { IfOk result (λ opened. AllByRecursion (IsNewcomer B.table opened.locks opened.pictures opened.first.seats) opened.actors.items) }
+{
+    let cast = Cast::new(alloc, queues, pictures, scripts, seat, stock)?;
+    let (pictures, actors, desk) = cast.into_parts();
+    let (locks, first) = share(alloc, desk)?;
+    Ok(Opened {
+        pictures,
+        actors,
+        locks,
+        first,
+    })
+}
