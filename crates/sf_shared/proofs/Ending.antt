@@ -215,12 +215,18 @@ module _ {B : Type 0} where
     arrivals_left : (plain_view desk).arrivals ≡ (view_of first.seats).arrivals
     arrivals_left = ap sent left.arrivals
 
+    -- who had no seats
+    none_stamped : (by : ℕ) → (Contains (first.seats.by ∷ gave_of first) by → ⊥) → calls_by by first.seats.arrivals.seen ≡ []
+    none_stamped by not =
+        left.callers by (λ there. not (subst (λ (b : ℕ). Contains (b ∷ gave_of first) by) is.own.number there)) ∙ ap (calls_by by) is.start
+
     pub closes : Closes locks first desk
     closes = record {
       marks = closed_marks locks.queues.items first.seats.queues.items desk.queues left.queues;
       calls = calls_left;
       arrivals = arrivals_left;
       arrived = left.arrivals;
+      strangers = λ by not. ap (calls_by by) left.arrivals ∙ calls_unstamped by first.seats.arrivals.seen ∙ ap unstamped (none_stamped by not);
       times = left.times;
       turns = left.turns;
     }
@@ -254,7 +260,7 @@ module _ {B : Type 0} where
 
     pub nobody : (by : ℕ) → (Contains (first.seats.by ∷ gave_of first) by → ⊥) → HasNoEntry by (plain_view desk)
     nobody by not =
-        let none = left.callers by (λ there. not (subst (λ (b : ℕ). Contains (b ∷ gave_of first) by) is.own.number there)) ∙ ap (calls_by by) is.start in
+        let none = none_stamped by not in
         record {
           calls = λ queue.
               ap (calls_by by) (calls_left queue) ∙ closed_nobody first.seats.by by queue (gave_of first) locks.queues.items first.seats.queues.items desk.queues is.own.queues is.queues left.queues not;

@@ -185,6 +185,7 @@ module _ {B : Type 0} where
       gave = gave_is;
       took = ap (λ ts. map (λ seats. seats.value) ts.items) s.took;
       number = s.number;
+      last = s.last;
       knows = record {
         calls = λ queue. ap (λ (ps : List (QueuePass B)). calls_known ps queue) s.queues ∙ same_calls (giving by) (λ p. refl) (λ p. refl) old.seats.queues.items queue;
         arrivals = ap (λ calls. sent (unstamped calls)) arrived_same;

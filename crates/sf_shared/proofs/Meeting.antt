@@ -1,8 +1,9 @@
 -- Seats that the first ones take in.
-use Rattle.std.proofs.Common.{◌≡◌, ℕ, zero, suc, ◌+◌, ◌<◌, ◌≤◌, List, [], ◌∷◌, ◌++◌, inl, inr, length, get_or, set, arith, ap, ap₂, ◌∙◌, sym, refl, subst}
+use Rattle.std.proofs.Common.{◌≡◌, ℕ, zero, suc, ◌+◌, ◌<◌, ◌≤◌, ◌==◌, List, [], ◌∷◌, ◌++◌, inl, inr, length, get_or, set, arith, ap, ap₂, ◌∙◌, sym, refl, subst}
 use Rattle.std.specs.Prelude.{map, Contains}
 use Rattle.std.specs.List.{AllByRecursion, AllZip}
 use Rattle.std.specs.declared.snapshot.Snapshot.{Snapshot}
+use Rattle.std.proofs.lemmas.Bool.{cases_Bool}
 use Rattle.std.proofs.lemmas.List.{append-nil, length-append, map-append, nil_from_length}
 use Rattle.std.proofs.lemmas.List.Elements.{Contains-append_cases, Contains-append_left, Contains-append_right}
 use Rattle.std.proofs.Math.Nat.{le-max_left, le-max_right}
@@ -22,7 +23,8 @@ use Rattle.sf_shared.specs.declared.seats.Seats.{Seats}
 use Rattle.sf_shared.specs.Arriving.{ArrivalsPass}
 use Rattle.sf_shared.specs.First.{IsFirst, IsTaken, Leads, Meets, TookPass, gave_of, took_of}
 use Rattle.sf_shared.specs.Passes.{IsAt, IsFirstPass, KeepsOwn, all_met}
-use Rattle.sf_shared.specs.Seats.{AreSeats, IsInOrder, IsPassOf, QueuePass, calls_made, moment, moments_of, sent_in}
+use Rattle.sf_shared.specs.Seats.{AreSeats, IsInOrder, IsPassOf, QueuePass, calls_known, calls_made, is_at, mark_in, moment, moments_of, sent_in}
+use Rattle.sf_shared.proofs.Going.{goes_unstamped}
 use Rattle.sf_shared.proofs.Ordering.{contains_cons}
 use Rattle.sf_shared.proofs.Passing.{zip_at}
 
@@ -48,6 +50,22 @@ module _ {B : Type 0} where
   met_leads gave (p ∷ passes) [] leads = leads
   met_leads gave (p ∷ passes) (n ∷ notes) leads =
       (record { is_first = leads.0.is_first; gave_is = leads.0.gave_is; start = leads.0.start }, met_leads gave passes notes leads.1)
+
+  -- what is known of a queue goes on without a call of theirs
+  known_goes : (by queue : ℕ) (locks : List (QueueLock B)) (old new : List (QueuePass B)) → AllZip (IsPassOf by) locks old → AllZip (IsPassOf by) locks new → AllZip KeepsOwn old new
+      → GoesOnWithout by (calls_known old queue) (calls_known new queue)
+  known_goes by queue [] [] [] own now kept = record { begins = ([], refl); calls = refl }
+  known_goes by queue [] [] (q ∷ new) own now kept = absurd kept
+  known_goes by queue [] (p ∷ old) new own now kept = absurd own
+  known_goes by queue (l ∷ locks) [] new own now kept = absurd own
+  known_goes by queue (l ∷ locks) (p ∷ old) [] own now kept = absurd kept
+  known_goes by queue (l ∷ locks) (p ∷ old) (q ∷ new) own now kept =
+      let same : is_at queue q ≡ is_at queue p = ap (λ m. (mark_in m).queue.0 == queue) (now.0.marked ∙ sym own.0.marked) in
+      let rest = known_goes by queue locks old new own.1 now.1 kept.1 in
+      elim (cases_Bool (is_at queue p)) [
+        | inl met ↦ rw (met, same ∙ met) (goes_unstamped by p.seen q.seen (subst (λ (b : ℕ). GoesOnWithout b p.seen q.seen) own.0.number kept.0))
+        | inr unmet ↦ rw (unmet, same ∙ unmet) rest
+      ]
 
   -- the caller's own calls are the same
   met_moments : (by : ℕ) (locks : List (QueueLock B)) (old new : List (QueuePass B)) → AllZip (IsPassOf by) locks old → AllZip KeepsOwn old new → calls_made by new ≡ calls_made by old
@@ -223,8 +241,11 @@ module _ {B : Type 0} where
           took = taken_all;
         }
 
+    calls_go : (queue : ℕ) → GoesOnWithout old.seats.by (calls_known old.seats.queues.items queue) (calls_known new.seats.queues.items queue)
+    calls_go queue = known_goes old.seats.by queue locks.queues.items old.seats.queues.items new.seats.queues.items first.own.queues own_queues m.own_calls
+
     pub meets_after : Meets seats old new
-    meets_after = record { gave = gave_same; took = m.took; number = m.number; times = m.times; turns = m.turns; queues = m.own_calls; arrivals = arrivals_go }
+    meets_after = record { gave = gave_same; took = m.took; number = m.number; times = m.times; turns = m.turns; queues = m.own_calls; calls = calls_go; arrivals = arrivals_go }
 
 -- The first passes met those of a caller, one after another.
 module _ {B : Type 0} where

@@ -148,6 +148,7 @@ module _ {B : Type 0} where
   pub record IsMade (objects : List (ObjectOf B)) (times : TimesView) (turns : TurnsView) (locks : Locks B) (first : FirstSeats B) : Type 0 where
     pub queues : AreOpened objects locks.queues.items first.seats.queues.items
     pub number : first.seats.by ≡ 0
+    pub step : first.seats.last.step ≡ 0
     pub arrivals : first.seats.arrivals ≡ first_pass locks.arrivals 0 tt []
     pub times_is : first.seats.times ≡ times
     pub own_times : times.table ≡ locks.times
@@ -200,6 +201,7 @@ module _ {B : Type 0} where
     opens_made = record {
       marks = opened_marks objects locks.queues.items first.seats.queues.items m.queues;
       number = m.number;
+      step = m.step;
       calls = λ queue. no_calls first.seats.queues.items queue nothing.queues;
       arrivals = ap (λ calls. sent (unstamped calls)) arrived;
       nothing = nothing;

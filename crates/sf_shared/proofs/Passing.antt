@@ -197,7 +197,7 @@ module _ {B : Type 0} where
     own_after = zip_set (IsPassOf by) locks passes place lock next h.own low still_there
 
     pub moves : MovesPass one next → AllZip MovesPass passes (set passes place next)
-    moves moved = zip_self MovesPass passes place one next (λ z. refl) low_pass (subst (λ (p : QueuePass B). MovesPass p next) h.there moved)
+    moves moved = zip_self MovesPass passes place one next (λ z. record { same = refl; begins = ([], refl) }) low_pass (subst (λ (p : QueuePass B). MovesPass p next) h.there moved)
 
     turns_rise : turns_had passes + next.turns ≡ turns_had (set passes place next) + one.turns
     turns_rise =

@@ -27,9 +27,9 @@ module _ {B : Type 0} where
   lead_on gave (p ∷ old) [] moves leads = absurd moves
   lead_on gave (p ∷ old) (q ∷ new) moves leads = (
     record {
-      is_first = ap (λ (v : QueuePass B). v.is_first) moves.0 ∙ leads.0.is_first;
-      gave_is = ap (λ (v : QueuePass B). v.gave) moves.0 ∙ leads.0.gave_is;
-      start = ap (λ (v : QueuePass B). v.start) moves.0 ∙ leads.0.start;
+      is_first = ap (λ (v : QueuePass B). v.is_first) moves.0.same ∙ leads.0.is_first;
+      gave_is = ap (λ (v : QueuePass B). v.gave) moves.0.same ∙ leads.0.gave_is;
+      start = ap (λ (v : QueuePass B). v.start) moves.0.same ∙ leads.0.start;
     },
     lead_on gave old new moves.1 leads.1,
   )
@@ -40,7 +40,7 @@ module _ {B : Type 0} where
   took_on by (p ∷ old) [] others moves took = absurd moves
   took_on by (p ∷ old) (q ∷ new) [] moves took = absurd took
   took_on by (p ∷ old) (q ∷ new) (o ∷ others) moves took = (
-    subst (λ (t : List (ℕ × List _)). Contains t (by, o.seen)) (sym (ap (λ (v : QueuePass B). v.took) moves.0)) took.0,
+    subst (λ (t : List (ℕ × List _)). Contains t (by, o.seen)) (sym (ap (λ (v : QueuePass B). v.took) moves.0.same)) took.0,
     took_on by old new others moves.1 took.1,
   )
 
@@ -76,13 +76,14 @@ module _ {B : Type 0} where
 
   all_move : (passes : List (QueuePass B)) → AllZip MovesPass passes passes
   all_move [] = tt
-  all_move (p ∷ passes) = (refl, all_move passes)
+  all_move (p ∷ passes) = (record { same = refl; begins = ([], refl) }, all_move passes)
 
   pub stays_called : (old new : Seats B) → ChangesPasses old new → Stays old new
   stays_called old new changes = record {
     number = ap (λ (s : Seats B). s.by) changes.same;
     passes = changes.passes;
     arrivals = (let same = ap (λ (s : Seats B). s.arrivals) changes.same in subst (λ (p : ArrivalsPass). p ≡ record old.arrivals { seen = p.seen; turns = p.turns }) (sym same) refl);
+    begins = ([], ap (λ (s : Seats B). s.arrivals.seen) changes.same);
     times = (ap (λ (s : Seats B). s.times.knows.is_first) changes.same, ap (λ (s : Seats B). s.times.knows.out) changes.same);
     known = subst (λ (ps : List (ℕ × ℕ)). AreAmong old.times.knows.known ps) (sym (ap (λ (s : Seats B). s.times.knows.known) changes.same)) (λ p there. there);
     signals = subst (λ (ps : List (ℕ × ℕ)). AreAmong old.times.knows.signals ps) (sym (ap (λ (s : Seats B). s.times.knows.signals) changes.same)) (λ p there. there);
@@ -96,6 +97,7 @@ module _ {B : Type 0} where
     number = ap (λ (s : Seats B). s.by) changes.same;
     passes = subst (λ (ps : List (QueuePass B)). AllZip MovesPass old.queues.items ps) (sym (ap (λ (s : Seats B). s.queues.items) changes.same)) (all_move old.queues.items);
     arrivals = changes.pass;
+    begins = changes.begins;
     times = (ap (λ (s : Seats B). s.times.knows.is_first) changes.same, ap (λ (s : Seats B). s.times.knows.out) changes.same);
     known = subst (λ (ps : List (ℕ × ℕ)). AreAmong old.times.knows.known ps) (sym (ap (λ (s : Seats B). s.times.knows.known) changes.same)) (λ p there. there);
     signals = subst (λ (ps : List (ℕ × ℕ)). AreAmong old.times.knows.signals ps) (sym (ap (λ (s : Seats B). s.times.knows.signals) changes.same)) (λ p there. there);
@@ -110,6 +112,7 @@ module _ {B : Type 0} where
     number = ap (λ (s : Seats B). s.by) same;
     passes = subst (λ (ps : List (QueuePass B)). AllZip MovesPass old.queues.items ps) (sym (ap (λ (s : Seats B). s.queues.items) same)) (all_move old.queues.items);
     arrivals = (let is = ap (λ (s : Seats B). s.arrivals) same in subst (λ (p : ArrivalsPass). p ≡ record old.arrivals { seen = p.seen; turns = p.turns }) (sym is) refl);
+    begins = ([], ap (λ (s : Seats B). s.arrivals.seen) same);
     times = (ap (λ (v : TimesView). v.knows.is_first) seen, ap (λ (v : TimesView). v.knows.out) seen);
     known = subst (λ (ps : List (ℕ × ℕ)). AreAmong old.times.knows.known ps) (sym (ap (λ (v : TimesView). v.knows.known) seen)) (λ p there. Contains-append_left old.times.knows.known points p there);
     signals = subst (λ (ps : List (ℕ × ℕ)). AreAmong old.times.knows.signals ps) (sym (ap (λ (v : TimesView). v.knows.signals) seen)) (λ p there. there);
@@ -123,6 +126,7 @@ module _ {B : Type 0} where
     number = ap (λ (s : Seats B). s.by) same;
     passes = subst (λ (ps : List (QueuePass B)). AllZip MovesPass old.queues.items ps) (sym (ap (λ (s : Seats B). s.queues.items) same)) (all_move old.queues.items);
     arrivals = (let is = ap (λ (s : Seats B). s.arrivals) same in subst (λ (p : ArrivalsPass). p ≡ record old.arrivals { seen = p.seen; turns = p.turns }) (sym is) refl);
+    begins = ([], ap (λ (s : Seats B). s.arrivals.seen) same);
     times = (ap (λ (s : Seats B). s.times.knows.is_first) same, ap (λ (s : Seats B). s.times.knows.out) same);
     known = subst (λ (ps : List (ℕ × ℕ)). AreAmong old.times.knows.known ps) (sym (ap (λ (s : Seats B). s.times.knows.known) same)) (λ p there. there);
     signals = subst (λ (ps : List (ℕ × ℕ)). AreAmong old.times.knows.signals ps) (sym (ap (λ (s : Seats B). s.times.knows.signals) same)) (λ p there. there);

@@ -37,6 +37,7 @@ module _ {B : Type 0} where
   pub record Opens (objects : List (ObjectOf B)) (times : TimesView) (turns : SeatView) (locks : Locks B) (first : FirstSeats B) : Type 0 where
     pub marks : marks_of locks ≡ map mark_of objects
     pub number : first.seats.by ≡ 0
+    pub step : first.seats.last.step ≡ 0
     pub calls : (queue : ℕ) → (view_of first.seats).calls queue ≡ []
     pub arrivals : (view_of first.seats).arrivals ≡ []
     pub nothing : KnowsNothing first.seats
@@ -66,12 +67,13 @@ module _ {B : Type 0} where
   AreClosed (lock ∷ locks) (pass ∷ passes) (object ∷ objects) = IsClosed lock pass object × AreClosed locks passes objects
   AreClosed locks passes objects = ⊥
 
-  -- the desk has the queues that were shared, and knows what the first seats know
+  -- the desk has the queues that were shared, and knows what the first seats know; nobody without seats called on the arrivals
   pub record Closes (locks : Locks B) (first : FirstSeats B) (desk : PlainOf B) : Type 0 where
     pub marks : map mark_of desk.queues ≡ marks_of locks
     pub calls : (queue : ℕ) → (plain_view desk).calls queue ≡ (view_of first.seats).calls queue
     pub arrivals : (plain_view desk).arrivals ≡ (view_of first.seats).arrivals
     pub arrived : desk.arrivals ≡ unstamped first.seats.arrivals.seen
+    pub strangers : (by : ℕ) → (Contains (first.seats.by ∷ gave_of first) by → ⊥) → calls_by by desk.arrivals ≡ []
     pub times : desk.times ≡ first.seats.times
     pub turns : desk.turns ≡ first.seats.turns
 

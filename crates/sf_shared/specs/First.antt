@@ -83,6 +83,7 @@ module _ {B : Type 0} where
     pub gave : gave_of new ≡ by ∷ gave_of old
     pub took : took_of new ≡ took_of old
     pub number : new.seats.by ≡ old.seats.by
+    pub last : new.seats.last ≡ old.seats.last
     pub knows : KnowsSame old.seats new.seats
     pub nothing : KnowsNothing new.seats
     pub times : new.seats.times ≡ record old.seats.times { knows = lending old.seats.times.knows }
@@ -96,4 +97,5 @@ module _ {B : Type 0} where
     pub times : new.seats.times ≡ record old.seats.times { knows = joined_times old.seats.times.knows seats.times.knows }
     pub turns : new.seats.turns ≡ joined_turns old.seats.turns seats.turns
     pub queues : AllZip KeepsOwn old.seats.queues.items new.seats.queues.items
+    pub calls : (queue : ℕ) → GoesOnWithout old.seats.by ((view_of old.seats).calls queue) ((view_of new.seats).calls queue)
     pub arrivals : GoesOnWithout old.seats.by old.seats.arrivals.seen new.seats.arrivals.seen

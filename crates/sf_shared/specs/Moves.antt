@@ -1,6 +1,7 @@
 -- What calls change of a caller's seats.
 use Rattle.std.specs.Prelude.{◌≡◌, ℕ, ◌<◌, ◌≤◌, ◌⊎◌, List, Contains}
 use Rattle.std.specs.List.{AllZip}
+use Rattle.sf_calls.specs.Histories.{Begins}
 use Rattle.sf_stamped.specs.Stamps.{newest_stamp}
 use Rattle.sf_surface.specs.Tokens.{ReadLeaseOf}
 use Rattle.sf_token.specs.Pending.{Arrival}
@@ -10,9 +11,10 @@ use Rattle.sf_shared.specs.Calls.{TookOne}
 use Rattle.sf_shared.specs.Seats.{QueuePass, moments_of, view_of}
 
 module _ {B : Type 0} where
-  -- what a pass knows, and how many turns it had
-  abbrev pub MovesPass : QueuePass B → QueuePass B → Type 0
-  MovesPass old new = new ≡ record old { seen = new.seen; turns = new.turns }
+  -- what a pass knows, which goes on, and how many turns it had
+  pub record MovesPass (old new : QueuePass B) : Type 0 where
+    pub same : new ≡ record old { seen = new.seen; turns = new.turns }
+    pub begins : Begins old.seen new.seen
 
   -- each call and each transaction that the caller made or sent since has a stamp above that of its last call before
   abbrev pub MadeLater : Seats B → Seats B → Type 0
@@ -29,22 +31,26 @@ module _ {B : Type 0} where
   pub record ChangesArrivals (old new : Seats B) : Type 0 where
     pub same : new ≡ record old { arrivals = new.arrivals; last = new.last }
     pub pass : new.arrivals ≡ record old.arrivals { seen = new.arrivals.seen; turns = new.arrivals.turns }
+    pub begins : Begins old.arrivals.seen new.arrivals.seen
     pub last : old.last.stamp ≤ new.last.stamp
     pub later : MadeLater old new
 
   -- What waits was taken. The desk knows of all that was sent before; these arrivals go on without one of the caller, and what it
-  -- got is what was sent since anybody last took. The take has the newest stamp, above that of the caller's last call before.
+  -- got is what was sent since anybody last took. The take has the newest stamp, above that of the caller's last call before, and is of
+  -- no step.
   pub record Takes (old new : Seats B) (list : List (Arrival ReadLeaseOf)) : Type 0 where
     pub took : TookOne old.arrivals new.arrivals list
     pub goes_on : ArriveWithout old.by (view_of old).arrivals (view_of new).arrivals
     pub stamp : newest_stamp new.arrivals.seen ≡ new.last.stamp
     pub rose : old.last.stamp < new.last.stamp
+    pub step : new.last.step ≡ old.last.step
 
   -- seats after calls, signals, looks and drawings: what they knew they know, and they gave and took in what they did before
   pub record Stays (old new : Seats B) : Type 0 where
     pub number : new.by ≡ old.by
     pub passes : AllZip MovesPass old.queues.items new.queues.items
     pub arrivals : new.arrivals ≡ record old.arrivals { seen = new.arrivals.seen; turns = new.arrivals.turns }
+    pub begins : Begins old.arrivals.seen new.arrivals.seen
     pub times : (new.times.knows.is_first ≡ old.times.knows.is_first) × (new.times.knows.out ≡ old.times.knows.out)
     pub known : AreAmong old.times.knows.known new.times.knows.known
     pub signals : AreAmong old.times.knows.signals new.times.knows.signals

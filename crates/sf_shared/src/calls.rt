@@ -1,6 +1,6 @@
 ghost use Rattle.std.specs.Prelude.{◌≡◌, ◌≤◌, Some, IfErr, IfOk, map};
 ghost use Rattle.sf_calls.specs.Calling.{IfFaultNoMemory, IfFaultNotYet};
-ghost use Rattle.sf_calls.specs.Histories.{calls_by};
+ghost use Rattle.sf_calls.specs.Histories.{Begins, calls_by};
 ghost use Rattle.sf_surface.specs.Marks.{PermitFits, SpareFits};
 ghost use Rattle.sf_shared.specs.Calls.{MadeOne, SentOne, Ticks, WaitsOne};
 ghost use Rattle.sf_shared.specs.Seats.{IsPassOf, lock_mark, moment, sent_in, takes_in};
@@ -32,7 +32,9 @@ pub(crate) fn call_one<R: Wait, B: TableName>(
     ensures own { IsPassOf pass.old.by lock.now pass.new }
     ensures same { pass.new ≡ record pass.old { seen = pass.new.seen; turns = pass.new.turns } }
     ensures turns { pass.old.turns ≤ pass.new.turns }
+    ensures begins { Begins pass.old.seen pass.new.seen }
     ensures ticks { Ticks last.old last.new (map moment (calls_by pass.old.by pass.old.seen)) (map moment (calls_by pass.old.by pass.new.seen)) }
+    ensures step { IfOk result (λ _. last.new.step ≡ step) }
     ensures made { IfOk result (MadeOne (lock_mark lock.now) pass.old pass.new (step, call)) }
     ensures spare { IfOk result (SpareFits B.table) }
     ensures not_yet { IfFaultNotYet result (λ back. (back ≡ call) × WaitsOne (lock_mark lock.now) pass.old pass.new (step, call)) }
@@ -64,6 +66,7 @@ pub(crate) fn send_one<R: Wait, B: TableName>(
     requires marked { pass.old.mark ≡ Some tt }
     ensures same { pass.new ≡ record pass.old { seen = pass.new.seen; turns = pass.new.turns } }
     ensures turns { pass.old.turns ≤ pass.new.turns }
+    ensures begins { Begins pass.old.seen pass.new.seen }
     ensures ticks { Ticks last.old last.new (sent_in (calls_by pass.old.by pass.old.seen)) (sent_in (calls_by pass.old.by pass.new.seen)) }
     ensures takes { takes_in (calls_by pass.old.by pass.new.seen) ≡ takes_in (calls_by pass.old.by pass.old.seen) }
     ensures sent { IfOk result (SentOne pass.old pass.new step txn) }

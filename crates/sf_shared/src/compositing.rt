@@ -1,6 +1,6 @@
 //! The calls of a compositor that shares the locks with the actors.
 ghost use Rattle.std.specs.Prelude.{◌≡◌, ◌<◌, ◌≤◌, IfErr, IfOk, Some};
-ghost use Rattle.sf_calls.specs.Histories.{calls_by};
+ghost use Rattle.sf_calls.specs.Histories.{Begins, calls_by};
 ghost use Rattle.std.specs.Prelude.{false, true, IsErr, OnErr};
 ghost use Rattle.sf_commit.specs.Handlers.{Decides, Stops, last_of};
 ghost use Rattle.sf_stamped.specs.Stamps.{newest_stamp};
@@ -34,6 +34,7 @@ fn take_one<R: Wait, B: TableName>(
     requires marked { pass.old.mark ≡ Some tt }
     ensures same { pass.new ≡ record pass.old { seen = pass.new.seen; turns = pass.new.turns } }
     ensures turns { pass.old.turns ≤ pass.new.turns }
+    ensures begins { Begins pass.old.seen pass.new.seen }
     ensures step { last.new.step ≡ last.old.step }
     ensures stamp { last.old.stamp ≤ last.new.stamp }
     ensures sends { sent_in (calls_by pass.old.by pass.new.seen) ≡ sent_in (calls_by pass.old.by pass.old.seen) }

@@ -47,6 +47,7 @@ impl<B: TableName> Seats<B> {
         requires permit { PermitFits B.table call }
         ensures own { AreSeats B.table locks.now self.new }
         ensures changes { ChangesPasses self.old self.new }
+        ensures step { IfOk result (λ _. self.new.last.step ≡ step) }
         ensures made { IfOk result (MadeCall (home_of locks.now self.old) (view_of self.old) (view_of self.new) self.old.by queue.0 (step, call)) }
         ensures spare { IfOk result (SpareFits B.table) }
         ensures not_yet { IfFaultNotYet result (λ back. (back ≡ call)

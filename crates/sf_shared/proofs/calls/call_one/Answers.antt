@@ -27,3 +27,8 @@ returns-in-Err-NotYet-clause-not_yet g c =
       waits_one (lock_mark c.args.lock.now) c.args.pass.now c.call.new.self c.args.last.now.stamp (c.args.step, c.args.call)
           (not_yet.1 (lock_mark c.args.lock.now) c.requires.own.marked),
     )
+
+pub returns-in-Err-NotYet-clause-begins : goal.returns-in-Err-NotYet-clause-begins
+returns-in-Err-NotYet-clause-begins g c =
+    let not_yet = told c.args.pass.now c.call.new.self (c.args.last.now.stamp, (c.args.step, c.args.call)) _ c.in-Err-NotYet.field-0 c.in-Err-NotYet.field-0-is c.in-Err-NotYet.ensures.not_yet in
+    (not_yet.1 (lock_mark c.args.lock.now) c.requires.own.marked).begins

@@ -76,7 +76,7 @@ returns-clause-changes g c =
     } in
     record {
       same = refl;
-      passes = moves seats.by locks seats.queues.items c.args.queue.0 c.in-Some.place lock one next after c.call_one.ensures.same;
+      passes = moves seats.by locks seats.queues.items c.args.queue.0 c.in-Some.place lock one next after (record { same = c.call_one.ensures.same; begins = c.call_one.ensures.begins });
       last = stamp_rises seats.last c.call_one.new.last _ _ c.call_one.ensures.ticks;
       later =
           later_called seats.last c.call_one.new.last seats.by seats.queues.items c.in-Some.place one next (sent_in (calls_by seats.by seats.arrivals.seen))

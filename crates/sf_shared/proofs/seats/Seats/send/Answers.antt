@@ -32,6 +32,7 @@ returns-clause-changes g c =
     record {
       same = refl;
       pass = c.send_one.ensures.same;
+      begins = c.send_one.ensures.begins;
       last = stamp_rises seats.last c.send_one.new.last _ _ ticks;
       later = later_sent seats.last c.send_one.new.last (calls_made seats.by seats.queues.items) (sent_in (calls_by seats.by seats.arrivals.seen)) (sent_in (calls_by seats.by new.seen)) ticks;
     }

@@ -38,6 +38,7 @@ returns-clause-changes g c =
     record {
       same = refl;
       pass = c.take_one.ensures.same;
+      begins = c.take_one.ensures.begins;
       last = c.take_one.ensures.stamp;
       later =
           later_same seats.last.stamp (calls ++ sent_in (calls_by seats.by seats.arrivals.seen)) (calls ++ sent_in (calls_by seats.by new.seen))
@@ -54,4 +55,5 @@ returns-clause-took g c =
       goes_on = subst (λ (b : ℕ). ArriveWithout b (sent (unstamped seats.arrivals.seen)) (sent (unstamped new.seen))) c.requires.own.number (took_goes seats.arrivals new list.items took);
       stamp = newest.0;
       rose = newest.1;
+      step = c.take_one.ensures.step;
     }) c.take_one.ensures.took c.take_one.ensures.newest
