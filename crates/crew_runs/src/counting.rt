@@ -1,6 +1,7 @@
 ghost use Rattle.std.specs.Prelude.{OnErr, OnOk};
 ghost use Rattle.sf_shared.specs.First.{IsFirst};
 ghost use Rattle.sf_crew.specs.Visits.{LeavesGiven};
+ghost use Rattle.crew_runs.specs.declared.counting.Taker.{Taker as TakerIn};
 
 use sf_crew::{Ended, Visit};
 use sf_io::Gate;
@@ -17,17 +18,17 @@ pub struct Taker {
 }
 
 impl<R: Threads + Wait + Sync, B: TableName> Visit<R, B> for Taker {
-    ghost keeps = { λ _ _ _. Unit {0} };
+    ghost keeps = { λ _ _ _ _. Unit {0} };
 
-    ghost ended = { λ _. Unit {0} };
+    ghost ended = { λ _ _. Unit {0} };
 
     fn visit(&mut self, rt: &R, locks: &Locks<B>, first: &mut FirstSeats<B>) -> Result<bool, Ended>
         requires first { IsFirst B.table locks.now first.old }
-        requires kept { Unit {0} }
+        requires kept { (start : TakerIn) × Unit {0} }
         ensures first { OnOk result (IsFirst B.table locks.now first.new) }
-        ensures kept { OnOk result (Unit {0}) }
+        ensures kept { (start : TakerIn) → Unit {0} → OnOk result (Unit {0}) }
         ensures given { OnOk result (LeavesGiven first.old first.new) }
-        ensures ended { OnErr result (Unit {0}) }
+        ensures ended { (start : TakerIn) → Unit {0} → OnErr result (Unit {0}) }
     {
         match first.seats.take(locks, rt) {
             Ok(list) => {

@@ -82,6 +82,7 @@ module _ {B : Type 0} where
   fresh_seats number start first seats same given = record {
     caller = given.number;
     knows = same_known start.seats first.seats seats same given.knows;
+    nothing = given.nothing;
     no_signals = ap (λ (t : TimesView). t.knows.signals) given.times;
     no_leaves = ap (λ (t : SeatView). t.leaves) given.turns;
   }

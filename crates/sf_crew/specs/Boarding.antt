@@ -10,7 +10,7 @@ use Rattle.sf_steps.specs.declared.actor.Actor.{Actor}
 use Rattle.sf_shared.specs.declared.first.FirstSeats.{FirstSeats}
 use Rattle.sf_shared.specs.declared.locks.Locks.{Locks}
 use Rattle.sf_shared.specs.declared.seats.Seats.{Seats}
-use Rattle.sf_shared.specs.First.{Gives, KnowsSame}
+use Rattle.sf_shared.specs.First.{Gives, KnowsNothing, KnowsSame}
 use Rattle.sf_shared.specs.Seats.{AreSeats, marks_of, tables_of, view_of}
 use Rattle.sf_crew.specs.declared.crew.Crew.{Crew}
 
@@ -32,6 +32,7 @@ module _ {B : Type 0} where
   pub record IsFresh (number : ℕ) (known seats : Seats B) : Type 0 where
     pub caller : seats.by ≡ number
     pub knows : KnowsSame known seats
+    pub nothing : KnowsNothing seats
     pub no_signals : seats.times.knows.signals ≡ []
     pub no_leaves : seats.turns.leaves ≡ []
 

@@ -31,15 +31,9 @@ impl Gates {
     }
 
     /// Passes the gate for the actor's next step, if one is left for which that was not done.
-    pub(crate) fn ready<R: Wait, G: Gate, B: TableName>(
-        self,
-        rt: &R,
-        gate: &G,
-        actor: &Actor<B>,
-    ) -> Gates
+    pub fn ready<R: Wait, G: Gate, B: TableName>(self, rt: &R, gate: &G, actor: &Actor<B>) -> Gates
         requires few { length actor.now.script.steps ≤ 4294967295 }
-        requires before { HasPassed actor.now self }
-        ensures { IsReady actor.now result }
+        ensures { HasPassed actor.now self → IsReady actor.now result }
     {
         if actor.is_ended() || self.passed as usize > actor.replies().len() {
             return self;

@@ -65,10 +65,11 @@ fn attend<'s, R: Threads + Wait + Sync, G: Gate, B: TableName, V: Visit<R, B>>(
     hands: Vec<Hand<'s, B>>,
 ) -> Result<(FirstSeats<B>, Vec<Hand<'s, B>>), Stopped>
     requires first { IsFirst B.table locks.now first }
-    requires kept { V.keeps visitor.old locks.now first }
+    requires kept { (start : V) × V.keeps start visitor.old locks.now first }
     requires fit { AllByRecursion (IsFitHand B.table locks.now pictures.now) hands.items }
-    ensures attended { IfOk result (λ rest. Attends V.keeps B.table locks.now first rest.0 visitor.new) }
-    ensures left { IfErr result (HasLeft V.keeps V.ended locks.now visitor.new) }
+    ensures attended { (start : V) → V.keeps start visitor.old locks.now first
+        → IfOk result (λ rest. Attends (V.keeps start) B.table locks.now first rest.0 visitor.new) }
+    ensures left { (start : V) → V.keeps start visitor.old locks.now first → IfErr result (HasLeft (V.keeps start) (V.ended start) locks.now visitor.new) }
     ensures hands { IfOk result (λ rest. AllZip (Stays B.table locks.now pictures.now) hands.entry.items rest.1.items) }
 {
     let mut first = first;
@@ -113,11 +114,12 @@ fn send_out<
     crews: Vec<Crew<B>>,
 ) -> Result<(FirstSeats<B>, Vec<Hand<'s, B>>), Stopped>
     requires first { IsFirst B.table locks.now first }
-    requires kept { V.keeps visitor.old locks.now first }
+    requires kept { (start : V) × V.keeps start visitor.old locks.now first }
     requires few { length crews.items ≤ 16 }
     requires aboard { AllByRecursion (Aboard B.table locks.now pictures.now) crews.items }
-    ensures attended { IfOk result (λ rest. Attends V.keeps B.table locks.now first rest.0 visitor.new) }
-    ensures left { IfErr result (HasLeft V.keeps V.ended locks.now visitor.new) }
+    ensures attended { (start : V) → V.keeps start visitor.old locks.now first
+        → IfOk result (λ rest. Attends (V.keeps start) B.table locks.now first rest.0 visitor.new) }
+    ensures left { (start : V) → V.keeps start visitor.old locks.now first → IfErr result (HasLeft (V.keeps start) (V.ended start) locks.now visitor.new) }
     ensures hands { IfOk result (λ rest. AreHands B.table locks.now pictures.now crews.items rest.1.items) }
 {
     let Some(hands) = send_all(scope, rt, alloc, locks, pictures, watch, gate, crews) else {
@@ -166,11 +168,11 @@ fn crowd<
     crews: Vec<Crew<B>>,
 ) -> (V, Result<(FirstSeats<B>, Vec<Crew<B>>), Stopped>)
     requires first { IsFirst B.table locks.now first }
-    requires kept { V.keeps visitor locks.now first }
+    requires kept { (start : V) × V.keeps start visitor locks.now first }
     requires few { length crews.items ≤ 16 }
     requires aboard { AllByRecursion (Aboard B.table locks.now pictures.now) crews.items }
-    ensures attended { IfOk result.1 (λ rest. Attends V.keeps B.table locks.now first rest.0 result.0) }
-    ensures left { IfErr result.1 (HasLeft V.keeps V.ended locks.now result.0) }
+    ensures attended { (start : V) → V.keeps start visitor locks.now first → IfOk result.1 (λ rest. Attends (V.keeps start) B.table locks.now first rest.0 result.0) }
+    ensures left { (start : V) → V.keeps start visitor locks.now first → IfErr result.1 (HasLeft (V.keeps start) (V.ended start) locks.now result.0) }
     ensures came { IfOk result.1 (λ rest. AllCame B.table locks.now pictures.now crews.items rest.1.items) }
 {
     thread::scope(
@@ -178,11 +180,12 @@ fn crowd<
         rt,
         move |scope| -> (V, Result<(FirstSeats<B>, Vec<Crew<B>>), Stopped>)
             requires first { IsFirst B.table locks.now first }
-            requires kept { V.keeps visitor locks.now first }
+            requires kept { (start : V) × V.keeps start visitor locks.now first }
             requires few { length crews.items ≤ 16 }
             requires aboard { AllByRecursion (Aboard B.table locks.now pictures.now) crews.items }
-            ensures attended { IfOk result.1 (λ rest. Attends V.keeps B.table locks.entry.now first rest.0 result.0) }
-            ensures left { IfErr result.1 (HasLeft V.keeps V.ended locks.entry.now result.0) }
+            ensures attended { (start : V) → V.keeps start visitor locks.entry.now first
+                → IfOk result.1 (λ rest. Attends (V.keeps start) B.table locks.entry.now first rest.0 result.0) }
+            ensures left { (start : V) → V.keeps start visitor locks.entry.now first → IfErr result.1 (HasLeft (V.keeps start) (V.ended start) locks.entry.now result.0) }
             ensures came { IfOk result.1 (λ rest. AllCame B.table locks.entry.now pictures.entry.now crews.items rest.1.items) }
         {
             let mut visitor = visitor;
@@ -249,11 +252,11 @@ pub fn run_crews<
     requires rising { IsStrictlyIncreasing (first.seats.by ∷ map number_of actors.items) }
     requires newcomers { AllByRecursion (IsNewcomer B.table locks.now pictures.now first.seats) actors.items }
     requires kept { (boarded : FirstIn B) → IsFirst B.table locks.now boarded → GivesEach first (map number_of actors.items) boarded
-        → V.keeps visitor locks.now boarded }
+        → V.keeps visitor visitor locks.now boarded }
     ensures first { IfOk result.1 (λ ashore. IsFirst B.table locks.now ashore.first) }
     ensures all { IfOk result.1 (λ ashore. HasAll ashore.first) }
-    ensures returns { IfOk result.1 (Returns V.keeps B.table locks.now pictures.now first actors.items result.0) }
-    ensures left { IfErr result.1 (HasLeftOrIs V.keeps V.ended locks.now visitor result.0) }
+    ensures returns { IfOk result.1 (Returns (V.keeps visitor) B.table locks.now pictures.now first actors.items result.0) }
+    ensures left { IfErr result.1 (HasLeftOrIs (V.keeps visitor) (V.ended visitor) locks.now visitor result.0) }
 {
     let (boarded, crews) = match board(alloc, locks, first, actors) {
         Ok(boarded) => boarded,

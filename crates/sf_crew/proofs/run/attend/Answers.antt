@@ -5,7 +5,9 @@ use Rattle.sf_crew.proofs.run.attend.Goals as goal
 pub loop-init : goal.loop-init
 loop-init g c = record {
   steps = search rules;
-  attends = attends_none {B = g.row.B.Denot} {V = g.row.V.Denot} g.V.Visit.keeps g.B.TableName.table c.args.locks.now c.args.first _ c.requires.first c.requires.kept;
+  some = c.requires.kept;
+  attends = λ start kept. attends_none {B = g.row.B.Denot} {V = g.row.V.Denot} (g.V.Visit.keeps start) g.B.TableName.table c.args.locks.now c.args.first _ c.requires.first kept;
+  first = c.requires.first;
   hands = stays_same {B = g.row.B.Denot} g.B.TableName.table c.args.locks.now c.args.pictures.now c.args.hands.items c.requires.fit;
 }
 
@@ -15,9 +17,12 @@ try_here-requires g c = stays_fit {B = g.row.B.Denot} g.B.TableName.table c.args
 pub loop-preserved : goal.loop-preserved
 loop-preserved g c = record {
   steps = (tt, tt);
-  attends =
-      attends_more {B = g.row.B.Denot} {V = g.row.V.Denot} g.V.Visit.keeps g.B.TableName.table c.args.locks.now c.args.first c.loop.first c.visit.new.first _ _ c.loop.invariant.attends
-      c.in-Ok-false.ensures.first c.in-Ok-false.ensures.given c.in-Ok-false.ensures.kept;
+  some = (c.loop.invariant.some.0, c.in-Ok-false.ensures.kept c.loop.invariant.some.0 c.loop.invariant.some.1);
+  attends = λ start kept.
+      let before = c.loop.invariant.attends start kept in
+      attends_more {B = g.row.B.Denot} {V = g.row.V.Denot} (g.V.Visit.keeps start) g.B.TableName.table c.args.locks.now c.args.first c.loop.first c.visit.new.first _ _ before
+      c.in-Ok-false.ensures.first c.in-Ok-false.ensures.given (c.in-Ok-false.ensures.kept start before.kept);
+  first = c.in-Ok-false.ensures.first;
   hands =
       stays_on {B = g.row.B.Denot} g.B.TableName.table c.args.locks.now c.args.pictures.now c.args.hands.items c.loop.hands.items c.in-Some-try_here.tried.items c.loop.invariant.hands
       c.in-Some-try_here.ensures;
@@ -26,10 +31,19 @@ loop-preserved g c = record {
 pub loop-preserved-in-Ok-true : goal.loop-preserved-in-Ok-true
 loop-preserved-in-Ok-true g c = record {
   steps = (tt, tt);
-  attends =
-      attends_more {B = g.row.B.Denot} {V = g.row.V.Denot} g.V.Visit.keeps g.B.TableName.table c.args.locks.now c.args.first c.loop.first c.visit.new.first _ _ c.loop.invariant.attends
-      c.in-Ok-true.ensures.first c.in-Ok-true.ensures.given c.in-Ok-true.ensures.kept;
+  some = (c.loop.invariant.some.0, c.in-Ok-true.ensures.kept c.loop.invariant.some.0 c.loop.invariant.some.1);
+  attends = λ start kept.
+      let before = c.loop.invariant.attends start kept in
+      attends_more {B = g.row.B.Denot} {V = g.row.V.Denot} (g.V.Visit.keeps start) g.B.TableName.table c.args.locks.now c.args.first c.loop.first c.visit.new.first _ _ before
+      c.in-Ok-true.ensures.first c.in-Ok-true.ensures.given (c.in-Ok-true.ensures.kept start before.kept);
+  first = c.in-Ok-true.ensures.first;
   hands =
       stays_on {B = g.row.B.Denot} g.B.TableName.table c.args.locks.now c.args.pictures.now c.args.hands.items c.loop.hands.items c.in-Some-try_here.tried.items c.loop.invariant.hands
       c.in-Some-try_here.ensures;
 }
+
+pub visit-requires-clause-kept : goal.visit-requires-clause-kept
+visit-requires-clause-kept g c = c.loop.invariant.some
+
+pub returns-in_default-try_here-clause-left : goal.returns-in_default-try_here-clause-left
+returns-in_default-try_here-clause-left g c = λ start kept. (c.loop.first, (c.loop.invariant.attends start kept).kept)

@@ -32,7 +32,7 @@ pub land-requires-clause-out : goal.land-requires-clause-out
 land-requires-clause-out g c =
     let e = c.in-Ok.ensures in
     let came = of_ok (λ rest. AllCame g.B.TableName.table c.args.locks.now c.args.pictures.now c.in-Ok.boarded.1.items rest.1.items) c.crowd-visitor.result.1 _ c.in-Ok-rest.is c.crowd-visitor.ensures.came in
-    let attends = of_ok (λ rest. Attends g.V.Visit.keeps g.B.TableName.table c.args.locks.now c.in-Ok.boarded.0 rest.0 c.crowd-visitor.result.0) c.crowd-visitor.result.1 _ c.in-Ok-rest.is c.crowd-visitor.ensures.attended in
+    let attends = of_ok (λ rest. Attends (g.V.Visit.keeps c.args.visitor) g.B.TableName.table c.args.locks.now c.in-Ok.boarded.0 rest.0 c.crowd-visitor.result.0) c.crowd-visitor.result.1 _ c.in-Ok-rest.is (c.crowd-visitor.ensures.attended c.args.visitor (c.requires.kept c.in-Ok.boarded.0 c.in-Ok.ensures.first c.in-Ok.ensures.gives)) in
     let boards = zip_long (Boards {B = g.row.B.Denot} g.B.TableName.table c.args.locks.now c.args.first.seats) c.args.actors.items c.in-Ok.boarded.1.items e.crews in
     let back = zip_long (Came {B = g.row.B.Denot} g.B.TableName.table c.args.locks.now c.args.pictures.now) c.in-Ok.boarded.1.items c.in-Ok-rest.back.items came in
     room_for_all g.B.TableName.table c.args.locks.now c.args.first c.in-Ok.boarded.0 c.in-Ok-rest.attended (map number_of c.args.actors.items) c.in-Ok-rest.back.items
@@ -42,7 +42,7 @@ pub returns-in-Ok-rest-clause-all : goal.returns-in-Ok-rest-clause-all
 returns-in-Ok-rest-clause-all g c =
     let e = c.in-Ok.ensures in
     let came = of_ok (λ rest. AllCame g.B.TableName.table c.args.locks.now c.args.pictures.now c.in-Ok.boarded.1.items rest.1.items) c.crowd-visitor.result.1 _ c.in-Ok-rest.is c.crowd-visitor.ensures.came in
-    let attends = of_ok (λ rest. Attends g.V.Visit.keeps g.B.TableName.table c.args.locks.now c.in-Ok.boarded.0 rest.0 c.crowd-visitor.result.0) c.crowd-visitor.result.1 _ c.in-Ok-rest.is c.crowd-visitor.ensures.attended in
+    let attends = of_ok (λ rest. Attends (g.V.Visit.keeps c.args.visitor) g.B.TableName.table c.args.locks.now c.in-Ok.boarded.0 rest.0 c.crowd-visitor.result.0) c.crowd-visitor.result.1 _ c.in-Ok-rest.is (c.crowd-visitor.ensures.attended c.args.visitor (c.requires.kept c.in-Ok.boarded.0 c.in-Ok.ensures.first c.in-Ok.ensures.gives)) in
     ok_both _ _ _ (λ ashore met landed. all_back g.B.TableName.table c.args.locks.now c.args.first c.in-Ok.boarded.0 c.in-Ok-rest.attended ashore.first (map number_of c.args.actors.items)
     (map seats_of c.in-Ok-rest.back.items) c.requires.first c.requires.none e.gives attends.given met
     (callers_back g.B.TableName.table c.args.locks.now c.args.pictures.now c.args.first.seats c.args.actors.items c.in-Ok.boarded.1.items c.in-Ok-rest.back.items e.crews came))
@@ -52,7 +52,7 @@ pub returns-in-Ok-rest-clause-returns : goal.returns-in-Ok-rest-clause-returns
 returns-in-Ok-rest-clause-returns g c =
     let e = c.in-Ok.ensures in
     let came = of_ok (λ rest. AllCame g.B.TableName.table c.args.locks.now c.args.pictures.now c.in-Ok.boarded.1.items rest.1.items) c.crowd-visitor.result.1 _ c.in-Ok-rest.is c.crowd-visitor.ensures.came in
-    let attends = of_ok (λ rest. Attends g.V.Visit.keeps g.B.TableName.table c.args.locks.now c.in-Ok.boarded.0 rest.0 c.crowd-visitor.result.0) c.crowd-visitor.result.1 _ c.in-Ok-rest.is c.crowd-visitor.ensures.attended in
+    let attends = of_ok (λ rest. Attends (g.V.Visit.keeps c.args.visitor) g.B.TableName.table c.args.locks.now c.in-Ok.boarded.0 rest.0 c.crowd-visitor.result.0) c.crowd-visitor.result.1 _ c.in-Ok-rest.is (c.crowd-visitor.ensures.attended c.args.visitor (c.requires.kept c.in-Ok.boarded.0 c.in-Ok.ensures.first c.in-Ok.ensures.gives)) in
     ok_both _ _ _ (λ ashore met landed. record {
       boarded = c.in-Ok.boarded.0;
       gives = e.gives;
@@ -68,5 +68,5 @@ returns-in-Ok-rest-clause-returns g c =
 
 pub returns-in-Ok-rest-clause-left : goal.returns-in-Ok-rest-clause-left
 returns-in-Ok-rest-clause-left g c =
-    let attends = of_ok (λ rest. Attends g.V.Visit.keeps g.B.TableName.table c.args.locks.now c.in-Ok.boarded.0 rest.0 c.crowd-visitor.result.0) c.crowd-visitor.result.1 _ c.in-Ok-rest.is c.crowd-visitor.ensures.attended in
-    left_ashore g.V.Visit.keeps g.V.Visit.ended c.args.locks.now c.args.visitor c.crowd-visitor.result.0 c.in-Ok-rest.attended attends.kept c.land.result c.land.ensures.no_memory
+    let attends = of_ok (λ rest. Attends (g.V.Visit.keeps c.args.visitor) g.B.TableName.table c.args.locks.now c.in-Ok.boarded.0 rest.0 c.crowd-visitor.result.0) c.crowd-visitor.result.1 _ c.in-Ok-rest.is (c.crowd-visitor.ensures.attended c.args.visitor (c.requires.kept c.in-Ok.boarded.0 c.in-Ok.ensures.first c.in-Ok.ensures.gives)) in
+    left_ashore (g.V.Visit.keeps c.args.visitor) (g.V.Visit.ended c.args.visitor) c.args.locks.now c.args.visitor c.crowd-visitor.result.0 c.in-Ok-rest.attended attends.kept c.land.result c.land.ensures.no_memory

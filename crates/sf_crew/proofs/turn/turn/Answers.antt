@@ -13,4 +13,4 @@ try_step-stepped-requires-clause-kept g c = λ unspent.
 pub returns : goal.returns
 returns g c =
     let t = c.try_step-stepped.ensures in let s = c.into_seats-seats.ensures in
-    turned_ok _ _ _ c.args.crew _ c.new-desk.result c.try_step-stepped.new.desk c.try_step-stepped.result c.requires c.new-desk.ensures.is c.new-desk.ensures.home t.home s.seats s.own t.script c.ready-gates.ensures t.steps
+    turned_ok _ _ _ c.args.crew _ c.new-desk.result c.try_step-stepped.new.desk c.try_step-stepped.result c.requires c.new-desk.ensures.is c.new-desk.ensures.home t.home s.seats s.own t.script (c.ready-gates.ensures c.requires.gates) t.steps
