@@ -18,6 +18,7 @@ use Rattle.sf_screen.proofs.ScreenLemmas.{shown_bytes}
 use Rattle.sf_view.specs.Views.{ViewOf}
 use Rattle.sf_show.proofs.WritingLemmas.{part_front, part_more, writes_more}
 use Rattle.sf_run.specs.Commits.{commit_shown}
+use Rattle.sf_run.specs.Seeing.{value_shown}
 use Rattle.sf_report.specs.declared.report.VsyncReport.{VsyncReport}
 use Rattle.sf_show.specs.Vsyncs.{records_if, shows_frame, told_with, vsync_shown}
 use Rattle.sf_report.specs.Reports.{has_commits}
@@ -73,6 +74,10 @@ tail_cut a b c d head middle tail all is first second part = subst (WritesPart a
 pub all_written : (a b c d : Option (List ℕ)) (head : Record) (middle tail all : List Record) → head ∷ (middle ++ tail) ≡ all
     → Writes a b (head ∷ []) → Writes b c middle → Writes c d tail → Writes a d all
 all_written a b c d head middle tail all is first second third = subst (Writes a d) is (writes_more a c d (head ∷ middle) tail (writes_more a b c (head ∷ []) middle first second) third)
+
+-- the first record of one that commits something
+abbrev pub head_shown : List ℕ → VsyncReport → Record
+head_shown timelines report = rec.Vsyn (record { number = report.number; expected = report.expected; timelines = map (value_shown report.seen) timelines })
 
 -- all records of one that commits something, by what was told of it
 abbrev pub head_of : Told → Record

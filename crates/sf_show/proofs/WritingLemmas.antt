@@ -11,7 +11,7 @@ use Rattle.sf_record.specs.declared.encode.RunFault.{RunFault}
 use Rattle.sf_record.specs.Fitting.{RecordFits}
 use Rattle.sf_record.specs.Records.{bytes_of, record_bytes}
 use Rattle.sf_record.specs.declared.record.Record.{Record}
-use Rattle.sf_show.specs.Writing.{Writes, WritesPart}
+use Rattle.sf_show.specs.Writing.{CutSome, Writes, WritesPart, WritesSome}
 
 pub one_record : (r : Record) → record_bytes r ≡ bytes_of (r ∷ [])
 unfolding bytes_of
@@ -99,3 +99,32 @@ each_part {X} f r a b c xs i x below is before now =
 
 pub still_later : (a b c : ℕ) → a ≤ b → b ≤ c → a ≤ c
 still_later a b c p q = omega arith
+
+-- some records were written, or a part of them, whichever they are
+pub some_written : (r : Result (Unit {0}) RunFault) (a b : Option (List ℕ)) (rs : List Record) → OnOk r (Writes a b rs) → OnOk r (WritesSome a b)
+some_written (Ok u) a b rs all = record { records = rs; written = all }
+some_written (Err e) a b rs all = tt
+
+pub some_cut : (r : Result (Unit {0}) RunFault) (a b : Option (List ℕ)) (rs : List Record) → OnErr r (WritesPart a b rs) → OnErr r (CutSome a b)
+some_cut (Ok u) a b rs part = tt
+some_cut (Err e) a b rs part = record { records = rs; written = part }
+
+pub cut_none : (a : Option (List ℕ)) → CutSome a a
+cut_none a = record { records = []; written = part_none a [] }
+
+pub some_more : (a b c : Option (List ℕ)) → WritesSome a b → WritesSome b c → WritesSome a c
+some_more a b c first second = record { records = first.records ++ second.records; written = writes_more a b c first.records second.records first.written second.written }
+
+pub cut_more : (a b c : Option (List ℕ)) → WritesSome a b → CutSome b c → CutSome a c
+cut_more a b c first second = record { records = first.records ++ second.records; written = part_more a b c first.records second.records first.written second.written }
+
+pub some_whole : (a b : Option (List ℕ)) → WritesSome a b → CutSome a b
+some_whole a b all = record { records = all.records; written = part_whole a b all.records all.written }
+
+pub then_some : (r : Result (Unit {0}) RunFault) (a b c : Option (List ℕ)) → WritesSome a b → OnOk r (WritesSome b c) → OnOk r (WritesSome a c)
+then_some (Ok u) a b c first second = some_more a b c first second
+then_some (Err e) a b c first second = tt
+
+pub then_cut : (r : Result (Unit {0}) RunFault) (a b c : Option (List ℕ)) → WritesSome a b → OnErr r (CutSome b c) → OnErr r (CutSome a c)
+then_cut (Ok u) a b c first second = tt
+then_cut (Err e) a b c first second = cut_more a b c first second

@@ -14,3 +14,13 @@ pub record Writes (old new : Option (List ℕ)) (records : List Record) : Type 0
 -- a prefix of records was written
 abbrev pub WritesPart : Option (List ℕ) → Option (List ℕ) → List Record → Type 0
 WritesPart old new records = TookPrefix old new (bytes_of records)
+
+-- some records were written, whichever they are
+pub record WritesSome (old new : Option (List ℕ)) : Type 0 where
+  pub records : List Record
+  pub written : Writes old new records
+
+-- a prefix of some records was written: some whole, and then at most one that is cut
+pub record CutSome (old new : Option (List ℕ)) : Type 0 where
+  pub records : List Record
+  pub written : WritesPart old new records

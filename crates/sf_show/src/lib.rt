@@ -6,5 +6,7 @@ mod play;
 mod vsync;
 mod writing;
 
-pub use play::show_play;
+pub use closing::write_closing;
+pub use play::{opening, rising_timelines, show_play};
 pub use vsync::show_vsync;
+pub use writing::write_made;

@@ -30,7 +30,7 @@ use std::alloc::Global;
 use std::thread::Threads;
 
 /// The record that a play begins with.
-fn opening(scene: &Scene) -> Record
+pub fn opening(scene: &Scene) -> Record
     ensures { result ≡ opening scene.now }
 {
     Record::Scen(SceneHeader {
@@ -42,7 +42,7 @@ fn opening(scene: &Scene) -> Record
 }
 
 /// Timelines by rising number.
-fn rising_timelines(alloc: Global, timelines: &[u32]) -> Result<Vec<u32>, NoMemory>
+pub fn rising_timelines(alloc: Global, timelines: &[u32]) -> Result<Vec<u32>, NoMemory>
     ensures { IfOk result (λ rising. IsSortedFrom (λ timeline. timeline) timelines.now rising.items) }
 {
     let mut rising = Vec::new(alloc);

@@ -10,7 +10,7 @@ ghost use Rattle.sf_run.specs.Commits.{commit_shown};
 ghost use Rattle.sf_run.specs.Seeing.{value_shown};
 ghost use Rattle.sf_screen.specs.Screens.{IsShown, IsWhole, MayShow, image_bytes};
 ghost use Rattle.sf_show.specs.Vsyncs.{IsSized, MayCompose, is_accepted, shows_frame, vsync_shown};
-ghost use Rattle.sf_show.specs.Writing.{Writes, WritesPart};
+ghost use Rattle.sf_show.specs.Writing.{CutSome, Writes, WritesPart, WritesSome};
 
 use crate::writing::write_made;
 use sf_commit::Commit;
@@ -85,6 +85,8 @@ fn show_frame<R: Threads + Sync, K: Sink, C: Pixels + Sync>(
         × IsShown pictures screen.new) }
     ensures err { (pictures : ℕ → Picture) → HasSources pictures view (map C.picture contents.now) sources.now → IsShown pictures screen.old
         → OnErr result (WritesPart (K.taken sink.old) (K.taken sink.new) (rec.Fram (record { number = number; pixels = image_bytes pictures view }) ∷ [])) }
+    ensures some { OnOk result (WritesSome (K.taken sink.old) (K.taken sink.new)) }
+    ensures cut { OnErr result (CutSome (K.taken sink.old) (K.taken sink.new)) }
     ensures view { OnOk result (screen.new.view ≡ Some view) }
     ensures whole { OnOk result (IsWhole view screen.new.frame) }
     ensures later { K.faults sink.old ≤ K.faults sink.new }
@@ -116,6 +118,10 @@ pub fn show_vsync<R: Threads + Sync, K: Sink, C: Pixels + Sync>(
         → IsShown pictures screen.old → OnOk result (Writes (K.taken sink.old) (K.taken sink.new) (vsync_shown pictures timelines.now report) × IsShown pictures screen.new) }
     ensures err { (pictures : ℕ → Picture) → (shows_frame report ≡ true → HasSources pictures report.view (map C.picture contents.now) report.sources)
         → IsShown pictures screen.old → OnErr result (WritesPart (K.taken sink.old) (K.taken sink.new) (vsync_shown pictures timelines.now report)) }
+
+    // Whatever the contents are, records are written, and where it fails whole ones before at most one that is cut.
+    ensures some { OnOk result (WritesSome (K.taken sink.old) (K.taken sink.new)) }
+    ensures cut { OnErr result (CutSome (K.taken sink.old) (K.taken sink.new)) }
     ensures sized { (width height : ℕ) → (report.view.width ≡ width) × (report.view.height ≡ height) → IsSized width height screen.old
         → OnOk result (IsSized width height screen.new) }
     ensures later { K.faults sink.old ≤ K.faults sink.new }

@@ -1,4 +1,4 @@
-use Rattle.std.proofs.Common.{◌≡◌, List, true, ap, map, sym, subst, ◌∙◌}
+use Rattle.std.proofs.Common.{◌≡◌, [], ◌∷◌, List, true, ap, map, sym, subst, ◌∙◌}
 use Rattle.std.specs.List.{list_any}
 use Rattle.sf_commit.specs.declared.vsync.Commit.{Commit as Decided}
 use Rattle.sf_compose.specs.Sources.{HasSources}
@@ -6,8 +6,8 @@ use Rattle.sf_record.specs.declared.record.Record.TheVariants as rec
 use Rattle.sf_run.specs.Commits.{commit_shown}
 use Rattle.sf_show.specs.Vsyncs.{is_accepted, shows_frame, told_with}
 use Rattle.sf_show.specs.Writing.{Writes, WritesPart}
-use Rattle.sf_show.proofs.VsyncLemmas.{all_written, frame_cut, frame_written, head_cut, head_of, its_records, middle_cut, no_records, records_with_frame, records_without_frame}
-use Rattle.sf_show.proofs.WritingLemmas.{writes_none}
+use Rattle.sf_show.proofs.VsyncLemmas.{all_written, frame_cut, frame_written, head_cut, head_of, head_shown, its_records, middle_cut, no_records, records_with_frame, records_without_frame}
+use Rattle.sf_show.proofs.WritingLemmas.{part_more, then_cut, then_some, writes_more, writes_none}
 use Rattle.sf_show.proofs.vsync.show_vsync.Goals as goal
 
 pub returns-then-not-has_commits-clause-ok : goal.returns-then-not-has_commits-clause-ok
@@ -56,3 +56,34 @@ returns-clause-ok g c = λ pictures sources shown. (
       (writes_none (g.K.Sink.taken c.write_commits.new.sink)),
   shown,
 )
+
+pub returns-then-not-has_commits-clause-some : goal.returns-then-not-has_commits-clause-some
+returns-then-not-has_commits-clause-some g c = record { records = []; written = writes_none (g.K.Sink.taken c.args.sink.now) }
+
+pub returns-in-Err-clause-cut : goal.returns-in-Err-clause-cut
+returns-in-Err-clause-cut g c =
+    let head = head_shown c.args.timelines.now c.args.report in record { records = head ∷ []; written = c.in-Err.ensures.err head c.vsync_record-head.ensures }
+
+pub returns-in-Err-write_commits-clause-cut : goal.returns-in-Err-write_commits-clause-cut
+returns-in-Err-write_commits-clause-cut g c =
+    let head = head_shown c.args.timelines.now c.args.report in
+    record { records = head ∷ _; written = part_more _ _ _ (head ∷ []) _ (c.in-Ok.ensures.ok head c.vsync_record-head.ensures) c.in-Err-write_commits.ensures.err }
+
+pub returns-then-shows_frame-clause-some : goal.returns-then-shows_frame-clause-some
+returns-then-shows_frame-clause-some g c =
+    let head = head_shown c.args.timelines.now c.args.report in
+    then_some c.show_frame.result _ _ _
+    (record { records = head ∷ _; written = writes_more _ _ _ (head ∷ []) _ (c.in-Ok.ensures.ok head c.vsync_record-head.ensures) c.in-Ok-write_commits.ensures.ok })
+    c.show_frame.ensures.some
+
+pub returns-then-shows_frame-clause-cut : goal.returns-then-shows_frame-clause-cut
+returns-then-shows_frame-clause-cut g c =
+    let head = head_shown c.args.timelines.now c.args.report in
+    then_cut c.show_frame.result _ _ _
+    (record { records = head ∷ _; written = writes_more _ _ _ (head ∷ []) _ (c.in-Ok.ensures.ok head c.vsync_record-head.ensures) c.in-Ok-write_commits.ensures.ok })
+    c.show_frame.ensures.cut
+
+pub returns-clause-some : goal.returns-clause-some
+returns-clause-some g c =
+    let head = head_shown c.args.timelines.now c.args.report in
+    record { records = head ∷ _; written = writes_more _ _ _ (head ∷ []) _ (c.in-Ok.ensures.ok head c.vsync_record-head.ensures) c.in-Ok-write_commits.ensures.ok }
