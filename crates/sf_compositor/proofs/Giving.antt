@@ -31,6 +31,11 @@ module _ {B : Type 0} (home : DeskHome) (old new : DeskView B) (by step queue : 
   given outcome (Err e) same made = tt
   given (Err e) (Ok done) same made = absurd (false≢true (sym same))
 
+pub step_given : {X E F : Type 0} (P : Type 0) (outcome : Result X E) (result : Result (Unit {0}) F) → is_ok result ≡ is_ok outcome → IfOk outcome (λ x. P) → OnOk result P
+step_given P (Ok x) (Ok done) same p = p
+step_given P outcome (Err e) same p = tt
+step_given P (Err e) (Ok done) same p = absurd (false≢true (sym same))
+
 pub gives_it : {B : Type 0} (home : DeskHome) (old new : DeskView B) (step : ℕ) (release : ReleaseOf ReadLeaseOf) (result : Result (Unit {0}) NoMemory)
     → OnOk result ((reply : QReply B) × MadeCall home old new 0 release.queue.0 (step, call.Release release.lease release.fence) reply) → OnOk result (GivesOne home step release old new)
 gives_it home old new step release (Ok done) made = record { reply = made.0; made = made.1 }

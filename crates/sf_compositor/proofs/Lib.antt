@@ -3,3 +3,4 @@ pub mod Going
 pub mod Taking
 pub mod Shown
 pub mod Sits
+pub mod Rising

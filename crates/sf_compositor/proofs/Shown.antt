@@ -16,7 +16,7 @@ use Rattle.sf_shared.specs.declared.locks.Locks.{Locks}
 use Rattle.sf_play.specs.Playing.{expected_by}
 use Rattle.sf_show.specs.Vsyncs.{IsView, MayCompose, shows_frame, vsync_shown}
 use Rattle.sf_show.specs.Writing.{Writes}
-use Rattle.sf_compositor.specs.Sitting.{MakesVsync, MaySit, ShowsVsync}
+use Rattle.sf_compositor.specs.Sitting.{MakesVsync, MaySit, ShowsBuffers, ShowsVsync}
 use Rattle.sf_compositor.specs.Vsyncs.{Sitting}
 
 same_size : (width height : ℕ) (view : ViewOf) (frame : List ℕ) (last : Option ViewOf) → view.width ≡ width → view.height ≡ height → IfSome last (IsView width height frame) → IfSome last (IsSameSize frame view)
@@ -43,12 +43,13 @@ module _ {B : Type 0} (lease : Ghosts ReadLeaseOf SeatView ReadLeaseOf Issued) (
 
   -- what was written of the report
   pub shows_it : (timelines : List ℕ) (before now : Option (List ℕ)) (screen shown : ScreenOf) (old new : Sitting B) (report : VsyncReport) (contents : List Picture) → (makes : Makes old new report)
-      → contents ≡ map expected_by new.handler.on
+      → contents ≡ map expected_by new.handler.on → ShowsBuffers new.handler
       → ((pictures : ℕ → Picture) → (shows_frame report ≡ true → HasSources pictures report.view (map (λ (p : Picture). p) contents) report.sources) → IsShown pictures screen
       → Writes before now (vsync_shown pictures timelines report) × IsShown pictures shown)
       → ShowsVsync lease table locks period timelines before now screen shown old new
-  shows_it timelines before now screen shown old new report contents makes are written = record {
+  shows_it timelines before now screen shown old new report contents makes are buffers written = record {
     vsync = makes.vsync;
+    buffers = buffers;
     written = λ pictures found was.
         let both = written pictures (λ shows.
         subst (λ (cs : List Picture). HasSources pictures report.view cs report.sources) (sym (map-id contents ∙ are))

@@ -39,6 +39,7 @@ module _ {B : Type 0} (lease : Ghosts ReadLeaseOf SeatView ReadLeaseOf Issued) (
         start = sits.start;
         fresh = subst (λ (w : ℕ). IsFresh lease table locks period w new.handler.height sits.start) (sym wide) (subst (λ (h : ℕ). IsFresh lease table locks period old.handler.width h sits.start) (sym high) sits.fresh);
         log = More sits.log shows.vsync;
+        buffers = (sits.buffers, shows.buffers);
         written = λ pictures found.
             let split = found_split pictures told one found in
             let was = sits.written pictures split.0 in
@@ -48,3 +49,9 @@ module _ {B : Type 0} (lease : Ghosts ReadLeaseOf SeatView ReadLeaseOf Issued) (
               then.1,
             );
       }
+
+-- of the same timelines
+pub shows_by : {B : Type 0} (lease : Ghosts ReadLeaseOf SeatView ReadLeaseOf Issued) (table : TableId) (locks : Locks B) (period : ℕ) (before now : Option (List ℕ)) (screen shown : ScreenOf) (old new : Sitting B) (some others : List ℕ)
+    → some ≡ others → ShowsVsync lease table locks period some before now screen shown old new → ShowsVsync lease table locks period others before now screen shown old new
+shows_by lease table locks period before now screen shown old new some others same shows =
+    subst (λ (timelines : List ℕ). ShowsVsync lease table locks period timelines before now screen shown old new) same shows

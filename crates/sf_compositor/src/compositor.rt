@@ -1,13 +1,11 @@
 ghost use denote.Param.Send.{IsSync};
-ghost use Rattle.std.specs.Prelude.{◌≡◌, ◌≤◌, Some, OnErr, OnOk};
-ghost use Rattle.sf_io.specs.Causes.{Rose};
-ghost use Rattle.sf_record.specs.declared.encode.RunFault.TheVariants.{WriteFault};
+ghost use Rattle.std.specs.Prelude.{OnErr, OnOk};
 ghost use Rattle.sf_shared.specs.First.{IsFirst};
 ghost use Rattle.sf_crew.specs.Visits.{LeavesGiven};
-ghost use Rattle.sf_compositor.specs.Sitting.{KeepsLog};
+ghost use Rattle.sf_compositor.specs.Keeping.{HasEnded, Keeps};
 
+use crate::decider::Decider;
 use crate::showing::show_next;
-use sf_commit::Handler;
 use sf_crew::{Ended, Visit};
 use sf_io::Sink;
 use sf_record::RunFault;
@@ -17,7 +15,6 @@ use sf_surface::ReadLease;
 use sf_turns::TableName;
 use sf_txn::Lease;
 use std::alloc::Global;
-use std::snapshot::Snapshot;
 use std::sync::Wait;
 use std::thread::Threads;
 
@@ -26,6 +23,7 @@ const MOST_VSYNCS: u32 = 1 << 31;
 
 /// The compositor of a run whose actors are threads: whenever something was done it makes a vsync,
 /// and writes its records.
+#[derive(Drop)]
 pub struct Compositor<'a, K, B: TableName> {
     pub alloc: Global,
     /// How many compose a frame, 1 to 16.
@@ -36,32 +34,27 @@ pub struct Compositor<'a, K, B: TableName> {
     pub timelines: Vec<u32>,
     pub sink: &'a mut K,
     pub screen: Screen,
-    pub handler: Handler<ReadLease<B>>,
+    pub decider: Decider<B>,
     /// How many vsyncs there were.
     pub vsyncs: u32,
     /// Why it makes no more.
     pub fault: Option<RunFault>,
-    // The sink before the first vsync, for proofs alone.
-    pub before: Snapshot<K>,
 }
 
 impl<'a, R: Threads + Wait + Sync, K: Sink, B: TableName> Visit<R, B> for Compositor<'a, K, B> {
-    ghost keeps = { λ c locks first. IsSync R.row × KeepsLog ⟦<ReadLease<B> as Lease>⟧ B.table locks c.period c.workers c.timelines.items (K.taken c.before.value) (K.taken c.sink.now) c.screen
-        (record { handler = c.handler; seats = first.seats; number = c.vsyncs }) × (K.faults c.before.value ≤ K.faults c.sink.now) };
+    ghost keeps = { λ start c locks first. IsSync R.row × Keeps K.taken K.faults ⟦<ReadLease<B> as Lease>⟧ B.table start c locks first };
 
-    ghost ended = { λ c. (K.faults c.before.value ≤ K.faults c.sink.now) × (c.fault ≡ Some WriteFault → Rose (K.faults c.before.value) (K.faults c.sink.now)) };
+    ghost ended = { HasEnded K.taken K.faults };
 
     fn visit(&mut self, rt: &R, locks: &Locks<B>, first: &mut FirstSeats<B>) -> Result<bool, Ended>
         requires first { IsFirst B.table locks.now first.old }
-        requires kept { IsSync R.row × KeepsLog ⟦<ReadLease<B> as Lease>⟧ B.table locks.now self.old.period self.old.workers self.old.timelines.items (K.taken self.old.before.value) (K.taken self.old.sink.now)
-            self.old.screen (record { handler = self.old.handler; seats = first.old.seats; number = self.old.vsyncs }) × (K.faults self.old.before.value ≤ K.faults self.old.sink.now) }
+        requires kept { (start : _) × (IsSync R.row × Keeps K.taken K.faults ⟦<ReadLease<B> as Lease>⟧ B.table start self.old locks.now first.old) }
         ensures first { OnOk result (IsFirst B.table locks.now first.new) }
-        ensures kept { OnOk result (IsSync R.row × KeepsLog ⟦<ReadLease<B> as Lease>⟧ B.table locks.now self.new.period self.new.workers self.new.timelines.items (K.taken self.new.before.value)
-            (K.taken self.new.sink.now) self.new.screen (record { handler = self.new.handler; seats = first.new.seats; number = self.new.vsyncs })
-            × (K.faults self.new.before.value ≤ K.faults self.new.sink.now)) }
+        ensures kept { (start : _) → IsSync R.row × Keeps K.taken K.faults ⟦<ReadLease<B> as Lease>⟧ B.table start self.old locks.now first.old
+            → OnOk result (IsSync R.row × Keeps K.taken K.faults ⟦<ReadLease<B> as Lease>⟧ B.table start self.new locks.now first.new) }
         ensures given { OnOk result (LeavesGiven first.old first.new) }
-        ensures ended { OnErr result ((K.faults self.new.before.value ≤ K.faults self.new.sink.now)
-            × (self.new.fault ≡ Some WriteFault → Rose (K.faults self.new.before.value) (K.faults self.new.sink.now))) }
+        ensures ended { (start : _) → IsSync R.row × Keeps K.taken K.faults ⟦<ReadLease<B> as Lease>⟧ B.table start self.old locks.now first.old
+            → OnErr result (HasEnded K.taken K.faults start self.new) }
     {
         if self.vsyncs >= MOST_VSYNCS {
             return Ok(false);
@@ -75,7 +68,7 @@ impl<'a, R: Threads + Wait + Sync, K: Sink, B: TableName> Visit<R, B> for Compos
             &mut self.screen,
             locks,
             &mut first.seats,
-            &mut self.handler,
+            &mut self.decider.handler,
             self.period,
             self.vsyncs,
         ) {

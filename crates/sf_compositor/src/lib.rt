@@ -3,8 +3,10 @@
 #![tactic(auto)]
 
 mod compositor;
+mod decider;
 mod release;
 mod showing;
 mod vsync;
 
 pub use compositor::Compositor;
+pub use decider::Decider;

@@ -64,6 +64,7 @@ fn release_one<R: Wait, B: TableName>(
     requires first { seats.old.by ≡ 0 }
     ensures own { OnOk result (AreSeats B.table locks.now seats.new) }
     ensures changes { OnOk result (ChangesPasses seats.old seats.new) }
+    ensures step { OnOk result (seats.new.last.step ≡ number) }
     ensures gives { OnOk result (GivesOne (home_of locks.now seats.old) number release (view_of seats.old) (view_of seats.new)) }
 {
     let Release {
@@ -95,6 +96,7 @@ pub(crate) fn release_all<R: Wait, B: TableName>(
     ensures later { OnOk result (MadeLater seats.old seats.new) }
     ensures last { OnOk result (seats.old.last.stamp ≤ seats.new.last.stamp) }
     ensures arrivals { OnOk result (seats.new.arrivals ≡ seats.old.arrivals) }
+    ensures early { OnOk result (seats.old.last.step ≤ number → seats.new.last.step ≤ number) }
 {
     for release in releases {
         release_one(rt, locks, seats, number, release)?;

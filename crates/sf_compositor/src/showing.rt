@@ -1,7 +1,8 @@
-ghost use Rattle.std.specs.Prelude.{◌≡◌, ◌+◌, ◌<◌, ◌≤◌, All, IsErrOf, OnOk};
+ghost use Rattle.std.specs.Prelude.{◌≡◌, ◌+◌, ◌<◌, ◌≤◌, All, IsErrOf, OnErr, OnOk};
 ghost use Rattle.sf_io.specs.Causes.{Rose};
 ghost use Rattle.sf_run.specs.Progress.{is_time};
 ghost use Rattle.sf_shared.specs.Seats.{AreSeats};
+ghost use Rattle.sf_show.specs.Writing.{CutSome, WritesSome};
 ghost use Rattle.sf_compositor.specs.Sitting.{MaySit, ShowsVsync};
 
 use crate::vsync::make_vsync;
@@ -55,6 +56,9 @@ pub(crate) fn show_next<R: Threads + Wait + Sync, K: Sink, B: TableName>(
     ensures shows { OnOk result (ShowsVsync ⟦<ReadLease<B> as Lease>⟧ B.table locks.now period timelines.now (K.taken sink.old) (K.taken sink.new) screen.old screen.new
         (record { handler = handler.old; seats = seats.old; number = before }) (record { handler = handler.new; seats = seats.new; number = before + 1 })) }
     ensures may { OnOk result (MaySit screen.new (record { handler = handler.new; seats = seats.new; number = before + 1 })) }
+    ensures lent { handler.new.lent ≡ handler.old.lent }
+    ensures some { OnOk result (WritesSome (K.taken sink.old) (K.taken sink.new)) }
+    ensures cut { OnErr result (CutSome (K.taken sink.old) (K.taken sink.new)) }
     ensures later { K.faults sink.old ≤ K.faults sink.new }
     ensures failed { IsErrOf result RunFault.WriteFault → Rose (K.faults sink.old) (K.faults sink.new) }
 {

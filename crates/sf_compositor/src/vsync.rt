@@ -31,9 +31,12 @@ pub(crate) fn make_vsync<R: Wait, B: TableName>(
     requires known { handler.old.last ≤ taken_in (unstamped seats.old.arrivals.seen) }
     requires period { period ≤ 1000000000 }
     requires few { before ≤ 2147483648 }
+    requires early { seats.old.last.step ≤ before }
     ensures makes { IfOk result (λ made. MakesVsync ⟦<ReadLease<B> as Lease>⟧ B.table locks.now period
         (record { handler = handler.old; seats = seats.old; number = before }) (record { handler = handler.new; seats = seats.new; number = before + 1 }) made.0) }
     ensures known { OnOk result (handler.new.last ≤ taken_in (unstamped seats.new.arrivals.seen)) }
+    ensures early { OnOk result (seats.new.last.step ≤ before + 1) }
+    ensures lent { handler.new.lent ≡ handler.old.lent }
 {
     let number = before + 1;
     let expected = u64::from(number) * period;

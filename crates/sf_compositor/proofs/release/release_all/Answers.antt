@@ -24,7 +24,7 @@ loop-release-preserved g c = record {
   is_finite = search rules;
   gave =
       gave_more g.B.TableName.table c.args.locks.now c.args.number c.loop-release.yielded c.in-Some.release c.args.seats.now c.loop-release.seats c.release_one.new.seats c.loop-release.invariant.gave
-      c.in_ok-release_one.ensures.own c.in_ok-release_one.ensures.changes c.in_ok-release_one.ensures.gives;
+      c.in_ok-release_one.ensures.own c.in_ok-release_one.ensures.changes c.in_ok-release_one.ensures.step c.in_ok-release_one.ensures.gives;
 }
 
 pub returns : goal.returns
@@ -38,4 +38,5 @@ returns g c =
       later = gave.later;
       last = gave.last;
       arrivals = gave.arrivals;
+      early = gave.early;
     }

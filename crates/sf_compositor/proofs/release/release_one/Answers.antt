@@ -6,7 +6,7 @@ use Rattle.sf_surface.specs.declared.call.QReply.{QReply}
 use Rattle.sf_surface.specs.Tokens.{ReadLeaseOf}
 use Rattle.sf_actor.specs.Desks.{MadeCall}
 use Rattle.sf_shared.specs.Seats.{home_of, view_of}
-use Rattle.sf_compositor.proofs.Giving.{ends_given, given, gives_it}
+use Rattle.sf_compositor.proofs.Giving.{ends_given, given, gives_it, step_given}
 use Rattle.sf_compositor.proofs.release.release_one.Goals as goal
 
 pub settle-requires-clause-ends : goal.settle-requires-clause-ends
@@ -23,3 +23,6 @@ returns-clause-gives g c =
     × MadeCall home (view_of c.args.seats.now) (view_of c.call.new.self) 0 r.queue.0 (c.args.number, call.Release r.lease r.fence) reply)) c.release.view_is
     (given home (view_of c.args.seats.now) (view_of c.call.new.self) c.args.seats.now.by c.args.number c.release.inside.queue.0 c.release.inside.lease c.release.inside.fence c.requires.first c.call.result c.settle.result
     c.settle.ensures c.call.ensures.made))
+
+pub returns-clause-step : goal.returns-clause-step
+returns-clause-step g c = step_given _ c.call.result c.settle.result c.settle.ensures c.call.ensures.step

@@ -1,4 +1,4 @@
-use Rattle.std.proofs.Common.{◌≡◌, ℕ, ◌+◌, ◌*◌, ◌≤◌, List, ◌∙◌, ap, refl, subst, sym}
+use Rattle.std.proofs.Common.{◌≡◌, ℕ, ◌+◌, ◌*◌, ◌≤◌, List, ◌∙◌, ap, arith, refl, subst, sym}
 use Rattle.sf_stamped.specs.Stamps.{unstamped}
 use Rattle.sf_surface.specs.Tokens.{ReadLeaseOf}
 use Rattle.sf_commit.specs.Handlers.{HandlerOf, last_of}
@@ -45,6 +45,12 @@ returns-clause-makes g c =
         arrived = c.in_ok-arrived.arrived.items;
         takes = c.in_ok-arrived.ensures.took;
         changes = c.take.ensures.changes;
+        early = λ m there.
+            let known = c.take.ensures.own.in_order.step m there in
+            let same = c.in_ok-arrived.ensures.took.step in
+            let looked_same = ap (λ (s : Seats g.row.B.Denot). s.last.step) c.see-seen.ensures.same in
+            omega (arith, known, same, looked_same, c.requires.early);
+        arrivals = c.in_ok-release_all.ensures.arrivals ∙ ap (λ (s : Seats g.row.B.Denot). s.arrivals) c.vsync.ensures.same;
         expected = (c.args.before + 1) * c.args.period;
         due = refl;
         told = c.in_ok-commits.field-0;
@@ -71,3 +77,10 @@ returns-clause-known g c =
     let last : c.vsync.new.handler.last ≡ last_of c.args.handler.now.last c.in_ok-arrived.arrived.items =
     ap (λ (h : HandlerOf ReadLeaseOf). h.last) c.in_ok-commits.ensures.decides.settled.state in
     subst (λ (p : ArrivalsPass). c.vsync.new.handler.last ≤ taken_in (unstamped p.seen)) (sym arrivals) (subst (λ (n : ℕ). n ≤ taken_in (unstamped c.take.new.self.arrivals.seen)) (sym last) rises.known)
+
+pub returns-clause-early : goal.returns-clause-early
+returns-clause-early g c =
+    let same = c.in_ok-arrived.ensures.took.step in
+    let looked = ap (λ (s : Seats g.row.B.Denot). s.last.step) c.see-seen.ensures.same in
+    let decided = ap (λ (s : Seats g.row.B.Denot). s.last.step) c.vsync.ensures.same in
+    c.in_ok-release_all.ensures.early (omega (arith, same, looked, decided, c.requires.early))

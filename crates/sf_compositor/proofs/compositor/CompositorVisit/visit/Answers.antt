@@ -1,13 +1,17 @@
-use Rattle.std.proofs.Common.{ℕ, ◌+◌, List, arith, refl, subst}
+use Rattle.std.proofs.Common.{◌≡◌, ℕ, ◌+◌, List, Err, ap, arith, refl, subst, ◌∙◌}
+use Rattle.sf_record.specs.declared.encode.RunFault.{RunFault}
+use Rattle.sf_commit.specs.Handlers.{HandlerOf}
+use Rattle.sf_surface.specs.Tokens.{ReadLeaseOf}
 use Rattle.sf_shared.specs.declared.first.FirstSeats.{FirstSeats}
 use Rattle.sf_shared.proofs.Staying.{stays_first}
-use Rattle.sf_compositor.specs.Sitting.{ShowsVsync}
+use Rattle.sf_show.proofs.WritingLemmas.{cut_more, some_more}
 use Rattle.sf_compositor.specs.Vsyncs.{Sitting}
-use Rattle.sf_compositor.proofs.Sits.{sits_more}
+use Rattle.sf_compositor.proofs.Rising.{rose_since, same_fault}
+use Rattle.sf_compositor.proofs.Sits.{shows_by, sits_more}
 use Rattle.sf_compositor.proofs.compositor.CompositorVisit.visit.Goals as goal
 
 pub show_next-requires-sync-R : goal.show_next-requires-sync-R
-show_next-requires-sync-R g c = λ lives outlives. c.requires.kept.0
+show_next-requires-sync-R g c = λ lives outlives. c.requires.kept.1.0
 
 pub returns-in-Ok-clause-first : goal.returns-in-Ok-clause-first
 returns-in-Ok-clause-first g c =
@@ -16,22 +20,50 @@ returns-in-Ok-clause-first g c =
     stays_first g.B.TableName.table c.args.locks.now c.args.first.now new c.requires.first vsync.own vsync.stays refl
 
 pub returns-in-Ok-clause-kept : goal.returns-in-Ok-clause-kept
-returns-in-Ok-clause-kept g c =
+returns-in-Ok-clause-kept g c = λ start was.
     let self = c.args.self.now in
-    let old : Sitting g.row.B.Denot = record { handler = self.handler; seats = c.args.first.now.seats; number = self.vsyncs } in
+    let old : Sitting g.row.B.Denot = record { handler = self.decider.handler; seats = c.args.first.now.seats; number = self.vsyncs } in
     let new : Sitting g.row.B.Denot = record { handler = c.show_next.new.handler; seats = c.show_next.new.seats; number = self.vsyncs + 1 } in
+    let vsync = c.in-Ok.ensures.shows.vsync in
+    let state = vsync.decides.settled.state in
+    let kept = was.1 in
     let faults = c.show_next.ensures.later in
-    let was = c.requires.kept.2 in (
-      c.requires.kept.0,
+    let rose = kept.faults_rise in (
+      was.0,
       record {
-        set = c.requires.kept.1.set;
-        sits =
-            sits_more _ g.B.TableName.table c.args.locks.now self.period self.timelines.items (g.K.Sink.taken self.before.value) (g.K.Sink.taken self.sink.now) (g.K.Sink.taken c.show_next.new.sink) self.screen c.show_next.new.screen old new
-            c.requires.kept.1.sits
-            (subst
-            (λ (ts : List ℕ). ShowsVsync {B = g.row.B.Denot} _ g.B.TableName.table c.args.locks.now self.period ts (g.K.Sink.taken self.sink.now) (g.K.Sink.taken c.show_next.new.sink) self.screen c.show_next.new.screen old new)
-            c.deref.ensures.value c.in-Ok.ensures.shows);
-        may = c.in-Ok.ensures.may;
+        same = record {
+          workers = kept.same.workers;
+          period = kept.same.period;
+          timelines = kept.same.timelines;
+          sink = kept.same.sink;
+        };
+        wide = ap (λ (h : HandlerOf ReadLeaseOf). h.width) state ∙ kept.wide;
+        high = ap (λ (h : HandlerOf ReadLeaseOf). h.height) state ∙ kept.high;
+        few = omega (arith, c.if-self-ge-MOST_VSYNCS.false);
+        log = record {
+          set = kept.log.set;
+          sits =
+              sits_more _ g.B.TableName.table c.args.locks.now self.period self.timelines.items (g.K.Sink.taken start.sink.now) (g.K.Sink.taken self.sink.now) (g.K.Sink.taken c.show_next.new.sink) self.screen c.show_next.new.screen old
+              new kept.log.sits
+              (shows_by _ g.B.TableName.table c.args.locks.now self.period (g.K.Sink.taken self.sink.now) (g.K.Sink.taken c.show_next.new.sink) self.screen c.show_next.new.screen old new c.deref.result.now self.timelines.items
+              c.deref.ensures.value c.in-Ok.ensures.shows);
+          may = c.in-Ok.ensures.may;
+        };
+        some = some_more (g.K.Sink.taken start.sink.now) (g.K.Sink.taken self.sink.now) (g.K.Sink.taken c.show_next.new.sink) kept.some c.in-Ok.ensures.some;
+        faults_rise = omega (arith, rose, faults);
       },
-      omega (arith, was, faults),
     )
+
+pub returns-in-Err-clause-ended : goal.returns-in-Err-clause-ended
+returns-in-Err-clause-ended g c = λ start was.
+    let self = c.args.self.now in
+    let kept = was.1 in
+    let faults = c.show_next.ensures.later in
+    let rose = kept.faults_rise in
+    record {
+      same = record { workers = kept.same.workers; period = kept.same.period; timelines = kept.same.timelines; sink = kept.same.sink };
+      cut = cut_more (g.K.Sink.taken start.sink.now) (g.K.Sink.taken self.sink.now) (g.K.Sink.taken c.show_next.new.sink) kept.some c.in-Err.ensures.cut;
+      faults_rise = omega (arith, rose, faults);
+      failed = λ is. rose_since (g.K.Sink.faults start.sink.now) (g.K.Sink.faults self.sink.now) (g.K.Sink.faults c.show_next.new.sink) rose
+          (c.show_next.ensures.failed (c.in-Err.is ∙ ap (λ (f : RunFault). Err f) (same_fault c.in-Err.fault is)));
+    }

@@ -1,0 +1,13 @@
+-- The count of a sink's faults, from vsync to vsync.
+use Rattle.std.proofs.Common.{◌≡◌, ℕ, ◌≤◌, Some, ap, arith}
+use Rattle.std.specs.Prelude.{unwrap_or}
+use Rattle.sf_io.specs.Causes.{Rose}
+use Rattle.sf_record.specs.declared.encode.RunFault.{RunFault}
+use Rattle.sf_record.specs.declared.encode.RunFault.TheVariants.{NoMemory, WriteFault}
+
+-- a count that rose since then rose since any time before
+pub rose_since : (first before now : ℕ) → first ≤ before → Rose before now → Rose first now
+rose_since first before now later rose = omega (arith, later, rose)
+
+pub same_fault : (fault : RunFault) → Some fault ≡ Some WriteFault → fault ≡ WriteFault
+same_fault fault is = ap (λ o. unwrap_or o NoMemory) is
