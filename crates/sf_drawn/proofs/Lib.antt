@@ -1,0 +1,9 @@
+pub mod Beginning
+pub mod Calling
+pub mod Ending
+pub mod Entering
+pub mod Giving
+pub mod Keeping
+pub mod Standing
+pub mod Stepping
+pub mod Tracing

@@ -1,0 +1,211 @@
+-- What one caller did, piece by piece, as blocks of events that it has yet to do.
+use Rattle.std.proofs.Common.{◌≡◌, ℕ, suc, ◌+◌, ◌<◌, ◌≤◌, ◌⊎◌, List, [], ◌∷◌, ◌++◌, arith, ap, ◌∙◌, sym, refl, inl, inr, subst, Option, Some, None}
+use Rattle.std.specs.Prelude.{Contains, if◌then◌else◌}
+use Rattle.std.proofs.lemmas.List.Elements.{Contains-append_cases}
+use Rattle.sf_surface.specs.Tokens.{ReadLeaseOf}
+use Rattle.sf_rights.specs.States.{State}
+use Rattle.sf_rights.proofs.Counting.{in_front, none_in, the_only}
+use Rattle.sf_replay.specs.Cuts.{AllGoBack, AreUnspent, Event, GoesBack, IsPart, Lifts, Local, MakesAt, Moves, Returns, Whole, before, now, spot_of, stock_in}
+use Rattle.sf_replay.specs.Orders.{ComesFirst, IsInTurn, Spot, events_in, is_spot, times_at}
+use Rattle.sf_replay.proofs.Carrying.{back_block, unspent}
+use Rattle.sf_replay.proofs.Ordering.{times_joined}
+
+same_some : {A : Type 0} (x y : A) → Some x ≡ Some y → x ≡ y
+same_some x y same = cc
+
+none_some : {A : Type 0} (x : A) → None ≡ Some x → ⊥
+none_some x same = absurd (cc same)
+
+-- a caller between two pieces of what it did: what it holds, how many calls of its own at a spot were known then, and the step that it did last
+pub record Post (B : Type 0) : Type 0 where
+  pub local : Local B
+  pub known : Spot → ℕ
+  pub step : ℕ
+
+-- a frame that goes back, and where
+abbrev pub Back : Type 0
+Back = ReadLeaseOf × Spot
+
+abbrev pub returns : {B : Type 0} → List Back → List (Event B)
+returns [] = []
+returns (back ∷ backs) = Returns back.0 back.1 ∷ returns backs
+
+abbrev pub leases_of : List Back → List ReadLeaseOf
+leases_of [] = []
+leases_of (back ∷ backs) = back.0 ∷ leases_of backs
+
+-- how many of these go back at a spot
+abbrev pub backs_at : Spot → List Back → ℕ
+backs_at here [] = 0
+backs_at here (back ∷ backs) = (if is_spot here (Some back.1) then 1 else 0) + backs_at here backs
+
+abbrev pub spot_at : Spot → Option Spot → ℕ
+spot_at here spot = (if is_spot here spot then 1 else 0) + 0
+
+module _ {B : Type 0} (whole : Whole B) (Holds : State B → Type 0) where
+  -- each of these goes back
+  abbrev pub AllBack : List Back → Type 0
+  AllBack [] = Unit {0}
+  AllBack (back ∷ backs) = GoesBack whole Holds back.0 back.1 × AllBack backs
+
+module _ {B : Type 0} (whole : Whole B) (Holds : State B → Type 0) (total : Spot → ℕ) (stamp : Spot → ℕ) (At : Spot → ℕ → Type 0)
+    (order : (here there : Spot) (n m : ℕ) → At here n → At there m → n < m → stamp here ≤ stamp there) where
+  -- a stamp is above none of theirs
+  abbrev pub AllAfter : Spot → List Back → Type 0
+  AllAfter first [] = Unit {0}
+  AllAfter first (back ∷ backs) = (stamp first ≤ stamp back.1) × AllAfter first backs
+
+  abbrev pub AllAt : ℕ → List Back → Type 0
+  AllAt n [] = Unit {0}
+  AllAt n (back ∷ backs) = At back.1 n × AllAt n backs
+
+  -- none of the permits that it has left made a buffer in a call that was known; those that make one are its own
+  pub record IsFresh (post : Post B) : Type 0 where
+    pub unused : (number queue place : ℕ) → Contains (stock_in post.local) number → MakesAt whole number queue place → post.known (suc queue, place) ≡ 0
+    pub own : (number queue place : ℕ) → Contains (stock_in post.local) number → MakesAt whole number queue place → 1 ≤ total (suc queue, place)
+
+  -- A piece: an event, maybe a call, and then frames go back; all in one step, the event's call first.
+  pub record Piece (was is : Post B) : Type 0 where
+    pub spot : Option Spot
+    pub backs : List Back
+    pub lifts : Lifts whole Holds was.local spot (record is.local { on = leases_of backs ++ is.local.on })
+    pub back : AllBack whole Holds backs
+    pub known : (here : Spot) → is.known here ≡ was.known here + (spot_at here spot + backs_at here backs)
+    pub rose : was.step < is.step
+    pub at : (here : Spot) → spot ≡ Some here → At here is.step
+    pub all_at : AllAt is.step backs
+    pub first : (here : Spot) → spot ≡ Some here → AllAfter here backs
+
+  -- what a caller has yet to do behind a piece
+  pub record Rest (post : Post B) (rest : List (List (Event B))) (last : Local B) : Type 0 where
+    pub holds : now rest last ≡ post.local
+    pub part : IsPart whole Holds rest last
+    pub counts : (here : Spot) → times_at spot_of here (events_in spot_of rest) + post.known here ≡ total here
+    pub turn : IsInTurn spot_of stamp rest
+    pub later : (event : Event B) → Contains (events_in spot_of rest) event → (here : Spot) → spot_of event ≡ Some here → (n : ℕ) × At here n × (post.step < n)
+
+  -- of the frames that go back
+  back_at : (n : ℕ) (backs : List Back) → AllAt n backs → (event : Event B) → Contains (returns {B = B} backs) event → (here : Spot) → spot_of event ≡ Some here → At here n
+  back_at n [] all event there here is = absurd (none_in event there)
+  back_at n (back ∷ backs) all event there here is = by_place (in_front (Returns back.0 back.1) event (returns backs) there) (back_at n backs all.1 event)
+    where
+      by_place : (Returns back.0 back.1 ≡ event) ⊎ Contains (returns backs) event → (Contains (returns backs) event → (here : Spot) → spot_of event ≡ Some here → At here n) → At here n
+      by_place (inl same) further = subst (λ (s : Spot). At s n) (same_some back.1 here (ap spot_of same ∙ is)) all.0
+      by_place (inr rest) further = further rest here is
+
+  back_after : (first : Spot) (backs : List Back) → AllAfter first backs → (event : Event B) → Contains (returns {B = B} backs) event → (here : Spot) → spot_of event ≡ Some here → stamp first ≤ stamp here
+  back_after first [] all event there here is = absurd (none_in event there)
+  back_after first (back ∷ backs) all event there here is = by_place (in_front (Returns back.0 back.1) event (returns backs) there) (back_after first backs all.1 event)
+    where
+      by_place : (Returns back.0 back.1 ≡ event) ⊎ Contains (returns backs) event → (Contains (returns backs) event → (here : Spot) → spot_of event ≡ Some here → stamp first ≤ stamp here) → stamp first ≤ stamp here
+      by_place (inl same) further = subst (λ (s : Spot). stamp first ≤ stamp s) (same_some back.1 here (ap spot_of same ∙ is)) all.0
+      by_place (inr rest) further = further rest here is
+
+  returned_at : (here : Spot) (backs : List Back) → times_at spot_of here (returns {B = B} backs) ≡ backs_at here backs
+  returned_at here [] = refl
+  returned_at here (back ∷ backs) = ap (λ (n : ℕ). (if is_spot here (Some back.1) then 1 else 0) + n) (returned_at here backs)
+
+  before_returns : (backs : List Back) (next : Local B) → before (returns {B = B} backs) next ≡ record next { on = leases_of backs ++ next.on }
+  before_returns [] next = refl
+  before_returns (back ∷ backs) next = ap (λ (local : Local B). record local { on = back.0 ∷ local.on }) (before_returns backs next)
+
+  all_back : (backs : List Back) → AllBack whole Holds backs → AllGoBack whole Holds (returns {B = B} backs)
+  all_back [] all = tt
+  all_back (back ∷ backs) all = (all.0, all_back backs all.1)
+
+  module _ (was is : Post B) (piece : Piece was is) (fresh : IsFresh was) (rest : List (List (Event B))) (last : Local B) (behind : Rest is rest last) where
+    abbrev pub with_piece : List (List (Event B))
+    with_piece = (Moves was.local piece.spot ∷ []) ∷ returns {B = B} piece.backs ∷ rest
+
+    counted : (here : Spot) → times_at spot_of here (events_in spot_of with_piece) ≡ spot_at here piece.spot + (backs_at here piece.backs + times_at spot_of here (events_in spot_of rest))
+    counted here =
+        let a = times_joined spot_of here (Moves was.local piece.spot ∷ []) (returns {B = B} piece.backs ++ events_in spot_of rest) in
+        let b = times_joined spot_of here (returns {B = B} piece.backs) (events_in spot_of rest) in
+        let c = returned_at here piece.backs in
+        omega (arith, a, b, c)
+
+    counts : (here : Spot) → times_at spot_of here (events_in spot_of with_piece) + was.known here ≡ total here
+    counts here =
+        let all = counted here in
+        let one = piece.known here in
+        let later = behind.counts here in
+        omega (arith, all, one, later)
+
+    unspent_was : AreUnspent whole Holds with_piece last
+    unspent_was number queue place left makes =
+        let own = fresh.own number queue place left makes in
+        let none = fresh.unused number queue place left makes in
+        let all = counts (suc queue, place) in
+        omega (arith, own, none, all)
+
+    stock_same : stock_in (now (returns {B = B} piece.backs ∷ rest) last) ≡ stock_in (now rest last)
+    stock_same = ap stock_in (before_returns piece.backs (now rest last))
+
+    unspent_backs : AreUnspent whole Holds (returns {B = B} piece.backs ∷ rest) last
+    unspent_backs number queue place left makes =
+        let some = unspent whole Holds rest last behind.part number queue place (subst (λ (stock : List ℕ). Contains stock number) stock_same left) makes in
+        let joined = times_joined spot_of (suc queue, place) (returns {B = B} piece.backs) (events_in spot_of rest) in
+        omega (arith, some, joined)
+
+    lifts_here : Lifts whole Holds was.local piece.spot (now (returns {B = B} piece.backs ∷ rest) last)
+    lifts_here = subst (λ (local : Local B). Lifts whole Holds was.local piece.spot local)
+        (sym (before_returns piece.backs (now rest last) ∙ ap (λ (local : Local B). record local { on = leases_of piece.backs ++ local.on }) behind.holds)) piece.lifts
+
+    first_turn : (event other : Event B) → Contains (Moves was.local piece.spot ∷ []) event → Contains (events_in spot_of (returns {B = B} piece.backs ∷ rest)) other → ComesFirst spot_of stamp event other
+    first_turn event other there further here next is_event is_other =
+        by_place (Contains-append_cases (returns {B = B} piece.backs) (events_in spot_of rest) other further)
+      where
+        at_here : piece.spot ≡ Some here
+        at_here = ap spot_of (the_only (Moves was.local piece.spot) event there) ∙ is_event
+
+        by_place : Contains (returns {B = B} piece.backs) other ⊎ Contains (events_in spot_of rest) other → stamp here ≤ stamp next
+        by_place (inl backs) = back_after here piece.backs (piece.first here at_here) other backs next is_other
+        by_place (inr behind_it) =
+            let found = behind.later other behind_it next is_other in
+            order here next is.step found.0 (piece.at here at_here) found.1 found.2
+
+    back_turn : (event other : Event B) → Contains (returns {B = B} piece.backs) event → Contains (events_in spot_of rest) other → ComesFirst spot_of stamp event other
+    back_turn event other there further here next is_event is_other =
+        let found = behind.later other further next is_other in
+        order here next is.step found.0 (back_at is.step piece.backs piece.all_at event there here is_event) found.1 found.2
+
+    later_was : (event : Event B) → Contains (events_in spot_of with_piece) event → (here : Spot) → spot_of event ≡ Some here → (n : ℕ) × At here n × (was.step < n)
+    later_was event there here is_here = elim (in_front (Moves was.local piece.spot) event (returns {B = B} piece.backs ++ events_in spot_of rest) there) [
+      | inl same ↦ (is.step, piece.at here (ap spot_of same ∙ is_here), piece.rose)
+      | inr further ↦ elim (Contains-append_cases (returns {B = B} piece.backs) (events_in spot_of rest) event further) [
+        | inl backs ↦ (is.step, back_at is.step piece.backs piece.all_at event backs here is_here, piece.rose)
+        | inr behind_it ↦ let found = behind.later event behind_it here is_here in let rose = piece.rose in (found.0, found.1, omega (arith, rose, found.2))
+      ]
+    ]
+
+    pub piece_rest : Rest was with_piece last
+    piece_rest = record {
+      holds = refl;
+      part = (lifts_here, unspent_was, (back_block whole Holds (returns {B = B} piece.backs) (now rest last) (all_back piece.backs piece.back), unspent_backs, behind.part));
+      counts = counts;
+      turn = (first_turn, (back_turn, behind.turn));
+      later = later_was;
+    }
+
+  -- where nothing was done
+  pub same_rest : (was is : Post B) → was.local ≡ is.local → ((here : Spot) → is.known here ≡ was.known here) → was.step ≤ is.step → (rest : List (List (Event B))) (last : Local B) → Rest is rest last → Rest was rest last
+  same_rest was is local known step rest last behind = record {
+    holds = behind.holds ∙ sym local;
+    part = behind.part;
+    counts = λ here. let same = known here in let counts = behind.counts here in omega (arith, same, counts);
+    turn = behind.turn;
+    later = λ event there here is_here. let found = behind.later event there here is_here in (found.0, found.1, omega (arith, found.2, step));
+  }
+
+  pub end_rest : (post : Post B) → IsFresh post → ((here : Spot) → post.known here ≡ total here) → Rest post [] post.local
+  end_rest post fresh known = record {
+    holds = refl;
+    part = λ number queue place left makes.
+        let own = fresh.own number queue place left makes in
+        let none = fresh.unused number queue place left makes in
+        let all = known (suc queue, place) in
+        absurd (omega (arith, own, none, all));
+    counts = λ here. let all = known here in omega (arith, all);
+    turn = tt;
+    later = λ event there. absurd (none_in event there);
+  }

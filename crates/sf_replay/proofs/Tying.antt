@@ -1,0 +1,183 @@
+-- An actor that came back, as a caller of the whole run, tied to it by the stamps of its calls.
+use Rattle.std.proofs.Common.{◌≡◌, ℕ, zero, suc, ◌<◌, ◌≤◌, ◌==◌, false, List, [], ◌∷◌, ◌++◌, arith, ap, ◌∙◌, sym, refl, inl, inr, subst, length}
+use Rattle.std.specs.Prelude.{Contains}
+use Rattle.std.specs.List.{AllByRecursion, AllZip, list_any}
+use Rattle.std.proofs.lemmas.Bool.{cases_Bool}
+use Rattle.std.proofs.lemmas.List.Elements.{Contains-append_left, Contains-append_right}
+use Rattle.atomic_table.specs.Seated.{TableId}
+use Rattle.sf_calls.specs.Histories.{GoesOnWithout, IsLegal, calls_by}
+use Rattle.sf_picture.specs.declared.picture.Picture.{Picture}
+use Rattle.sf_scene.specs.Ranges.{IsStep}
+use Rattle.sf_scene.specs.declared.step.Step.{Step}
+use Rattle.sf_stamped.specs.Stamps.{stamp_of, unstamped}
+use Rattle.sf_surface.specs.declared.mark.QueueMark.{QueueMark}
+use Rattle.sf_surface.specs.Histories.{Answers, Made}
+use Rattle.sf_token.specs.Arrivals.{sent}
+use Rattle.sf_actor.specs.Desks.{DeskHome, DeskView, known_of, mark_among}
+use Rattle.sf_actor.specs.Known.{GoesOn}
+use Rattle.sf_actor.specs.Plain.{PlainOf, home_of as plain_home, view_of as plain_view}
+use Rattle.sf_actor.specs.Tries.{ActorOf}
+use Rattle.sf_steps.specs.declared.hands.Hands.{Hands}
+use Rattle.sf_steps.specs.declared.tried.Tried.{Tried}
+use Rattle.sf_shared.specs.declared.first.FirstSeats.{FirstSeats}
+use Rattle.sf_shared.specs.declared.locks.Locks.{Locks}
+use Rattle.sf_shared.specs.declared.seats.Seats.{Seats}
+use Rattle.sf_shared.specs.Arriving.{ArrivalEntry}
+use Rattle.sf_shared.specs.Closing.{Closes, GoesOnIn, IsOrdered}
+use Rattle.sf_shared.specs.First.{KnowsNothing}
+use Rattle.sf_shared.specs.Seats.{AreSeats, QueuePass, calls_known, calls_made, home_of, is_at, marks_of, moment, moments_of, sent_in, takes_in, view_of}
+use Rattle.sf_crew.specs.Walks.{IsSound, Moment, Walk}
+use Rattle.sf_rights.specs.States.{AreApart, State}
+use Rattle.sf_replay.specs.Cuts.{HasLedger, MakesAt, many_of}
+use Rattle.sf_replay.specs.Lifts.{Comes, local_of}
+use Rattle.sf_replay.specs.Orders.{Spot}
+use Rattle.sf_replay.specs.Orders as orders
+use Rattle.sf_replay.specs.Tries.{DoesTry}
+use Rattle.sf_replay.proofs.Arrivals.{IsSend, NoTakes, send_at, sent_all, sent_mine, sent_without}
+use Rattle.sf_replay.proofs.Assembling.{IsMember, Member, rest_member}
+use Rattle.sf_replay.proofs.Closing.{ledger_gives, ledger_goes}
+use Rattle.sf_replay.proofs.Coming.{comes}
+use Rattle.sf_replay.proofs.Counting.{IsAt, mine_without}
+use Rattle.sf_replay.proofs.Ending.{not_called}
+use Rattle.sf_replay.proofs.Pieces.{known_in, post_of}
+use Rattle.sf_replay.proofs.Stamping.{IsStampedAt, by_there, known_seen, made_there, no_takes, seen_rise, sent_there, stamp_there, stamped_at, stamps_rise, unstamped_length}
+use Rattle.sf_replay.proofs.Walked.{IsBehind, walked}
+use Rattle.sf_replay.proofs.Walking.{Front}
+use Rattle.sf_replay.specs.Members.{stamps, mine, seen_at, stamp_in, total_in, whole_of}
+
+module _ {B : Type 0} where
+  -- no call of a queue is known where none is
+  pub none_known : (queue : ℕ) (passes : List (QueuePass B)) → AllByRecursion (λ (pass : QueuePass B). pass.seen ≡ []) passes → calls_known passes queue ≡ []
+  none_known queue [] none = refl
+  none_known queue (pass ∷ passes) none = elim (cases_Bool (is_at queue pass)) [
+    | inl met ↦ rw met (ap unstamped none.0)
+    | inr unmet ↦ rw unmet (none_known queue passes none.1)
+  ]
+
+  -- nor is any call of the caller
+  pub nothing_known : (desk : PlainOf B) (by : ℕ) (seats : Seats B) → KnowsNothing seats → (lock place : ℕ) → known_in (whole_of desk) by (view_of seats) lock place ≡ 0
+  nothing_known desk by seats nothing zero place = ap (λ seen. sent_mine (λ n. send_at n desk.arrivals) by place 0 (sent (unstamped seen))) nothing.arrivals
+  nothing_known desk by seats nothing (suc queue) place = ap (mine by place) (none_known queue seats.queues.items nothing.queues)
+
+module _ {B : Type 0} (table : TableId) (locks : Locks B) (first : FirstSeats B) (desk : PlainOf B) (closes : Closes locks first desk) (ordered : IsOrdered first) (own_first : AreSeats table locks first.seats) where
+  abbrev stamps_here : Spot → ℕ
+  stamps_here = stamps first
+
+  pub calls_are : (queue : ℕ) → (plain_view desk).calls queue ≡ unstamped (seen_at queue first.seats.queues.items)
+  calls_are queue = closes.calls queue ∙ known_seen queue first.seats.queues.items
+
+  pub all_rise : orders.StampsRise stamps_here (many_of (whole_of desk))
+  all_rise zero early late less low =
+      let many = ap (λ es. length es) closes.arrived ∙ unstamped_length first.seats.arrivals.seen in
+      stamps_rise first.seats.arrivals.seen ordered.arrivals early late less (omega (arith, low, many))
+  all_rise (suc queue) early late less low =
+      let many = ap (λ (es : List (Made B)). length es) (calls_are queue) ∙ unstamped_length (seen_at queue first.seats.queues.items) in
+      stamps_rise (seen_at queue first.seats.queues.items) (seen_rise queue first.seats.queues.items ordered.queues) early late less (omega (arith, low, many))
+
+  -- a caller whose seats were taken in made its calls in order
+  module _ (seats : Seats B) (own : AreSeats table locks seats) (queues_on : AllZip (GoesOnIn seats.by) first.seats.queues.items seats.queues.items)
+      (arrivals_on : GoesOnWithout seats.by seats.arrivals.seen first.seats.arrivals.seen) where
+    abbrev pub MadeAt : Spot → ℕ → Type 0
+    MadeAt here n = Contains (moments_of seats) (n, stamps_here here)
+
+    pub in_order : (here there : Spot) (n m : ℕ) → MadeAt here n → MadeAt there m → n < m → stamps_here here ≤ stamps_here there
+    in_order here there n m one other less = let rise = own.in_order.rise (n, stamps_here here) (m, stamps_here there) one other less in omega (arith, rise)
+
+    pub told : (queue : ℕ) (made : Made B) (earlier : List (Made B)) → IsAt ((plain_view desk).calls queue) (length earlier) made earlier → made.by ≡ seats.by → MadeAt (suc queue, length earlier) made.call.0
+    told queue made earlier at by_it =
+        subst (λ (m : ℕ × ℕ). Contains (moments_of seats) m) same
+        (Contains-append_left (calls_made seats.by seats.queues.items) (sent_in (calls_by seats.by seats.arrivals.seen)) (moment found.e)
+        (made_there queue seats.by first.seats.by locks.queues.items first.seats.queues.items seats.queues.items own_first.queues own.queues queues_on found.more found.e found.before found.is (ap (λ (m : Made B). m.by) found.without ∙ by_it)))
+      where
+        found : IsStampedAt (seen_at queue first.seats.queues.items) made earlier
+        found = stamped_at (seen_at queue first.seats.queues.items) at.more made earlier (sym (calls_are queue) ∙ at.is)
+
+        stamp_is : stamp_of found.e ≡ stamp_in (length earlier) (seen_at queue first.seats.queues.items)
+        stamp_is = sym (stamp_there found.more found.e found.before) ∙ ap (λ (n : ℕ). stamp_in n (found.more ++ found.e ∷ found.before)) found.height ∙ ap (stamp_in (length earlier)) (sym found.is)
+
+        same : moment found.e ≡ (made.call.0, stamp_in (length earlier) (seen_at queue first.seats.queues.items))
+        same = λ i. ((ap (λ (m : Made B). m.call.0) found.without) i, stamp_is i)
+
+    pub told_sent : (n : ℕ) (send : IsSend desk.arrivals n) → send.e.by ≡ seats.by → MadeAt (0, length send.history) send.step
+    told_sent n send by_it =
+        Contains-append_right (calls_made seats.by seats.queues.items) (sent_in (calls_by seats.by seats.arrivals.seen)) (send.step, stamp_in (length send.history) first.seats.arrivals.seen)
+        (subst (λ (stamp : ℕ). Contains (sent_in (calls_by seats.by seats.arrivals.seen)) (send.step, stamp)) stamp_is
+        (sent_there (calls_by seats.by seats.arrivals.seen) found.e send.step send.txn there (ap (λ e. e.call) found.without ∙ send.sends)))
+      where
+        found : IsStampedAt first.seats.arrivals.seen send.e send.history
+        found = stamped_at first.seats.arrivals.seen send.more send.e send.history (sym closes.arrived ∙ send.is)
+
+        there : Contains (calls_by seats.by seats.arrivals.seen) found.e
+        there = subst (λ (es : List ArrivalEntry). Contains es found.e) arrivals_on.calls
+            (subst (λ (es : List ArrivalEntry). Contains (calls_by seats.by es) found.e) (sym found.is) (by_there seats.by found.more found.e found.before (ap (λ e. e.by) found.without ∙ by_it)))
+
+        stamp_is : stamp_of found.e ≡ stamp_in (length send.history) first.seats.arrivals.seen
+        stamp_is = sym (stamp_there found.more found.e found.before) ∙ ap (λ (m : ℕ). stamp_in m (found.more ++ found.e ∷ found.before)) found.height ∙ ap (stamp_in (length send.history)) (sym found.is)
+
+    -- it takes nothing
+    pub none_taken : (seats.by ≡ 0 → ⊥) → NoTakes seats.by desk.arrivals
+    none_taken apart = subst (NoTakes seats.by) (sym closes.arrived)
+        (no_takes seats.by first.seats.arrivals.seen (ap (λ (es : List ArrivalEntry). takes_in es) arrivals_on.calls ∙ own.takes apart))
+
+    -- what its seats knew of its calls is all
+    pub known_all : (seats.by ≡ 0 → ⊥) → GoesOn seats.by (known_of (home_of locks seats) (view_of seats)) (known_of (plain_home desk) (plain_view desk))
+        → (lock place : ℕ) → known_in (whole_of desk) seats.by (view_of seats) lock place ≡ total_in (whole_of desk) seats.by lock place
+    known_all apart goes zero place =
+        sym (sent_without (λ n. send_at n desk.arrivals) seats.by place (view_of seats).arrivals (plain_view desk).arrivals goes.arrivals) ∙ sent_all desk.arrivals seats.by place [] desk.arrivals refl (none_taken apart)
+    known_all apart goes (suc queue) place = sym (mine_without seats.by place ((view_of seats).calls queue) ((plain_view desk).calls queue) (goes.calls queue))
+
+  module _ (apart : AreApart (marks_of locks)) (legal : (queue : ℕ) → IsLegal (Answers (mark_among (marks_of locks) queue)) ((plain_view desk).calls queue)) (pictures : ℕ → Picture) where
+    marks_are : (plain_home desk).marks ≡ marks_of locks
+    marks_are = closes.marks
+
+    pub absent : (queue : ℕ) → list_any (λ (mark : QueueMark). mark.queue.0 == queue) (marks_of locks) ≡ false → (plain_view desk).calls queue ≡ []
+    absent queue none = not_called desk.queues queue (ap (λ (ms : List QueueMark). list_any (λ (mark : QueueMark). mark.queue.0 == queue) ms) closes.marks ∙ none)
+
+    -- each try that is done, of whichever actor, is lifted
+    abbrev pub LiftsAll : (State B → Type 0) → Type 0
+    LiftsAll Holds =
+        (home : DeskHome) → home.marks ≡ marks_of locks → (was is : ActorOf B) (before after : Hands B) (old new : DeskView B) → ((queue : ℕ) → Front (new.calls queue) ((plain_view desk).calls queue))
+        → (s : Step) (came_to : Tried) → DoesTry pictures home was is s before after old new came_to → Comes (whole_of desk) Holds before.by.0 was is old new
+
+    module _ (home : DeskHome) (same : home.marks ≡ marks_of locks) where
+      pub marks_home : (plain_home desk).marks ≡ home.marks
+      marks_home = closes.marks ∙ sym same
+
+      pub apart_home : AreApart home.marks
+      apart_home = subst AreApart (sym same) apart
+
+      pub absent_home : (queue : ℕ) → list_any (λ (mark : QueueMark). mark.queue.0 == queue) home.marks ≡ false → (plain_view desk).calls queue ≡ []
+      absent_home queue none = absent queue (ap (λ (ms : List QueueMark). list_any (λ (mark : QueueMark). mark.queue.0 == queue) ms) (sym same) ∙ none)
+
+      pub legal_home : (queue : ℕ) → IsLegal (Answers (mark_among home.marks queue)) ((plain_view desk).calls queue)
+      legal_home queue = subst (λ (ms : List QueueMark). IsLegal (Answers (mark_among ms queue)) ((plain_view desk).calls queue)) (sym same) (legal queue)
+
+    pub ledger_lifted : LiftsAll HasLedger
+    ledger_lifted home same was is before after old new begins s came_to tries =
+        comes (whole_of desk) pictures home (marks_home home same) (apart_home home same) (absent_home home same) (legal_home home same) was is before after old new begins HasLedger
+        (λ next to does. ledger_goes (whole_of desk) was is next before) (ledger_gives (whole_of desk)) s came_to tries
+
+    -- an actor that came back, as a caller of the whole run
+    module _ (Holds : State B → Type 0) (lifted : LiftsAll Holds) (start end : Moment B) (walk : Walk table pictures locks start end) (sound : IsSound table pictures locks start) (own : AreSeats table locks end.seats) (served : end.seats.by ≡ start.of.script.number)
+        (numbered : start.of.script.number ≡ 0 → ⊥) (ranges : (s : Step) → Contains start.of.script.steps s → IsStep s) (nothing : KnowsNothing start.seats)
+        (queues_on : AllZip (GoesOnIn end.seats.by) first.seats.queues.items end.seats.queues.items) (arrivals_on : GoesOnWithout end.seats.by end.seats.arrivals.seen first.seats.arrivals.seen)
+        (goes : GoesOn end.seats.by (known_of (home_of locks end.seats) (view_of end.seats)) (known_of (plain_home desk) (plain_view desk)))
+        (owner : (number queue place : ℕ) → Contains start.of.stock number → (makes : MakesAt (whole_of desk) number queue place) → makes.made.by ≡ end.seats.by) where
+      not_first : end.seats.by ≡ 0 → ⊥
+      not_first same = numbered (sym served ∙ same)
+
+      pub behind : IsBehind (whole_of desk) table pictures locks closes.marks apart absent legal Holds lifted end.seats.by start.of.stock start.of.script (sym served) ranges owner stamps_here
+          (MadeAt end.seats own queues_on arrivals_on) (in_order end.seats own queues_on arrivals_on) (told end.seats own queues_on arrivals_on) (told_sent end.seats own queues_on arrivals_on) start (local_of end.of [] (view_of end.seats).turns.leaves)
+      behind = walked (whole_of desk) table pictures locks closes.marks apart absent legal Holds lifted end.seats.by start.of.stock start.of.script (sym served) ranges owner stamps_here
+          (MadeAt end.seats own queues_on arrivals_on) (in_order end.seats own queues_on arrivals_on) (told end.seats own queues_on arrivals_on) (told_sent end.seats own queues_on arrivals_on) start end walk sound
+          (record { script_is = refl; stock_is = refl })
+          (record { calls = λ queue. (goes.calls queue).begins; later = goes.arrivals.later; arrives = goes.arrivals.joined })
+          (known_all end.seats own queues_on arrivals_on not_first goes)
+
+      abbrev pub member : Member B
+      member = record { by = end.seats.by; rest = behind.rest; first = local_of start.of [] (view_of start.seats).turns.leaves; last = local_of end.of [] (view_of end.seats).turns.leaves }
+
+      pub is_member : IsMember (whole_of desk) Holds stamps_here member
+      is_member = rest_member (whole_of desk) Holds stamps_here (MadeAt end.seats own queues_on arrivals_on) (in_order end.seats own queues_on arrivals_on) end.seats.by
+          (post_of (whole_of desk) end.seats.by start.of (view_of start.seats)) behind.rest (local_of end.of [] (view_of end.seats).turns.leaves)
+          (λ here. nothing_known desk end.seats.by start.seats nothing here.0 here.1) behind.behind
