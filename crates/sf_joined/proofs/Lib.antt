@@ -1,0 +1,16 @@
+pub mod Callers
+pub mod Crewing
+pub mod Ends
+pub mod Finding
+pub mod Fronts
+pub mod Gives
+pub mod Lends
+pub mod Meeting
+pub mod Plays
+pub mod Replies
+pub mod Sights
+pub mod Stamps
+pub mod Standing
+pub mod Takes
+pub mod Tied
+pub mod Writing
