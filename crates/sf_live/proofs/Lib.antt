@@ -1,1 +1,10 @@
 pub mod Newcomers
+pub mod Openings
+pub mod Joining
+pub mod Frames
+pub mod Casting
+pub mod Together
+pub mod GoingOn
+pub mod RunLemmas
+pub mod RoundLemmas
+pub mod EndLemmas

@@ -3,5 +3,11 @@
 #![tactic(auto)]
 
 mod opening;
+mod resuming;
+mod rounds;
+mod running;
+mod scene;
+mod threads;
 
 pub use opening::{Opened, open};
+pub use scene::live;

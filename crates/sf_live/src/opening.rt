@@ -7,6 +7,7 @@ ghost use Rattle.sf_cast.specs.Scripts.{AreOfScene, are_playable, permits_of};
 ghost use Rattle.sf_shared.specs.Closing.{HasNoCalls, Opens};
 ghost use Rattle.sf_shared.specs.First.{IsFirst, KnowsNothing, gave_of};
 ghost use Rattle.sf_crew.specs.Boarding.{IsNewcomer, number_of};
+ghost use Rattle.sf_live.specs.Openings.{IsOpen};
 
 use sf_actor::PlainDesk;
 use sf_base::{Items, NoMemory};
@@ -64,6 +65,7 @@ pub fn open<B: TableName>(
     requires own { (seat.table ≡ B.table) × (stock.table ≡ B.table) }
     requires first { (seat.is_first ≡ true) × (seat.out ≡ 0) }
     requires whole { stock.buffers ≡ range 0 (permits_of scripts) }
+    ensures opens { (of : AreOfScene queues.now pictures scripts) → seat.leaves ≡ [] → permits_of scripts ≤ B.table.slots → IfOk result (IsOpen of.scene B.table) }
     ensures first { IfOk result (λ opened. IsFirst B.table opened.locks opened.first) }
     ensures none { IfOk result (λ opened. gave_of opened.first ≡ []) }
     ensures unused { IfOk result (λ opened. KnowsNothing opened.first.seats) }

@@ -1,17 +1,22 @@
 use Rattle.std.proofs.Common.{◌≤◌, List, ◌∷◌, length, ◌∙◌, ap, sym, subst}
 use Rattle.std.specs.Prelude.{map}
-use Rattle.std.specs.List.{AllByRecursion}
+use Rattle.std.specs.List.{AllByRecursion, AllZip}
 use Rattle.std.specs.List.Sorted.{IsStrictlyIncreasing}
 use Rattle.std.proofs.lemmas.List.Sorted.{All-permutation}
 use Rattle.sf_picture.specs.declared.picture.Picture.{Picture}
 use Rattle.sf_scene.specs.declared.step.ActorScript.{ActorScript}
+use Rattle.sf_scene.specs.declared.declarations.QueueDecl.{QueueDecl}
 use Rattle.sf_surface.specs.Objects.{mark_of}
 use Rattle.sf_actor.specs.Plain.{PlainOf, home_of, view_of}
 use Rattle.sf_actor.specs.Scripts.{picture_at}
+use Rattle.sf_steps.specs.Actors.{IsActor}
 use Rattle.sf_steps.specs.declared.actor.Actor.{Actor}
+use Rattle.sf_cast.specs.Opening.{IsSortedFrom, OpensQueues, new_actors}
+use Rattle.sf_cast.specs.Scripts.{permits_of}
 use Rattle.sf_shared.specs.Closing.{HasNoCalls}
 use Rattle.sf_crew.specs.Boarding.{IsNewcomer, number_of}
 use Rattle.sf_live.proofs.Newcomers.{few_opened, newcomers, numbers_same, opened_bare, rise_behind}
+use Rattle.sf_live.proofs.Openings.{are_actors, marks_opened, stock_below, stock_once}
 use Rattle.sf_live.proofs.opening.open.Goals as goal
 
 pub share-requires : goal.share-requires
@@ -54,3 +59,31 @@ returns-clause-newcomers g c =
     (subst (λ (pictures : List Picture). AllByRecursion (IsNewcomer g.B.TableName.table locks pictures seats) cast.actors) (sym c.into_parts-pictures.ensures.pictures)
     (newcomers g.B.TableName.table locks cast.pictures seats (home_of cast.desk) (view_of cast.desk) cast.actors opens.declared c.args.stock.buffers shared.nothing
     (shared.marks ∙ ap (λ (d : PlainOf g.row.B.Denot). map mark_of d.queues) c.into_parts-pictures.ensures.desk) opens.keep kept.plays))
+
+pub returns-clause-opens : goal.returns-clause-opens
+returns-clause-opens g c = λ of fresh sized.
+    let cast = c.in_ok-cast.cast in
+    let opens = c.in_ok-cast.ensures in
+    let parts = c.into_parts-pictures.ensures in
+    let shared = c.in_ok-locks.ensures.opened in
+    let pictured = parts.pictures ∙ opens.same_pictures ∙ sym of.pictures_of in
+    record {
+      limits = of.limits;
+      pictures = pictured;
+      marks = shared.marks
+          ∙ ap (λ (d : PlainOf g.row.B.Denot). map mark_of d.queues) parts.desk
+          ∙ marks_opened of.scene cast.desk.queues of.limits (subst (λ (queues : List QueueDecl). OpensQueues queues cast.desk.queues) (sym of.queues_of) opens.queues_opened);
+      declared = opens.declared;
+      sorted = subst (λ (scripts : List ActorScript). IsSortedFrom (λ (script : ActorScript). script.number) scripts opens.declared) (sym of.scripts_of) opens.sorted;
+      stock = c.args.stock.buffers;
+      once = stock_once c.args.stock.buffers (permits_of c.args.scripts) c.requires.whole;
+      below = stock_below c.args.stock.buffers (permits_of c.args.scripts) g.B.TableName.table.slots c.requires.whole sized;
+      actors = subst (λ (actors : List (Actor g.row.B.Denot)). AllZip (IsActor g.B.TableName.table) actors (new_actors opens.declared c.args.stock.buffers)) (sym parts.actors)
+          (are_actors g.B.TableName.table (picture_at cast.pictures) (home_of cast.desk) (view_of cast.desk) cast.actors (new_actors opens.declared c.args.stock.buffers) opens.keep);
+      newcomers = subst (λ (pictures : List Picture). AllByRecursion (IsNewcomer g.B.TableName.table c.in_ok-locks.locks pictures c.in_ok-locks.first.seats) c.into_parts-pictures.result.1.items) pictured
+          (returns-clause-newcomers g c);
+      none_taken = shared.took;
+      step = shared.step;
+      no_signals = ap (λ t. t.knows.signals) shared.times_is ∙ ap (λ (d : PlainOf g.row.B.Denot). d.times.knows.signals) parts.desk ∙ ap (λ k. k.signals) opens.none_raised;
+      no_leaves = ap (λ t. t.leaves) shared.turns_is ∙ ap (λ (d : PlainOf g.row.B.Denot). d.turns.leaves) parts.desk ∙ ap (λ t. t.leaves) opens.same_seat ∙ fresh;
+    }

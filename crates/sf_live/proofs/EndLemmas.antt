@@ -1,0 +1,129 @@
+-- What is written at the end of a run: the replies to all steps, and the closing records.
+use Rattle.std.proofs.Common.{◌≡◌, ℕ, ◌+◌, ◌<◌, List, [], ◌∷◌, ◌++◌, length, get_or, take, drop, map, Option, Result, Ok, Err, refl, ap, ◌∙◌, sym, subst, append_assoc, OnErr, OnOk}
+use Rattle.std.specs.Prelude.{Contains}
+use Rattle.std.specs.List.{flat_map}
+use Rattle.std.proofs.lemmas.List.{append-nil, drop_more, take-append-drop, take_more}
+use Rattle.std.proofs.lemmas.List.Concat.{flat_map-append}
+use Rattle.atomic_table.specs.Seated.{TableId}
+use Rattle.sf_picture.specs.declared.picture.Picture.{Picture}
+use Rattle.sf_scene.specs.Scene.{SceneValue}
+use Rattle.sf_scene.specs.declared.step.ActorScript.{ActorScript}
+use Rattle.sf_actor.specs.Desks.{DeskHome, DeskView}
+use Rattle.sf_actor.specs.Makers.{Run}
+use Rattle.sf_actor.specs.Tries.{ActorOf}
+use Rattle.sf_actor.specs.Values.{replies_of}
+use Rattle.sf_actor.specs.declared.done.Done.{Done}
+use Rattle.sf_steps.specs.declared.actor.Actor.{Actor}
+use Rattle.sf_cast.specs.Casts.{KeepAs}
+use Rattle.sf_record.specs.Events.{closing, event_records, events_records}
+use Rattle.sf_record.specs.declared.encode.RunFault.{RunFault}
+use Rattle.sf_record.specs.declared.event.Event.TheVariants as event
+use Rattle.sf_record.specs.declared.record.Record.{Record}
+use Rattle.sf_record.specs.declared.record.Record.TheVariants as rec
+use Rattle.sf_record.specs.declared.record.Reply.{Reply}
+use Rattle.sf_run.proofs.Members.{has_here, has_later}
+use Rattle.sf_run.proofs.Rising.{rising_actors_are}
+use Rattle.sf_run.proofs.Tracing.{trace_here}
+use Rattle.sf_run.specs.Actors.{script_of}
+use Rattle.sf_run.specs.Played.{opening, records_of, reply_events}
+use Rattle.sf_run.specs.Replies.{replies_due, reply_shown}
+use Rattle.sf_run.specs.Runs.{rising_actors}
+use Rattle.sf_play.proofs.Late.{played_live}
+use Rattle.sf_play.specs.Ending.{shows_at_end, shows_late}
+use Rattle.sf_play.specs.Players.{PlayerOf, SoFar, home_in, run_so, view_in}
+use Rattle.sf_play.specs.Standing.{StandsInRun}
+use Rattle.sf_show.specs.Closings.{closing_of}
+use Rattle.sf_show.specs.Writing.{CutSome, Writes, WritesPart}
+use Rattle.sf_show.proofs.ClosingLemmas.{closing_is}
+use Rattle.sf_show.proofs.WritingLemmas.{part_front, part_more, writes_more}
+use Rattle.sf_live.specs.Rounds.{HasShownAll, all_reply_records, vsyncs_alone}
+use Rattle.sf_live.specs.Runs.{WroteLive}
+use Rattle.sf_live.proofs.RoundLemmas.{records_more}
+
+-- the next piece of what is made of a list was written behind those before
+pub pieces_more : {X : Type 0} (f : X → List Record) (a b c : Option (List ℕ)) (xs : List X) (i : ℕ) (x : X) → i < length xs → x ≡ get_or xs i x
+    → Writes a b (flat_map f (take i xs)) → Writes b c (f x) → Writes a c (flat_map f (take (i + 1) xs))
+pieces_more {X} f a b c xs i x below is before now =
+    subst (Writes a c)
+    (ap (λ (y : X). flat_map f (take i xs) ++ f y) is
+    ∙ ap (λ (rs : List Record). flat_map f (take i xs) ++ rs) (sym (append-nil (f (get_or xs i x))))
+    ∙ sym (flat_map-append f (take i xs) (get_or xs i x ∷ []))
+    ∙ ap (flat_map f) (sym (take_more xs i x below)))
+    (writes_more a b c (flat_map f (take i xs)) (f x) before now)
+
+-- a part of the next piece was written
+pub pieces_part : {X : Type 0} (f : X → List Record) (a b c : Option (List ℕ)) (xs : List X) (i : ℕ) (x : X) → i < length xs → x ≡ get_or xs i x
+    → Writes a b (flat_map f (take i xs)) → WritesPart b c (f x) → WritesPart a c (flat_map f xs)
+pieces_part {X} f a b c xs i x below is before now =
+    subst (WritesPart a c)
+    (ap (λ (y : X). flat_map f (take i xs) ++ (f y ++ flat_map f (drop (i + 1) xs))) is
+    ∙ ap (λ (l : List X). flat_map f (take i xs) ++ flat_map f l) (sym (drop_more xs i x below))
+    ∙ sym (flat_map-append f (take i xs) (drop i xs))
+    ∙ ap (flat_map f) (take-append-drop i xs))
+    (part_more a b c (flat_map f (take i xs)) (f x ++ flat_map f (drop (i + 1) xs)) before (part_front b c (f x) (flat_map f (drop (i + 1) xs)) now))
+
+replies_alone : (replies : List Reply) → flat_map event_records (map event.Reply replies) ≡ map rec.Repl replies
+replies_alone [] = refl
+replies_alone (reply ∷ replies) = ap (λ (rs : List Record). rec.Repl reply ∷ rs) (replies_alone replies)
+
+events_more : (run : Run) (script : ActorScript) (scripts : List ActorScript)
+    → events_records (flat_map (reply_events run) (script ∷ scripts)) ≡ map rec.Repl (replies_due run script.number) ++ events_records (flat_map (reply_events run) scripts)
+unfolding events_records
+events_more run script scripts =
+    flat_map-append event_records (reply_events run script) (flat_map (reply_events run) scripts)
+    ∙ ap (λ (rs : List Record). rs ++ flat_map event_records (flat_map (reply_events run) scripts)) (replies_alone (replies_due run script.number))
+
+none_due : (run : Run) → events_records (flat_map (reply_events run) []) ≡ []
+unfolding events_records
+none_due run = refl
+
+module _ {B : Type 0} where
+  -- the replies that actors have are those to the steps of their traces
+  replies_kept : (table : TableId) (pictures : ℕ → Picture) (home : DeskHome) (view : DeskView B) (run : Run) (actors : List (Actor B)) (ofs : List (ActorOf B)) → KeepAs table pictures home view actors ofs
+      → ((of : ActorOf B) → Contains ofs of → run.trace of.script.number ≡ of.trace) → all_reply_records actors ≡ events_records (flat_map (reply_events run) (map script_of ofs))
+  replies_kept table pictures home view run [] [] keep traced = sym (none_due run)
+  replies_kept table pictures home view run [] (of ∷ ofs) keep traced = absurd keep
+  replies_kept table pictures home view run (actor ∷ actors) [] keep traced = absurd keep
+  replies_kept table pictures home view run (actor ∷ actors) (of ∷ ofs) keep traced =
+      let trace = traced of (has_here of ofs) in
+      let due : replies_due run of.script.number ≡ map reply_shown actor.replies.items =
+      ap (λ (dones : List Done). map reply_shown (replies_of of.script.number dones)) trace
+      ∙ ap (map reply_shown) (sym keep.0.keeps.kept.kept.is.replied ∙ keep.0.is.replies) in
+      let later = replies_kept table pictures home view run actors ofs keep.1 (λ other there. traced other (has_later of other ofs there)) in
+      (λ i. map rec.Repl (sym due i) ++ later i) ∙ sym (events_more run of.script (map script_of ofs))
+
+  module _ (table : TableId) (scene : SceneValue) (so : SoFar B) (player : PlayerOf B) (stands : StandsInRun table scene so player) where
+    replies_are : all_reply_records player.play.cast.actors ≡ events_records (flat_map (reply_events (run_so so player.play)) (rising_actors scene))
+    replies_are =
+        let standing = stands.stands.stands in
+        let actors = standing.tell.actors in
+        let home = home_in player.play in
+        let view = view_in player.play in
+        replies_kept table _ home view (run_so so player.play) player.play.cast.actors so.actors standing.keep (λ of there. trace_here so.actors of actors.apart there)
+        ∙ ap (λ (scripts : List ActorScript). events_records (flat_map (reply_events (run_so so player.play)) scripts)) (sym (rising_actors_are scene so.actors home view standing.of_scene.limits actors))
+
+    -- what is written at the end of a run is what is left of its records
+    all_records : (opening scene ∷ events_records (vsyncs_alone so.events)) ++ (all_reply_records player.play.cast.actors ++ closing_of player) ≡ records_of scene (shows_late scene so player)
+    all_records =
+        let run = run_so so player.play in
+        let shows = shows_at_end scene so player in
+        let ends = closing shows.arrived shows.histories shows.held shows.stuck in
+        (λ i. (opening scene ∷ events_records (vsyncs_alone so.events)) ++ (replies_are i ++ closing_is table scene so player stands i))
+        ∙ sym (append_assoc (opening scene ∷ events_records (vsyncs_alone so.events)) (events_records (flat_map (reply_events run) (rising_actors scene))) ends)
+        ∙ ap (λ (rs : List Record). (opening scene ∷ rs) ++ ends) (sym (records_more (vsyncs_alone so.events) (flat_map (reply_events run) (rising_actors scene))))
+
+  module _ (table : TableId) (scene : SceneValue) (a b c : Option (List ℕ)) (player : PlayerOf B) (has : HasShownAll table scene a b player) where
+    -- the rest of the records was written behind all others, or a part of it
+    pub live_written : (r : Result (Unit {0}) RunFault) → OnOk r (Writes b c (all_reply_records player.play.cast.actors ++ closing_of player)) → OnOk r (WroteLive scene a c)
+    live_written (Ok u) rest =
+        let written = subst (Writes a c) (all_records table scene has.so player has.stands)
+        (writes_more a b c (opening scene ∷ events_records (vsyncs_alone has.so.events)) (all_reply_records player.play.cast.actors ++ closing_of player) has.written rest) in
+        record { records = records_of scene (shows_late scene has.so player); means = played_live table scene has.so player has.stands has.ends written.fits; written = written }
+    live_written (Err e) rest = tt
+
+    pub live_cut : (r : Result (Unit {0}) RunFault) → OnErr r (WritesPart b c (all_reply_records player.play.cast.actors ++ closing_of player)) → OnErr r (CutSome a c)
+    live_cut (Ok u) rest = tt
+    live_cut (Err e) rest =
+        let before = opening scene ∷ events_records (vsyncs_alone has.so.events) in
+        let more = all_reply_records player.play.cast.actors ++ closing_of player in
+        record { records = before ++ more; written = part_more a b c before more has.written rest }

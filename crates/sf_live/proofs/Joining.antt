@@ -1,0 +1,119 @@
+-- A run whose actors are ashore is joined, with whatever desk its locks are closed to.
+use Rattle.std.proofs.Common.{◌≡◌, ℕ, ◌≤◌, List, [], ◌∷◌, map, ap, ◌∙◌, refl, sym, subst}
+use Rattle.std.specs.List.{AllByRecursion, AllZip}
+use Rattle.atomic_table.specs.Seated.{TableId}
+use Rattle.sf_picture.specs.declared.picture.Picture.{Picture}
+use Rattle.sf_surface.specs.Tokens.{Issued, ReadLeaseOf}
+use Rattle.sf_turns.specs.Views.{SeatView}
+use Rattle.sf_txn.specs.declared.lease.Lease.{Ghosts}
+use Rattle.sf_commit.specs.Handlers.{new_handler}
+use Rattle.sf_actor.specs.Plain.{PlainOf}
+use Rattle.sf_steps.specs.declared.actor.Actor.{Actor}
+use Rattle.sf_cast.specs.Opening.{new_actors}
+use Rattle.sf_shared.specs.declared.first.FirstSeats.{FirstSeats}
+use Rattle.sf_shared.specs.declared.locks.Locks.{Locks}
+use Rattle.sf_shared.specs.declared.seats.Seats.{Seats}
+use Rattle.sf_shared.specs.First.{HasAll, IsFirst, KnowsNothing, took_of}
+use Rattle.sf_crew.specs.declared.ashore.Ashore.{Ashore}
+use Rattle.sf_crew.specs.declared.crew.Crew.{Crew}
+use Rattle.sf_crew.specs.Boarding.{Boards, GivesEach}
+use Rattle.sf_crew.specs.Crews.{Came}
+use Rattle.sf_crew.specs.Meeting.{landed_of}
+use Rattle.sf_crew.specs.Returns.{Returns}
+use Rattle.sf_compositor.specs.Sitting.{Sits}
+use Rattle.sf_replay.specs.Joining.{Joins, MeetsAll}
+use Rattle.sf_joined.specs.Crews.{IsUnused, WalkedBack, crew_actor}
+use Rattle.sf_joined.proofs.Crewing.{all_walked}
+use Rattle.sf_live.specs.declared.opening.Opened.{Opened}
+use Rattle.sf_live.specs.Openings.{IsOpen}
+use Rattle.sf_live.specs.Threads.{AreClosedTo, HasRun, RunOf, landed_actor}
+
+module _ {B : Type 0} where
+  -- the first seats after they gave some, where nothing was called before
+  pub record HasGiven (first boarded : FirstSeats B) : Type 0 where
+    pub nothing : KnowsNothing boarded.seats
+    pub step : boarded.seats.last.step ≡ first.seats.last.step
+    pub signals : boarded.seats.times.knows.signals ≡ first.seats.times.knows.signals
+    pub leaves : boarded.seats.turns.leaves ≡ first.seats.turns.leaves
+    pub took : took_of boarded ≡ took_of first
+
+  pub has_given : (first : FirstSeats B) (callers : List ℕ) (boarded : FirstSeats B) → KnowsNothing first.seats → GivesEach first callers boarded → HasGiven first boarded
+  has_given first [] boarded nothing gives = subst (HasGiven first) gives (record { nothing = nothing; step = refl; signals = refl; leaves = refl; took = refl })
+  has_given first (caller ∷ callers) boarded nothing gives =
+      let one = gives.1 in
+      let rest = has_given gives.0 callers boarded one.nothing gives.2 in
+      record {
+        nothing = rest.nothing;
+        step = rest.step ∙ ap (λ c. c.step) one.last;
+        signals = rest.signals ∙ ap (λ t. t.knows.signals) one.times;
+        leaves = rest.leaves ∙ ap (λ t. t.leaves) one.turns;
+        took = rest.took ∙ one.took;
+      }
+
+  all_unused : (table : TableId) (locks : Locks B) (known : Seats B) (actors : List (Actor B)) (sent : List (Crew B)) → AllZip (Boards table locks known) actors sent → AllByRecursion IsUnused sent
+  all_unused table locks known [] [] boards = tt
+  all_unused table locks known [] (s ∷ sent) boards = absurd boards
+  all_unused table locks known (a ∷ actors) [] boards = absurd boards
+  all_unused table locks known (a ∷ actors) (s ∷ sent) boards = (boards.0.fresh.nothing, all_unused table locks known actors sent boards.1)
+
+  landed_are : (back : List (Crew B)) → map landed_actor (map landed_of back) ≡ map crew_actor back
+  landed_are [] = refl
+  landed_are (crew ∷ back) = ap (λ (actors : List (Actor B)). crew.actor ∷ actors) (landed_are back)
+
+module _ {B V : Type 0} (lease : Ghosts ReadLeaseOf SeatView ReadLeaseOf Issued) (table : TableId) (run : RunOf B) (opened : Opened B) (opens : IsOpen run.scene table opened) (unused : KnowsNothing opened.first.seats)
+    (keeps : V → Locks B → FirstSeats B → Type 0) (visitor : V) (ashore : Ashore B) (first : IsFirst table opened.locks ashore.first) (all : HasAll ashore.first)
+    (returns : Returns keeps table opened.locks opened.pictures opened.first opened.actors.items visitor ashore) (at_last : returns.attended.seats ≡ run.last.seats)
+    (sits : Sits lease table opened.locks run.scene.period run.timelines run.before run.now run.screen run.last.handler.width run.last.handler.height run.last)
+    (wide : run.last.handler.width ≡ run.scene.width) (high : run.last.handler.height ≡ run.scene.height) where
+  walked : WalkedBack run.scene table opened.locks (new_actors opens.declared opens.stock) returns.back
+  walked =
+      all_walked run.scene table opened.locks opened.first.seats opens.declared opens.stock opened.actors.items returns.sent returns.back opens.actors opens.newcomers returns.boards
+      (all_unused table opened.locks opened.first.seats opened.actors.items returns.sent returns.boards)
+      (subst (λ (pictures : List Picture). AllZip (Came table opened.locks pictures) returns.sent returns.back) opens.pictures returns.came)
+
+  given : HasGiven opened.first returns.boarded
+  given = has_given opened.first _ returns.boarded unused returns.gives
+
+  abbrev joined_with : (desk : PlainOf B) → AreClosedTo opened.locks ashore.first desk → Joins lease run.scene table run.scene.period 256 opened.locks run.last walked.ends desk
+  joined_with desk closed = record {
+    limits = opens.limits;
+    marks = opens.marks;
+    declared = opens.declared;
+    sorted = opens.sorted;
+    stock = opens.stock;
+    once = opens.once;
+    below = opens.below;
+    starts = walked.starts;
+    new = walked.new;
+    boarded = walked.boarded;
+    came = walked.came;
+    begins = sits.start;
+    handler = sits.fresh.handler ∙ (λ i. new_handler (wide i) (high i) 256);
+    number = sits.fresh.number;
+    nothing = sits.fresh.nothing;
+    no_leaves = sits.fresh.no_leaves;
+    no_signals = sits.fresh.no_signals;
+    log = sits.log;
+    attended = returns.attended;
+    at_last = at_last;
+    none_taken = returns.attends.given.took ∙ given.took ∙ opens.none_taken;
+    first = ashore.first;
+    met = subst (λ (seats : List (Seats B)). MeetsAll returns.attended seats ashore.first) (sym walked.seats) returns.met;
+    is_first = first;
+    has_all = all;
+    closes = closed.closes;
+    ordered = closed.ordered;
+    goes_on = closed.goes_on;
+    nobody = closed.nobody;
+  }
+
+  pub has_run : run.scene.version ≡ 1 → run.last.number ≤ 2147483648 → HasRun lease table run opened.locks opened.pictures ashore
+  has_run version few = record {
+    version = version;
+    pictured = opens.pictures;
+    few = few;
+    ends = walked.ends;
+    actors = walked.actors ∙ sym (landed_are returns.back) ∙ ap (map landed_actor) (sym returns.landed);
+    joins = joined_with;
+    shows = λ desk closed. record { buffers = sits.buffers; written = sits.written };
+  }

@@ -1,0 +1,220 @@
+-- What a compositor keeps before the first vsync of a run in threads, and what stands at its joins.
+use Rattle.std.proofs.Common.{◌≡◌, ℕ, ◌≤◌, List, [], map, Option, Some, None, Result, Err, inl, inr, ap, ◌∙◌, arith, refl, sym, subst}
+use Rattle.std.specs.Prelude.{IfErr, is_some}
+use Rattle.std.proofs.lemmas.Bool.{false≢true}
+use Rattle.atomic_table.specs.Seated.{TableId}
+use Rattle.sf_io.specs.Causes.{Rose}
+use Rattle.sf_picture.specs.declared.picture.Picture.{Picture}
+use Rattle.sf_record.specs.declared.encode.RunFault.{RunFault}
+use Rattle.sf_record.specs.declared.encode.RunFault.TheVariants.{NoMemory, WriteFault}
+use Rattle.sf_stamped.specs.Stamps.{unstamped}
+use Rattle.sf_surface.specs.Tokens.{Issued, ReadLeaseOf}
+use Rattle.sf_turns.specs.Views.{SeatView}
+use Rattle.sf_turns.specs.declared.naming.TableName.{Ghosts as Naming}
+use Rattle.sf_txn.specs.declared.lease.Lease.{Ghosts}
+use Rattle.sf_commit.specs.Handlers.{HandlerOf, new_handler}
+use Rattle.sf_actor.specs.Plain.{taken_in}
+use Rattle.sf_scene.specs.Scene.{SceneValue}
+use Rattle.sf_scene.specs.declared.declarations.Pick.{Pick}
+use Rattle.sf_screen.specs.Screens.{IsShown, ScreenOf}
+use Rattle.sf_show.specs.Turns.{bare_screen}
+use Rattle.sf_show.specs.Vsyncs.{IsSized}
+use Rattle.sf_show.specs.Writing.{Writes}
+use Rattle.sf_show.proofs.TurnLemmas.{timelines_within}
+use Rattle.sf_show.proofs.WritingLemmas.{cut_none, some_whole, writes_none}
+use Rattle.sf_shared.specs.declared.first.FirstSeats.{FirstSeats}
+use Rattle.sf_shared.specs.declared.locks.Locks.{Locks}
+use Rattle.sf_shared.specs.First.{HasAll, IsFirst, KnowsNothing}
+use Rattle.sf_crew.specs.declared.ashore.Ashore.{Ashore}
+use Rattle.sf_crew.specs.declared.run.Stopped.{Stopped}
+use Rattle.sf_crew.specs.declared.run.Stopped.TheVariants as stopped
+use Rattle.sf_crew.specs.Boarding.{GivesEach, number_of}
+use Rattle.sf_crew.specs.Returns.{Returns}
+use Rattle.sf_crew.specs.Visits.{HasLeftOrIs}
+use Rattle.sf_compositor.specs.declared.compositor.Compositor.{Compositor}
+use Rattle.sf_compositor.specs.Keeping.{HasEnded, IsSame, Keeps, sitting_of}
+use Rattle.sf_compositor.specs.Sitting.{Sits}
+use Rattle.sf_compositor.specs.Vsyncs.{Begin}
+use Rattle.sf_live.specs.declared.opening.Opened.{Opened}
+use Rattle.sf_live.specs.declared.threads.Joined.{Joined}
+use Rattle.sf_live.specs.Openings.{IsOpen}
+use Rattle.sf_live.specs.Running.{CameTogether, MayRun, Starts, WasCut, run_by}
+use Rattle.sf_live.specs.Resuming.{GoesFrom, HasCome}
+use Rattle.sf_live.specs.Threads.{HasRun, IsTogether, RunOf}
+use Rattle.sf_live.proofs.Joining.{has_given, has_run}
+
+pub of_err : {X E : Type 0} (P : E → Type 0) (rest : Result X E) (e : E) → rest ≡ Err e → IfErr rest P → P e
+of_err P rest e is p = subst (λ r. IfErr r P) is p
+
+no_writing : (pictures : ℕ → Picture) (a : Option (List ℕ)) (screen : ScreenOf) → screen ≡ bare_screen → Writes a a [] × IsShown pictures screen
+no_writing pictures a screen bare = (writes_none a, subst (IsShown pictures) (sym bare) tt)
+
+bare_sized : (width height : ℕ) (screen : ScreenOf) → screen ≡ bare_screen → IsSized width height screen
+bare_sized width height screen bare = subst (IsSized width height) (sym bare) tt
+
+abbrev IsWant : RunFault → Type 0
+IsWant NoMemory = Unit {0}
+IsWant WriteFault = ⊥
+
+pub no_write_fault : NoMemory ≡ WriteFault → ⊥
+no_write_fault is = subst IsWant is tt
+
+abbrev IsMemory : Stopped → Type 0
+IsMemory stopped.NoMemory = Unit {0}
+IsMemory stopped.Ended = ⊥
+
+module _ {K B : Type 0} {naming : Naming B} where
+  pub same_self : (c : Compositor K B naming) → IsSame c c
+  same_self c = record { workers = refl; period = refl; timelines = refl; sink = refl }
+
+module _ {K B : Type 0} {naming : Naming B} (taken : K → Option (List ℕ)) (faults : K → ℕ) (lease : Ghosts ReadLeaseOf SeatView ReadLeaseOf Issued) (table : TableId) (scene : SceneValue) (opened : Opened B) (c : Compositor K B naming)
+    (opens : IsOpen scene table opened) (starts : Starts scene c) (unused : KnowsNothing opened.first.seats) where
+  -- before the first vsync
+  pub kept_first : (boarded : FirstSeats B) → GivesEach opened.first (map number_of opened.actors.items) boarded → Keeps taken faults lease table c c opened.locks boarded
+  kept_first boarded gives =
+      let given = has_given opened.first (map number_of opened.actors.items) boarded unused gives in
+      let handler = starts.handler in
+      let last = ap (λ (h : HandlerOf ReadLeaseOf). h.last) handler in
+      let step = given.step in
+      let opened_step = opens.step in
+      let none = starts.none_made in
+      record {
+        same = same_self c;
+        wide = refl;
+        high = refl;
+        few = omega (arith, none);
+        log = record {
+          set = starts.set;
+          sits = record {
+            start = sitting_of boarded c;
+            fresh = record {
+              handler = handler
+                  ∙ (λ i. new_handler (sym (ap (λ (h : HandlerOf ReadLeaseOf). h.width) handler) i) (sym (ap (λ (h : HandlerOf ReadLeaseOf). h.height) handler) i) 256);
+              nothing = given.nothing;
+              no_signals = given.signals ∙ opens.no_signals;
+              no_leaves = given.leaves ∙ opens.no_leaves;
+              number = none;
+            };
+            log = Begin;
+            buffers = tt;
+            written = λ pictures found. no_writing pictures (taken c.sink.now) c.screen starts.screen;
+          };
+          may = record {
+            alive = ap (λ (h : HandlerOf ReadLeaseOf). h.is_spent) handler;
+            unlent = ap (λ (h : HandlerOf ReadLeaseOf). h.lent) handler;
+            sized = bare_sized c.decider.handler.width c.decider.handler.height c.screen starts.screen;
+            known = (let low : 0 ≤ taken_in (unstamped boarded.seats.arrivals.seen) = omega arith in omega (arith, last, low));
+            early = omega (arith, step, opened_step);
+          };
+        };
+        some = record { records = []; written = writes_none (taken c.sink.now) };
+        faults_rise = omega arith;
+      }
+
+  -- what it keeps beside what lets it compose in threads
+  module _ (S : Type 0) where
+    abbrev KeepsSo : Compositor K B naming → Locks B → FirstSeats B → Type 0
+    KeepsSo now locks first = S × Keeps taken faults lease table c now locks first
+
+    module _ (version : scene.version ≡ 1) (now : Compositor K B naming) (ashore : Ashore B) (first : IsFirst table opened.locks ashore.first) (all : HasAll ashore.first)
+        (pictures : List Picture) (pictured : pictures ≡ opened.pictures) (returned : Returns KeepsSo table opened.locks pictures opened.first opened.actors.items now ashore) where
+      abbrev returns : Returns KeepsSo table opened.locks opened.pictures opened.first opened.actors.items now ashore
+      returns = subst (λ (p : List Picture). Returns KeepsSo table opened.locks p opened.first opened.actors.items now ashore) pictured returned
+
+      kept : Keeps taken faults lease table c now opened.locks returns.attended
+      kept = returns.attends.kept.1
+
+      wide : now.decider.handler.width ≡ scene.width
+      wide = kept.wide ∙ ap (λ (h : HandlerOf ReadLeaseOf). h.width) starts.handler
+
+      high : now.decider.handler.height ≡ scene.height
+      high = kept.high ∙ ap (λ (h : HandlerOf ReadLeaseOf). h.height) starts.handler
+
+      abbrev pub ran : RunOf B
+      ran = run_by taken faults scene returns.attended.seats c now
+
+      pub came_ashore : HasRun lease table ran opened.locks opened.pictures ashore
+      came_ashore =
+          has_run lease table ran opened opens unused KeepsSo now ashore first all returns refl
+          (subst (λ (p : ℕ). Sits lease table opened.locks p now.timelines.items (taken c.sink.now) (taken now.sink.now) now.screen now.decider.handler.width now.decider.handler.height (sitting_of returns.attended now))
+          (kept.same.period ∙ starts.period) kept.log.sits)
+          wide high version kept.few
+
+      pub came_together : (joined : Joined B) → IsTogether lease table ran opened.locks joined → CameTogether taken faults lease table scene c now joined
+      came_together joined together = record {
+        same = kept.same;
+        locks = opened.locks;
+        seats = returns.attended.seats;
+        together = together;
+        sized = subst (λ (w : ℕ). IsSized w scene.height now.screen) wide (subst (λ (h : ℕ). IsSized now.decider.handler.width h now.screen) high kept.log.may.sized);
+        some = kept.some;
+        faults_rise = kept.faults_rise;
+      }
+
+      -- where there was no memory to bring the actors together
+      pub cut_ashore : (why : RunFault) → (why ≡ WriteFault → ⊥) → WasCut taken faults c now why
+      cut_ashore why other = record {
+        same = kept.same;
+        cut = some_whole (taken c.sink.now) (taken now.sink.now) kept.some;
+        faults_rise = kept.faults_rise;
+        failed = λ is. absurd (other is);
+      }
+
+    -- where the threads came to no end
+    pub cut_threads : (locks : Locks B) (now : Compositor K B naming) (why : Stopped) (fault : RunFault) → (fault ≡ WriteFault → (why ≡ stopped.Ended) × (now.fault ≡ Some WriteFault))
+        → HasLeftOrIs KeepsSo (HasEnded taken faults c) locks c now why → WasCut taken faults c now fault
+    cut_threads locks now why fault caused (inl same) =
+        let failed : fault ≡ WriteFault → Rose (faults c.sink.now) (faults c.sink.now) =
+        λ is. absurd (false≢true (ap is_some (sym starts.fine ∙ ap (λ (n : Compositor K B naming). n.fault) (sym same) ∙ (caused is).1))) in
+        subst (λ (n : Compositor K B naming). WasCut taken faults c n fault) (sym same) (record { same = same_self c; cut = cut_none (taken c.sink.now); faults_rise = omega arith; failed = failed })
+    cut_threads locks now stopped.Ended fault caused (inr ended) = record {
+      same = ended.same;
+      cut = ended.cut;
+      faults_rise = ended.faults_rise;
+      failed = λ is. ended.failed (caused is).1;
+    }
+    cut_threads locks now stopped.NoMemory fault caused (inr (first, left)) = record {
+      same = left.1.same;
+      cut = some_whole (taken c.sink.now) (taken now.sink.now) left.1.some;
+      faults_rise = left.1.faults_rise;
+      failed = λ is. absurd (subst IsMemory (caused is).0 tt);
+    }
+
+-- so a player goes on with the run, from its joins
+module _ {K B : Type 0} {naming : Naming B} (taken : K → Option (List ℕ)) (faults : K → ℕ) (lease : Ghosts ReadLeaseOf SeatView ReadLeaseOf Issued) (table : TableId) (scene : SceneValue) (start now : Compositor K B naming) (joined : Joined B)
+    (came : CameTogether taken faults lease table scene start now joined) where
+  abbrev pub run_came : RunOf B
+  run_came = run_by taken faults scene came.seats start now
+
+  pub goes_from : (before : Option (List ℕ)) (opened : Opened B) (period : ℕ) (order : List Pick) (handler : HandlerOf ReadLeaseOf) (vsyncs : ℕ) (first : HandlerOf ReadLeaseOf)
+      → MayRun table scene before (taken start.sink.now) start.timelines.items period order first opened → handler ≡ now.decider.handler → vsyncs ≡ now.vsyncs → GoesFrom run_came before period order handler vsyncs
+  goes_from before opened period order handler vsyncs first may same_handler same_vsyncs = record {
+    same_period = may.same_period;
+    same_order = may.same_order;
+    same_handler = same_handler;
+    same_vsyncs = same_vsyncs;
+    rising = ap (λ t. t.items) came.same.timelines ∙ may.rising;
+    sized = came.sized;
+    begun = may.begun;
+  }
+
+  pub has_come : HasCome run_came now.timelines.items (taken now.sink.now) now.screen
+  has_come = record { same_timelines = refl; same_sink = refl; same_screen = refl }
+
+-- a compositor of the scene that is opened may start
+pub starts_here : {K B : Type 0} {naming : Naming B} {table : TableId} {before after : Option (List ℕ)} {period : ℕ} {order : List Pick} {handler : HandlerOf ReadLeaseOf} {opened : Opened B} (c : Compositor K B naming) (scene : SceneValue)
+    → MayRun table scene before after c.timelines.items period order handler opened → c.decider.handler ≡ handler → c.vsyncs ≡ 0 → c.fault ≡ None → c.screen ≡ bare_screen → c.period ≡ period → 1 ≤ c.workers → c.workers ≤ 16
+    → Starts scene c
+starts_here c scene may handler none fine screen period some few = record {
+  handler = handler ∙ may.handler_is;
+  none_made = none;
+  fine = fine;
+  screen = screen;
+  period = period ∙ may.same_period;
+  set = record {
+    some = some;
+    few = few;
+    short = subst (λ (p : ℕ). p ≤ 1000000000) (sym (period ∙ may.same_period)) may.opens.limits.header.high_period;
+    ranges = timelines_within scene c.timelines.items may.opens.limits may.rising;
+  };
+}

@@ -1,0 +1,49 @@
+use Rattle.std.proofs.Common.{Bool, not, ◌∙◌, subst, sym}
+use Rattle.sf_live.specs.Rounds.{ShowsOn, turn_written}
+use Rattle.sf_actor.specs.Scripts.{picture_at}
+use Rattle.sf_show.proofs.ClosingLemmas.{few_steps}
+use Rattle.sf_show.proofs.TurnLemmas.{timelines_within}
+use Rattle.sf_live.proofs.RoundLemmas.{as_many, cut_before, may_write, shows_on, turn_cut}
+use Rattle.sf_live.proofs.rounds.show_turn.Goals as goal
+
+pub pass_gate-requires-clause-few : goal.pass_gate-requires-clause-few
+pass_gate-requires-clause-few g c = λ place actor below.
+    let has = c.requires.shown.2 in
+    few_steps g.B.TableName.table c.requires.shown.0 has.so c.args.player.now has.stands place actor below
+
+pub returns-in-Err-clause-err : goal.returns-in-Err-clause-err
+returns-in-Err-clause-err g c = λ scene start has. cut_before g.B.TableName.table scene c.args.timelines.now start _ c.args.screen.now c.args.player.now has
+
+pub write_turn-requires-clause-timelines : goal.write_turn-requires-clause-timelines
+write_turn-requires-clause-timelines g c = λ lives outlives.
+    let has = c.requires.shown.2 in
+    timelines_within c.requires.shown.0 c.args.timelines.now has.stands.stands.stands.of_scene.limits has.rising
+
+pub write_turn-requires-clause-may : goal.write_turn-requires-clause-may
+write_turn-requires-clause-may g c = λ lives outlives.
+    let has = c.requires.shown.2 in
+    (c.requires.shown.0, may_write g.B.TableName.table c.requires.shown.0 has.so c.in-Ok.turn c.next.new.self (c.in-Ok.ensures.on c.requires.shown.0 has.so has.stands), has.sized)
+
+pub returns-in-Ok-write_turn-clause-on : goal.returns-in-Ok-write_turn-clause-on
+returns-in-Ok-write_turn-clause-on g c = λ scene start has.
+    let goes = c.in-Ok.ensures.on scene has.so has.stands in
+    let may = may_write g.B.TableName.table scene has.so c.in-Ok.turn c.next.new.self goes in
+    let now = c.in-Ok-write_turn.ensures.ok scene may has.shown in
+    subst (λ (b : Bool). ShowsOn (not b) g.B.TableName.table scene c.args.timelines.now start (g.K.Sink.taken c.write_turn.new.sink) c.write_turn.new.screen c.next.new.self) (sym c.is_end-goes_on.ensures)
+    (shows_on g.B.TableName.table scene c.args.timelines.now start (g.K.Sink.taken c.args.sink.now) (g.K.Sink.taken c.write_turn.new.sink) c.args.screen.now c.write_turn.new.screen
+    c.args.player.now c.next.new.self c.in-Ok.turn has goes now.0 now.1 (c.in-Ok-write_turn.ensures.sized scene may has.sized))
+
+pub returns-in-Ok-write_turn-clause-gates : goal.returns-in-Ok-write_turn-clause-gates
+returns-in-Ok-write_turn-clause-gates g c =
+    let scene = c.requires.shown.0 in
+    let has = c.requires.shown.2 in
+    let goes = c.in-Ok.ensures.on scene has.so has.stands in
+    c.pass_gate.ensures.as_many ∙ c.requires.gates
+    ∙ as_many g.B.TableName.table scene has.so c.args.player.now has.stands ∙ sym (as_many g.B.TableName.table scene goes.later c.next.new.self goes.stands)
+
+pub returns-in-Err-write_turn-clause-err : goal.returns-in-Err-write_turn-clause-err
+returns-in-Err-write_turn-clause-err g c = λ scene start has.
+    let goes = c.in-Ok.ensures.on scene has.so has.stands in
+    let may = may_write g.B.TableName.table scene has.so c.in-Ok.turn c.next.new.self goes in
+    turn_cut g.B.TableName.table scene c.args.timelines.now start (g.K.Sink.taken c.args.sink.now) (g.K.Sink.taken c.write_turn.new.sink) c.args.screen.now c.args.player.now
+    (turn_written (picture_at scene.pictures) c.args.timelines.now c.in-Ok.turn) has (c.in-Err-write_turn.ensures.err scene may has.shown)

@@ -1,0 +1,16 @@
+use Rattle.sf_show.proofs.ClosingLemmas.{few_steps}
+use Rattle.sf_live.proofs.EndLemmas.{live_cut, live_written}
+use Rattle.sf_live.proofs.rounds.write_rounds.Goals as goal
+
+pub write_rest-requires : goal.write_rest-requires
+write_rest-requires g c =
+    let has = c.in-Ok.ensures.ok c.requires.shown.0 c.requires.shown.1 c.requires.shown.2 in
+    few_steps g.B.TableName.table c.requires.shown.0 has.so c.show_rounds.new.player has.stands
+
+pub returns-clause-ok : goal.returns-clause-ok
+returns-clause-ok g c = λ scene start shown.
+    live_written g.B.TableName.table scene start _ _ c.show_rounds.new.player (c.in-Ok.ensures.ok scene start shown) c.write_rest.result c.write_rest.ensures.ok
+
+pub returns-clause-err : goal.returns-clause-err
+returns-clause-err g c = λ scene start shown.
+    live_cut g.B.TableName.table scene start _ _ c.show_rounds.new.player (c.in-Ok.ensures.ok scene start shown) c.write_rest.result c.write_rest.ensures.err

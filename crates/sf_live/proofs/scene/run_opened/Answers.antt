@@ -1,0 +1,74 @@
+use Rattle.std.proofs.Common.{◌≤◌, ◌∷◌, [], arith, refl, rules, subst, sym, OnErr, OnOk}
+use Rattle.sf_io.specs.Causes.{Rose}
+use Rattle.sf_compositor.proofs.Rising.{rose_since}
+use Rattle.sf_show.specs.Writing.{CutSome}
+use Rattle.sf_crew.proofs.AttendLemmas.{of_ok}
+use Rattle.sf_run.specs.Played.{opening}
+use Rattle.sf_show.proofs.WritingLemmas.{cut_more}
+use Rattle.sf_live.specs.Runs.{WroteLive}
+use Rattle.sf_live.proofs.RunLemmas.{goes_from, has_come, of_err, run_came, starts_here}
+use Rattle.sf_live.proofs.scene.run_opened.Goals as goal
+
+pub run_threads-compositor-requires-clause-starts : goal.run_threads-compositor-requires-clause-starts
+run_threads-compositor-requires-clause-starts g c κs within =
+    let m = c.requires.starts.2 in (
+      c.requires.starts.0,
+      m.version,
+      m.opens,
+      starts_here _ c.requires.starts.0 m refl refl refl c.new.ensures refl c.requires.some c.requires.few,
+    )
+
+pub run_rounds-requires-clause-goes : goal.run_rounds-requires-clause-goes
+run_rounds-requires-clause-goes g c κs within =
+    let m = c.requires.starts.2 in
+    let came = of_ok _ c.run_threads-compositor.result.1 c.in-Ok.joined c.in-Ok.is
+    (c.run_threads-compositor.ensures.together c.requires.starts.0 m.version m.opens (starts_here _ c.requires.starts.0 m refl refl refl c.new.ensures refl c.requires.some c.requires.few)) in (
+      run_came _ _ _ _ _ _ _ c.in-Ok.joined came,
+      came.locks,
+      c.requires.starts.1,
+      (came.together, goes_from _ _ _ _ _ _ _ c.in-Ok.joined came c.requires.starts.1 c.args.opened c.args.period c.args.order _ _ c.args.handler m refl refl, has_come _ _ _ _ _ _ _ c.in-Ok.joined came),
+    )
+
+pub returns-in-Err-clause-err : goal.returns-in-Err-clause-err
+returns-in-Err-clause-err g c = λ scene start m.
+    let was = of_err _ c.run_threads-compositor.result.1 c.in-Err.fault c.in-Err.is c.run_threads-compositor.ensures.cut in
+    let name = sym was.same.sink in
+    subst (λ s. CutSome start (g.K.Sink.taken s)) (search rules)
+    (cut_more start _ _ (record { records = opening scene ∷ []; written = m.begun }) was.cut)
+
+pub returns-in-Ok-clause-ok : goal.returns-in-Ok-clause-ok
+returns-in-Ok-clause-ok g c = λ scene start m.
+    let came = of_ok _ c.run_threads-compositor.result.1 c.in-Ok.joined c.in-Ok.is
+    (c.run_threads-compositor.ensures.together scene m.version m.opens (starts_here _ scene m refl refl refl c.new.ensures refl c.requires.some c.requires.few)) in
+    let name = sym came.same.sink in
+    subst (λ s. OnOk c.run_rounds.result (WroteLive scene start (g.K.Sink.taken s))) (sym (c.sink-1.given.1 name))
+    (c.run_rounds.ensures.ok (run_came _ _ _ _ _ _ _ c.in-Ok.joined came) came.locks start came.together
+    (goes_from _ _ _ _ _ _ _ c.in-Ok.joined came start c.args.opened c.args.period c.args.order _ _ c.args.handler m refl refl) (has_come _ _ _ _ _ _ _ c.in-Ok.joined came))
+
+pub returns-in-Ok-clause-err : goal.returns-in-Ok-clause-err
+returns-in-Ok-clause-err g c = λ scene start m.
+    let came = of_ok _ c.run_threads-compositor.result.1 c.in-Ok.joined c.in-Ok.is
+    (c.run_threads-compositor.ensures.together scene m.version m.opens (starts_here _ scene m refl refl refl c.new.ensures refl c.requires.some c.requires.few)) in
+    let name = sym came.same.sink in
+    subst (λ s. OnErr c.run_rounds.result (CutSome start (g.K.Sink.taken s))) (sym (c.sink-1.given.1 name))
+    (c.run_rounds.ensures.err (run_came _ _ _ _ _ _ _ c.in-Ok.joined came) came.locks start came.together
+    (goes_from _ _ _ _ _ _ _ c.in-Ok.joined came start c.args.opened c.args.period c.args.order _ _ c.args.handler m refl refl) (has_come _ _ _ _ _ _ _ c.in-Ok.joined came))
+
+pub returns-in-Ok-clause-later : goal.returns-in-Ok-clause-later
+returns-in-Ok-clause-later g c =
+    let m = c.requires.starts.2 in
+    let came = of_ok _ c.run_threads-compositor.result.1 c.in-Ok.joined c.in-Ok.is
+    (c.run_threads-compositor.ensures.together c.requires.starts.0 m.version m.opens (starts_here _ c.requires.starts.0 m refl refl refl c.new.ensures refl c.requires.some c.requires.few)) in
+    let name = sym came.same.sink in
+    let rose = came.faults_rise in
+    let later = c.run_rounds.ensures.later in
+    subst (λ s. g.K.Sink.faults c.args.sink.now ≤ g.K.Sink.faults s) (sym (c.sink-1.given.1 name)) (omega (arith, rose, later))
+
+pub returns-in-Ok-clause-failed : goal.returns-in-Ok-clause-failed
+returns-in-Ok-clause-failed g c = λ fails.
+    let m = c.requires.starts.2 in
+    let came = of_ok _ c.run_threads-compositor.result.1 c.in-Ok.joined c.in-Ok.is
+    (c.run_threads-compositor.ensures.together c.requires.starts.0 m.version m.opens (starts_here _ c.requires.starts.0 m refl refl refl c.new.ensures refl c.requires.some c.requires.few)) in
+    let name = sym came.same.sink in
+    subst (λ s. Rose (g.K.Sink.faults c.args.sink.now) (g.K.Sink.faults s)) (sym (c.sink-1.given.1 name))
+    (rose_since _ _ _ came.faults_rise (c.run_rounds.ensures.failed fails))

@@ -1,0 +1,28 @@
+-- What a run that goes on by rounds begins with.
+use Rattle.std.specs.Prelude.{◌≡◌, ℕ, List, [], ◌∷◌, Option}
+use Rattle.sf_surface.specs.Tokens.{ReadLeaseOf}
+use Rattle.sf_commit.specs.Handlers.{HandlerOf}
+use Rattle.sf_scene.specs.declared.declarations.Pick.{Pick}
+use Rattle.sf_run.specs.Played.{opening}
+use Rattle.sf_run.specs.Vsyncs.{rising_timelines}
+use Rattle.sf_screen.specs.Screens.{ScreenOf}
+use Rattle.sf_show.specs.Vsyncs.{IsSized}
+use Rattle.sf_show.specs.Writing.{Writes}
+use Rattle.sf_live.specs.Threads.{RunOf}
+
+-- the period and the order are the scene's, the compositor is as it came to the joins, and the record that begins a run was written before the
+-- first vsync
+pub record GoesFrom {B : Type 0} (run : RunOf B) (start : Option (List ℕ)) (period : ℕ) (order : List Pick) (handler : HandlerOf ReadLeaseOf) (vsyncs : ℕ) : Type 0 where
+  pub same_period : period ≡ run.scene.period
+  pub same_order : order ≡ run.scene.order
+  pub same_handler : handler ≡ run.last.handler
+  pub same_vsyncs : vsyncs ≡ run.last.number
+  pub rising : run.timelines ≡ rising_timelines run.scene
+  pub sized : IsSized run.scene.width run.scene.height run.screen
+  pub begun : Writes start run.before (opening run.scene ∷ [])
+
+-- the timelines, the sink and the screen are as they came to the joins
+pub record HasCome {B : Type 0} (run : RunOf B) (timelines : List ℕ) (now : Option (List ℕ)) (screen : ScreenOf) : Type 0 where
+  pub same_timelines : timelines ≡ run.timelines
+  pub same_sink : now ≡ run.now
+  pub same_screen : screen ≡ run.screen

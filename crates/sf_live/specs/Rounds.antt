@@ -1,0 +1,82 @@
+-- What is written in the rounds behind a run in threads: the vsyncs as they come, and at the end the replies to all steps and the
+-- closing records.
+use Rattle.std.specs.Prelude.{◌≡◌, ℕ, Bool, true, false, List, [], ◌∷◌, map, Option, None, Some, slice_get, slice_set}
+use Rattle.std.specs.List.{flat_map}
+use Rattle.atomic_table.specs.Seated.{TableId}
+use Rattle.sf_picture.specs.declared.picture.Picture.{Picture}
+use Rattle.sf_scene.specs.Scene.{SceneValue}
+use Rattle.sf_actor.specs.Scripts.{picture_at}
+use Rattle.sf_steps.specs.declared.actor.Actor.{Actor}
+use Rattle.sf_crew.specs.Gates.{HasPassed, IsReady}
+use Rattle.sf_crew.specs.declared.gates.Gates.{Gates}
+use Rattle.sf_record.specs.Events.{events_records}
+use Rattle.sf_record.specs.declared.event.Event.{Event}
+use Rattle.sf_record.specs.declared.event.Event.TheVariants as event
+use Rattle.sf_record.specs.declared.record.Record.{Record}
+use Rattle.sf_record.specs.declared.record.Record.TheVariants as rec
+use Rattle.sf_run.specs.Played.{opening}
+use Rattle.sf_run.specs.Replies.{reply_shown}
+use Rattle.sf_run.specs.Vsyncs.{rising_timelines, vsyncs_in}
+use Rattle.sf_screen.specs.Screens.{IsShown, ScreenOf}
+use Rattle.sf_play.specs.Going.{EndsRun, TellsFrame}
+use Rattle.sf_play.specs.Players.{PlayerOf, SoFar}
+use Rattle.sf_play.specs.Standing.{StandsInRun}
+use Rattle.sf_play.specs.declared.turn.Turn.{Turn}
+use Rattle.sf_play.specs.declared.turn.Turn.TheVariants as turn
+use Rattle.sf_show.specs.Vsyncs.{IsSized, vsync_shown}
+use Rattle.sf_show.specs.Writing.{Writes}
+
+-- the vsyncs among events, alone
+abbrev pub vsyncs_alone : List Event → List Event
+vsyncs_alone events = map event.Vsync (vsyncs_in events)
+
+-- the records of a turn as it is done: those of a vsync; the reply to a step is written at the end
+abbrev pub turn_written : (ℕ → Picture) → List ℕ → Turn → List Record
+turn_written pictures timelines (turn.Vsync report) = vsync_shown pictures timelines report
+turn_written pictures timelines other = []
+
+module _ {B : Type 0} where
+  -- a turn can be written: the frame of its vsync can be composed
+  abbrev pub MayWriteTurn : SceneValue → Turn → PlayerOf B → Type 0
+  MayWriteTurn scene (turn.Vsync report) player = TellsFrame scene report player.play
+  MayWriteTurn scene other player = Unit {0}
+
+  -- The vsyncs of a run so far are written behind what was there before, and the screen has the last frame; the player stands in
+  -- the run.
+  pub record HasShown (table : TableId) (scene : SceneValue) (timelines : List ℕ) (start now : Option (List ℕ)) (screen : ScreenOf) (player : PlayerOf B) : Type 0 where
+    pub so : SoFar B
+    pub stands : StandsInRun table scene so player
+    pub rising : timelines ≡ rising_timelines scene
+    pub written : Writes start now (opening scene ∷ events_records (vsyncs_alone so.events))
+    pub shown : IsShown (picture_at scene.pictures) screen
+    pub sized : IsSized scene.width scene.height screen
+
+  -- the same at the end of the rounds, where only the replies and the closing records are to come
+  pub record HasShownAll (table : TableId) (scene : SceneValue) (start now : Option (List ℕ)) (player : PlayerOf B) : Type 0 where
+    pub so : SoFar B
+    pub stands : StandsInRun table scene so player
+    pub written : Writes start now (opening scene ∷ events_records (vsyncs_alone so.events))
+    pub ends : EndsRun scene so player
+
+  -- a turn was written: there are more to come, or the run is at its end
+  abbrev pub ShowsOn : Bool → TableId → SceneValue → List ℕ → Option (List ℕ) → Option (List ℕ) → ScreenOf → PlayerOf B → Type 0
+  ShowsOn true table scene timelines start now screen player = HasShown table scene timelines start now screen player
+  ShowsOn false table scene timelines start now screen player = HasShownAll table scene start now player
+
+  -- the records of the replies to the steps of an actor, and those of all actors
+  abbrev pub reply_records : Actor B → List Record
+  reply_records actor = map rec.Repl (map reply_shown actor.replies.items)
+
+  abbrev pub all_reply_records : List (Actor B) → List Record
+  all_reply_records actors = flat_map reply_records actors
+
+  -- the actor at a place may try its next step: the gate was passed for it, and not for another actor's
+  pub record PassesAt (place : ℕ) (actors : List (Actor B)) (old new : List Gates) : Type 0 where
+    pub passed : Gates
+    pub only : new ≡ slice_set old place passed
+    pub ready : (actor : Actor B) (before : Gates) → slice_get actors place ≡ Some actor → slice_get old place ≡ Some before → HasPassed actor before → IsReady actor passed
+
+  -- of the actor whose step is tried next, if one is
+  abbrev pub PassesFor : Option ℕ → List (Actor B) → List Gates → List Gates → Type 0
+  PassesFor None actors old new = new ≡ old
+  PassesFor (Some place) actors old new = PassesAt place actors old new

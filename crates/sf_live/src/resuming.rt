@@ -1,0 +1,43 @@
+ghost use Rattle.std.specs.Prelude.{◌≡◌, ℕ, List, length, Option};
+ghost use Rattle.sf_shared.specs.declared.locks.Locks.{Locks};
+ghost use Rattle.sf_live.specs.Resuming.{GoesFrom};
+ghost use Rattle.sf_live.specs.Rounds.{HasShown};
+ghost use Rattle.sf_live.specs.Threads.{IsTogether, RunOf};
+
+use crate::threads::Joined;
+use sf_base::Items;
+use sf_commit::Handler;
+use sf_crew::Gates;
+use sf_joined::{
+    a_run_in_threads_goes_on, frames_among_threads_find_their_pictures, what_threads_did_is_played,
+};
+use sf_play::Player;
+use sf_scene::Pick;
+use sf_surface::ReadLease;
+use sf_turns::TableName;
+use sf_txn::Lease;
+use std::alloc::Global;
+
+/// A player that goes on with a run whose actors are together again, and the gates that they passed:
+/// what was written so far are the vsyncs that it has shown.
+pub(crate) fn go_on<B: TableName>(
+    alloc: Global,
+    period: u64,
+    order: Items<Pick>,
+    joined: Joined<B>,
+    handler: Handler<ReadLease<B>>,
+    vsyncs: u32,
+) -> (Player<B>, Vec<Gates>)
+    requires goes { (run : RunOf B) × (locks : Locks B) × (start : Option (List ℕ))
+        × (IsTogether ⟦<ReadLease<B> as Lease>⟧ B.table run locks joined × GoesFrom run start period order handler vsyncs) }
+    ensures shown { (run : RunOf B) (locks : Locks B) (start : Option (List ℕ)) → IsTogether ⟦<ReadLease<B> as Lease>⟧ B.table run locks joined
+        → GoesFrom run start period order handler vsyncs → HasShown B.table run.scene run.timelines start run.now run.screen result.0 }
+    ensures gates { length result.1.items ≡ length result.0.play.cast.actors }
+{
+    a_run_in_threads_goes_on::<B>();
+    frames_among_threads_find_their_pictures::<B>();
+    what_threads_did_is_played::<B>();
+    let Joined { cast, gates } = joined;
+    let player = Player::resume(alloc, period, order, cast, handler, vsyncs);
+    (player, gates)
+}

@@ -1,0 +1,257 @@
+ghost use Rattle.std.specs.Prelude.{◌≡◌, ◌<◌, ◌≤◌, ◌++◌, ℕ, true, All, IfOk, IsErrOf, List, OnErr, OnOk, Option, length, map};
+ghost use Rattle.sf_actor.specs.Scripts.{picture_at};
+ghost use Rattle.sf_io.specs.Causes.{Rose};
+ghost use Rattle.sf_live.specs.Rounds.{HasShown, HasShownAll, MayWriteTurn, PassesFor, ShowsOn, all_reply_records, turn_written};
+ghost use Rattle.sf_live.specs.Runs.{WroteLive};
+ghost use Rattle.sf_play.specs.Going.{fuel_of};
+ghost use Rattle.sf_play.specs.Turning.{next_tried};
+ghost use Rattle.sf_record.specs.declared.record.Record.TheVariants as rec;
+ghost use Rattle.sf_run.specs.Replies.{reply_shown};
+ghost use Rattle.sf_scene.specs.Scene.{SceneValue};
+ghost use Rattle.sf_screen.specs.Screens.{IsShown};
+ghost use Rattle.sf_show.specs.Closings.{closing_of};
+ghost use Rattle.sf_show.specs.Turns.{is_end};
+ghost use Rattle.sf_show.specs.Vsyncs.{IsSized};
+ghost use Rattle.sf_show.specs.Writing.{CutSome, Writes, WritesPart};
+ghost use Rattle.sf_steps.specs.declared.actor.Actor.{Actor as ActorIn};
+
+use sf_actor::Reply;
+use sf_crew::Gates;
+use sf_io::{Gate, Sink};
+use sf_play::{Player, Turn};
+use sf_record::RunFault;
+use sf_report::reply_record;
+use sf_screen::Screen;
+use sf_show::{show_vsync, write_closing, write_made};
+use sf_steps::Actor;
+use sf_turns::TableName;
+use std::alloc::Global;
+use std::sync::Wait;
+use std::thread::Threads;
+
+/// Before the step that the next turn tries, the gate is passed, once for each step.
+fn pass_gate<R: Wait, G: Gate, B: TableName>(
+    rt: &R,
+    gate: &G,
+    gates: &mut [Gates],
+    player: &Player<B>,
+)
+    requires few { All (λ (actor : ActorIn B). length actor.script.steps ≤ 4294967295) player.now.play.cast.actors }
+    requires gates { length gates.old ≡ length player.now.play.cast.actors }
+    ensures passed { PassesFor (next_tried player.now) player.now.play.cast.actors gates.old gates.new }
+    ensures as_many { length gates.new ≡ length gates.old }
+{
+    if let Some(place) = player.next_actor() {
+        gates[place] = gates[place].ready(rt, gate, &player.cast().actors()[place]);
+    }
+}
+
+fn is_end(turn: &Turn) -> bool
+    ensures { result ≡ is_end turn.now }
+{
+    match turn {
+        Turn::End => true,
+        _ => false,
+    }
+}
+
+/// Writes the records of a turn, if it is a vsync.
+fn write_turn<R: Threads + Sync, K: Sink, B: TableName>(
+    rt: &R,
+    alloc: Global,
+    workers: u32,
+    sink: &mut K,
+    timelines: &[u32],
+    screen: &mut Screen,
+    player: &Player<B>,
+    turn: Turn,
+) -> Result<(), RunFault>
+    requires some { 1 ≤ workers }
+    requires few { workers ≤ 16 }
+    requires timelines { All (λ timeline. (1 ≤ timeline) × (timeline ≤ 64)) timelines.now }
+    requires may { (scene : SceneValue) × MayWriteTurn scene turn player.now × IsSized scene.width scene.height screen.old }
+    ensures ok { (scene : SceneValue) → MayWriteTurn scene turn player.now → IsShown (picture_at scene.pictures) screen.old → OnOk result
+        (Writes (K.taken sink.old) (K.taken sink.new) (turn_written (picture_at scene.pictures) timelines.now turn) × IsShown (picture_at scene.pictures) screen.new) }
+    ensures err { (scene : SceneValue) → MayWriteTurn scene turn player.now → IsShown (picture_at scene.pictures) screen.old → OnErr result
+        (WritesPart (K.taken sink.old) (K.taken sink.new) (turn_written (picture_at scene.pictures) timelines.now turn)) }
+    ensures sized { (scene : SceneValue) → MayWriteTurn scene turn player.now → IsSized scene.width scene.height screen.old
+        → OnOk result (IsSized scene.width scene.height screen.new) }
+    ensures later { K.faults sink.old ≤ K.faults sink.new }
+    ensures failed { IsErrOf result RunFault.WriteFault → Rose (K.faults sink.old) (K.faults sink.new) }
+{
+    match turn {
+        Turn::Vsync(report) => show_vsync(
+            rt,
+            alloc,
+            workers,
+            sink,
+            timelines,
+            screen,
+            player.contents(),
+            report,
+        ),
+        Turn::Step(_) | Turn::Idle | Turn::End => Ok(()),
+    }
+}
+
+/// Does the next turn of a run, for which its gate is passed before, and writes the records of its
+/// vsync; whether it was not the end.
+fn show_turn<R: Threads + Wait + Sync, K: Sink, G: Gate, B: TableName>(
+    rt: &R,
+    alloc: Global,
+    workers: u32,
+    sink: &mut K,
+    timelines: &[u32],
+    screen: &mut Screen,
+    gate: &G,
+    gates: &mut [Gates],
+    player: &mut Player<B>,
+) -> Result<bool, RunFault>
+    requires some { 1 ≤ workers }
+    requires few { workers ≤ 16 }
+    requires gates { length gates.old ≡ length player.old.play.cast.actors }
+    requires shown { (scene : SceneValue) × (start : Option (List ℕ)) × HasShown B.table scene timelines.now start (K.taken sink.old) screen.old player.old }
+    ensures on { (scene : SceneValue) (start : Option (List ℕ)) → HasShown B.table scene timelines.now start (K.taken sink.old) screen.old player.old
+        → IfOk result (λ goes_on. ShowsOn goes_on B.table scene timelines.now start (K.taken sink.new) screen.new player.new) }
+    ensures err { (scene : SceneValue) (start : Option (List ℕ)) → HasShown B.table scene timelines.now start (K.taken sink.old) screen.old player.old
+        → OnErr result (CutSome start (K.taken sink.new)) }
+    ensures gates { IfOk result (λ _. length gates.new ≡ length player.new.play.cast.actors) }
+    ensures less { IfOk result (λ goes_on. goes_on ≡ true → fuel_of player.new < fuel_of player.old) }
+    ensures later { K.faults sink.old ≤ K.faults sink.new }
+    ensures failed { IsErrOf result RunFault.WriteFault → Rose (K.faults sink.old) (K.faults sink.new) }
+{
+    pass_gate(rt, gate, gates, player);
+    let turn = match player.next() {
+        Ok(turn) => turn,
+        Err(_) => return Err(RunFault::NoMemory),
+    };
+    let goes_on = !is_end(&turn);
+    match write_turn(rt, alloc, workers, sink, timelines, screen, player, turn) {
+        Ok(()) => Ok(goes_on),
+        Err(fault) => Err(fault),
+    }
+}
+
+/// Does the rounds of a run up to its end, and writes their vsyncs.
+fn show_rounds<R: Threads + Wait + Sync, K: Sink, G: Gate, B: TableName>(
+    rt: &R,
+    alloc: Global,
+    workers: u32,
+    sink: &mut K,
+    timelines: &[u32],
+    screen: &mut Screen,
+    gate: &G,
+    gates: &mut [Gates],
+    player: &mut Player<B>,
+) -> Result<(), RunFault>
+    requires some { 1 ≤ workers }
+    requires few { workers ≤ 16 }
+    requires gates { length gates.old ≡ length player.old.play.cast.actors }
+    requires shown { (scene : SceneValue) × (start : Option (List ℕ)) × HasShown B.table scene timelines.now start (K.taken sink.old) screen.old player.old }
+    ensures ok { (scene : SceneValue) (start : Option (List ℕ)) → HasShown B.table scene timelines.now start (K.taken sink.old) screen.old player.old
+        → OnOk result (HasShownAll B.table scene start (K.taken sink.new) player.new) }
+    ensures err { (scene : SceneValue) (start : Option (List ℕ)) → HasShown B.table scene timelines.now start (K.taken sink.old) screen.old player.old
+        → OnErr result (CutSome start (K.taken sink.new)) }
+    ensures later { K.faults sink.old ≤ K.faults sink.new }
+    ensures failed { IsErrOf result RunFault.WriteFault → Rose (K.faults sink.old) (K.faults sink.new) }
+{
+    'turns: loop {
+        match show_turn(
+            rt, alloc, workers, sink, timelines, screen, gate, gates, player,
+        ) {
+            Ok(true) => {}
+            Ok(false) => return Ok(()),
+            Err(fault) => return Err(fault),
+        }
+    }
+}
+
+/// Writes the records of replies, one after another.
+fn write_each_reply<K: Sink>(alloc: Global, sink: &mut K, replies: &[Reply]) -> Result<(), RunFault>
+    ensures ok { OnOk result (Writes (K.taken sink.old) (K.taken sink.new) (map rec.Repl (map reply_shown replies.now))) }
+    ensures err { OnErr result (WritesPart (K.taken sink.old) (K.taken sink.new) (map rec.Repl (map reply_shown replies.now))) }
+    ensures later { K.faults sink.old ≤ K.faults sink.new }
+    ensures failed { IsErrOf result RunFault.WriteFault → Rose (K.faults sink.old) (K.faults sink.new) }
+{
+    for reply in replies {
+        match write_made(alloc, sink, reply_record(alloc, reply)) {
+            Ok(()) => {}
+            Err(fault) => return Err(fault),
+        }
+    }
+    Ok(())
+}
+
+/// Writes the records of the replies to all steps, by actor and step.
+fn write_replies<K: Sink, B: TableName>(
+    alloc: Global,
+    sink: &mut K,
+    actors: &[Actor<B>],
+) -> Result<(), RunFault>
+    ensures ok { OnOk result (Writes (K.taken sink.old) (K.taken sink.new) (all_reply_records actors.now)) }
+    ensures err { OnErr result (WritesPart (K.taken sink.old) (K.taken sink.new) (all_reply_records actors.now)) }
+    ensures later { K.faults sink.old ≤ K.faults sink.new }
+    ensures failed { IsErrOf result RunFault.WriteFault → Rose (K.faults sink.old) (K.faults sink.new) }
+{
+    for actor in actors {
+        match write_each_reply(alloc, sink, actor.replies()) {
+            Ok(()) => {}
+            Err(fault) => return Err(fault),
+        }
+    }
+    Ok(())
+}
+
+/// Writes what follows the last vsync of a run: the replies to all steps, and the records that end it.
+fn write_rest<K: Sink, B: TableName>(
+    alloc: Global,
+    sink: &mut K,
+    player: &Player<B>,
+) -> Result<(), RunFault>
+    requires { All (λ (actor : ActorIn B). length actor.script.steps ≤ 4294967295) player.now.play.cast.actors }
+    ensures ok { OnOk result (Writes (K.taken sink.old) (K.taken sink.new) (all_reply_records player.now.play.cast.actors ++ closing_of player.now)) }
+    ensures err { OnErr result (WritesPart (K.taken sink.old) (K.taken sink.new) (all_reply_records player.now.play.cast.actors ++ closing_of player.now)) }
+    ensures later { K.faults sink.old ≤ K.faults sink.new }
+    ensures failed { IsErrOf result RunFault.WriteFault → Rose (K.faults sink.old) (K.faults sink.new) }
+{
+    match write_replies(alloc, sink, player.cast().actors()) {
+        Ok(()) => {}
+        Err(fault) => return Err(fault),
+    }
+    write_closing(alloc, sink, player)
+}
+
+/// Does the rounds of a run that a player goes on with, up to its end. Each vsync is written as it
+/// comes, behind those that were written before; behind the last one come the replies to all steps, by
+/// actor and step, and the records that end the run. After a fault of the sink, or want of memory, the
+/// sink has a prefix of some records.
+pub(crate) fn write_rounds<R: Threads + Wait + Sync, K: Sink, G: Gate, B: TableName>(
+    rt: &R,
+    alloc: Global,
+    workers: u32,
+    sink: &mut K,
+    timelines: &[u32],
+    screen: &mut Screen,
+    gate: &G,
+    gates: &mut [Gates],
+    player: &mut Player<B>,
+) -> Result<(), RunFault>
+    requires some { 1 ≤ workers }
+    requires few { workers ≤ 16 }
+    requires gates { length gates.old ≡ length player.old.play.cast.actors }
+    requires shown { (scene : SceneValue) × (start : Option (List ℕ)) × HasShown B.table scene timelines.now start (K.taken sink.old) screen.old player.old }
+    ensures ok { (scene : SceneValue) (start : Option (List ℕ)) → HasShown B.table scene timelines.now start (K.taken sink.old) screen.old player.old
+        → OnOk result (WroteLive scene start (K.taken sink.new)) }
+    ensures err { (scene : SceneValue) (start : Option (List ℕ)) → HasShown B.table scene timelines.now start (K.taken sink.old) screen.old player.old
+        → OnErr result (CutSome start (K.taken sink.new)) }
+    ensures later { K.faults sink.old ≤ K.faults sink.new }
+    ensures failed { IsErrOf result RunFault.WriteFault → Rose (K.faults sink.old) (K.faults sink.new) }
+{
+    match show_rounds(
+        rt, alloc, workers, sink, timelines, screen, gate, gates, player,
+    ) {
+        Ok(()) => {}
+        Err(fault) => return Err(fault),
+    }
+    write_rest(alloc, sink, player)
+}

@@ -1,0 +1,89 @@
+ghost use Rattle.std.specs.Prelude.{◌≡◌, ◌≤◌, ◌∷◌, [], Some, length, map, IfErr, IfOk};
+ghost use Rattle.std.specs.List.{AllByRecursion};
+ghost use Rattle.std.specs.List.Sorted.{IsStrictlyIncreasing};
+ghost use Rattle.sf_record.specs.declared.encode.RunFault.TheVariants.{WriteFault};
+ghost use Rattle.sf_scene.specs.Scene.{SceneValue};
+ghost use Rattle.sf_shared.specs.First.{IsFirst, KnowsNothing, gave_of};
+ghost use Rattle.sf_crew.specs.Boarding.{IsNewcomer, number_of};
+ghost use Rattle.sf_crew.specs.declared.run.Stopped.TheVariants as stopped;
+ghost use Rattle.sf_live.specs.Openings.{IsOpen};
+ghost use Rattle.sf_live.specs.Running.{CameTogether, Starts, WasCut};
+
+use crate::opening::Opened;
+use crate::threads::{Joined, bring_together};
+use sf_compositor::Compositor;
+use sf_crew::{Stopped, run_crews};
+use sf_io::{Gate, Sink};
+use sf_record::RunFault;
+use sf_surface::ReadLease;
+use sf_turns::TableName;
+use sf_txn::Lease;
+use std::alloc::Global;
+use std::sync::Wait;
+use std::thread::Threads;
+
+/// Why a run in threads came to no end: want of memory, unless the compositor ended it for a fault of
+/// its sink.
+fn fault_of(why: Stopped, fault: Option<RunFault>) -> RunFault
+    ensures { result ≡ WriteFault → (why ≡ stopped.Ended) × (fault ≡ Some WriteFault) }
+{
+    match (why, fault) {
+        (Stopped::Ended, Some(RunFault::WriteFault)) => RunFault::WriteFault,
+        _ => RunFault::NoMemory,
+    }
+}
+
+/// Each actor of a scene goes through its script in a thread of its own, while the compositor makes
+/// its vsyncs; and once none can go on they are brought together. The compositor comes back on every
+/// way.
+pub(crate) fn run_threads<
+    'a,
+    R: Threads + Wait + Sync,
+    K: Sink,
+    G: Gate + Sync,
+    B: TableName + Send + Sync,
+>(
+    rt: &R,
+    alloc: Global,
+    gate: &G,
+    opened: Opened<B>,
+    compositor: Compositor<'a, K, B>,
+) -> (Compositor<'a, K, B>, Result<Joined<B>, RunFault>)
+    requires first { IsFirst B.table opened.locks opened.first }
+    requires none { gave_of opened.first ≡ [] }
+    requires unused { KnowsNothing opened.first.seats }
+    requires few { length opened.actors.items ≤ 16 }
+    requires rising { IsStrictlyIncreasing (opened.first.seats.by ∷ map number_of opened.actors.items) }
+    requires newcomers { AllByRecursion (IsNewcomer B.table opened.locks opened.pictures opened.first.seats) opened.actors.items }
+    requires starts { (scene : SceneValue) × (scene.version ≡ 1) × IsOpen scene B.table opened × Starts scene compositor }
+    ensures together { (scene : SceneValue) → scene.version ≡ 1 → IsOpen scene B.table opened → Starts scene compositor.entry
+        → IfOk result.1 (CameTogether K.taken K.faults ⟦<ReadLease<B> as Lease>⟧ B.table scene compositor.entry result.0) }
+    ensures cut { IfErr result.1 (WasCut K.taken K.faults compositor.entry result.0) }
+{
+    let Opened {
+        pictures,
+        actors,
+        locks,
+        first,
+    } = opened;
+    let (compositor, ashore) = run_crews(
+        rt,
+        alloc,
+        &locks,
+        pictures.as_slice(),
+        gate,
+        first,
+        actors,
+        compositor,
+    );
+    match ashore {
+        Ok(ashore) => match bring_together(alloc, pictures, locks, ashore) {
+            Ok(joined) => (compositor, Ok(joined)),
+            Err(_) => (compositor, Err(RunFault::NoMemory)),
+        },
+        Err(why) => {
+            let fault = fault_of(why, compositor.fault);
+            (compositor, Err(fault))
+        }
+    }
+}

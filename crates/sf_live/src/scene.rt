@@ -1,0 +1,236 @@
+ghost use Rattle.std.specs.Prelude.{◌≡◌, ◌≤◌, ℕ, List, [], ◌∷◌, true, length, map, IsErrOf, OnErr, OnOk, Option};
+ghost use Rattle.std.specs.List.{AllByRecursion};
+ghost use Rattle.std.specs.List.Sorted.{IsStrictlyIncreasing};
+ghost use Rattle.sf_io.specs.Causes.{Rose};
+ghost use Rattle.sf_cast.specs.Scripts.{are_playable, permits_of};
+ghost use Rattle.sf_record.specs.declared.encode.RunFault.TheVariants.{WriteFault};
+ghost use Rattle.sf_run.specs.Played.{opening};
+ghost use Rattle.sf_run.specs.Vsyncs.{rising_timelines};
+ghost use Rattle.sf_scene.specs.Scene.{SceneValue};
+ghost use Rattle.sf_show.specs.Writing.{CutSome, Writes};
+ghost use Rattle.sf_shared.specs.First.{IsFirst, KnowsNothing, gave_of};
+ghost use Rattle.sf_turns.specs.Counts.{range};
+ghost use Rattle.sf_crew.specs.Boarding.{IsNewcomer, number_of};
+ghost use Rattle.sf_shared.specs.declared.locks.Locks.{Locks};
+ghost use Rattle.sf_live.specs.Resuming.{GoesFrom, HasCome};
+ghost use Rattle.sf_live.specs.Running.{MayRun};
+ghost use Rattle.sf_live.specs.Runs.{WroteLive};
+ghost use Rattle.sf_live.specs.Threads.{IsTogether, RunOf};
+
+use crate::opening::{Opened, open};
+use crate::resuming::go_on;
+use crate::rounds::write_rounds;
+use crate::running::run_threads;
+use crate::threads::Joined;
+use sf_base::Items;
+use sf_commit::Handler;
+use sf_compositor::{Compositor, Decider};
+use sf_io::{Gate, Sink};
+use sf_picture::Painted;
+use sf_record::RunFault;
+use sf_scene::{Pick, Scene};
+use sf_screen::Screen;
+use sf_show::{opening, rising_timelines, write_made};
+use sf_surface::ReadLease;
+use sf_turns::{Stock, TableName, TurnSeat};
+use sf_txn::Lease;
+use std::alloc::Global;
+use std::sync::Wait;
+use std::thread::Threads;
+
+/// Goes on by rounds with a run whose actors are together again, up to its end.
+fn run_rounds<R: Threads + Wait + Sync, K: Sink, G: Gate, B: TableName>(
+    rt: &R,
+    alloc: Global,
+    workers: u32,
+    sink: &mut K,
+    gate: &G,
+    timelines: Vec<u32>,
+    screen: Screen,
+    period: u64,
+    order: Items<Pick>,
+    joined: Joined<B>,
+    decider: Decider<B>,
+    vsyncs: u32,
+) -> Result<(), RunFault>
+    requires some { 1 ≤ workers }
+    requires few { workers ≤ 16 }
+    requires goes { (run : RunOf B) × (locks : Locks B) × (start : Option (List ℕ)) × (IsTogether ⟦<ReadLease<B> as Lease>⟧ B.table run locks joined
+        × GoesFrom run start period order decider.handler vsyncs × HasCome run timelines.items (K.taken sink.old) screen) }
+    ensures ok { (run : RunOf B) (locks : Locks B) (start : Option (List ℕ)) → IsTogether ⟦<ReadLease<B> as Lease>⟧ B.table run locks joined
+        → GoesFrom run start period order decider.handler vsyncs → HasCome run timelines.items (K.taken sink.old) screen
+        → OnOk result (WroteLive run.scene start (K.taken sink.new)) }
+    ensures err { (run : RunOf B) (locks : Locks B) (start : Option (List ℕ)) → IsTogether ⟦<ReadLease<B> as Lease>⟧ B.table run locks joined
+        → GoesFrom run start period order decider.handler vsyncs → HasCome run timelines.items (K.taken sink.old) screen → OnErr result (CutSome start (K.taken sink.new)) }
+    ensures later { K.faults sink.old ≤ K.faults sink.new }
+    ensures failed { IsErrOf result WriteFault → Rose (K.faults sink.old) (K.faults sink.new) }
+{
+    let mut screen = screen;
+    let handler = decider.into_handler();
+    let (mut player, mut gates) = go_on(alloc, period, order, joined, handler, vsyncs);
+    let written = write_rounds(
+        rt,
+        alloc,
+        workers,
+        sink,
+        &timelines,
+        &mut screen,
+        gate,
+        &mut gates,
+        &mut player,
+    );
+    player.finish();
+    written
+}
+
+/// Runs a scene that is opened, and whose first record is written: in threads, and then by rounds.
+fn run_opened<R: Threads + Wait + Sync, K: Sink, G: Gate + Sync, B: TableName + Send + Sync>(
+    rt: &R,
+    alloc: Global,
+    workers: u32,
+    sink: &mut K,
+    gate: &G,
+    timelines: Vec<u32>,
+    period: u64,
+    order: Items<Pick>,
+    handler: Handler<ReadLease<B>>,
+    opened: Opened<B>,
+) -> Result<(), RunFault>
+    requires some { 1 ≤ workers }
+    requires few { workers ≤ 16 }
+    requires first { IsFirst B.table opened.locks opened.first }
+    requires none { gave_of opened.first ≡ [] }
+    requires unused { KnowsNothing opened.first.seats }
+    requires few_actors { length opened.actors.items ≤ 16 }
+    requires rising { IsStrictlyIncreasing (opened.first.seats.by ∷ map number_of opened.actors.items) }
+    requires newcomers { AllByRecursion (IsNewcomer B.table opened.locks opened.pictures opened.first.seats) opened.actors.items }
+    requires starts { (scene : SceneValue) × (start : Option (List ℕ)) × MayRun B.table scene start (K.taken sink.old) timelines.items period order handler opened }
+    ensures ok { (scene : SceneValue) (start : Option (List ℕ)) → MayRun B.table scene start (K.taken sink.old) timelines.items period order handler opened
+        → OnOk result (WroteLive scene start (K.taken sink.new)) }
+    ensures err { (scene : SceneValue) (start : Option (List ℕ)) → MayRun B.table scene start (K.taken sink.old) timelines.items period order handler opened
+        → OnErr result (CutSome start (K.taken sink.new)) }
+    ensures later { K.faults sink.old ≤ K.faults sink.new }
+    ensures failed { IsErrOf result WriteFault → Rose (K.faults sink.old) (K.faults sink.new) }
+{
+    let compositor = Compositor {
+        alloc,
+        workers,
+        period,
+        timelines,
+        sink,
+        screen: Screen::new(alloc),
+        decider: Decider { handler },
+        vsyncs: 0,
+        fault: None,
+    };
+    let (compositor, joined) = run_threads(rt, alloc, gate, opened, compositor);
+    let Compositor {
+        alloc: _,
+        workers: _,
+        period: _,
+        timelines,
+        sink,
+        screen,
+        decider,
+        vsyncs,
+        fault: _,
+    } = compositor;
+    match joined {
+        Ok(joined) => run_rounds(
+            rt, alloc, workers, sink, gate, timelines, screen, period, order, joined, decider,
+            vsyncs,
+        ),
+        Err(fault) => Err(fault),
+    }
+}
+
+/// Runs a scene whose first record is written, with its timelines by rising number.
+fn run_scene<R: Threads + Wait + Sync, K: Sink, G: Gate + Sync, B: TableName + Send + Sync>(
+    rt: &R,
+    alloc: Global,
+    workers: u32,
+    sink: &mut K,
+    gate: &G,
+    timelines: Vec<u32>,
+    scene: Scene,
+    seat: TurnSeat<Painted>,
+    stock: Stock<Painted>,
+) -> Result<(), RunFault>
+    requires some { 1 ≤ workers }
+    requires few { workers ≤ 16 }
+    requires rising { timelines.items ≡ rising_timelines scene }
+    requires begun { (start : Option (List ℕ)) × Writes start (K.taken sink.old) (opening scene ∷ []) }
+    requires version { scene.version ≡ 1 }
+    requires playable { are_playable scene.actors ≡ true }
+    requires own { (seat.table ≡ B.table) × (stock.table ≡ B.table) }
+    requires first { (seat.is_first ≡ true) × (seat.out ≡ 0) }
+    requires fresh { seat.leaves ≡ [] }
+    requires whole { stock.buffers ≡ range 0 (permits_of scene.actors) }
+    requires sized { permits_of scene.actors ≤ B.table.slots }
+    ensures ok { (start : Option (List ℕ)) → Writes start (K.taken sink.old) (opening scene ∷ []) → OnOk result (WroteLive scene start (K.taken sink.new)) }
+    ensures err { (start : Option (List ℕ)) → Writes start (K.taken sink.old) (opening scene ∷ []) → OnErr result (CutSome start (K.taken sink.new)) }
+    ensures later { K.faults sink.old ≤ K.faults sink.new }
+    ensures failed { IsErrOf result WriteFault → Rose (K.faults sink.old) (K.faults sink.new) }
+{
+    let Scene {
+        width,
+        height,
+        period,
+        queues,
+        pictures,
+        actors,
+        order,
+        ..
+    } = scene;
+    let Ok(opened) = open::<B>(alloc, queues.as_slice(), pictures, actors, seat, stock) else {
+        return Err(RunFault::NoMemory);
+    };
+    let Ok(handler) = Handler::<ReadLease<B>>::new(alloc, width, height) else {
+        return Err(RunFault::NoMemory);
+    };
+    run_opened(
+        rt, alloc, workers, sink, gate, timelines, period, order, handler, opened,
+    )
+}
+
+/// Runs a scene of version 1 with each actor in a thread of its own, over buffers of the table that B
+/// names, and writes the records of the run: those of vsyncs as they come, and behind them the
+/// replies, by actor and step. The gate is passed once for each step, before its first try. So many
+/// workers, 1 to 16, compose each frame. It takes the seat and the whole stock of the turns, with a
+/// permit for each dequeue. After a fault of the sink, or want of memory, the sink has whole records
+/// and then at most one that is cut.
+pub fn live<R: Threads + Wait + Sync, K: Sink, G: Gate + Sync, B: TableName + Send + Sync>(
+    rt: &R,
+    alloc: Global,
+    workers: u32,
+    sink: &mut K,
+    gate: &G,
+    scene: Scene,
+    seat: TurnSeat<Painted>,
+    stock: Stock<Painted>,
+) -> Result<(), RunFault>
+    requires some { 1 ≤ workers }
+    requires few { workers ≤ 16 }
+    requires version { scene.version ≡ 1 }
+    requires playable { are_playable scene.actors ≡ true }
+    requires own { (seat.table ≡ B.table) × (stock.table ≡ B.table) }
+    requires first { (seat.is_first ≡ true) × (seat.out ≡ 0) }
+    requires fresh { seat.leaves ≡ [] }
+    requires whole { stock.buffers ≡ range 0 (permits_of scene.actors) }
+    requires sized { permits_of scene.actors ≤ B.table.slots }
+    ensures ok { OnOk result (WroteLive scene (K.taken sink.old) (K.taken sink.new)) }
+    ensures err { OnErr result (CutSome (K.taken sink.old) (K.taken sink.new)) }
+    ensures later { K.faults sink.old ≤ K.faults sink.new }
+    ensures failed { IsErrOf result WriteFault → Rose (K.faults sink.old) (K.faults sink.new) }
+{
+    let Ok(timelines) = rising_timelines(alloc, scene.timelines.as_slice()) else {
+        return Err(RunFault::NoMemory);
+    };
+    match write_made(alloc, sink, Ok(opening(&scene))) {
+        Ok(()) => {}
+        Err(fault) => return Err(fault),
+    }
+    run_scene::<R, K, G, B>(
+        rt, alloc, workers, sink, gate, timelines, scene, seat, stock,
+    )
+}

@@ -1,0 +1,93 @@
+ghost use Rattle.std.specs.Prelude.{◌≡◌, ℕ, All, length, map, IfOk};
+ghost use Rattle.sf_calls.specs.Histories.{IsLegal};
+ghost use Rattle.sf_surface.specs.Histories.{Answers};
+ghost use Rattle.sf_surface.specs.Objects.{ObjectOf, mark_of};
+ghost use Rattle.sf_actor.specs.Desks.{KnowsAll, mark_among};
+ghost use Rattle.sf_actor.specs.Plain.{home_of, view_of};
+ghost use Rattle.sf_shared.specs.First.{HasAll, IsFirst};
+ghost use Rattle.sf_crew.specs.Meeting.{landed_of};
+ghost use Rattle.sf_live.specs.Threads.{HasRun, IsTogether, RunOf, landed_actor};
+
+use sf_actor::{Desk, PlainDesk};
+use sf_base::{Items, NoMemory};
+use sf_calls::Object;
+use sf_cast::Cast;
+use sf_crew::{Ashore, Gates, Landed};
+use sf_picture::Picture;
+use sf_shared::Locks;
+use sf_steps::Actor;
+use sf_surface::{QueueObject, ReadLease};
+use sf_turns::TableName;
+use sf_txn::Lease;
+use std::alloc::Global;
+
+/// The actors of a scene after all threads are joined, over the desk of one thread, and the gates that
+/// each passed, by rising number.
+#[derive(Drop)]
+pub(crate) struct Joined<B: TableName> {
+    pub(crate) cast: Cast<B>,
+    pub(crate) gates: Vec<Gates>,
+}
+
+/// Tells of each queue that its calls are legal. It does nothing: each queue keeps this of itself.
+fn legal_each<B: TableName>(queues: &[QueueObject<B>])
+    ensures { All (λ (object : ObjectOf B). IsLegal (Answers (mark_of object)) object.calls) queues.now }
+{
+    for object in queues {
+        object.legal();
+    }
+}
+
+/// Tells that a desk of one thread knows all that happened, and that its calls are legal. It does
+/// nothing.
+fn tell<B: TableName>(desk: &PlainDesk<B>)
+    ensures knows { KnowsAll (view_of desk.now) }
+    ensures legal { (queue : ℕ) → IsLegal (Answers (mark_among (home_of desk.now).marks queue)) ((view_of desk.now).calls queue) }
+{
+    desk.exact();
+    legal_each(&desk.queues);
+}
+
+/// The actors that came ashore, and the gates that they passed.
+fn landed_parts<B: TableName>(
+    alloc: Global,
+    landed: Vec<Landed<B>>,
+) -> Result<(Vec<Actor<B>>, Vec<Gates>), NoMemory>
+    ensures actors { IfOk result (λ parts. parts.0.items ≡ map landed_actor landed.items) }
+    ensures gates { IfOk result (λ parts. length parts.1.items ≡ length parts.0.items) }
+{
+    let mut actors = Vec::new(alloc);
+    let mut gates = Vec::new(alloc);
+    for one in landed {
+        let Landed {
+            actor,
+            gates: passed,
+        } = one;
+        actors.push(actor)?;
+        gates.push(passed)?;
+    }
+    Ok((actors, gates))
+}
+
+/// Closes the locks, and brings the actors together over the desk that is left.
+pub(crate) fn bring_together<B: TableName>(
+    alloc: Global,
+    pictures: Items<Picture>,
+    locks: Locks<B>,
+    ashore: Ashore<B>,
+) -> Result<Joined<B>, NoMemory>
+    requires first { IsFirst B.table locks ashore.first }
+    requires all { HasAll ashore.first }
+    requires ran { (run : RunOf B) × HasRun ⟦<ReadLease<B> as Lease>⟧ B.table run locks pictures ashore }
+    ensures together { (run : RunOf B) → HasRun ⟦<ReadLease<B> as Lease>⟧ B.table run locks pictures ashore
+        → IfOk result (IsTogether ⟦<ReadLease<B> as Lease>⟧ B.table run locks) }
+{
+    let Ashore { first, landed } = ashore;
+    let (actors, gates) = landed_parts(alloc, landed)?;
+    let desk = locks.close(alloc, first)?;
+    tell(&desk);
+    Ok(Joined {
+        cast: Cast::resume(pictures, actors, desk),
+        gates,
+    })
+}
