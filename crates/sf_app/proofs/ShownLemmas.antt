@@ -1,7 +1,10 @@
--- What is written of a play, by its records or by their summary.
-use Rattle.std.proofs.Common.{◌≡◌, ℕ, true, false, List, [], Option, Some, Result, Ok, Err, OnErr, OnOk, All, subst}
+-- What is written of a run, by its records or by their summary, and what it means.
+use Rattle.std.proofs.Common.{◌≡◌, ℕ, Bool, true, false, List, [], Option, Some, Result, Ok, Err, OnErr, OnOk, All, refl, subst, sym}
 use Rattle.std.specs.Io.KnownBytes.{Appends}
 use Rattle.sf_io.specs.Streams.{TookPrefix}
+use Rattle.sf_options.specs.Options.{is_live}
+use Rattle.sf_options.specs.declared.options.Run.{Run}
+use Rattle.sf_options.specs.declared.options.Run.TheVariants as run
 use Rattle.sf_scene.specs.Scene.{SceneValue}
 use Rattle.sf_record.specs.Fitting.{RecordFits}
 use Rattle.sf_record.specs.Records.{bytes_of, record_bytes}
@@ -9,9 +12,10 @@ use Rattle.sf_record.specs.declared.encode.RunFault.{RunFault}
 use Rattle.sf_record.specs.declared.record.Record.{Record}
 use Rattle.sf_record.specs.declared.record.Record.TheVariants as rec
 use Rattle.sf_record.specs.declared.record.Summary.{Summary}
+use Rattle.sf_run.specs.Played.{Played}
 use Rattle.sf_show.specs.Runs.{CutRun, WroteRun}
 use Rattle.sf_tally.specs.Summaries.{summary_of, wrapped}
-use Rattle.sf_app.specs.Shown.{ShowsPart, ShowsPlay}
+use Rattle.sf_app.specs.Shown.{ShowsPart, ShowsPlay, ShowsRun, bytes_shown}
 use Rattle.sf_app.proofs.StatusLemmas.{nothing_took}
 
 pub ok_then : {A B : Type 0} (r : Result (Unit {0}) RunFault) → (A → B) → OnOk r A → OnOk r B
@@ -55,3 +59,15 @@ sum_shows_part scene taken summary a b h sums written = record {
 -- a play that was cut short shows nothing of its summary
 pub cut_shows_nothing : (scene : SceneValue) (a b c : Option (List ℕ)) → CutRun scene a b → ShowsPart true scene c c
 cut_shows_nothing scene a b c h = record { records = h.records; is_play = h.is_play; written = nothing_took c (record_bytes (rec.Summ (wrapped (summary_of h.records)))) }
+
+-- what was shown of a run shows records that mean what a played run means
+pub record ShowsMeaning (summary : Bool) (scene : SceneValue) (a b : Option (List ℕ)) : Type 0 where
+  pub records : List Record
+  pub played : Played scene records
+  pub written : Appends a b (bytes_shown summary records)
+
+pub run_means : (r : Run) (summary : Bool) (scene : SceneValue) (a b : Option (List ℕ)) → (is_live r ≡ true → summary ≡ false) → ShowsRun r summary scene a b → ShowsMeaning summary scene a b
+run_means run.Play summary scene a b unsummed h = record { records = h.records; played = h.means; written = h.written }
+run_means run.Gen summary scene a b unsummed h = record { records = h.records; played = h.means; written = h.written }
+run_means run.Live summary scene a b unsummed h =
+    record { records = h.records; played = h.means.played; written = subst (λ (s : Bool). Appends a b (bytes_shown s h.records)) (sym (unsummed refl)) h.written.bytes }

@@ -7,7 +7,10 @@ use Rattle.std.proofs.KnownBytes.{Appends-nil}
 use Rattle.std.specs.Io.KnownBytes.{Appends, Consumes, IsAtEnd}
 use Rattle.std.specs.List.{list_all}
 use Rattle.sf_io.specs.Streams.{Took, TookPrefix}
+use Rattle.sf_live.specs.Runs.{WroteLive}
 use Rattle.sf_options.specs.declared.options.Options.{Options}
+use Rattle.sf_options.specs.declared.options.Run.{Run}
+use Rattle.sf_options.specs.declared.options.Run.TheVariants as run
 use Rattle.sf_scene.specs.Limits.{IsWithinLimits}
 use Rattle.sf_scene.specs.Scene.{SceneValue}
 use Rattle.sf_scene.specs.declared.change.Change.{Change}
@@ -21,12 +24,17 @@ use Rattle.sf_cast.specs.Scripts.{are_playable, are_taken, is_taken}
 use Rattle.sf_load.proofs.ReadyLemmas.{and_both, and_first, and_second}
 use Rattle.sf_load.proofs.SceneLemmas.{text_is_scene}
 use Rattle.sf_load.specs.Turning.{all_turn_none, is_still, turns_none}
-use Rattle.sf_record.specs.Records.{bytes_of}
+use Rattle.sf_record.specs.Records.{bytes_of, record_bytes}
+use Rattle.sf_record.specs.declared.record.Record.{Record}
+use Rattle.sf_record.specs.declared.record.Record.TheVariants as rec
 use Rattle.sf_run.proofs.Ending.{timed_records}
+use Rattle.sf_show.proofs.WritingLemmas.{one_record}
 use Rattle.sf_show.specs.Runs.{CutRun}
+use Rattle.sf_show.specs.Writing.{CutSome}
+use Rattle.sf_tally.specs.Summaries.{summary_of, wrapped}
 use Rattle.sf_app.proofs.HeaderLemmas.{IsPeriod, asked_timed}
 use Rattle.sf_app.specs.Scripts.{asked_of, at_no_place, is_for_a_cast, played_of}
-use Rattle.sf_app.specs.Shown.{ShowsPart, ShowsPlay, bytes_shown}
+use Rattle.sf_app.specs.Shown.{ShowsPart, ShowsPlay, ShowsRun, ShowsRunPart, bytes_shown}
 use Rattle.sf_app.specs.Statuses.{NoScene, PlayedScript, PrefixOf, RefusedScript, WritesPrefix, fault_bytes, misspelled, too_long}
 use Rattle.sf_app.specs.Words.{IsScript, IsScriptBy, IsTold, IsToldBy, generated, is_gen}
 
@@ -37,16 +45,52 @@ took_all : (a b : Option (List ℕ)) (bs : List ℕ) → Appends a b bs → Took
 took_all a b bs h = (length bs, omega arith, subst (Appends a b) (sym (take_all (length bs) bs (omega arith))) h)
 
 -- what shows a play whole is a prefix of it
-pub part_whole : (summary : Bool) (scene : SceneValue) (a b : Option (List ℕ)) → ShowsPlay summary scene a b → ShowsPart summary scene a b
+part_whole : (summary : Bool) (scene : SceneValue) (a b : Option (List ℕ)) → ShowsPlay summary scene a b → ShowsPart summary scene a b
 part_whole summary scene a b h = record { records = h.records; is_play = h.is_play; written = took_all a b (bytes_shown summary h.records) h.written }
 
+-- the records of a run in threads are whole records
+live_whole : (scene : SceneValue) (a b : Option (List ℕ)) → WroteLive scene a b → CutSome a b
+live_whole scene a b h = record { records = h.records; written = took_all a b (bytes_of h.records) h.written.bytes }
+
+pub run_part_whole : (r : Run) (summary : Bool) (scene : SceneValue) (a b : Option (List ℕ)) → ShowsRun r summary scene a b → ShowsRunPart r summary scene a b
+run_part_whole run.Live summary scene a b h = live_whole scene a b h
+run_part_whole run.Play summary scene a b h = part_whole summary scene a b h
+run_part_whole run.Gen summary scene a b h = part_whole summary scene a b h
+
 -- nothing was written, which is a prefix too
+pub cut_nothing : (a : Option (List ℕ)) → CutSome a a
+cut_nothing a = record { records = []; written = nothing_took a (bytes_of []) }
+
+-- a prefix of one record
+one_cut : (r : Record) (a b : Option (List ℕ)) → TookPrefix a b (record_bytes r) → CutSome a b
+one_cut r a b h = record { records = r ∷ []; written = subst (TookPrefix a b) (one_record r) h }
+
+-- a prefix of the record of a fault
+pub fault_cut : (fault : ScriptFault) (a b : Option (List ℕ)) → TookPrefix a b (fault_bytes fault) → CutSome a b
+fault_cut fault a b h = one_cut (rec.Sflt fault) a b h
+
+-- a prefix of what shows a play
+play_cut : (summary : Bool) (scene : SceneValue) (a b : Option (List ℕ)) → ShowsPart summary scene a b → CutSome a b
+play_cut true scene a b h = one_cut (rec.Summ (wrapped (summary_of h.records))) a b h.written
+play_cut false scene a b h = record { records = h.records; written = h.written }
+
+-- of what shows a run
+pub run_cut : (r : Run) (summary : Bool) (scene : SceneValue) (a b : Option (List ℕ)) → ShowsRunPart r summary scene a b → CutSome a b
+run_cut run.Live summary scene a b h = h
+run_cut run.Play summary scene a b h = play_cut summary scene a b h
+run_cut run.Gen summary scene a b h = play_cut summary scene a b h
+
 cut_none : (scene : SceneValue) (a : Option (List ℕ)) → IsPeriod scene.period → CutRun scene a a
 cut_none scene a period = let play = timed_records scene period.low period.high in record { records = play.0; is_play = play.1; written = nothing_took a (bytes_of play.0) }
 
 part_none : (summary : Bool) (scene : SceneValue) (a : Option (List ℕ)) → IsPeriod scene.period → ShowsPart summary scene a a
 part_none summary scene a period =
     let play = timed_records scene period.low period.high in record { records = play.0; is_play = play.1; written = nothing_took a (bytes_shown summary play.0) }
+
+run_part_none : (r : Run) (summary : Bool) (scene : SceneValue) (a : Option (List ℕ)) → IsPeriod scene.period → ShowsRunPart r summary scene a a
+run_part_none run.Live summary scene a period = cut_nothing a
+run_part_none run.Play summary scene a period = part_none summary scene a period
+run_part_none run.Gen summary scene a period = part_none summary scene a period
 
 pub cut_unbegun : (scene : SceneValue) (a : Option (List ℕ)) → IsWithinLimits scene → CutRun scene a a
 cut_unbegun scene a limits = cut_none scene a (record { low = limits.header.low_period; high = limits.header.high_period })
@@ -148,7 +192,7 @@ refused_script options left rest a b script s r = refused_by (is_gen options.run
 
 -- a script that was played
 pub played_script : (options : Options) (left rest a b : Option (List ℕ)) (script : List ℕ) → IsScript options left rest script →
-    (scene : SceneValue) × (asked_of script ≡ Ok scene) × ShowsPlay options.summary scene a b → PlayedScript (Some options) left rest a b
+    (scene : SceneValue) × (asked_of script ≡ Ok scene) × ShowsRun options.run options.summary scene a b → PlayedScript (Some options) left rest a b
 played_script options left rest a b script s p = record { options = options; right = refl; bytes = script; script = s; scene = p.0; spelled = p.1; run = p.2 }
 
 some_same : (asked : Option Options) (x y : Options) → asked ≡ Some x → asked ≡ Some y → x ≡ y
@@ -176,35 +220,35 @@ no_play asked options left rest a b bytes fault right told wrong p =
     let two : Err fault ≡ Ok p.scene = sym wrong ∙ ap asked_of (same_script options left rest p.bytes bytes script told) ∙ p.spelled in
     cc
 
-none_by : (summary : Bool) (bytes : List ℕ) (p : Result SceneValue ScriptFault) (a : Option (List ℕ)) → asked_of bytes ≡ p → PrefixOf summary p a a
-none_by summary bytes (Ok scene) a is = part_none summary scene a (asked_timed bytes scene is)
-none_by summary bytes (Err fault) a is = nothing_took a (fault_bytes fault)
+none_by : (options : Options) (bytes : List ℕ) (p : Result SceneValue ScriptFault) (a : Option (List ℕ)) → asked_of bytes ≡ p → PrefixOf options p a a
+none_by options bytes (Ok scene) a is = run_part_none options.run options.summary scene a (asked_timed bytes scene is)
+none_by options bytes (Err fault) a is = nothing_took a (fault_bytes fault)
 
 -- nothing was written
-pub prefix_none : (summary : Bool) (bytes : List ℕ) (a : Option (List ℕ)) → PrefixOf summary (asked_of bytes) a a
-prefix_none summary bytes a = none_by summary bytes (asked_of bytes) a refl
+pub prefix_none : (options : Options) (bytes : List ℕ) (a : Option (List ℕ)) → PrefixOf options (asked_of bytes) a a
+prefix_none options bytes a = none_by options bytes (asked_of bytes) a refl
 
-pub prefix_shown : (summary : Bool) (p : Result SceneValue ScriptFault) (scene : SceneValue) (a b : Option (List ℕ)) → p ≡ Ok scene → ShowsPart summary scene a b → PrefixOf summary p a b
-prefix_shown summary p scene a b is h = subst (λ (q : Result SceneValue ScriptFault). PrefixOf summary q a b) (sym is) h
+pub prefix_shown : (options : Options) (p : Result SceneValue ScriptFault) (scene : SceneValue) (a b : Option (List ℕ)) → p ≡ Ok scene → ShowsRunPart options.run options.summary scene a b → PrefixOf options p a b
+prefix_shown options p scene a b is h = subst (λ (q : Result SceneValue ScriptFault). PrefixOf options q a b) (sym is) h
 
-pub prefix_refused : (summary : Bool) (p : Result SceneValue ScriptFault) (fault : ScriptFault) (a b : Option (List ℕ)) → p ≡ Err fault → TookPrefix a b (fault_bytes fault) → PrefixOf summary p a b
-prefix_refused summary p fault a b is h = subst (λ (q : Result SceneValue ScriptFault). PrefixOf summary q a b) (sym is) h
+pub prefix_refused : (options : Options) (p : Result SceneValue ScriptFault) (fault : ScriptFault) (a b : Option (List ℕ)) → p ≡ Err fault → TookPrefix a b (fault_bytes fault) → PrefixOf options p a b
+prefix_refused options p fault a b is h = subst (λ (q : Result SceneValue ScriptFault). PrefixOf options q a b) (sym is) h
 
 pub writes_none : (options : Options) (left a b : Option (List ℕ)) → b ≡ a → WritesPrefix (Some options) left a b
-writes_none options left a b e = λ bytes told. subst (PrefixOf options.summary (asked_of bytes) a) (sym e) (prefix_none options.summary bytes a)
+writes_none options left a b e = λ bytes told. subst (PrefixOf options (asked_of bytes) a) (sym e) (prefix_none options bytes a)
 
 -- a prefix was written of what the script that was played asks for
 pub writes_script : (options : Options) (left rest : Option (List ℕ)) (script : List ℕ) (a b : Option (List ℕ)) → IsScript options left rest script →
-    PrefixOf options.summary (asked_of script) a b → WritesPrefix (Some options) left a b
+    PrefixOf options (asked_of script) a b → WritesPrefix (Some options) left a b
 writes_script options left rest script a b s h = λ bytes told.
-    subst (λ (t : List ℕ). PrefixOf options.summary (asked_of t) a b) (sym (same_script options left rest script bytes s told)) h
+    subst (λ (t : List ℕ). PrefixOf options (asked_of t) a b) (sym (same_script options left rest script bytes s told)) h
 
 -- too many bytes were read, and a prefix was written of the record that says so
 pub writes_too_long : (options : Options) (left rest a b : Option (List ℕ)) → is_gen options.run ≡ false → Took left rest 1048577 → TookPrefix a b (fault_bytes (at_no_place 9)) →
     WritesPrefix (Some options) left a b
 writes_too_long options left rest a b reads took h = λ bytes told.
     let many : Took (Some bytes) rest 1048577 = subst (λ (l : Option (List ℕ)). Took l rest 1048577) (told_read options left bytes reads told) took in
-    prefix_refused options.summary (asked_of bytes) (at_no_place 9) a b (too_long_fault bytes (too_many bytes rest many)) h
+    prefix_refused options (asked_of bytes) (at_no_place 9) a b (too_long_fault bytes (too_many bytes rest many)) h
 
 -- the status of a refusal
 pub refusal_range : (n : ℕ) → (n ≡ 2) ⊎ ((n ≡ 4) ⊎ (n ≡ 5)) → (n ≤ 5) × ((n ≢ 1) × (n ≢ 3))

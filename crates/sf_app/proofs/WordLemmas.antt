@@ -1,43 +1,40 @@
--- The options and the script that words ask for.
-use Rattle.std.proofs.Common.{◌≡◌, ℕ, Bool, true, false, List, Option, None, Some, Result, Ok, Err, refl, sym, ap, subst}
-use Rattle.std.specs.Prelude.{IfOk}
-use Rattle.std.specs.Io.KnownBytes.{Consumes, IsAtEnd}
-use Rattle.sf_options.specs.Options.{GivesOptions, is_live, options_of}
+-- The words that ask for a live run ask for no summary.
+use Rattle.std.proofs.Common.{◌≡◌, ℕ, Bool, true, false, List, Option, None, Some, refl, sym, ap}
+use Rattle.std.specs.Prelude.{◌&&◌, if◌then◌else◌}
+use Rattle.sf_options.specs.Command.{has_matches}
+use Rattle.sf_options.specs.Options.{is_live, options_from, options_in, options_of}
 use Rattle.sf_options.specs.declared.options.Options.{Options}
-use Rattle.sf_options.specs.declared.options.OptionsFault.{OptionsFault}
-use Rattle.sf_options.specs.declared.options.OptionsFault.TheVariants.{NoMemory, WrongWords}
+use Rattle.sf_options.specs.declared.options.Run.{Run}
+use Rattle.sf_options.specs.declared.options.Run.TheVariants as run
 use Rattle.sf_words.specs.Text.{Text}
-use Rattle.sf_app.specs.Words.{IsScript, IsScriptBy, asked_run, generated, is_gen, unless_live}
 
--- a live run has no options, any other run its own
-pub live_none : (options : Options) → is_live options.run ≡ true → unless_live (Some options) ≡ None
-live_none options live = rw live refl
+some_is : {A : Type 0} (x y : A) → Some x ≡ Some y → x ≡ y
+some_is x y e = cc
 
-pub live_some : (options : Options) → is_live options.run ≡ false → unless_live (Some options) ≡ Some options
-live_some options live = rw live refl
+none_is_some : {A B : Type 0} (y : A) → None ≡ Some y → B
+none_is_some y e = absurd (let no : ⊥ = cc in no)
 
-pub gives_asked : (words : List Text) (options : Options) (given : Result Options OptionsFault) → options_of words ≡ Some options → GivesOptions given (unless_live (Some options)) →
-    GivesOptions given (asked_run words)
-unfolding asked_run
-gives_asked words options given is h = subst (λ (asked : Option Options). GivesOptions given (unless_live asked)) (sym is) h
+not_live : {B : Type 0} (live : Bool) → false ≡ live → live ≡ true → B
+not_live live e f = absurd (let no : ⊥ = cc in no)
 
-pub refuses_asked : (words : List Text) (fault : OptionsFault) → GivesOptions (Err fault) (options_of words) → GivesOptions (Err fault) (asked_run words)
-unfolding asked_run
-refuses_asked words WrongWords h = ap unless_live h
-refuses_asked words NoMemory h = tt
+by_run : (r : Run) (workers number : ℕ) (summary : Bool) (options : Options) →
+    (if is_live r && summary then None else Some (record { run = r; workers = workers; number = number; summary = summary })) ≡ Some options → is_live options.run ≡ true → options.summary ≡ false
+by_run run.Live workers number true options e live = none_is_some options e
+by_run run.Live workers number false options e live = sym (ap (λ (o : Options). o.summary) (some_is _ options e))
+by_run run.Play workers number summary options e live = not_live (is_live options.run) (ap (λ (o : Options). is_live o.run) (some_is _ options e)) live
+by_run run.Gen workers number summary options e live = not_live (is_live options.run) (ap (λ (o : Options). is_live o.run) (some_is _ options e)) live
 
-pub if_ok_then : {V E : Type 0} (r : Result V E) (P Q : V → Type 0) → ((v : V) → P v → Q v) → IfOk r P → IfOk r Q
-if_ok_then (Ok v) P Q f h = f v h
-if_ok_then (Err e) P Q f h = tt
+by_values : (r : Option Run) (workers number : Option ℕ) (summary : Bool) (options : Options) → options_from r workers number summary ≡ Some options → is_live options.run ≡ true → options.summary ≡ false
+unfolding options_from
+by_values (Some r) (Some workers) (Some number) summary options e live = by_run r workers number summary options e live
+by_values (Some r) (Some workers) None summary options e live = none_is_some options e
+by_values (Some r) None number summary options e live = none_is_some options e
+by_values None workers number summary options e live = none_is_some options e
 
-script_by : (gen : Bool) (options : Options) (left rest : Option (List ℕ)) (text : List ℕ) → is_gen options.run ≡ gen → IsScriptBy gen options.number left rest text → IsScript options left rest text
-script_by gen options left rest text is h = subst (λ (b : Bool). IsScriptBy b options.number left rest text) (sym is) h
-
-pub script_generated : (options : Options) (left : Option (List ℕ)) (text : List ℕ) → is_gen options.run ≡ true → text ≡ generated options.number → IsScript options left left text
-script_generated options left text gen is = script_by true options left left text gen (refl, is)
-
-pub script_read : (options : Options) (left rest : Option (List ℕ)) (text : List ℕ) → is_gen options.run ≡ false → Consumes left rest text × IsAtEnd rest → IsScript options left rest text
-script_read options left rest text reads all = script_by false options left rest text reads all
-
-pub not_both : (b : Bool) → b ≡ true → b ≡ false → ⊥
-not_both b e f = cc
+pub live_has_no_summary : (words : List Text) (options : Options) → options_of words ≡ Some options → is_live options.run ≡ true → options.summary ≡ false
+unfolding options_of options_in
+live_has_no_summary words options e live = by_matches (has_matches words) refl
+  where
+    by_matches : (matches : Bool) → has_matches words ≡ matches → options.summary ≡ false
+    by_matches true s = by_values _ _ _ _ options (rw s at e) live
+    by_matches false s = none_is_some options (rw s at e)

@@ -1,7 +1,10 @@
--- What is written of a scene's play: its records, or the one record that sums them up.
+-- What is written of a scene's run: its records, or of a play the one record that sums them up.
 use Rattle.std.specs.Prelude.{ℕ, Bool, true, false, List, All, Option}
 use Rattle.std.specs.Io.KnownBytes.{Appends}
 use Rattle.sf_io.specs.Streams.{TookPrefix}
+use Rattle.sf_live.specs.Runs.{WroteLive}
+use Rattle.sf_options.specs.declared.options.Run.{Run}
+use Rattle.sf_options.specs.declared.options.Run.TheVariants as run
 use Rattle.sf_scene.specs.Scene.{SceneValue}
 use Rattle.sf_record.specs.Fitting.{RecordFits}
 use Rattle.sf_record.specs.Records.{bytes_of, record_bytes}
@@ -9,6 +12,7 @@ use Rattle.sf_record.specs.declared.record.Record.{Record}
 use Rattle.sf_record.specs.declared.record.Record.TheVariants as rec
 use Rattle.sf_run.specs.Ends.{ArePlayRecords}
 use Rattle.sf_run.specs.Played.{Played}
+use Rattle.sf_show.specs.Writing.{CutSome}
 use Rattle.sf_tally.specs.Summaries.{summary_of, wrapped}
 
 -- the bytes of records, or under `--summary` those of the one record of what they come to, each number told modulo 2^64
@@ -29,3 +33,13 @@ pub record ShowsPart (summary : Bool) (scene : SceneValue) (old new : Option (Li
   pub records : List Record
   pub is_play : ArePlayRecords scene records
   pub written : TookPrefix old new (bytes_shown summary records)
+
+-- a scene's run was shown whole: the records of a run in threads, or what shows the scene's play
+abbrev pub ShowsRun : Run → Bool → SceneValue → Option (List ℕ) → Option (List ℕ) → Type 0
+ShowsRun run.Live summary scene old new = WroteLive scene old new
+ShowsRun _ summary scene old new = ShowsPlay summary scene old new
+
+-- a prefix was written: of a run in threads whole records, and then at most one that is cut, or of what shows the scene's play
+abbrev pub ShowsRunPart : Run → Bool → SceneValue → Option (List ℕ) → Option (List ℕ) → Type 0
+ShowsRunPart run.Live summary scene old new = CutSome old new
+ShowsRunPart _ summary scene old new = ShowsPart summary scene old new

@@ -1,5 +1,5 @@
 -- What the statuses of a run say.
-use Rattle.std.specs.Prelude.{◌≡◌, ℕ, Bool, false, List, Option, None, Some, Result, Ok, Err}
+use Rattle.std.specs.Prelude.{◌≡◌, ℕ, false, List, Option, None, Some, Result, Ok, Err}
 use Rattle.std.specs.Io.KnownBytes.{Appends, Consumes, IsAtEnd}
 use Rattle.sf_io.specs.Streams.{Took, TookPrefix}
 use Rattle.sf_options.specs.declared.options.Options.{Options}
@@ -10,10 +10,10 @@ use Rattle.sf_record.specs.declared.record.Record.{Record}
 use Rattle.sf_record.specs.Records.{record_bytes}
 use Rattle.sf_run.specs.Played.{Played}
 use Rattle.sf_app.specs.Scripts.{asked_of, at_no_place}
-use Rattle.sf_app.specs.Shown.{ShowsPart, ShowsPlay, bytes_shown}
+use Rattle.sf_app.specs.Shown.{ShowsRun, ShowsRunPart, bytes_shown}
 use Rattle.sf_app.specs.Words.{IsScript, IsTold, is_gen}
 
--- status 0: the words ask for a run, its script spells a scene, and the play of the scene was shown: its records, or their summary
+-- status 0: the words ask for a run, its script spells a scene, and the run of the scene was shown: its records, or a play's summary
 pub record PlayedScript (asked : Option Options) (left rest taken now : Option (List ℕ)) : Type 0 where
   pub options : Options
   pub right : asked ≡ Some options
@@ -21,7 +21,7 @@ pub record PlayedScript (asked : Option Options) (left rest taken now : Option (
   pub script : IsScript options left rest bytes
   pub scene : SceneValue
   pub spelled : asked_of bytes ≡ Ok scene
-  pub run : ShowsPlay options.summary scene taken now
+  pub run : ShowsRun options.run options.summary scene taken now
 
 -- what status 0 means: what was written shows records that stand to the scene as those of a played run do
 pub record MeansScript (asked : Option Options) (left rest taken now : Option (List ℕ)) : Type 0 where
@@ -53,12 +53,12 @@ pub record RefusedScript (asked : Option Options) (left rest taken now : Option 
   pub cause : NoScene left rest fault
   pub written : Appends taken now (fault_bytes fault)
 
--- a prefix was written of what a script asks for: what shows the scene's play, or the place of the fault
-abbrev pub PrefixOf : Bool → Result SceneValue ScriptFault → Option (List ℕ) → Option (List ℕ) → Type 0
-PrefixOf summary (Ok scene) old new = ShowsPart summary scene old new
-PrefixOf summary (Err fault) old new = TookPrefix old new (fault_bytes fault)
+-- of what a script asks for a prefix was written: of what shows the scene's run, or of the record of the fault
+abbrev pub PrefixOf : Options → Result SceneValue ScriptFault → Option (List ℕ) → Option (List ℕ) → Type 0
+PrefixOf options (Ok scene) old new = ShowsRunPart options.run options.summary scene old new
+PrefixOf options (Err fault) old new = TookPrefix old new (fault_bytes fault)
 
 -- of whatever script the words ask for, if it is known, a prefix was written of what it asks for; without right words nothing
 abbrev pub WritesPrefix : Option Options → Option (List ℕ) → Option (List ℕ) → Option (List ℕ) → Type 0
 WritesPrefix None left old new = new ≡ old
-WritesPrefix (Some options) left old new = (bytes : List ℕ) → IsTold options left bytes → PrefixOf options.summary (asked_of bytes) old new
+WritesPrefix (Some options) left old new = (bytes : List ℕ) → IsTold options left bytes → PrefixOf options (asked_of bytes) old new

@@ -1,22 +1,12 @@
 -- What the words of a run ask for.
-use Rattle.std.specs.Prelude.{◌≡◌, ℕ, Bool, true, false, List, Option, None, Some, if◌then◌else◌}
+use Rattle.std.specs.Prelude.{◌≡◌, ℕ, Bool, true, false, List, Option, Some}
 use Rattle.std.specs.Io.KnownBytes.{Consumes, IsAtEnd}
 use Rattle.std.specs.List.{concat}
 use Rattle.sf_generate.specs.Generator.{lines_of}
-use Rattle.sf_options.specs.Options.{is_live, options_of}
 use Rattle.sf_options.specs.declared.options.Options.{Options}
 use Rattle.sf_options.specs.declared.options.Run.{Run}
 use Rattle.sf_options.specs.declared.options.Run.TheVariants as run
 use Rattle.sf_words.specs.Text.{Text}
-
--- options that ask for a live run are none, since such a run is not built yet
-abbrev pub unless_live : Option Options → Option Options
-unless_live None = None
-unless_live (Some options) = if is_live options.run then None else Some options
-
--- the options of the words, or none where they are wrong or ask for a live run
-unfoldable pub asked_run : List Text → Option Options
-asked_run words = unless_live (options_of words)
 
 -- a generated script is played
 abbrev pub is_gen : Run → Bool

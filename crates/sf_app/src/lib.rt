@@ -2,11 +2,13 @@
 //! of the run, or what they come to.
 //!
 //! This is the whole way of a frame, from bytes to bytes: `sf_options` reads the words; `sf_script`
-//! reads a scene, or `sf_generate` makes one; `sf_play` picks its actors and vsyncs in turn; and
-//! `sf_show` writes to a sink of `sf_io` the records of what they did, or `sf_tally` sums them up.
+//! reads a scene, or `sf_generate` makes one; `sf_play` picks its actors and vsyncs in turn, or
+//! `sf_live` runs each actor in a thread of its own; and `sf_show` writes to a sink of `sf_io` the
+//! records of what they did, or `sf_tally` sums them up.
 #![tactic(auto)]
 
 mod laws;
+mod live;
 mod play;
 mod script;
 mod session;

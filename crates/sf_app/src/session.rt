@@ -1,21 +1,25 @@
-ghost use Rattle.std.specs.Prelude.{◌≡◌, ◌≢◌, ◌≤◌, ◌⊎◌, ℕ, List, None, Some, Ok, Err, map, true};
+ghost use Rattle.std.specs.Prelude.{◌≡◌, ◌≢◌, ◌≤◌, ◌⊎◌, ℕ, List, None, Some, Ok, Err, OnErr, OnOk, IsErrOf, map, true};
 ghost use Rattle.std.specs.Io.KnownBytes.{Appends};
 ghost use Rattle.std.specs.String.{string_bytes};
 ghost use Rattle.sf_io.specs.Causes.{Rose};
 ghost use Rattle.sf_io.specs.Streams.{TookPrefix};
+ghost use Rattle.sf_options.specs.Options.{options_of};
 ghost use Rattle.sf_options.specs.declared.options.Options.{Options as OptionsValue};
+ghost use Rattle.sf_record.specs.declared.encode.RunFault.TheVariants.{WriteFault};
 ghost use Rattle.sf_scene.specs.Scene.{SceneValue};
 ghost use Rattle.sf_script.specs.declared.fault.ScriptFault.{ScriptFault};
+ghost use Rattle.sf_show.specs.Writing.{CutSome};
 ghost use Rattle.sf_app.specs.Scripts.{asked_of, is_played};
-ghost use Rattle.sf_app.specs.Shown.{ShowsPart, ShowsPlay};
+ghost use Rattle.sf_app.specs.Shown.{ShowsRun, ShowsRunPart};
 ghost use Rattle.sf_app.specs.Statuses.{MeansScript, PlayedScript, PrefixOf, RefusedScript, WritesPrefix, fault_bytes};
-ghost use Rattle.sf_app.specs.Words.{IsTold, asked_run, is_gen};
+ghost use Rattle.sf_app.specs.Words.{IsTold, is_gen};
 
+use crate::live::live;
 use crate::script::{at_no_place, scene_of};
 use crate::summary::show;
-use crate::words::{options_asked, script_asked};
+use crate::words::script_asked;
 use sf_io::{Gate, ReadFault, Sink, Source};
-use sf_options::{Options, OptionsFault};
+use sf_options::{Options, OptionsFault, Run};
 use sf_record::{Record, RunFault, write_record};
 use sf_scene::Scene;
 use sf_script::{ParseFault, ScriptFault};
@@ -57,62 +61,89 @@ fn refuse<K: Sink>(alloc: Global, sink: &mut K, fault: ScriptFault) -> u8
     }
 }
 
-// Plays a scene and writes what shows its play.
-fn play_scene<R: Threads + Sync, K: Sink>(
+// Plays a scene, live if the options ask for it, and writes what shows its run.
+fn show_run<R: Threads + Wait + Sync, K: Sink, G: Gate + Sync>(
     rt: &R,
     alloc: Global,
     options: Options,
     sink: &mut K,
+    gate: &G,
+    scene: Scene,
+) -> Result<(), RunFault>
+    requires some { 1 ≤ options.workers }
+    requires few { options.workers ≤ 16 }
+    requires played { is_played scene ≡ true }
+    ensures ok { OnOk result (ShowsRun options.run options.summary scene (K.taken sink.old) (K.taken sink.new)) }
+    ensures err { OnErr result (ShowsRunPart options.run options.summary scene (K.taken sink.old) (K.taken sink.new)) }
+    ensures later { K.faults sink.old ≤ K.faults sink.new }
+    ensures failed { IsErrOf result WriteFault → Rose (K.faults sink.old) (K.faults sink.new) }
+{
+    match options.run {
+        Run::Live => live(rt, alloc, options.workers, sink, gate, scene),
+        Run::Play | Run::Gen => { show(rt, alloc, options.workers, options.summary, sink, scene) }
+    }
+}
+
+// Plays a scene, and answers the status of its run.
+fn play_scene<R: Threads + Wait + Sync, K: Sink, G: Gate + Sync>(
+    rt: &R,
+    alloc: Global,
+    options: Options,
+    sink: &mut K,
+    gate: &G,
     scene: Scene,
 ) -> u8
     requires some { 1 ≤ options.workers }
     requires few { options.workers ≤ 16 }
     requires played { is_played scene ≡ true }
-    ensures played { result ≡ 0 → ShowsPlay options.summary scene (K.taken sink.old) (K.taken sink.new) }
-    ensures part { ShowsPart options.summary scene (K.taken sink.old) (K.taken sink.new) }
+    ensures played { result ≡ 0 → ShowsRun options.run options.summary scene (K.taken sink.old) (K.taken sink.new) }
+    ensures part { ShowsRunPart options.run options.summary scene (K.taken sink.old) (K.taken sink.new) }
     ensures write_failed { result ≡ 4 → Rose (K.faults sink.old) (K.faults sink.new) }
     ensures range { result ≤ 5 }
     ensures other { (result ≢ 1) × ((result ≢ 2) × (result ≢ 3)) }
 {
-    match show(rt, alloc, options.workers, options.summary, sink, scene) {
+    match show_run(rt, alloc, options, sink, gate, scene) {
         Ok(()) => DONE,
         Err(RunFault::WriteFault) => WRITE_FAILED,
         Err(RunFault::NoMemory) => NO_MEMORY,
     }
 }
 
-// Plays a script, and writes what shows its play, or the place of its fault.
-fn play_script<R: Threads + Sync, K: Sink>(
+// Plays a script, and writes what shows its run, or the place of its fault.
+fn play_script<R: Threads + Wait + Sync, K: Sink, G: Gate + Sync>(
     rt: &R,
     alloc: Global,
     options: Options,
     script: &[u8],
     sink: &mut K,
+    gate: &G,
 ) -> u8
     requires some { 1 ≤ options.workers }
     requires few { options.workers ≤ 16 }
-    ensures played { result ≡ 0 → (scene : SceneValue) × (asked_of script.now ≡ Ok scene) × ShowsPlay options.summary scene (K.taken sink.old) (K.taken sink.new) }
+    ensures played { result ≡ 0 → (scene : SceneValue) × (asked_of script.now ≡ Ok scene) × ShowsRun options.run options.summary scene (K.taken sink.old) (K.taken sink.new) }
     ensures refused { result ≡ 2 → (fault : ScriptFault) × (asked_of script.now ≡ Err fault) × Appends (K.taken sink.old) (K.taken sink.new) (fault_bytes fault) }
-    ensures prefix { PrefixOf options.summary (asked_of script.now) (K.taken sink.old) (K.taken sink.new) }
+    ensures prefix { PrefixOf options (asked_of script.now) (K.taken sink.old) (K.taken sink.new) }
+    ensures cut { CutSome (K.taken sink.old) (K.taken sink.new) }
     ensures write_failed { result ≡ 4 → Rose (K.faults sink.old) (K.faults sink.new) }
     ensures range { result ≤ 5 }
     ensures begun { result ≢ 1 }
     ensures read { result ≢ 3 }
 {
     match scene_of(alloc, script) {
-        Ok(scene) => play_scene(rt, alloc, options, sink, scene),
+        Ok(scene) => play_scene(rt, alloc, options, sink, gate, scene),
         Err(ParseFault::Script(fault)) => refuse(alloc, sink, fault),
         Err(ParseFault::NoMemory) => NO_MEMORY,
     }
 }
 
 // Plays the script that the options ask for.
-fn play_asked<R: Threads + Sync, S: Source, K: Sink>(
+fn play_asked<R: Threads + Wait + Sync, S: Source, K: Sink, G: Gate + Sync>(
     rt: &R,
     alloc: Global,
     options: Options,
     source: &mut S,
     sink: &mut K,
+    gate: &G,
 ) -> u8
     requires some { 1 ≤ options.workers }
     requires few { options.workers ≤ 16 }
@@ -125,9 +156,10 @@ fn play_asked<R: Threads + Sync, S: Source, K: Sink>(
     ensures begun { result ≢ 1 }
     ensures unread { is_gen options.run ≡ true → source.new ≡ source.old }
     ensures prefix { WritesPrefix (Some options) (S.left source.old) (K.taken sink.old) (K.taken sink.new) }
+    ensures cut { CutSome (K.taken sink.old) (K.taken sink.new) }
 {
     match script_asked(alloc, options, source) {
-        Ok(script) => play_script(rt, alloc, options, &script, sink),
+        Ok(script) => play_script(rt, alloc, options, &script, sink, gate),
         Err(ReadFault::Failed) => READ_FAILED,
         Err(ReadFault::NoMemory) => NO_MEMORY,
         Err(ReadFault::TooLong) => refuse(alloc, sink, at_no_place(9)),
@@ -135,71 +167,77 @@ fn play_asked<R: Threads + Sync, S: Source, K: Sink>(
 }
 
 // Does what the words ask.
-fn follow<R: Threads + Sync, S: Source, K: Sink>(
+fn follow<R: Threads + Wait + Sync, S: Source, K: Sink, G: Gate + Sync>(
     rt: &R,
     alloc: Global,
     words: &[String],
     source: &mut S,
     sink: &mut K,
+    gate: &G,
 ) -> u8
-    ensures played { let asked = asked_run (map string_bytes words.now) in
+    ensures played { let asked = options_of (map string_bytes words.now) in
         result ≡ 0 → PlayedScript asked (S.left source.old) (S.left source.new) (K.taken sink.old) (K.taken sink.new) }
 
-    ensures usage { result ≡ 1 → asked_run (map string_bytes words.now) ≡ None }
-    ensures wrong { asked_run (map string_bytes words.now) ≡ None → (result ≡ 1) ⊎ (result ≡ 5) }
-    ensures untouched { asked_run (map string_bytes words.now) ≡ None → (source.new ≡ source.old) × (sink.new ≡ sink.old) }
-    ensures refused { let asked = asked_run (map string_bytes words.now) in
+    ensures usage { result ≡ 1 → options_of (map string_bytes words.now) ≡ None }
+    ensures wrong { options_of (map string_bytes words.now) ≡ None → (result ≡ 1) ⊎ (result ≡ 5) }
+    ensures untouched { options_of (map string_bytes words.now) ≡ None → (source.new ≡ source.old) × (sink.new ≡ sink.old) }
+    ensures refused { let asked = options_of (map string_bytes words.now) in
         result ≡ 2 → RefusedScript asked (S.left source.old) (S.left source.new) (K.taken sink.old) (K.taken sink.new) }
     ensures read_failed { result ≡ 3 → Rose (S.faults source.old) (S.faults source.new) }
     ensures silent { result ≡ 3 → sink.new ≡ sink.old }
     ensures write_failed { result ≡ 4 → Rose (K.faults sink.old) (K.faults sink.new) }
     ensures range { result ≤ 5 }
-    ensures unread { (options : OptionsValue) → asked_run (map string_bytes words.now) ≡ Some options → is_gen options.run ≡ true → source.new ≡ source.old }
+    ensures unread { (options : OptionsValue) → options_of (map string_bytes words.now) ≡ Some options → is_gen options.run ≡ true → source.new ≡ source.old }
 
     // Whatever the status is, a prefix was written of what the script asks for.
-    ensures prefix { WritesPrefix (asked_run (map string_bytes words.now)) (S.left source.old) (K.taken sink.old) (K.taken sink.new) }
+    ensures prefix { WritesPrefix (options_of (map string_bytes words.now)) (S.left source.old) (K.taken sink.old) (K.taken sink.new) }
+
+    // Whatever the status is, whole records were written, and then at most one that is cut.
+    ensures cut { CutSome (K.taken sink.old) (K.taken sink.new) }
 {
-    match options_asked(alloc, words) {
-        Ok(options) => play_asked(rt, alloc, options, source, sink),
+    match Options::read(alloc, words) {
+        Ok(options) => play_asked(rt, alloc, options, source, sink, gate),
         Err(OptionsFault::WrongWords) => WRONG_WORDS,
         Err(OptionsFault::NoMemory) => NO_MEMORY,
     }
 }
 
-/// Does what the words ask: reads a script from the source, or generates one, plays it and writes the
-/// records of the run to the sink, or the one record that sums them up. The answer is the status of
-/// the program:
+/// Does what the words ask: reads a script from the source, or generates one, plays it, in turns or
+/// live, and writes the records of the run to the sink, or of a play the one record that sums them
+/// up. The answer is the status of the program:
 ///
 /// | Status | Meaning |
 /// |---|---|
-/// | 0 | the script was read to its end and is a scene, or was generated, and what shows its play was written |
-/// | 1 | the words are wrong, or ask for a live run, which is not built yet. Nothing is read or written |
+/// | 0 | the script was read to its end and is a scene, or was generated, and what shows its run was written |
+/// | 1 | the words are wrong. Nothing is read or written |
 /// | 2 | the bytes are no scene, or one that is not played yet, or they are more than 1,048,576; the record SFLT was written |
 /// | 3 | the source failed; nothing is written |
 /// | 4 | the sink failed |
 /// | 5 | want of memory |
 ///
-/// Whatever the status is, what a run of a scene wrote is a prefix of the records of its play, or of
-/// the record that sums them up. The gate is not asked, as the play of a script needs none.
+/// Whatever the status is, what a play of a scene wrote is a prefix of the records of its play, or of
+/// the record that sums them up; a live run wrote whole records, and then at most one that is cut.
+/// A live run asks the gate before each step of an actor, and may wait for the actors' threads; a play
+/// does neither.
 pub fn run<R: Threads + Wait + Sync, S: Source, K: Sink, G: Gate + Sync>(
     rt: &R,
     alloc: Global,
     words: &[String],
     source: &mut S,
     sink: &mut K,
-    _gate: &G,
+    gate: &G,
 ) -> u8
     // What is written shows records that stand to the script's scene as those of a played run do.
-    ensures means { let asked = asked_run (map string_bytes words.now) in
+    ensures means { let asked = options_of (map string_bytes words.now) in
         result ≡ 0 → MeansScript asked (S.left source.old) (S.left source.new) (K.taken sink.old) (K.taken sink.new) }
-    ensures played { let asked = asked_run (map string_bytes words.now) in
+    ensures played { let asked = options_of (map string_bytes words.now) in
         result ≡ 0 → PlayedScript asked (S.left source.old) (S.left source.new) (K.taken sink.old) (K.taken sink.new) }
 
-    // Only wrong words, and words that ask for a live run, are answered by 1; they are answered so but for want of memory to read them.
-    ensures usage { result ≡ 1 → asked_run (map string_bytes words.now) ≡ None }
-    ensures wrong { asked_run (map string_bytes words.now) ≡ None → (result ≡ 1) ⊎ (result ≡ 5) }
-    ensures untouched { asked_run (map string_bytes words.now) ≡ None → (source.new ≡ source.old) × (sink.new ≡ sink.old) }
-    ensures refused { let asked = asked_run (map string_bytes words.now) in
+    // Only wrong words are answered by 1; they are answered so but for want of memory to read them.
+    ensures usage { result ≡ 1 → options_of (map string_bytes words.now) ≡ None }
+    ensures wrong { options_of (map string_bytes words.now) ≡ None → (result ≡ 1) ⊎ (result ≡ 5) }
+    ensures untouched { options_of (map string_bytes words.now) ≡ None → (source.new ≡ source.old) × (sink.new ≡ sink.old) }
+    ensures refused { let asked = options_of (map string_bytes words.now) in
         result ≡ 2 → RefusedScript asked (S.left source.old) (S.left source.new) (K.taken sink.old) (K.taken sink.new) }
     ensures read_failed { result ≡ 3 → Rose (S.faults source.old) (S.faults source.new) }
     ensures silent { result ≡ 3 → sink.new ≡ sink.old }
@@ -207,18 +245,21 @@ pub fn run<R: Threads + Wait + Sync, S: Source, K: Sink, G: Gate + Sync>(
     ensures range { result ≤ 5 }
 
     // A generated script is played without reading.
-    ensures unread { (options : OptionsValue) → asked_run (map string_bytes words.now) ≡ Some options → is_gen options.run ≡ true → source.new ≡ source.old }
+    ensures unread { (options : OptionsValue) → options_of (map string_bytes words.now) ≡ Some options → is_gen options.run ≡ true → source.new ≡ source.old }
 
     // Whatever the status is, a prefix was written of what the script asks for.
-    ensures prefix { WritesPrefix (asked_run (map string_bytes words.now)) (S.left source.old) (K.taken sink.old) (K.taken sink.new) }
+    ensures prefix { WritesPrefix (options_of (map string_bytes words.now)) (S.left source.old) (K.taken sink.old) (K.taken sink.new) }
+
+    // Whatever the status is, whole records were written, and then at most one that is cut.
+    ensures cut { CutSome (K.taken sink.old) (K.taken sink.new) }
 
     // Right words, a script that is told, and no count of faults that rose: the run is whole, or the script refused, but for want of memory.
-    ensures complete { (options : OptionsValue) (bytes : List ℕ) (scene : SceneValue) → asked_run (map string_bytes words.now) ≡ Some options
+    ensures complete { (options : OptionsValue) (bytes : List ℕ) (scene : SceneValue) → options_of (map string_bytes words.now) ≡ Some options
         → IsTold options (S.left source.old) bytes → asked_of bytes ≡ Ok scene
         → ¬ Rose (S.faults source.old) (S.faults source.new) → ¬ Rose (K.faults sink.old) (K.faults sink.new) → (result ≡ 0) ⊎ (result ≡ 5) }
-    ensures complete_refusal { (options : OptionsValue) (bytes : List ℕ) (fault : ScriptFault) → asked_run (map string_bytes words.now) ≡ Some options
+    ensures complete_refusal { (options : OptionsValue) (bytes : List ℕ) (fault : ScriptFault) → options_of (map string_bytes words.now) ≡ Some options
         → IsTold options (S.left source.old) bytes → asked_of bytes ≡ Err fault
         → ¬ Rose (S.faults source.old) (S.faults source.new) → ¬ Rose (K.faults sink.old) (K.faults sink.new) → (result ≡ 2) ⊎ (result ≡ 5) }
 {
-    follow(rt, alloc, words, source, sink)
+    follow(rt, alloc, words, source, sink, gate)
 }

@@ -1,24 +1,13 @@
-ghost use Rattle.std.specs.Prelude.{◌≡◌, ◌≤◌, Some, false, true, IfOk, IsErrOf, map};
-ghost use Rattle.std.specs.String.{string_bytes};
+ghost use Rattle.std.specs.Prelude.{◌≡◌, false, true, IfOk, IsErrOf};
 ghost use Rattle.sf_io.specs.Causes.{Rose};
 ghost use Rattle.sf_io.specs.Streams.{Took};
-ghost use Rattle.sf_options.specs.Options.{GivesOptions, is_live};
-ghost use Rattle.sf_app.specs.Words.{IsScript, asked_run, generated, is_gen, unless_live};
+ghost use Rattle.sf_app.specs.Words.{IsScript, generated, is_gen};
 
 use sf_generate::generate;
 use sf_io::{ReadFault, Source, read_all};
-use sf_options::{Options, OptionsFault, Run};
+use sf_options::{Options, Run};
 use sf_script::LONGEST_SCRIPT;
 use std::alloc::Global;
-
-fn is_live(run: Run) -> bool
-    ensures { result ≡ is_live run }
-{
-    match run {
-        Run::Live => true,
-        _ => false,
-    }
-}
 
 fn is_gen(run: Run) -> bool
     ensures { result ≡ is_gen run }
@@ -26,30 +15,6 @@ fn is_gen(run: Run) -> bool
     match run {
         Run::Gen => true,
         _ => false,
-    }
-}
-
-/// The options, where they ask for no live run, which is not built yet.
-fn unless_live(options: Options) -> Result<Options, OptionsFault>
-    requires { (1 ≤ options.workers) × (options.workers ≤ 16) }
-    ensures given { GivesOptions result (unless_live (Some options)) }
-    ensures workers { IfOk result (λ o. (1 ≤ o.workers) × (o.workers ≤ 16)) }
-{
-    if is_live(options.run) {
-        Err(OptionsFault::WrongWords)
-    } else {
-        Ok(options)
-    }
-}
-
-/// The options that the words give. Words that ask for a live run are wrong so far.
-pub fn options_asked(alloc: Global, words: &[String]) -> Result<Options, OptionsFault>
-    ensures given { GivesOptions result (asked_run (map string_bytes words.now)) }
-    ensures workers { IfOk result (λ o. (1 ≤ o.workers) × (o.workers ≤ 16)) }
-{
-    match Options::read(alloc, words) {
-        Ok(options) => unless_live(options),
-        Err(fault) => Err(fault),
     }
 }
 

@@ -25,8 +25,9 @@ who is stuck.
 
   --run V      play, if absent: the script that is read, one step at a time, in its order
                gen: a generated script of four producers; nothing is read
-               live: each actor in a thread of its own; not built yet, so these are wrong words
-  --workers N  how many workers compose a frame, 1 to 16; 1 if absent. The records are the same
+               live: the script that is read, each actor in a thread of its own. Its order is not
+               followed, and the replies are written behind the last vsync
+  --workers N  how many workers compose a frame, 1 to 16; 1 if absent. The frames are the same
   --number N   which script is generated, 0 to 18446744073709551615; 1 if absent. Only gen uses it
   --summary    writes, in place of the records, the one record SUMM of what they come to: how many
                replies, vsyncs, commits, rejected commits and frames, the sum of all bytes of

@@ -1,5 +1,5 @@
 use Rattle.std.proofs.Common.{inr, refl}
-use Rattle.sf_app.proofs.StatusLemmas.{gen_as, played_as, refused_as, right_words, writes_as, writes_nothing}
+use Rattle.sf_app.proofs.StatusLemmas.{cut_nothing, gen_as, played_as, refused_as, right_words, writes_as, writes_nothing}
 use Rattle.sf_app.proofs.session.follow.Goals as goal
 
 pub returns-in-Ok-clause-played : goal.returns-in-Ok-clause-played
@@ -34,3 +34,9 @@ returns-in-Err-WrongWords-clause-usage g c = λ one. rw c.in-Err-WrongWords.fiel
 
 pub returns-in-Err-NoMemory-clause-wrong : goal.returns-in-Err-NoMemory-clause-wrong
 returns-in-Err-NoMemory-clause-wrong g c = λ none. inr refl
+
+pub returns-in-Err-WrongWords-clause-cut : goal.returns-in-Err-WrongWords-clause-cut
+returns-in-Err-WrongWords-clause-cut g c = cut_nothing _
+
+pub returns-in-Err-NoMemory-clause-cut : goal.returns-in-Err-NoMemory-clause-cut
+returns-in-Err-NoMemory-clause-cut g c = cut_nothing _

@@ -1,7 +1,7 @@
 use Rattle.std.proofs.Common.{ap, Err, refl}
 use Rattle.sf_app.specs.Scripts.{at_no_place}
 use Rattle.sf_app.specs.Statuses.{too_long}
-use Rattle.sf_app.proofs.StatusLemmas.{played_script, refusal_is_late, refusal_range, refused_script, writes_none, writes_script, writes_too_long}
+use Rattle.sf_app.proofs.StatusLemmas.{cut_nothing, fault_cut, played_script, refusal_is_late, refusal_range, refused_script, writes_none, writes_script, writes_too_long}
 use Rattle.sf_app.proofs.session.play_asked.Goals as goal
 
 pub returns-in-Ok-clause-played : goal.returns-in-Ok-clause-played
@@ -59,3 +59,12 @@ pub returns-in-Err-TooLong-clause-prefix : goal.returns-in-Err-TooLong-clause-pr
 returns-in-Err-TooLong-clause-prefix g c =
     let long = c.in-Err-TooLong.ensures.too_long (ap Err c.in-Err-TooLong.field-0-is) in
     writes_too_long c.args.options _ _ _ _ long.0 long.1 (rw c.at_no_place.ensures at c.refuse.ensures.prefix)
+
+pub returns-in-Err-Failed-clause-cut : goal.returns-in-Err-Failed-clause-cut
+returns-in-Err-Failed-clause-cut g c = cut_nothing _
+
+pub returns-in-Err-NoMemory-clause-cut : goal.returns-in-Err-NoMemory-clause-cut
+returns-in-Err-NoMemory-clause-cut g c = cut_nothing _
+
+pub returns-in-Err-TooLong-clause-cut : goal.returns-in-Err-TooLong-clause-cut
+returns-in-Err-TooLong-clause-cut g c = fault_cut _ _ _ c.refuse.ensures.prefix

@@ -1,5 +1,5 @@
 use Rattle.sf_app.specs.Scripts.{asked_of}
-use Rattle.sf_app.proofs.StatusLemmas.{prefix_none, prefix_refused, prefix_shown, refusal_is_late, refusal_range}
+use Rattle.sf_app.proofs.StatusLemmas.{cut_nothing, fault_cut, prefix_none, prefix_refused, prefix_shown, refusal_is_late, refusal_range, run_cut}
 use Rattle.sf_app.proofs.session.play_script.Goals as goal
 
 pub returns-in-Ok-clause-played : goal.returns-in-Ok-clause-played
@@ -10,7 +10,7 @@ returns-in-Ok-clause-refused g c = λ two. absurd (c.play_scene.ensures.other.1.
 
 pub returns-in-Ok-clause-prefix : goal.returns-in-Ok-clause-prefix
 returns-in-Ok-clause-prefix g c =
-    prefix_shown c.args.options.summary (asked_of c.args.script.now) c.in-Ok.scene (g.K.Sink.taken c.args.sink.now) (g.K.Sink.taken c.play_scene.new.sink)
+    prefix_shown c.args.options (asked_of c.args.script.now) c.in-Ok.scene (g.K.Sink.taken c.args.sink.now) (g.K.Sink.taken c.play_scene.new.sink)
     c.in-Ok.ensures.gives c.play_scene.ensures.part
 
 pub returns-in-Ok-clause-begun : goal.returns-in-Ok-clause-begun
@@ -27,7 +27,7 @@ returns-in-Err-Script-clause-refused g c = λ h. (c.in-Err-Script.fault, rw c.in
 
 pub returns-in-Err-Script-clause-prefix : goal.returns-in-Err-Script-clause-prefix
 returns-in-Err-Script-clause-prefix g c =
-    prefix_refused c.args.options.summary (asked_of c.args.script.now) c.in-Err-Script.fault (g.K.Sink.taken c.args.sink.now) (g.K.Sink.taken c.refuse.new.sink)
+    prefix_refused c.args.options (asked_of c.args.script.now) c.in-Err-Script.fault (g.K.Sink.taken c.args.sink.now) (g.K.Sink.taken c.refuse.new.sink)
     (rw c.in-Err-Script.field-0-is at c.in-Err-Script.ensures.gives) (rw c.in-Err-Script.fault-is at c.refuse.ensures.prefix)
 
 pub returns-in-Err-Script-clause-range : goal.returns-in-Err-Script-clause-range
@@ -40,4 +40,13 @@ pub returns-in-Err-Script-clause-read : goal.returns-in-Err-Script-clause-read
 returns-in-Err-Script-clause-read g c = (refusal_range c.refuse.result c.refuse.ensures.range).1.1
 
 pub returns-in-Err-NoMemory-clause-prefix : goal.returns-in-Err-NoMemory-clause-prefix
-returns-in-Err-NoMemory-clause-prefix g c = prefix_none c.args.options.summary c.args.script.now (g.K.Sink.taken c.args.sink.now)
+returns-in-Err-NoMemory-clause-prefix g c = prefix_none c.args.options c.args.script.now (g.K.Sink.taken c.args.sink.now)
+
+pub returns-in-Ok-clause-cut : goal.returns-in-Ok-clause-cut
+returns-in-Ok-clause-cut g c = run_cut c.args.options.run c.args.options.summary c.in-Ok.scene _ _ c.play_scene.ensures.part
+
+pub returns-in-Err-Script-clause-cut : goal.returns-in-Err-Script-clause-cut
+returns-in-Err-Script-clause-cut g c = fault_cut _ _ _ c.refuse.ensures.prefix
+
+pub returns-in-Err-NoMemory-clause-cut : goal.returns-in-Err-NoMemory-clause-cut
+returns-in-Err-NoMemory-clause-cut g c = cut_nothing _

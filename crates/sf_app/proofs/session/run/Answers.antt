@@ -1,3 +1,7 @@
+use Rattle.std.proofs.Common.{map}
+use Rattle.std.specs.String.{string_bytes}
+use Rattle.sf_app.proofs.ShownLemmas.{run_means}
+use Rattle.sf_app.proofs.WordLemmas.{live_has_no_summary}
 use Rattle.sf_app.proofs.StatusLemmas.{first_or_last, no_play, no_refusal, right_words, two_or_last}
 use Rattle.sf_app.proofs.session.run.Goals as goal
 
@@ -22,6 +26,7 @@ returns-clause-complete_refusal g c = λ options bytes fault right told wrong ca
 pub returns-clause-means : goal.returns-clause-means
 returns-clause-means g c = λ done.
     let p = c.follow.ensures.played done in
+    let shown = run_means p.options.run p.options.summary p.scene _ _ (live_has_no_summary (map string_bytes c.args.words.now) p.options p.right) p.run in
     record {
       options = p.options;
       right = p.right;
@@ -29,7 +34,7 @@ returns-clause-means g c = λ done.
       script = p.script;
       scene = p.scene;
       spelled = p.spelled;
-      records = p.run.records;
-      played = p.run.means;
-      written = p.run.written;
+      records = shown.records;
+      played = shown.played;
+      written = shown.written;
     }

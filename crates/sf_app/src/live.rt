@@ -1,0 +1,71 @@
+ghost use Rattle.std.specs.Prelude.{◌≡◌, ◌≤◌, true, OnErr, OnOk, IsErrOf};
+ghost use Rattle.sf_io.specs.Causes.{Rose};
+ghost use Rattle.sf_record.specs.declared.encode.RunFault.TheVariants.{WriteFault};
+ghost use Rattle.sf_cast.specs.Scripts.{permits_of};
+ghost use Rattle.sf_live.specs.Runs.{WroteLive};
+ghost use Rattle.sf_show.specs.Writing.{CutSome};
+ghost use Rattle.sf_app.specs.Scripts.{is_played};
+
+use sf_base::NoMemory;
+use sf_cast::permits_for;
+use sf_io::{Gate, Sink};
+use sf_picture::Painted;
+use sf_record::RunFault;
+use sf_scene::Scene;
+use sf_turns::{Stock, TurnSeat, open_turns};
+use std::alloc::Global;
+use std::marker::Brand;
+use std::sync::Wait;
+use std::thread::Threads;
+
+// Plays a scene in threads, whose actors need so many permits.
+fn live_with<R: Threads + Wait + Sync, K: Sink, G: Gate + Sync>(
+    rt: &R,
+    alloc: Global,
+    workers: u32,
+    sink: &mut K,
+    gate: &G,
+    scene: Scene,
+    permits: u32,
+) -> Result<(), RunFault>
+    requires some { 1 ≤ workers }
+    requires few { workers ≤ 16 }
+    requires played { is_played scene ≡ true }
+    requires counted { permits ≡ permits_of scene.actors }
+    ensures ok { OnOk result (WroteLive scene (K.taken sink.old) (K.taken sink.new)) }
+    ensures err { OnErr result (CutSome (K.taken sink.old) (K.taken sink.new)) }
+    ensures later { K.faults sink.old ≤ K.faults sink.new }
+    ensures failed { IsErrOf result WriteFault → Rose (K.faults sink.old) (K.faults sink.new) }
+{
+    match open_turns::<Painted>(alloc, permits) {
+        Ok((seat, stock)) => {
+            sf_live::live::<R, K, G, Brand>(rt, alloc, workers, sink, gate, scene, seat, stock)
+        }
+        Err(NoMemory) => Err(RunFault::NoMemory),
+    }
+}
+
+/// Plays a scene live, each actor in a thread of its own with its gate before each step, and writes
+/// the records of that run. So many workers compose its frames. It may wait for the actors' threads.
+pub fn live<R: Threads + Wait + Sync, K: Sink, G: Gate + Sync>(
+    rt: &R,
+    alloc: Global,
+    workers: u32,
+    sink: &mut K,
+    gate: &G,
+    scene: Scene,
+) -> Result<(), RunFault>
+    requires some { 1 ≤ workers }
+    requires few { workers ≤ 16 }
+    requires played { is_played scene ≡ true }
+    ensures ok { OnOk result (WroteLive scene (K.taken sink.old) (K.taken sink.new)) }
+    ensures err { OnErr result (CutSome (K.taken sink.old) (K.taken sink.new)) }
+    ensures later { K.faults sink.old ≤ K.faults sink.new }
+    ensures failed { IsErrOf result WriteFault → Rose (K.faults sink.old) (K.faults sink.new) }
+{
+    match permits_for(scene.actors.as_slice()) {
+        Some(permits) => live_with(rt, alloc, workers, sink, gate, scene, permits),
+        // No scene comes to it: 16 actors have at most 4,096 steps each.
+        None => Err(RunFault::NoMemory),
+    }
+}
