@@ -15,14 +15,12 @@
 #![tactic(auto)]
 
 mod case;
-mod layout;
-mod lines;
 mod pieces;
 mod sizes;
 
 use case::{Case, cases, names};
-use lines::{push_counts, push_records};
 use pieces::Halting;
+use record_lines::{push_counts, push_records};
 use sf_app::run;
 use sf_io::{Gate, MemSink, MemSource, OpenGate, ReadSource, WriteSink};
 use sizes::history_length;

@@ -1,30 +1,9 @@
+use crate::body::Body;
 use crate::layout::{Layout, TAGS, Tail, Width, layout_of};
+use crate::records::Records;
 use std::io;
 
-// The bytes of a record's body that are not read yet.
-#[derive(Drop)]
-struct Body<'a> {
-    rest: &'a [u8],
-}
-
-fn cut() -> io::Error {
-    io::Error::from(io::ErrorKind::UnexpectedEof)
-}
-
 impl Body<'_> {
-    // The next number, whose highest byte comes first.
-    fn number(&mut self, width: Width) -> io::Result<u64> {
-        let Some((bytes, rest)) = self.rest.split_at_checked(width) else {
-            return Err(cut());
-        };
-        self.rest = rest;
-        let mut number = 0u64;
-        for byte in bytes {
-            number = number.wrapping_mul(256).wrapping_add(u64::from(*byte));
-        }
-        Ok(number)
-    }
-
     fn push_numbers(&mut self, line: &mut String, widths: &[Width]) -> io::Result<()> {
         for width in widths {
             let number = self.number(*width)?;
@@ -114,45 +93,26 @@ fn push_cut(text: &mut String, bytes: &[u8]) -> io::Result<()> {
     Ok(())
 }
 
-// The tag, the body and what follows of the first record, if it is whole.
-fn split_record(bytes: &[u8]) -> Option<(&str, &[u8], &[u8])> {
-    let (tag, rest) = bytes.split_at_checked(4)?;
-    let mut head = Body { rest };
-    let length = head.number(4).ok()?;
-    let (body, rest) = head.rest.split_at_checked(length as usize)?;
-    Some((str::from_utf8(tag).ok()?, body, rest))
-}
-
 // How many records with this tag there are.
 fn count(bytes: &[u8], tag: &str) -> u64 {
-    let mut rest = bytes;
     let mut count = 0u64;
-    for _ in 0..bytes.len() {
-        let Some((first, _, after)) = split_record(rest) else {
-            break;
-        };
+    for (first, _) in (Records { rest: bytes }) {
         if first == tag {
             count = count.wrapping_add(1);
         }
-        rest = after;
     }
     count
 }
 
 // The sum of the bytes of all frames' pixels.
 fn pixel_sum(bytes: &[u8]) -> u64 {
-    let mut rest = bytes;
     let mut sum = 0u64;
-    for _ in 0..bytes.len() {
-        let Some((tag, body, after)) = split_record(rest) else {
-            break;
-        };
+    for (tag, body) in (Records { rest: bytes }) {
         if tag == "FRAM" {
             for byte in body.iter().skip(4) {
                 sum = sum.wrapping_add(u64::from(*byte));
             }
         }
-        rest = after;
     }
     sum
 }
@@ -162,15 +122,16 @@ fn pixel_sum(bytes: &[u8]) -> u64 {
 /// What is left of a cut record is `CUT` and its bytes.
 pub fn push_records(text: &mut String, bytes: &[u8]) -> io::Result<()> {
     let mut rest = bytes;
+    let mut records = Records { rest: bytes };
     for _ in 0..bytes.len() {
-        let Some((tag, body, after)) = split_record(rest) else {
+        let Some((tag, body)) = records.next() else {
             break;
         };
         let Some(layout) = layout_of(tag) else {
             break;
         };
         push_record(text, tag, layout, body)?;
-        rest = after;
+        rest = records.rest;
     }
     if rest.is_empty() {
         Ok(())
