@@ -120,7 +120,8 @@ fn play_script<R: Threads + Wait + Sync, K: Sink, G: Gate + Sync>(
 ) -> u8
     requires some { 1 ≤ options.workers }
     requires few { options.workers ≤ 16 }
-    ensures played { result ≡ 0 → (scene : SceneValue) × (asked_of script.now ≡ Ok scene) × ShowsRun options.run options.summary scene (K.taken sink.old) (K.taken sink.new) }
+    ensures played { result ≡ 0 → (scene : SceneValue) × (asked_of script.now ≡ Ok scene)
+        × ShowsRun options.run options.summary scene (K.taken sink.old) (K.taken sink.new) }
     ensures refused { result ≡ 2 → (fault : ScriptFault) × (asked_of script.now ≡ Err fault) × Appends (K.taken sink.old) (K.taken sink.new) (fault_bytes fault) }
     ensures prefix { PrefixOf options (asked_of script.now) (K.taken sink.old) (K.taken sink.new) }
     ensures cut { CutSome (K.taken sink.old) (K.taken sink.new) }

@@ -1,4 +1,5 @@
-ghost use Rattle.std.specs.Prelude.{◌≡◌, ◌+◌, ◌≤◌, ◌++◌, ◌∷◌, [], IsSome, List, OnOk, Some, None, false, true, get_or, if◌then◌else◌, length, map, slice_set};
+ghost use Rattle.std.specs.Prelude.{◌≡◌, ◌+◌, ◌≤◌, ◌++◌, ◌∷◌, [], IsSome, OnOk, if◌then◌else◌};
+ghost use Rattle.std.specs.Prelude.{List, Some, None, false, true, get_or, length, map, slice_set};
 ghost use Rattle.std.specs.Vec.{vec_capacity, vec_len};
 ghost use Rattle.sf_commit.specs.Inside.{HasRoom, cleared, place_of, taken_from};
 ghost use Rattle.sf_commit.specs.Leases.{pictures, pictures_here};

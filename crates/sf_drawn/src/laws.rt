@@ -29,7 +29,8 @@ use sf_turns::TableName;
 
 /// What a draw enters was given by one call, so with one turn.
 pub fn one_turn_is_given_to_what_is_entered<B: TableName>()
-    ensures { (pictures : ℕ → Picture) (home : DeskHome) (view : DeskView B) (of : ActorOf B) → Keeps pictures home of view → (at : DoneAt) → Contains (places_of of.trace) at
+    ensures { (pictures : ℕ → Picture) (home : DeskHome) (view : DeskView B) (of : ActorOf B)
+        → Keeps pictures home of view → (at : DoneAt) → Contains (places_of of.trace) at
         → (place : ℕ) → entered_at at ≡ Some place → (turn other : Turn) → WasGivenAt (calls_of home view of.script.number) place (Some turn)
         → WasGivenAt (calls_of home view of.script.number) place (Some other) → turn ≡ other }
 {}
@@ -44,14 +45,16 @@ pub fn placed_draws_stand<B: TableName>()
 
 /// Where nothing has happened, the rights of a run stand.
 pub fn rights_stand_at_the_beginning<B: TableName>()
-    ensures { (scene : SceneValue) (calls : ℕ → ℕ → List (Call B)) (buffers : ℕ) (home : DeskHome) (view : DeskView B) (ofs : List (ActorOf B)) (handler : HandlerOf ReadLeaseOf)
+    ensures { (scene : SceneValue) (calls : ℕ → ℕ → List (Call B)) (buffers : ℕ)
+        (home : DeskHome) (view : DeskView B) (ofs : List (ActorOf B)) (handler : HandlerOf ReadLeaseOf)
         → IsStrictlyIncreasing (map number_of ofs) → Begins buffers home view ofs handler → RightsStand scene calls (state_of home view ofs handler) }
 {}
 
 /// They stand after a step of an actor, wherever it comes among those of others.
 pub fn a_step_leaves_rights_standing<B: TableName>()
     ensures { (scene : SceneValue) (calls : ℕ → ℕ → List (Call B)) (old new : State B) → AreApart old.marks → AreDeclared scene old.marks
-        → ((queue : ℕ) → IsLegal (Answers (mark_among old.marks queue)) (old.view.calls queue)) → DoesIn calls old new → RightsStand scene calls old → RightsStand scene calls new }
+        → ((queue : ℕ) → IsLegal (Answers (mark_among old.marks queue)) (old.view.calls queue)) → DoesIn calls old new
+        → RightsStand scene calls old → RightsStand scene calls new }
 {}
 
 /// So they do where rights rest, and after frames that go back.
@@ -68,5 +71,6 @@ pub fn rights_that_stand_in_the_end_tell<B: TableName>()
         → RightsStand scene (calls_of home view) (state_of home view ofs handler) → MakersPlay scene home view ofs handler }
     ensures draws { (scene : SceneValue) (ofs : List (ActorOf B)) (home : DeskHome) (view : DeskView B) → IsWithinLimits scene → AreActors scene ofs home view
         → (pictures : ℕ → Picture) (buffers : ℕ) (handler : HandlerOf ReadLeaseOf) → LedgerStands buffers home view ofs handler → AreOver pictures home view ofs
-        → IsExact buffers view.turns.leaves view.turns.seen → RightsStand scene (calls_of home view) (state_of home view ofs handler) → DrawsStand scene home view ofs handler }
+        → IsExact buffers view.turns.leaves view.turns.seen
+        → RightsStand scene (calls_of home view) (state_of home view ofs handler) → DrawsStand scene home view ofs handler }
 {}

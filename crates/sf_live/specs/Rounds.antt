@@ -74,7 +74,8 @@ module _ {B : Type 0} where
   pub record PassesAt (place : ℕ) (actors : List (Actor B)) (old new : List Gates) : Type 0 where
     pub passed : Gates
     pub only : new ≡ slice_set old place passed
-    pub ready : (actor : Actor B) (before : Gates) → slice_get actors place ≡ Some actor → slice_get old place ≡ Some before → HasPassed actor before → IsReady actor passed
+    pub ready : (actor : Actor B) (before : Gates) → slice_get actors place ≡ Some actor → slice_get old place ≡ Some before
+        → HasPassed actor before → IsReady actor passed
 
   -- of the actor whose step is tried next, if one is
   abbrev pub PassesFor : Option ℕ → List (Actor B) → List Gates → List Gates → Type 0

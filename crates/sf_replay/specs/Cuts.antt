@@ -117,7 +117,8 @@ module _ {B : Type 0} where
   -- where so many calls are done, none of them made a buffer with a permit that is left
   abbrev pub AreUnused : Whole B → (ℕ → ℕ) → Local B → Type 0
   AreUnused whole heights local =
-      (number : ℕ) (mark : QueueMark) → Contains (stock_in local) number → Contains whole.marks mark → Contains (buffers_in mark (calls_at whole heights mark.queue.0)) number → ⊥
+      (number : ℕ) (mark : QueueMark) → Contains (stock_in local) number → Contains whole.marks mark
+      → Contains (buffers_in mark (calls_at whole heights mark.queue.0)) number → ⊥
 
   module _ (whole : Whole B) (Holds : State B → Type 0) where
     -- wherever the event is next, what holds before it holds after it

@@ -27,7 +27,8 @@ pub fn the_ledger_stands_at_a_join_that_is_tied<B: TableName>()
 /// The calls of vsyncs have stamps between bounds that rise with their numbers, where what the
 /// compositor's seats knew, with stamps, is how the histories of the whole run began.
 pub fn vsyncs_are_in_order<B: TableName>()
-    ensures { (table : TableId) (locks : Locks B) (period : ℕ) (first : FirstSeats B) (start end : Sitting B) (log : Vsyncs ⟦<ReadLease<B> as Lease>⟧ table locks period start end)
+    ensures { (table : TableId) (locks : Locks B) (period : ℕ) (first : FirstSeats B) (start end : Sitting B)
+        (log : Vsyncs ⟦<ReadLease<B> as Lease>⟧ table locks period start end)
         → end.seats.by ≡ 0 → AreStamped ⟦<ReadLease<B> as Lease>⟧ table locks period first log
         → (bound : ℕ → ℕ) × ((n m : ℕ) → n ≤ m → bound n ≤ bound m) × AreTimed ⟦<ReadLease<B> as Lease>⟧ table locks period (stamps first) bound log }
 {}

@@ -36,7 +36,8 @@ use sf_txn::Lease;
 /// Any try that was done keeps, with the ledger, that makers are followed and draws are placed,
 /// wherever its calls are the next ones on their queues and on the arrivals.
 pub fn a_done_try_leaves_rights_standing<B: TableName>()
-    ensures { (scene : SceneValue) (whole : Whole B) → AreDeclared scene whole.marks → (pictures : ℕ → Picture) (home : DeskHome) → whole.marks ≡ home.marks → AreApart home.marks
+    ensures { (scene : SceneValue) (whole : Whole B) → AreDeclared scene whole.marks → (pictures : ℕ → Picture) (home : DeskHome)
+        → whole.marks ≡ home.marks → AreApart home.marks
         → ((queue : ℕ) → has_queue home queue ≡ false → whole.view.calls queue ≡ [])
         → ((queue : ℕ) → IsLegal (Answers (mark_among home.marks queue)) (whole.view.calls queue))
         → (was is : ActorOf B) (s : Step) (before after : HandsOf B) (old new : DeskView B) (came_to : Tried) → DoesTry pictures home was is s before after old new came_to

@@ -30,7 +30,8 @@ module _ {B : Type 0} where
     pub unmade : (buffer : ℕ) → Contains (made_of asked answered) buffer → Contains old.made buffer → ⊥
     pub live_made : (right : RightAt) → Contains old.live right → Contains old.made right.turn.0
     pub queued_made : (write : WriteAt) → Contains old.queued write → Contains old.made write.write.turn.0
-    pub own : (write : WriteAt) → Contains (place_written queue asked answered) write → (right : RightAt) → Contains (brought_at from asked) right → right.at.queue ≡ queue.0
+    pub own : (write : WriteAt) → Contains (place_written queue asked answered) write
+        → (right : RightAt) → Contains (brought_at from asked) right → right.at.queue ≡ queue.0
     pub latest : (write other : WriteAt) → Contains (place_written queue asked answered) write → Contains old.queued other
         → other.write.turn.0 ≡ write.write.turn.0 → other.write.turn.1 < write.write.turn.1
     pub frames : (write other : WriteAt) → Contains (place_written queue asked answered) write → Contains old.queued other → other.write.frame.0.0 ≡ write.write.frame.0.0
@@ -56,7 +57,8 @@ pub record RunGets {B : Type 0} (mark : QueueMark) (made : Made B) (earlier : Li
   pub others : (queue : ℕ) → (queue ≡ mark.queue.0 → ⊥) → after.calls queue ≡ before.calls queue
   pub traced : (stay : BufferOf) → WasMade before stay
       → before_attach after stay (making_of (before.calls stay.queue) stay.number) ≡ before_attach before stay (making_of (before.calls stay.queue) stay.number)
-  pub attached : (stay : BufferOf) → is_attached (told_reply mark earlier made.by made.call.1) ≡ true → attached_from after (told_entry mark (told mark earlier) made) stay ≡ from
+  pub attached : (stay : BufferOf) → is_attached (told_reply mark earlier made.by made.call.1) ≡ true
+      → attached_from after (told_entry mark (told mark earlier) made) stay ≡ from
 
 -- A call was made: of the places out of queues, that of the right that it brings is one no longer, unless the reply gives it; and what is
 -- owed then is what was, or the frame that it queued.

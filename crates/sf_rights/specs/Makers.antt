@@ -1,5 +1,6 @@
 -- Where each made buffer is or was last, and where it was before: so far the turns at a buffer tell of its maker.
-use Rattle.std.specs.Prelude.{◌≡◌, ℕ, ◌<◌, ◌≤◌, ◌⊎◌, is_some, true, if◌then◌else◌, List, [], ◌∷◌, ◌++◌, length, map, Contains, Option, Some, None}
+use Rattle.std.specs.Prelude.{◌≡◌, ℕ, ◌<◌, ◌≤◌, ◌⊎◌, is_some, true, if◌then◌else◌}
+use Rattle.std.specs.Prelude.{List, [], ◌∷◌, ◌++◌, length, map, Contains, Option, Some, None}
 use Rattle.std.specs.List.{flat_map, range_with_len}
 use Rattle.sf_base.specs.declared.ids.QueueId.{QueueId}
 use Rattle.sf_slots.specs.declared.calls.PlainReply.{PlainReply}
@@ -88,7 +89,8 @@ pub record AreFollowed (run : Run) (most : ℕ) (stays : Stays) (places : Places
   pub live : (right : RightAt) → Contains places.live right → right.at ≡ stays.last right.turn.0
   pub queued : (write : WriteAt) → Contains places.queued write → IsStay run most stays write.write.turn.0 (buffer_of write)
   pub once : (one other : WriteAt) → Contains places.queued one → Contains places.queued other → one.write.turn ≡ other.write.turn → one ≡ other
-  pub rises : (one other : WriteAt) → Contains places.queued one → Contains places.queued other → one.write.turn.0 ≡ other.write.turn.0 → one.write.turn.1 < other.write.turn.1
+  pub rises : (one other : WriteAt) → Contains places.queued one → Contains places.queued other
+      → one.write.turn.0 ≡ other.write.turn.0 → one.write.turn.1 < other.write.turn.1
       → Rises stays one other
   pub owed : (write : WriteAt) → Contains places.owed write → Contains places.queued write
 

@@ -17,7 +17,8 @@ module _ {B : Type 0} where
 
   -- an owed draw and what may be drawn at the same pixels are in a buffer of one maker, and the age and frame of owed draws rise with their turns
   pub record MakersTell (maker : BufferOf → Maker) (ofs : List (ActorOf B)) : Type 0 where
-    pub same : (one other : Holding B) → IsHeld ofs one → IsHeld ofs other → is_owing (Some (token_of one)) ≡ true → MayDraw other → (turn_held one).0 ≡ (turn_held other).0
+    pub same : (one other : Holding B) → IsHeld ofs one → IsHeld ofs other
+        → is_owing (Some (token_of one)) ≡ true → MayDraw other → (turn_held one).0 ≡ (turn_held other).0
         → same_maker (maker (buffer_in (token_of one))) (maker (buffer_in (token_of other))) ≡ true
     pub order : (one other : Holding B) → IsHeld ofs one → IsHeld ofs other → is_owing (Some (token_of one)) ≡ true → is_owing (Some (token_of other)) ≡ true
         → (turn_held one).0 ≡ (turn_held other).0

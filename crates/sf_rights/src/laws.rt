@@ -134,8 +134,9 @@ pub fn a_standing_ledger_tells<B: TableName>()
 
 /// It stands after a try of an actor's step.
 pub fn a_step_leaves_the_ledger_standing<B: TableName>()
-    ensures { (table : TableId) (buffers place : ℕ) (pictures : List Picture) (ofs : List (ActorOf B)) (actors nows : List (Actor B)) (before after : PlainOf B) (stepped : Stepped)
-        (handler : HandlerOf ReadLeaseOf) → (steps : StepsAt table (picture_at pictures) place actors ofs before nows after stepped)
+    ensures { (table : TableId) (buffers place : ℕ) (pictures : List Picture) (ofs : List (ActorOf B)) (actors nows : List (Actor B))
+        (before after : PlainOf B) (stepped : Stepped) (handler : HandlerOf ReadLeaseOf)
+        → (steps : StepsAt table (picture_at pictures) place actors ofs before nows after stepped)
         → KeepAs table (picture_at pictures) (home_of before) (view_of before) actors ofs → All (MayPlay (home_of before) pictures) (scripts_of actors)
         → home_of after ≡ home_of before
         → AreOver (picture_at pictures) (home_of before) (view_of before) ofs
@@ -147,7 +148,8 @@ pub fn a_look_tells_what_a_run_has_written<B: TableName>()
     ensures same { (scene : SceneValue) (home : DeskHome) (view : DeskView B) (ofs : List (ActorOf B)) (handler : HandlerOf ReadLeaseOf)
         → IsWithinLimits scene → AreActors scene ofs home view
         → all_written (state_of home view ofs handler) ≡ written_in scene (run_of ofs home view) }
-    ensures tells { (scene : SceneValue) (pictures : ℕ → Picture) (buffers : ℕ) (home : DeskHome) (view : DeskView B) (ofs : List (ActorOf B)) (handler : HandlerOf ReadLeaseOf)
+    ensures tells { (scene : SceneValue) (pictures : ℕ → Picture) (buffers : ℕ) (home : DeskHome) (view : DeskView B)
+        (ofs : List (ActorOf B)) (handler : HandlerOf ReadLeaseOf)
         → IsWithinLimits scene → AreActors scene ofs home view → LedgerStands buffers home view ofs handler → AreOver pictures home view ofs
         → IsExact buffers view.turns.leaves view.turns.seen → (lease : ReadLeaseOf) → WasAcquired home.marks view.calls lease
         → has_left view.turns.leaves (turn_by lease.turn) ≡ run.is_written (written_in scene (run_of ofs home view)) (frame_of lease) }
@@ -172,7 +174,8 @@ pub fn what_was_queued_before_a_draw_is_written<B: TableName>()
 
 /// A buffer that is followed back through the attach calls that it was on comes to its maker.
 pub fn a_buffer_is_followed_to_its_maker()
-    ensures { (run : Run) (n : ℕ) (stay : BufferOf) (earlier : List BufferOf) → AreStays run stay earlier → length earlier ≤ n → followed n run stay ≡ maker_of stay earlier }
+    ensures { (run : Run) (n : ℕ) (stay : BufferOf) (earlier : List BufferOf) → AreStays run stay earlier
+        → length earlier ≤ n → followed n run stay ≡ maker_of stay earlier }
 {}
 
 /// Of two draws of one actor that enter pixels of one buffer, the later one has no earlier turn.

@@ -58,15 +58,15 @@ pub fn a_queued_frame_keeps_makers()
 /// Where a loose buffer is attached, they stay followed.
 pub fn an_attach_keeps_makers()
     ensures { (before after : Run) (most more : ℕ) (stays : Stays) (old new : Places) → GoesOn before after → most < more → AreFollowed before most stays old
-        → ((write : WriteAt) → Contains old.queued write → Contains old.made write.write.turn.0) → (buffer : ℕ) (stay : BufferOf) → AttachesTo buffer stay before after old new
-        → (next : Stays) × AreFollowed after more next new }
+        → ((write : WriteAt) → Contains old.queued write → Contains old.made write.write.turn.0) → (buffer : ℕ) (stay : BufferOf)
+        → AttachesTo buffer stay before after old new → (next : Stays) × AreFollowed after more next new }
 {}
 
 /// Where a buffer is made, they stay followed.
 pub fn a_buffer_that_is_made_keeps_makers()
     ensures { (before after : Run) (most more : ℕ) (stays : Stays) (old new : Places) → GoesOn before after → most < more → AreFollowed before most stays old
-        → ((write : WriteAt) → Contains old.queued write → Contains old.made write.write.turn.0) → (buffer : ℕ) (stay : BufferOf) → MakesAt buffer stay before after old new
-        → (next : Stays) × AreFollowed after more next new }
+        → ((write : WriteAt) → Contains old.queued write → Contains old.made write.write.turn.0) → (buffer : ℕ) (stay : BufferOf)
+        → MakesAt buffer stay before after old new → (next : Stays) × AreFollowed after more next new }
 {}
 
 /// Each right that lies in a queue after a call, or that its reply gives, lay there at the same place,
@@ -106,8 +106,8 @@ pub fn places_are_those_of_the_ledger<B: TableName>()
 /// Each right that lies somewhere after a call was at the same place before it, or is that of a buffer
 /// that came to the queue.
 pub fn rights_stay_where_they_were<B: TableName>()
-    ensures { (old new : State B) (by queue step : ℕ) (asked : QCall B) (reply : QReply B) (from : BufferOf) → PlaceStep old new by queue step asked reply from → (right : RightAt)
-        → Contains (places_of new).live right → WasAt (places_of old) right
+    ensures { (old new : State B) (by queue step : ℕ) (asked : QCall B) (reply : QReply B) (from : BufferOf) → PlaceStep old new by queue step asked reply from
+        → (right : RightAt) → Contains (places_of new).live right → WasAt (places_of old) right
         ⊎ IsNewAt (mark_among old.marks queue).queue asked (told_reply (mark_among old.marks queue) (old.view.calls queue) by asked) right }
 {}
 

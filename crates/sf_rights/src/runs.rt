@@ -29,7 +29,8 @@ use sf_txn::Lease;
 /// Makers stand after a try of an actor's step.
 pub fn a_step_leaves_makers_standing<B: TableName>()
     ensures { (scene : SceneValue) (table : TableId) (buffers place : ℕ) (pictures : List Picture) (ofs : List (ActorOf B)) (actors nows : List (Actor B))
-        (before after : PlainOf B) (stepped : Stepped) (handler : HandlerOf ReadLeaseOf) → (steps : StepsAt table (picture_at pictures) place actors ofs before nows after stepped)
+        (before after : PlainOf B) (stepped : Stepped) (handler : HandlerOf ReadLeaseOf)
+        → (steps : StepsAt table (picture_at pictures) place actors ofs before nows after stepped)
         → KeepAs table (picture_at pictures) (home_of before) (view_of before) actors ofs → All (MayPlay (home_of before) pictures) (scripts_of actors)
         → home_of after ≡ home_of before
         → AreOver (picture_at pictures) (home_of before) (view_of before) ofs → LedgerStands buffers (home_of before) (view_of before) ofs handler
@@ -41,7 +42,8 @@ pub fn a_step_leaves_makers_standing<B: TableName>()
 pub fn a_vsync_leaves_makers_standing<B: TableName>()
     ensures { (scene : SceneValue) (home : DeskHome) (ofs : List (ActorOf B)) (old : DeskView B) (handler : HandlerOf ReadLeaseOf) (buffers : ℕ)
         (new : DeskView B) (after : HandlerOf ReadLeaseOf) → VsyncIn ⟦<ReadLease<B> as Lease>⟧ home old handler new after
-        → LedgerStands buffers home old ofs handler → AreDeclared scene home.marks → MakersPlay scene home old ofs handler → MakersPlay scene (home_taken home old) new ofs after }
+        → LedgerStands buffers home old ofs handler → AreDeclared scene home.marks → MakersPlay scene home old ofs handler
+        → MakersPlay scene (home_taken home old) new ofs after }
 {}
 
 /// Where they stand, makers tell of the turns at buffers, and a look that shows that an earlier turn

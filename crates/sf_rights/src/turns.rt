@@ -68,7 +68,8 @@ pub fn a_vsync_leaves_draws_in_turn<B: TableName>()
 pub fn draws_in_turn_come_after_what_was_owed<B: TableName>()
     ensures { (scene : SceneValue) (ofs : List (ActorOf B)) (home : DeskHome) (view : DeskView B) (handler : HandlerOf ReadLeaseOf) → IsWithinLimits scene
         → AreActors scene ofs home view
-        → ((queue : ℕ) → has_queue home queue ≡ false → view.calls queue ≡ []) → DrawsStand scene home view ofs handler → DrawAfterOwed scene (run_of ofs home view) }
+        → ((queue : ℕ) → has_queue home queue ≡ false → view.calls queue ≡ [])
+        → DrawsStand scene home view ofs handler → DrawAfterOwed scene (run_of ofs home view) }
 {}
 
 /// Where nothing has happened, all draws are in turn.
