@@ -1,5 +1,5 @@
 -- Where a drawn layer hides the ground, the image does not depend on it.
-use Rattle.std.proofs.Common.{◌≡◌, ℕ, ◌<◌, ◌≤◌, Bool, true, false, ◌&&◌, ◌||◌, if◌then◌else◌, List, [], ◌∷◌, refl, ap, sym, arith, ℤ, pos, ◌+ℤ◌, int_le, int_lt, nat_eq}
+use Rattle.std.proofs.Common.{◌≡◌, ℕ, ◌<◌, ◌≤◌, Bool, true, false, ◌&&◌, ◌||◌, List, refl, arith, ℤ, pos, ◌+ℤ◌, int_le, int_lt, nat_eq}
 use Rattle.std.specs.Prelude.{not}
 use Rattle.std.proofs.lemmas.Bool.{and_parts, eqb-true, false≢true}
 use Rattle.std.proofs.lemmas.Bool.Decides.{nat_tests}
@@ -9,7 +9,6 @@ use Rattle.sf_base.specs.declared.geometry.Rect.{Rect}
 use Rattle.sf_base.specs.declared.pixel.Rgba.{Rgba}
 use Rattle.sf_damage.proofs.VisibleLemmas.{painted-solid}
 use Rattle.sf_picture.specs.declared.picture.Picture.{Picture}
-use Rattle.sf_view.specs.Views.{is_in_clip}
 use Rattle.sf_view.specs.declared.content.Content.{Content}
 use Rattle.sf_view.specs.declared.content.Content.TheVariants as content
 use Rattle.sf_view.specs.declared.drawn.Drawn.{Drawn}

@@ -1,6 +1,6 @@
 -- Pixels whose alphas are 255: how lanes tell them, and that they hide what they are painted over.
-use Rattle.std.proofs.Common.{◌≡◌, ℕ, zero, suc, ◌+◌, ◌-◌, ◌*◌, ◌/◌, ◌%◌, ◌<◌, ◌≤◌, Bool, true, false, List, [], ◌∷◌, length, get_or, slice_index, refl, ap, sym, ◌∙◌, inl, inr, arith, cond, map, subst}
-use Rattle.std.proofs.lemmas.Bool.{cases_lt, true≢false}
+use Rattle.std.proofs.Common.{◌≡◌, ℕ, zero, suc, ◌+◌, ◌-◌, ◌*◌, ◌/◌, ◌<◌, ◌≤◌, Bool, true, false, List, [], ◌∷◌, length, get_or, slice_index, refl, sym, ◌∙◌, inl, inr, arith, map, subst}
+use Rattle.std.proofs.lemmas.Bool.{cases_lt}
 use Rattle.std.proofs.lemmas.Simd.{get_or-chunk, get_or-put_chunk_below, get_or-put_chunk_at, get_or_wider, length-chunk, length-put_chunk, Each1-get_or}
 use lib.Lanes.{chunk, put_chunk, mask_l, number_l, digits_l, Each1}
 use Rattle.sf_base.specs.Blend.{blended, product}

@@ -1,8 +1,11 @@
 -- Rows of a display, and the bytes of a frame that are theirs.
-use Rattle.std.specs.Prelude.{◌≡◌, ℕ, ◌+◌, ◌-◌, ◌*◌, ◌/◌, ◌<◌, ◌≤◌, min, List, length}
+use Rattle.std.specs.Prelude.{◌≡◌, ℕ, ◌-◌, ◌*◌, ◌<◌, ◌≤◌, Bool, List, length}
+use denote.Ref.{MutBor}
+use denote.Param.Members.{Shared}
+use Rattle.sf_base.specs.declared.pixel.Rgba.{Rgba}
 use Rattle.sf_compose.specs.declared.area.Area.{Area}
 use Rattle.sf_compose.specs.declared.band.Band.{Band}
-use Rattle.sf_view.specs.Views.{ViewOf}
+use Rattle.sf_compose.specs.Frames.{Repaints}
 
 -- each point of an area is in a band
 pub record IsInBand (band : Band) (area : Area) : Type 0 where
@@ -14,13 +17,20 @@ pub record IsInBand (band : Band) (area : Area) : Type 0 where
 pub record HasRows (band : Band) (bytes : List ℕ) : Type 0 where
   pub size : length bytes ≡ 4 * ((band.bottom - band.top) * band.width)
 
--- band n of a display that is cut into bands of so many rows; the last may have fewer
-abbrev pub band_of : ViewOf → ℕ → ℕ → Band
-band_of view rows n = record { width = view.width; top = n * rows; bottom = min (n * rows + rows) view.height }
+-- a band is cut into the rows from its top on, at least one, and those below them
+pub record IsCut (band first below : Band) : Type 0 where
+  pub first_is : first ≡ record band { bottom = below.top }
+  pub below_is : below ≡ record band { top = below.top }
+  pub some : band.top < below.top
+  pub within : below.top ≤ band.bottom
 
--- bytes that start at a byte of a frame are a band of so many rows, which begins where so many bytes of each band before it end
-pub record StartsBand (view : ViewOf) (rows size start : ℕ) (bytes : List ℕ) : Type 0 where
-  pub some : 0 < size
-  pub few : rows ≤ view.height
-  pub below : start / size * rows < view.height
-  pub room : HasRows (band_of view rows (start / size)) bytes
+-- what the calls of a function of a band and its bytes may be, and what they do
+module _ {F : Type 0} (g : Shared F (Band × (MutBor (List ℕ) × Unit {0})) (Unit {0} × (MutBor (List ℕ) × Unit {0}))) (f : F) where
+  -- it may be called with any band and the bytes of its rows
+  abbrev pub AcceptsBands : Type 0
+  AcceptsBands = (band : Band) (bytes : MutBor (List ℕ)) → HasRows band bytes.now → g.pre f (band, (bytes, tt))
+
+  -- each call repaints the band that it is given
+  abbrev pub RepaintsBands : (ℕ → ℕ → Bool) → (ℕ → ℕ → Rgba) → Type 0
+  RepaintsBands test image = (band : Band) (before after : MutBor (List ℕ)) → g.post f (band, (before, tt)) (tt, (after, tt))
+      → Repaints band.width band.top band.bottom test image before.now after.now

@@ -12,7 +12,8 @@ pub record Spares (width top : ℕ) (test : ℕ → ℕ → Bool) (old new : Lis
   pub rest : (x y : ℕ) → x < width → top ≤ y → test x y ≡ false → pixel_in new ((y - top) * width + x) ≡ pixel_in old ((y - top) * width + x)
 
 -- where a test holds, the layers from a number on make of what is there what all of them make of black
-pub record IsBegun (width top : ℕ) (test : ℕ → ℕ → Bool) (contents : List Picture) (layers : List Drawn) (sources : List ℕ) (first : ℕ) (new : List ℕ) : Type 0 where
+pub record IsBegun (width top : ℕ) (test : ℕ → ℕ → Bool) (contents : List Picture) (layers : List Drawn)
+    (sources : List ℕ) (first : ℕ) (new : List ℕ) : Type 0 where
   pub image : (x y : ℕ) → x < width → top ≤ y → test x y ≡ true
       → under_drawn contents (pos x) (pos y) (pixel_in new ((y - top) * width + x)) (drop first layers) (drop first sources)
       ≡ under_drawn contents (pos x) (pos y) opaque_black layers sources

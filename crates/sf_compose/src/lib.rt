@@ -8,6 +8,7 @@
 mod area;
 mod band;
 mod begin;
+mod beside;
 mod contents;
 mod crew;
 mod ground;

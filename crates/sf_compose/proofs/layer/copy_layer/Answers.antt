@@ -1,6 +1,4 @@
 use Rattle.std.proofs.Common.{◌∙◌, map, pos, refl, sym}
-use Rattle.sf_base.specs.Geometry.{covers}
-use Rattle.sf_compose.specs.Painting.{is_in_area}
 use Rattle.sf_compose.proofs.GroundLemmas.{covers_point, may_hide-parts}
 use Rattle.sf_compose.proofs.LayerLemmas.{copied_one, in_upright_box}
 use Rattle.sf_compose.proofs.PaintLemmas.{Paints-same}

@@ -1,4 +1,4 @@
-use Rattle.std.proofs.Common.{◌≡◌, ◌+◌, ◌-◌, ◌*◌, ◌∙◌, ap, arith, pos, refl, neg_ℤ, ◌+ℤ◌, length}
+use Rattle.std.proofs.Common.{◌+◌, ◌-◌, ◌*◌, ◌∙◌, ap, arith, pos, refl, neg_ℤ, ◌+ℤ◌, length}
 use Rattle.std.proofs.lemmas.List.Edits.{length-between}
 use Rattle.sf_base.specs.Bytes.{pixel_in}
 use Rattle.sf_view.specs.Contents.{unsigned}

@@ -1,0 +1,131 @@
+ghost use Rattle.std.specs.Prelude.{◌≡◌, ◌-◌, ◌*◌, ◌<◌, ◌≤◌, ℕ, Bool, List};
+ghost use denote.Param.Send.{IsSync};
+ghost use Rattle.sf_base.specs.declared.pixel.Rgba.{Rgba as RgbaIn};
+ghost use Rattle.sf_compose.specs.declared.band.Band.{Band as BandIn};
+ghost use Rattle.sf_compose.specs.Bands.{AcceptsBands, HasRows, IsCut, RepaintsBands};
+ghost use Rattle.sf_compose.specs.Frames.{Repaints};
+
+use crate::band::Band;
+use std::thread;
+use std::thread::Threads;
+
+// The first rows of a band, at most so many, and those below.
+fn cut_off(band: Band, rows: u32) -> (Band, Band)
+    requires some { 1 ≤ rows }
+    requires rows { band.top < band.bottom }
+    ensures { IsCut band result.0 result.1 }
+{
+    let middle = band.top + rows.min(band.bottom - band.top);
+    let first = Band {
+        bottom: middle,
+        ..band
+    };
+    (
+        first,
+        Band {
+            top: middle,
+            ..band
+        },
+    )
+}
+
+// How many bytes a band has.
+fn size_of(band: Band) -> usize
+    requires ordered { band.top ≤ band.bottom }
+    requires fits { 4 * ((band.bottom - band.top) * band.width) < 18446744073709551616 }
+    ensures { result ≡ 4 * ((band.bottom - band.top) * band.width) }
+{
+    4 * ((band.bottom - band.top) as usize * band.width as usize)
+}
+
+// Has the rows of a band composed, at most so many by each thread, and by the caller's where these are
+// all.
+pub fn compose_bands<R: Threads + Sync, F: Fn(Band, &mut [u8]) + Sync>(
+    rt: &R,
+    f: &F,
+    rows: u32,
+    band: Band,
+    bytes: &mut [u8],
+)
+    requires some { 1 ≤ rows }
+    requires ordered { band.top ≤ band.bottom }
+    requires room { HasRows band bytes.old }
+    requires accepts { AcceptsBands F.Fn f.now }
+    ensures { (test : ℕ → ℕ → Bool) (image : ℕ → ℕ → RgbaIn) → RepaintsBands F.Fn f.now test image
+        → Repaints band.width band.top band.bottom test image bytes.old bytes.new }
+{
+    if band.bottom - band.top <= rows {
+        compose_here(f, band, bytes);
+    } else {
+        start_each(rt, f, rows, band, bytes);
+    }
+}
+
+// Has the rows of a band composed, at most so many in each thread. All threads begin at once, since
+// the one that starts them composes nothing itself but where no thread can be made.
+#[cycle(bands)]
+fn start_each<R: Threads + Sync, F: Fn(Band, &mut [u8]) + Sync>(
+    rt: &R,
+    f: &F,
+    rows: u32,
+    band: Band,
+    bytes: &mut [u8],
+)
+    requires some { 1 ≤ rows }
+    requires ordered { band.top ≤ band.bottom }
+    requires room { HasRows band bytes.old }
+    requires accepts { AcceptsBands F.Fn f.now }
+    ensures { (test : ℕ → ℕ → Bool) (image : ℕ → ℕ → RgbaIn) → RepaintsBands F.Fn f.now test image
+        → Repaints band.width band.top band.bottom test image bytes.old bytes.new }
+{
+    if band.top == band.bottom {
+        return;
+    }
+    let (first, below) = cut_off(band, rows);
+    let (now, later) = bytes.split_at_mut(size_of(first));
+    start_beside(rt, f, rows, first, now, below, later);
+}
+
+// Composes a band in this thread.
+fn compose_here<F: Fn(Band, &mut [u8])>(f: &F, band: Band, bytes: &mut [u8])
+    requires room { HasRows band bytes.old }
+    requires accepts { AcceptsBands F.Fn f.now }
+    ensures { (test : ℕ → ℕ → Bool) (image : ℕ → ℕ → RgbaIn) → RepaintsBands F.Fn f.now test image
+        → Repaints band.width band.top band.bottom test image bytes.old bytes.new }
+{
+    f(band, bytes);
+}
+
+// Has a band composed in a thread, and the rows below it beside.
+#[cycle(bands)]
+fn start_beside<R: Threads + Sync, F: Fn(Band, &mut [u8]) + Sync>(
+    rt: &R,
+    f: &F,
+    rows: u32,
+    first: Band,
+    now: &mut [u8],
+    below: Band,
+    later: &mut [u8],
+)
+    requires some { 1 ≤ rows }
+    requires ordered { below.top ≤ below.bottom }
+    requires first { HasRows first now.old }
+    requires below { HasRows below later.old }
+    requires accepts { AcceptsBands F.Fn f.now }
+    ensures first { (test : ℕ → ℕ → Bool) (image : ℕ → ℕ → RgbaIn) → RepaintsBands F.Fn f.now test image
+        → Repaints first.width first.top first.bottom test image now.old now.new }
+    ensures below { (test : ℕ → ℕ → Bool) (image : ℕ → ℕ → RgbaIn) → RepaintsBands F.Fn f.now test image
+        → Repaints below.width below.top below.bottom test image later.old later.new }
+{
+    let mut one = ||
+        requires { IsSync F.row × HasRows first now.now × AcceptsBands F.Fn f.now }
+        ensures { (test : ℕ → ℕ → Bool) (image : ℕ → ℕ → RgbaIn) → RepaintsBands F.Fn f.entry.now test image
+            → Repaints first.width first.top first.bottom test image now.entry.now now.exit.now }
+    { compose_here(f, first, now) };
+    let mut others = ||
+        requires { IsSync R.row × IsSync F.row × (1 ≤ rows) × (below.top ≤ below.bottom) × HasRows below later.now × AcceptsBands F.Fn f.now }
+        ensures { (test : ℕ → ℕ → Bool) (image : ℕ → ℕ → RgbaIn) → RepaintsBands F.Fn f.entry.now test image
+            → Repaints below.width below.top below.bottom test image later.entry.now later.exit.now }
+    { start_each(rt, f, rows, below, later) };
+    thread::join_mut(rt, &mut one, &mut others);
+}
