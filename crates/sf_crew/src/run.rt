@@ -85,8 +85,7 @@ fn attend<'s, R: Threads + Wait + Sync, G: Gate, B: TableName, V: Visit<R, B>>(
         };
         hands = tried;
         match visitor.visit(rt, locks, &mut first) {
-            Ok(true) => watch.tell_done(rt),
-            Ok(false) => {}
+            Ok(did) => watch.tell_looked(rt, news, did),
             Err(Ended) => return Err(Stopped::Ended),
         }
     }

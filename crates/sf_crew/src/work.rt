@@ -12,9 +12,25 @@ use sf_turns::TableName;
 use sf_watch::Watch;
 use std::sync::Wait;
 
+/// What a thread does after a try, which may have sent a transaction, with the news before it. Whether
+/// it goes on.
+fn goes_on<R: Wait>(rt: &R, watch: &Watch, seen: u64, sends: bool, stepped: Stepped) -> bool {
+    match stepped {
+        Stepped::Done => {
+            watch.tell_done(rt);
+            !sends || watch.wait_for_look(rt)
+        }
+        Stepped::NotYet => watch.idle(rt, seen),
+        Stepped::Ended => {
+            watch.tell_ended(rt);
+            false
+        }
+    }
+}
+
 /// Tries a crew's steps, one after the other, until it has done all or is stopped; while a step can't
-/// be done it sleeps. One for which no thread could be started is left as it is. For want of memory
-/// all are stopped.
+/// be done it sleeps, and so it does after a transaction until the visitor has looked at it. One for
+/// which no thread could be started is left as it is. For want of memory all are stopped.
 pub(crate) fn work<R: Wait, G: Gate, B: TableName>(
     rt: &R,
     locks: &Locks<B>,
@@ -34,18 +50,14 @@ pub(crate) fn work<R: Wait, G: Gate, B: TableName>(
     }
     for _ in rt.forever() {
         let seen = watch.news(rt);
+        let sends = crew.actor.sends_next();
         let (turned, stepped) = turn(rt, locks, pictures, gate, crew);
         crew = turned;
         match stepped {
-            Ok(Stepped::Done) => watch.tell_done(rt),
-            Ok(Stepped::NotYet) => {
-                if !watch.idle(rt, seen) {
+            Ok(stepped) => {
+                if !goes_on(rt, watch, seen, sends, stepped) {
                     return Back::Whole(crew);
                 }
-            }
-            Ok(Stepped::Ended) => {
-                watch.tell_ended(rt);
-                return Back::Whole(crew);
             }
             Err(_) => {
                 watch.stop(rt);

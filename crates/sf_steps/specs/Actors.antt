@@ -1,10 +1,11 @@
 -- What contracts see of an actor. Its trace is not in its memory: contracts speak of each trace that fits what it has.
-use Rattle.std.specs.Prelude.{◌≡◌, ℕ, ◌+◌, ◌≤◌, false, List, [], length, replicate, None, Some}
+use Rattle.std.specs.Prelude.{◌≡◌, ℕ, ◌+◌, ◌≤◌, Bool, false, true, List, [], length, replicate, slice_get, Option, None, Some}
 use Rattle.atomic_table.specs.Seated.{TableId}
 use Rattle.sf_base.specs.declared.ids.ActorId.{ActorId}
 use Rattle.sf_picture.specs.declared.picture.Picture.{Picture}
 use Rattle.sf_scene.specs.declared.step.ActorScript.{ActorScript}
 use Rattle.sf_scene.specs.declared.step.Step.{Step}
+use Rattle.sf_scene.specs.declared.step.Step.TheVariants as step
 use Rattle.sf_turns.specs.Counts.{stock_at}
 use Rattle.sf_turns.specs.Views.{StockView}
 use Rattle.sf_actor.specs.declared.tried.Stepped.{Stepped}
@@ -20,6 +21,11 @@ use Rattle.sf_steps.specs.declared.actor.Actor.{Actor}
 use Rattle.sf_steps.specs.declared.hands.Hands.{Hands}
 use Rattle.sf_steps.specs.declared.tried.Tried.{Tried}
 
+-- whether there is a step and it sends a transaction
+abbrev pub sends : Option Step → Bool
+sends (Some (step.Apply _ _)) = true
+sends _ = false
+
 module _ {B : Type 0} where
   -- what an actor has in its hands, with the numbers of the buffers that it may still open
   abbrev pub parts_of : Hands B → PartsOf B
@@ -32,6 +38,10 @@ module _ {B : Type 0} where
     pub transactions : hands.transactions ≡ replicate 65 None
     pub stock_whole : hands.stock ≡ stock
     pub none_spare : hands.spare ≡ None
+
+  -- whether the step that an actor tries next sends a transaction
+  abbrev pub sends_next : Actor B → Bool
+  sends_next actor = sends (slice_get actor.script.steps (length actor.replies.items))
 
   -- an actor that has done nothing
   abbrev pub new_actor : ActorScript → List ℕ → ActorOf B
@@ -70,7 +80,8 @@ module _ {B : Type 0} where
     pub keeps : Keeps pictures home of view
 
   -- what a try of a step did with the tokens in its actor's hands, with calls and with turns
-  pub record Acts (pictures : ℕ → Picture) (home : DeskHome) (next : Step) (place : ℕ) (was : Hands B) (before : DeskView B) (hands : Hands B) (after : DeskView B) : Type 0 where
+  pub record Acts (pictures : ℕ → Picture) (home : DeskHome) (next : Step) (place : ℕ)
+      (was : Hands B) (before : DeskView B) (hands : Hands B) (after : DeskView B) : Type 0 where
     pub came_to : Tried
     pub attempts : Attempts (refusal_of pictures (holdings_of was) next) pictures home was.by.0 place next was hands before after came_to
 

@@ -87,3 +87,72 @@ fn each_place_is_turned_away_for_itself(rt: HostRuntime) {
     assert_eq!(rt; watch.next(&rt, 0), Some(1), "the start is new");
     assert_eq!(rt; watch.next(&rt, 1), None, "nobody is waited for");
 }
+
+/// Does something so often, and waits each time until it was looked at. Counts what was not seen
+/// before it went on.
+fn do_and_wait<R: Wait>(
+    rt: &R,
+    watch: &Watch,
+    done: &AtomicUsize,
+    seen: &AtomicUsize,
+    missed: &AtomicUsize,
+    often: usize,
+) {
+    for i in 0..often {
+        done.store(i + 1, Ordering::SeqCst);
+        watch.tell_done(rt);
+        if !watch.wait_for_look(rt) || seen.load(Ordering::SeqCst) <= i {
+            missed.fetch_add(1, Ordering::SeqCst);
+        }
+    }
+    watch.tell_ended(rt);
+}
+
+/// Looks whenever there is news, until all rest, at what was done.
+fn look_at<R: Wait>(rt: &R, watch: &Watch, done: &AtomicUsize, seen: &AtomicUsize) {
+    let mut latest = 0;
+    for _ in rt.forever() {
+        match watch.next(rt, latest) {
+            Some(news) => latest = news,
+            None => break,
+        }
+        seen.store(done.load(Ordering::SeqCst), Ordering::SeqCst);
+        watch.tell_looked(rt, latest, false);
+    }
+    watch.stop(rt);
+}
+
+/// How often a thread went on before what it did was looked at, and what was seen of it in the end.
+fn missed_of<R: Threads + Wait + Sync>(rt: &R, often: usize) -> (usize, usize) {
+    let watch = Watch::new(1);
+    let (done, seen, missed) = (
+        AtomicUsize::new(0),
+        AtomicUsize::new(0),
+        AtomicUsize::new(0),
+    );
+    let (shared, did, saw, lost) = (&watch, &done, &seen, &missed);
+    thread::scope(thread::scope_env(), rt, move |scope| {
+        let started = scope.spawn(move || do_and_wait(rt, shared, did, saw, lost, often));
+        if started.is_err() {
+            shared.tell_ended(rt);
+        }
+        look_at(rt, shared, did, saw)
+    });
+    (missed.load(Ordering::SeqCst), seen.load(Ordering::SeqCst))
+}
+
+#[test]
+fn what_a_thread_waits_for_was_looked_at(rt: HostRuntime) {
+    assert_eq!(rt; missed_of(&rt, 2000), (0, 2000));
+}
+
+#[test]
+fn nobody_waits_for_a_look_at_what_was_seen_or_once_stopped(rt: HostRuntime) {
+    let watch = Watch::new(1);
+    watch.tell_looked(&rt, 1, false);
+    assert!(rt; watch.wait_for_look(&rt), "the start was looked at");
+    watch.tell_looked(&rt, 1, true);
+    assert_eq!(rt; watch.next(&rt, 1), Some(2), "who looked did something");
+    watch.stop(&rt);
+    assert!(rt; !watch.wait_for_look(&rt), "it is to stop");
+}

@@ -5,6 +5,9 @@ use std::sync::{Condvar, Mutex, Wait};
 /// How many threads are watched at most.
 pub const MOST_WATCHED: usize = 16;
 
+/// News that wrap by as much as this are older ones.
+const LEAST_BEHIND: u64 = 1 << 63;
+
 /// What the threads tell each other.
 #[derive(Drop)]
 struct Board {
@@ -12,6 +15,8 @@ struct Board {
     news: u64,
     /// How many threads are idle, and know the latest news.
     idle: usize,
+    /// Up to which news whoever started the threads has looked.
+    looked: u64,
     /// How many do no more steps.
     ended: usize,
     stop: bool,
@@ -25,6 +30,7 @@ pub struct Watch {
     many: usize,
     board: Mutex<Board>,
     changed: Condvar,
+    looked_on: Condvar,
 }
 
 impl Watch {
@@ -35,11 +41,13 @@ impl Watch {
             board: Mutex::new(Board {
                 news: 1,
                 idle: 0,
+                looked: 0,
                 ended: 0,
                 stop: false,
                 turned_away: [false; MOST_WATCHED],
             }),
             changed: Condvar::new(),
+            looked_on: Condvar::new(),
         }
     }
 
@@ -67,6 +75,7 @@ impl Watch {
     pub fn stop<R: Wait>(&self, rt: &R) {
         self.board.lock(rt).stop = true;
         self.changed.notify_all();
+        self.looked_on.notify_all();
     }
 
     /// A thread is idle until there are other news than it has seen. False where it is to stop.
@@ -94,6 +103,27 @@ impl Watch {
             return None;
         }
         Some(board.news)
+    }
+
+    /// Whoever started the threads has looked at all that was done up to these news, and may have done
+    /// something itself.
+    pub fn tell_looked<R: Wait>(&self, rt: &R, news: u64, did: bool) {
+        self.board.lock(rt).looked = news;
+        self.looked_on.notify_all();
+        if did {
+            self.tell_done(rt);
+        }
+    }
+
+    /// A thread, which isn't idle, sleeps until whoever started it has looked at all that was done so
+    /// far. False where it is to stop.
+    pub fn wait_for_look<R: Wait>(&self, rt: &R) -> bool {
+        let board = self.board.lock(rt);
+        let told = board.news;
+        let board = self.looked_on.wait_while(rt, board, |board| {
+            board.looked.wrapping_sub(told) >= LEAST_BEHIND && !board.stop
+        });
+        !board.stop
     }
 
     /// No thread could be started for this place. Nobody waits for it.

@@ -17,26 +17,12 @@ try_here-requires g c = stays_fit {B = g.row.B.Denot} g.B.TableName.table c.args
 pub loop-preserved : goal.loop-preserved
 loop-preserved g c = record {
   steps = (tt, tt);
-  some = (c.loop.invariant.some.0, c.in-Ok-false.ensures.kept c.loop.invariant.some.0 c.loop.invariant.some.1);
+  some = (c.loop.invariant.some.0, c.in-Ok.ensures.kept c.loop.invariant.some.0 c.loop.invariant.some.1);
   attends = λ start kept.
       let before = c.loop.invariant.attends start kept in
       attends_more {B = g.row.B.Denot} {V = g.row.V.Denot} (g.V.Visit.keeps start) g.B.TableName.table c.args.locks.now c.args.first c.loop.first c.visit.new.first _ _ before
-      c.in-Ok-false.ensures.first c.in-Ok-false.ensures.given (c.in-Ok-false.ensures.kept start before.kept);
-  first = c.in-Ok-false.ensures.first;
-  hands =
-      stays_on {B = g.row.B.Denot} g.B.TableName.table c.args.locks.now c.args.pictures.now c.args.hands.items c.loop.hands.items c.in-Some-try_here.tried.items c.loop.invariant.hands
-      c.in-Some-try_here.ensures;
-}
-
-pub loop-preserved-in-Ok-true : goal.loop-preserved-in-Ok-true
-loop-preserved-in-Ok-true g c = record {
-  steps = (tt, tt);
-  some = (c.loop.invariant.some.0, c.in-Ok-true.ensures.kept c.loop.invariant.some.0 c.loop.invariant.some.1);
-  attends = λ start kept.
-      let before = c.loop.invariant.attends start kept in
-      attends_more {B = g.row.B.Denot} {V = g.row.V.Denot} (g.V.Visit.keeps start) g.B.TableName.table c.args.locks.now c.args.first c.loop.first c.visit.new.first _ _ before
-      c.in-Ok-true.ensures.first c.in-Ok-true.ensures.given (c.in-Ok-true.ensures.kept start before.kept);
-  first = c.in-Ok-true.ensures.first;
+      c.in-Ok.ensures.first c.in-Ok.ensures.given (c.in-Ok.ensures.kept start before.kept);
+  first = c.in-Ok.ensures.first;
   hands =
       stays_on {B = g.row.B.Denot} g.B.TableName.table c.args.locks.now c.args.pictures.now c.args.hands.items c.loop.hands.items c.in-Some-try_here.tried.items c.loop.invariant.hands
       c.in-Some-try_here.ensures;

@@ -8,20 +8,11 @@ returns-then-is_turned_away g c = came_none _ _ _ c.args.crew c.requires.aboard
 pub loop-init : goal.loop-init
 loop-init g c = record { steps = search rules; came = came_none _ _ _ c.args.crew c.requires.aboard }
 
-pub loop-preserved-in-Ok-Done : goal.loop-preserved-in-Ok-Done
-loop-preserved-in-Ok-Done g c = record {
-  steps = search rules;
-  came = came_ok _ _ _ c.args.crew c.loop.crew c.turn-turned.result.0 c.turn-turned.result.1 c.in-Ok-Done.field-0 c.in-Ok-Done.is c.turn-turned.ensures c.loop.invariant.came;
-}
-
-pub returns-then-not-idle : goal.returns-then-not-idle
-returns-then-not-idle g c = came_ok _ _ _ c.args.crew c.loop.crew c.turn-turned.result.0 c.turn-turned.result.1 c.in-Ok-NotYet.field-0 c.in-Ok-NotYet.is c.turn-turned.ensures c.loop.invariant.came
+pub returns-then-not-goes_on : goal.returns-then-not-goes_on
+returns-then-not-goes_on g c = came_ok _ _ _ c.args.crew c.loop.crew c.turn-turned.result.0 c.turn-turned.result.1 c.in-Ok.stepped c.in-Ok.is c.turn-turned.ensures c.loop.invariant.came
 
 pub loop-preserved : goal.loop-preserved
 loop-preserved g c = record {
   steps = search rules;
-  came = came_ok _ _ _ c.args.crew c.loop.crew c.turn-turned.result.0 c.turn-turned.result.1 c.in-Ok-NotYet.field-0 c.in-Ok-NotYet.is c.turn-turned.ensures c.loop.invariant.came;
+  came = came_ok _ _ _ c.args.crew c.loop.crew c.turn-turned.result.0 c.turn-turned.result.1 c.in-Ok.stepped c.in-Ok.is c.turn-turned.ensures c.loop.invariant.came;
 }
-
-pub returns-in-Ok-Ended : goal.returns-in-Ok-Ended
-returns-in-Ok-Ended g c = came_ok _ _ _ c.args.crew c.loop.crew c.turn-turned.result.0 c.turn-turned.result.1 c.in-Ok-Ended.field-0 c.in-Ok-Ended.is c.turn-turned.ensures c.loop.invariant.came
