@@ -7,9 +7,6 @@ const ACQUIRE: u64 = 13;
 
 const RELEASE: u64 = 14;
 
-/// The status of an acquire where as many frames are acquired as may be.
-const INVALID_OPERATION: u64 = 12;
-
 /// How many frames of a queue may be acquired at a time.
 const MOST_ACQUIRED: u64 = 2;
 
@@ -44,13 +41,11 @@ impl Course {
         follows
     }
 
-    // A refused call changes nothing, and only an acquire is refused.
     fn is_answered(&mut self, call: &Call) -> bool {
         match (call.kind, call.status) {
             (QUEUE, 0) => self.queue(call.frame),
             (ACQUIRE, 0) => self.acquire(call.frame),
             (RELEASE, 0) => self.release(call.frame),
-            (ACQUIRE, INVALID_OPERATION) => self.held == MOST_ACQUIRED,
             (_, status) => status == 0,
         }
     }
@@ -69,8 +64,8 @@ impl Course {
 }
 
 /// Whether each caller makes its calls in the order of its steps, and the frames of a queue are
-/// numbered as they are queued and go through acquires and releases in this order: never more than two
-/// are acquired, and two are where an acquire was refused.
+/// numbered as they are queued and go through acquires and releases in this order, never with more than
+/// two acquired. No call is refused.
 pub fn is_in_order(history: &[Call]) -> bool {
     let mut course = Course {
         queued: 0,

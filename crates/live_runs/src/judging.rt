@@ -3,19 +3,7 @@ use std::alloc::Global;
 use std::collections::BTreeMap;
 use std::io;
 
-/// The kind of the calls by which frames are acquired.
-const ACQUIRE: u64 = 13;
-
-/// The status of an acquire where as many frames are acquired as may be.
-const INVALID_OPERATION: u64 = 12;
-
-/// The status of a step that needs a frame where there is none.
-const EMPTY: u64 = 15;
-
-/// How many steps behind an acquire a script of the phone puts the frame into a transaction.
-const ACQUIRE_TO_BUFFER: usize = 2;
-
-/// How many steps behind an acquire it applies that transaction.
+/// How many steps behind an acquire a script of the phone applies the transaction that shows the frame.
 const ACQUIRE_TO_APPLY: u64 = 3;
 
 /// The replies of a run, by their steps.
@@ -37,66 +25,17 @@ pub fn reply_to_the_same(alloc: Global, live: &Shown<'_>, play: &Shown<'_>) -> i
     Ok(live.replied(alloc)? == steps)
 }
 
-// Whether the step so many steps before this one is an acquire that was refused.
-fn misses_a_frame(replies: &[Reply], place: usize) -> bool {
-    match replies.get(place.saturating_sub(ACQUIRE_TO_BUFFER)) {
-        Some(reply) => reply.status == INVALID_OPERATION,
-        None => false,
-    }
-}
-
-fn is_answered(replies: &[Reply], place: usize, reply: &Reply) -> bool {
-    match reply.status {
-        0 | INVALID_OPERATION => true,
-        EMPTY => misses_a_frame(replies, place),
-        _ => false,
-    }
-}
-
-/// Whether all steps are done but those that a limit refused, and the steps that miss a frame for it.
-pub fn are_done(replies: &[Reply]) -> bool {
-    replies
-        .iter()
-        .enumerate()
-        .all(|(place, reply)| is_answered(replies, place, reply))
-}
-
-// Whether a call of an actor is answered as its step is. A limit refuses acquires alone.
+// Whether a call of an actor is answered as its step is, and one of the compositor with 0.
 fn is_told(replies: &Replies, call: &Call) -> bool {
-    let is_allowed = call.status != INVALID_OPERATION || call.kind == ACQUIRE;
     match replies.get(&call.by) {
-        Some(reply) => is_allowed && reply.status == call.status,
+        Some(reply) => reply.status == call.status,
         None => call.by.actor == 0 && call.status == 0,
     }
 }
 
-// How many calls of a history a limit refused.
-fn refused_calls(history: &[Call]) -> usize {
-    let refused = history
-        .iter()
-        .filter(|call| call.status == INVALID_OPERATION);
-    refused.count()
-}
-
-// How many steps a limit refused.
-fn refused_steps(replies: &[Reply]) -> usize {
-    let refused = replies
-        .iter()
-        .filter(|reply| reply.status == INVALID_OPERATION);
-    refused.count()
-}
-
-/// Whether each call of an actor is answered as its step is, a limit refuses acquires alone, and as many
-/// calls as steps.
+/// Whether each call of an actor is answered as its step is.
 pub fn are_told(replies: &Replies, shown: &Shown<'_>) -> bool {
-    let mut refused = 0usize;
-    for history in shown.histories.iter() {
-        refused = refused.saturating_add(refused_calls(history));
-        if !history.iter().all(|call| is_told(replies, call)) {
-            return false;
-        }
-    }
-    refused == refused_steps(&shown.replies)
+    shown.histories.iter().all(|history| history.iter().all(|call| is_told(replies, call)))
 }
 
 /// Whether the reply to each step that sent a transaction off tells its place among the arrivals.
@@ -168,8 +107,7 @@ fn bring_acquired(replies: &Replies, arrivals: &[Arrival], commit: &Commit) -> b
     commit.buffers.len() <= 1 && commit.buffers.first().copied() == expected
 }
 
-/// Whether each commit brings the frame that its actor acquired for it, with its picture, or none where
-/// the acquire was refused.
+/// Whether each commit brings the frame that its actor acquired for it, with its picture, if it did.
 pub fn all_bring_acquired(replies: &Replies, shown: &Shown<'_>) -> bool {
     shown
         .commits

@@ -6,13 +6,13 @@
 //!   draws over it, and colours. It is played once in the order of its script, and live twice. In the
 //!   live runs two actors meet before each of their first ten steps, which they could not do if one ran
 //!   after the other. The gate is passed once for each of the 983 steps, before its first try. The
-//!   replies stand by actor and step. A producer that is faster than the compositor finds two frames
-//!   acquired, which is as many as may be: its next acquire is refused then, and its transaction brings
-//!   no frame; nothing else is refused. Each transaction that arrived is committed once, and those of
-//!   a token in the order in which they arrived. Where the same pictures are on the display as in a
-//!   frame of the play, the pixels are the same. Nothing is held at the end, and no one is stuck.
-//! - Two producers with two buffers each, which have to wait for the compositor before each frame: each
-//!   reply is that of the play, but for the places of the transactions, and so is the last frame.
+//!   replies stand by actor and step. Each is that of the play, but for the places of the transactions:
+//!   no producer goes on before the compositor has looked at what it sent. Each transaction that arrived
+//!   is committed once, and those of a token in the order in which they arrived. Where the same pictures
+//!   are on the display as in a frame of the play, the pixels are the same. Nothing is held at the end,
+//!   and no one is stuck.
+//! - Two producers with two buffers each, which have to wait for the compositor before each frame: the
+//!   same, and the last frame is that of the play.
 //! - An actor that waits for a signal that nobody gives: the run ends, and the actor is stuck.
 //! - A signal that is held back until the actor that waits for it has come to its next step: it is held
 //!   back in vain, since that step may not be begun before the wait is done.

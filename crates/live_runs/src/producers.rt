@@ -1,5 +1,5 @@
 use crate::gates::{NotingGate, Passes};
-use crate::judging::{by_step, end_with_the_same, reply_alike};
+use crate::judging::end_with_the_same;
 use crate::session::{Session, live, play};
 use crate::shown::Shown;
 use crate::telling::{say, say_commits, say_passes, say_replies};
@@ -18,12 +18,6 @@ fn judge<R: AllocGlobal + Print>(
     let mut live = Shown::read(rt.alloc(), live.sink.bytes())?;
     let mut play = Shown::read(rt.alloc(), play.sink.bytes())?;
     say_passes(rt, passes, &live)?;
-    let replies = by_step(rt.alloc(), &play.replies)?;
-    say(
-        rt,
-        "each reply is that of the play, but for a transaction's place",
-        reply_alike(&replies, &live),
-    )?;
     say(
         rt,
         "the last frame is that of the play",

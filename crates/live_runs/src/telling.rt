@@ -1,8 +1,8 @@
 use crate::gates::Passes;
 use crate::history::is_in_order;
 use crate::judging::{
-    all_bring_acquired, are_committed_once, are_done, are_in_order, are_told, by_step, ends_alike,
-    look_alike, reply_to_the_same, send_the_same, tell_their_places,
+    all_bring_acquired, are_committed_once, are_in_order, are_told, by_step, ends_alike,
+    look_alike, reply_alike, reply_to_the_same, send_the_same, tell_their_places,
 };
 use crate::shown::Shown;
 use std::io;
@@ -40,8 +40,8 @@ pub fn say_replies<R: AllocGlobal + Print>(
     )?;
     say(
         rt,
-        "refused are acquires of a third frame and the steps that miss it alone",
-        are_done(&live.replies),
+        "each is that of the play, but for a transaction's place",
+        reply_alike(&by_step(rt.alloc(), &play.replies)?, live),
     )?;
     say(
         rt,
