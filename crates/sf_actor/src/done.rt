@@ -13,8 +13,16 @@ pub enum Answered {
 }
 
 /// A step that is done.
-#[derive(Drop)]
 pub struct Done {
     pub step: Step,
     pub answered: Answered,
+}
+
+impl Drop for Done {
+    fn drop(self) {
+        let Done {
+            step: _,
+            answered: _,
+        } = self;
+    }
 }

@@ -1,7 +1,6 @@
 use sf_base::Items;
 
 /// The reply of a step, as records show it.
-#[derive(Drop)]
 pub struct Reply {
     /// The actor's number.
     pub actor: u32,
@@ -22,4 +21,15 @@ pub enum Stepped {
     NotYet,
     /// All steps are done.
     Ended,
+}
+
+impl Drop for Reply {
+    fn drop(self) {
+        let Reply {
+            actor: _,
+            step: _,
+            status: _,
+            values: _,
+        } = self;
+    }
 }

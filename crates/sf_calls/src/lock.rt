@@ -14,7 +14,6 @@ use std::snapshot::Snapshot;
 
 /// An object that threads call under a lock, each with a `Pass`. Contracts see which table it
 /// lies in.
-#[derive(Drop)]
 pub struct CallLock<O: Object> {
     pub(crate) table: Table<
         Option<O>,
@@ -110,4 +109,10 @@ fn first_held<O>(slots: Vec<Option<O>, Global>) -> O
     };
     slots.destroy_empty();
     held(slot)
+}
+
+impl<O: Object + Drop> Drop for CallLock<O> {
+    fn drop(self) {
+        let CallLock { table: _ } = self;
+    }
 }

@@ -21,7 +21,6 @@ use std::alloc::Global;
 use std::marker::Model;
 
 /// The actors of a scene, by rising number, over one desk.
-#[derive(Drop)]
 pub struct Cast<B: TableName> {
     pictures: Items<Picture>,
     actors: Vec<Actor<B>>,
@@ -256,5 +255,16 @@ impl<B: TableName> Cast<B> {
         ensures only { OnlyDesk B.table (taken_in self.old.desk.arrivals) self.old self.new }
     {
         release_at(&mut self.desk, vsync, release)
+    }
+}
+
+impl<B: TableName> Drop for Cast<B> {
+    fn drop(self) {
+        let Cast {
+            pictures: _,
+            actors: _,
+            desk: _,
+            is_spent: _,
+        } = self;
     }
 }

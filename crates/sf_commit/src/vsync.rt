@@ -6,7 +6,6 @@ use sf_view::View;
 use std::marker::Model;
 
 /// A transaction that was committed, or rejected as a whole.
-#[derive(Drop)]
 pub struct Commit {
     pub token: TokenId,
     /// Its place in the order of arrival.
@@ -58,4 +57,16 @@ impl<L: Lease> Model for Vsync<L> {
     ghost Value = { VsyncOf L };
 
     ghost view = { λ v. record { commits = v.commits; view = v.view; sources = v.sources; releases = v.releases; held = v.held } };
+}
+
+impl Drop for Commit {
+    fn drop(self) {
+        let Commit {
+            token: _,
+            number: _,
+            cause: _,
+            op: _,
+            buffers: _,
+        } = self;
+    }
 }

@@ -10,7 +10,6 @@ use std::marker::Model;
 
 /// A picture with its pixels as a reader sees them: four bytes each, in the order red, green, blue,
 /// alpha, row by row from the top. Contracts see the picture alone, since it tells the bytes.
-#[derive(Drop)]
 pub struct Painted {
     picture: Picture,
     bytes: Vec<u8>,
@@ -86,5 +85,14 @@ pub fn paint(alloc: Global, picture: Picture) -> Result<Painted, (NoMemory, Pict
             Ok(Painted { picture, bytes })
         }
         Err(_) => Err((NoMemory, picture)),
+    }
+}
+
+impl Drop for Painted {
+    fn drop(self) {
+        let Painted {
+            picture: _,
+            bytes: _,
+        } = self;
     }
 }

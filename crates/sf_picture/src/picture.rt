@@ -7,7 +7,6 @@ use std::alloc::Global;
 
 /// What a client draws: its number in the script, its size in pixels, its fills, of which a later
 /// one covers an earlier one, and the format of the buffer that it is drawn into.
-#[derive(Drop)]
 pub struct Picture {
     pub number: u32,
     pub width: u32,
@@ -85,5 +84,17 @@ pub fn blank(alloc: Global, width: u32, height: u32) -> Picture
         height,
         fills: Items::new(Vec::new(alloc)),
         format: Format::Rgba,
+    }
+}
+
+impl Drop for Picture {
+    fn drop(self) {
+        let Picture {
+            number: _,
+            width: _,
+            height: _,
+            fills: _,
+            format: _,
+        } = self;
     }
 }

@@ -18,7 +18,7 @@ use std::marker::Model;
 /// its edges lie within 2^25 of 0. The rectangles are canonical: they go in bands from top to
 /// bottom, within a band from left to right with gaps between them, and two bands that touch
 /// differ. So equal sets have equal lists, and an operation passes once over the bands of both.
-#[derive(Drop, Debug)]
+#[derive(Debug)]
 pub struct Region {
     alloc: Global,
     rects: Vec<Rect>,
@@ -157,5 +157,11 @@ fn moved_by(rect: &Rect, dx: i32, dy: i32) -> Rect
         y: rect.y + dy,
         width: rect.width,
         height: rect.height,
+    }
+}
+
+impl Drop for Region {
+    fn drop(self) {
+        let Region { alloc: _, rects: _ } = self;
     }
 }

@@ -6,7 +6,6 @@ use std::marker::Model;
 
 /// The points of the `fence` parts of a step, as timeline and value, in the order of the script.
 /// Contracts see the list.
-#[derive(Drop)]
 pub struct Points {
     list: Vec<(u32, u64)>,
 }
@@ -42,5 +41,11 @@ impl Points {
     {
         self.list.push((timeline, value))?;
         Ok(())
+    }
+}
+
+impl Drop for Points {
+    fn drop(self) {
+        let Points { list: _ } = self;
     }
 }

@@ -5,7 +5,6 @@ use sf_base::Items;
 /// A step of an actor: the words of its form, in order. Where a field is a name, it is the place,
 /// from 0 and below 32, that the name has among the actor's names in the order of their first use.
 /// A part of a form that may be absent is an `Option`.
-#[derive(Drop)]
 pub enum Step {
     /// The actor connects to a queue, as its producer.
     Connect(u32),
@@ -74,10 +73,52 @@ pub enum Step {
 }
 
 /// An actor and its steps, which it does in this order.
-#[derive(Drop)]
 pub struct ActorScript {
     /// 1 to 16 in version 1, and 1 to 64 in version 2.
     pub number: u32,
     /// At most 4,096.
     pub steps: Items<Step>,
+}
+
+impl Drop for ActorScript {
+    fn drop(self) {
+        let ActorScript {
+            number: _,
+            steps: _,
+        } = self;
+    }
+}
+
+impl Drop for Step {
+    fn drop(self) {
+        match self {
+            Step::Connect(_) => {}
+            Step::Disconnect(_) => {}
+            Step::MaxDequeued(_, _) => {}
+            Step::Async(_, _) => {}
+            Step::Dequeue(_, _, _) => {}
+            Step::DequeueWait(_, _, _) => {}
+            Step::Request(_) => {}
+            Step::Draw(_, _) => {}
+            Step::Queue(_, _, _, _, _) => {}
+            Step::Cancel(_, _) => {}
+            Step::PDetach(_, _) => {}
+            Step::PAttach(_, _, _) => {}
+            Step::MaxAcquired(_, _) => {}
+            Step::Abandon(_) => {}
+            Step::Acquire(_, _, _) => {}
+            Step::Release(_, _) => {}
+            Step::CDetach(_, _) => {}
+            Step::CAttach(_, _, _) => {}
+            Step::Signal(_, _) => {}
+            Step::Wait(_, _) => {}
+            Step::Tx(_) => {}
+            Step::Desire(_, _) => {}
+            Step::Buffer(_, _, _) => {}
+            Step::Barrier(_, _, _) => {}
+            Step::Merge(_, _) => {}
+            Step::Apply(_, _) => {}
+            Step::Set(_, _, _) => {}
+        }
+    }
 }

@@ -20,7 +20,6 @@ use std::thread::Threads;
 
 /// What a display showed last: the view, if there was one, and its frame, four bytes for each pixel
 /// in the order red, green, blue, alpha, row by row from the top.
-#[derive(Drop)]
 pub struct Screen {
     alloc: Global,
     view: Option<View>,
@@ -216,5 +215,15 @@ impl Screen {
             → result.now ≡ self.now.number ++ image_bytes picture view }
     {
         &self.body
+    }
+}
+
+impl Drop for Screen {
+    fn drop(self) {
+        let Screen {
+            alloc: _,
+            view: _,
+            body: _,
+        } = self;
     }
 }

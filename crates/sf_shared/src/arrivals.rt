@@ -7,7 +7,6 @@ use std::alloc::Global;
 use std::marker::Brand;
 
 /// The arrivals, which stamp their calls.
-#[derive(Drop)]
 pub struct StampedArrivals<B: TableName> {
     pub(crate) of: Stamped<Arrivals<ReadLease<B>, Brand>>,
 }
@@ -31,7 +30,8 @@ impl<B: TableName> StampedArrivals<B> {
     pub fn into_arrivals(self) -> Arrivals<ReadLease<B>, Brand>
         ensures { result ≡ unstamped (history_of self) }
     {
-        self.of.into_object()
+        let StampedArrivals { of } = self;
+        of.into_object()
     }
 }
 
@@ -74,5 +74,11 @@ impl<B: TableName> Object for StampedArrivals<B> {
         call: (u64, ArriveCall<ReadLease<B>>),
     ) -> Outcome<(u64, ArriveCall<ReadLease<B>>), (u64, ArriveReply<ReadLease<B>>)> {
         self.of.apply(by, call)
+    }
+}
+
+impl<B: TableName> Drop for StampedArrivals<B> {
+    fn drop(self) {
+        let StampedArrivals { of: _ } = self;
     }
 }

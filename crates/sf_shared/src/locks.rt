@@ -37,7 +37,6 @@ pub struct QueueLock<B: TableName> {
 
 /// What threads share by reference: each queue under a lock, the arrivals under another, and the
 /// timelines.
-#[derive(Drop)]
 pub struct Locks<B: TableName> {
     pub(crate) queues: Vec<QueueLock<B>>,
     pub(crate) arrivals: CallLock<StampedArrivals<B>>,
@@ -221,5 +220,15 @@ impl<B: TableName> Locks<B> {
             return Err(NoMemory);
         };
         Ok(PlainDesk::new(queues, arrivals.into_arrivals(), table, times, turns))
+    }
+}
+
+impl<B: TableName> Drop for Locks<B> {
+    fn drop(self) {
+        let Locks {
+            queues: _,
+            arrivals: _,
+            times: _,
+        } = self;
     }
 }

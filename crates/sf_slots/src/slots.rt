@@ -17,7 +17,6 @@ use std::marker::Model;
 /// settings. The right `R` to a buffer's pixels lies in its slot while that is free, in its item while
 /// it is queued, and with whom the slot was given to while it is out; the moves hand rights in and out.
 /// Only `new` takes memory.
-#[derive(Drop)]
 pub struct Slots<R> {
     pub(crate) number: QueueId,
     pub(crate) slots: Vec<Slot>,
@@ -307,5 +306,18 @@ impl<R: Drop> Slots<R> {
         self.slots[slot.0 as usize] = empty(was);
         remove(&mut self.freed, slot.0);
         right
+    }
+}
+
+impl<R: Drop> Drop for Slots<R> {
+    fn drop(self) {
+        let Slots {
+            number: _,
+            slots: _,
+            rights: _,
+            freed: _,
+            items: _,
+            settings: _,
+        } = self;
     }
 }

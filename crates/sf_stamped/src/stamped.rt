@@ -4,7 +4,6 @@ use std::marker::Model;
 use std::snapshot::Snapshot;
 
 /// The stamps of one call, for proofs alone: they take no room.
-#[derive(Drop)]
 pub(crate) struct Pair {
     pub(crate) brought: Snapshot<u64>,
     pub(crate) given: Snapshot<u64>,
@@ -12,7 +11,6 @@ pub(crate) struct Pair {
 
 /// An object that stamps its calls. Each call brings its caller's stamp; the reply gives the call's
 /// own, one more than the greater of that and the stamp of the newest call before it.
-#[derive(Drop)]
 pub struct Stamped<O: Object> {
     object: O,
     // The stamp of the newest call, 0 where there is none.
@@ -117,5 +115,24 @@ impl<O: Object> Object for Stamped<O> {
             Outcome::NotYet(asked) => Outcome::NotYet((brought, asked)),
             Outcome::NoMemory(asked) => Outcome::NoMemory((brought, asked)),
         }
+    }
+}
+
+impl<O: Object + Drop> Drop for Stamped<O> {
+    fn drop(self) {
+        let Stamped {
+            object: _,
+            newest: _,
+            stamps: _,
+        } = self;
+    }
+}
+
+impl Drop for Pair {
+    fn drop(self) {
+        let Pair {
+            brought: _,
+            given: _,
+        } = self;
     }
 }

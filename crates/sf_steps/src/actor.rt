@@ -8,7 +8,6 @@ use sf_turns::{Stock, TableName};
 use std::alloc::Global;
 
 /// An actor: the steps of its script, of which the first are done, with its replies.
-#[derive(Drop)]
 pub struct Actor<B: TableName> {
     script: ActorScript,
     hands: Hands<B>,
@@ -156,5 +155,16 @@ impl<B: TableName> Actor<B> {
         let reply = reply_to(self.script.number, place, tried, room);
         self.replies.push_reserved(reply);
         Ok(Stepped::Done)
+    }
+}
+
+impl<B: TableName> Drop for Actor<B> {
+    fn drop(self) {
+        let Actor {
+            script: _,
+            hands: _,
+            replies: _,
+            is_spent: _,
+        } = self;
     }
 }

@@ -15,7 +15,6 @@ const TRANSACTIONS: u32 = 65;
 
 /// What an actor has in its hands: what its names and transaction numbers hold, and the buffers that
 /// it may still open.
-#[derive(Drop)]
 pub struct Hands<B: TableName> {
     pub alloc: Global,
     pub by: ActorId,
@@ -53,5 +52,18 @@ impl<B: TableName> Hands<B> {
             stock,
             spare: None,
         })
+    }
+}
+
+impl<B: TableName> Drop for Hands<B> {
+    fn drop(self) {
+        let Hands {
+            alloc: _,
+            by: _,
+            names: _,
+            transactions: _,
+            stock: _,
+            spare: _,
+        } = self;
     }
 }

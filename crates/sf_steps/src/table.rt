@@ -7,7 +7,6 @@ use std::marker::Model;
 
 /// What each number holds, from 0 on. Contracts see the list of what they hold. A number beyond the
 /// table holds nothing for good.
-#[derive(Drop)]
 pub struct Table<T> {
     places: Vec<Option<T>>,
 }
@@ -64,5 +63,11 @@ impl<T: Drop> Table<T> {
         if (number as usize) < self.places.len() {
             self.places[number as usize] = Some(value);
         }
+    }
+}
+
+impl<T: Drop> Drop for Table<T> {
+    fn drop(self) {
+        let Table { places: _ } = self;
     }
 }

@@ -12,7 +12,6 @@ use std::alloc::Global;
 use std::snapshot::Snapshot;
 
 /// A call that was made, for proofs alone: what it brought and gave takes no room.
-#[derive(Drop)]
 pub(crate) struct MadeCall<B: TableName> {
     pub(crate) by: u32,
     pub(crate) step: u32,
@@ -21,7 +20,6 @@ pub(crate) struct MadeCall<B: TableName> {
 }
 
 /// The calls that were made on a queue, in the order in which they were made.
-#[derive(Drop)]
 pub(crate) struct History<B: TableName> {
     // As records show them.
     pub(crate) shown: Vec<HistEntry>,
@@ -83,5 +81,22 @@ impl<B: TableName> History<B> {
                 reply: Snapshot::of(reply),
             },
         );
+    }
+}
+
+impl<B: TableName> Drop for History<B> {
+    fn drop(self) {
+        let History { shown: _, made: _ } = self;
+    }
+}
+
+impl<B: TableName> Drop for MadeCall<B> {
+    fn drop(self) {
+        let MadeCall {
+            by: _,
+            step: _,
+            call: _,
+            reply: _,
+        } = self;
     }
 }

@@ -18,7 +18,6 @@ use std::marker::Model;
 use std::snapshot::Snapshot;
 
 /// A BufferQueue with the history of its calls.
-#[derive(Drop)]
 pub struct QueueObject<B: TableName> {
     alloc: Global,
     number: QueueId,
@@ -154,5 +153,16 @@ impl<B: TableName> Object for QueueObject<B> {
             Outcome::NotYet(asked) => Outcome::NotYet((step, asked)),
             Outcome::NoMemory(asked) => Outcome::NoMemory((step, asked)),
         }
+    }
+}
+
+impl<B: TableName> Drop for QueueObject<B> {
+    fn drop(self) {
+        let QueueObject {
+            alloc: _,
+            number: _,
+            slots: _,
+            history: _,
+        } = self;
     }
 }

@@ -10,7 +10,6 @@ use std::marker::Model;
 
 /// One thread's seat at the timelines. It has no bytes: contracts see what the thread knows of
 /// the counters, that is, which points it signalled and which values its loads showed.
-#[derive(Drop)]
 pub struct TimeSeat {
     pub(crate) seat: Seat<(), Knows>,
 }
@@ -107,5 +106,11 @@ impl TimeSeat {
             values[i as usize] = self.seen(table, TimelineId(i + 1));
         }
         Seen { values }
+    }
+}
+
+impl Drop for TimeSeat {
+    fn drop(self) {
+        let TimeSeat { seat: _ } = self;
     }
 }

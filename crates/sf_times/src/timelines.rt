@@ -9,7 +9,6 @@ use std::alloc::Global;
 use std::marker::Model;
 
 /// 64 counters, shared by reference among threads. Contracts see which table they lie in.
-#[derive(Drop)]
 pub struct Timelines {
     pub(crate) table: Table<(), Knows, (), CountersRise, Global>,
 }
@@ -39,5 +38,11 @@ impl Timelines {
             Ok((table, seat)) => Ok((Timelines { table }, TimeSeat { seat })),
             Err(_) => Err(NoMemory),
         }
+    }
+}
+
+impl Drop for Timelines {
+    fn drop(self) {
+        let Timelines { table: _ } = self;
     }
 }

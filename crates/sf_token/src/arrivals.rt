@@ -57,7 +57,6 @@ pub struct ArrvEntry {
 
 /// The transactions that arrive, in one order, with the history of the calls on them. `N` says
 /// which leases they bring.
-#[derive(Drop)]
 pub struct Arrivals<L: Lease, N: LeaseHome<L>> {
     alloc: Global,
     // What arrived since the last `Take`.
@@ -174,5 +173,17 @@ impl<L: Lease + Drop, N: LeaseHome<L>> Object for Arrivals<L, N> {
             }
             call => Outcome::NoMemory(call),
         }
+    }
+}
+
+impl<L: Lease + Drop, N: LeaseHome<L>> Drop for Arrivals<L, N> {
+    fn drop(self) {
+        let Arrivals {
+            alloc: _,
+            waiting: _,
+            entries: _,
+            calls: _,
+            home: _,
+        } = self;
     }
 }

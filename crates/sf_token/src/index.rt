@@ -9,7 +9,6 @@ use std::alloc::Global;
 use std::collections::{BTreeMap, VecDeque};
 
 // The numbers of pending transactions by token, each token's in the order of arrival.
-#[derive(Drop)]
 pub struct Index {
     alloc: Global,
     pub queues: BTreeMap<u32, VecDeque<u32>>,
@@ -114,5 +113,14 @@ impl Index {
         if is_empty {
             self.queues.remove(&token.0);
         }
+    }
+}
+
+impl Drop for Index {
+    fn drop(self) {
+        let Index {
+            alloc: _,
+            queues: _,
+        } = self;
     }
 }

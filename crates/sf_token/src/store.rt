@@ -17,7 +17,6 @@ use std::marker::Model;
 
 // Pending transactions by number. Contracts see them in the order of arrival, which is that of
 // their numbers.
-#[derive(Drop)]
 pub struct Store<L: Lease> {
     alloc: Global,
     slots: Slab<Arrived<L>>,
@@ -104,5 +103,15 @@ impl<L: Lease + Drop> Store<L> {
         let mut looks = Vec::with_capacity(self.alloc, rooms.len())?;
         look_each(&mut self.slots, eye, rooms, &mut looks);
         Ok(looks)
+    }
+}
+
+impl<L: Lease + Drop> Drop for Store<L> {
+    fn drop(self) {
+        let Store {
+            alloc: _,
+            slots: _,
+            keys: _,
+        } = self;
     }
 }

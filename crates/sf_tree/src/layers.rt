@@ -11,7 +11,6 @@ use std::marker::Model;
 
 // Layers in the order of their creation, with an index of their places by number. Contracts see
 // the list.
-#[derive(Drop)]
 pub struct Layers {
     list: Vec<Layer>,
     places: BTreeMap<u32, usize>,
@@ -148,5 +147,11 @@ fn without_steps_to(id: LayerId, layer: &Layer) -> Layer
         parent,
         relative,
         ..*layer
+    }
+}
+
+impl Drop for Layers {
+    fn drop(self) {
+        let Layers { list: _, places: _ } = self;
     }
 }

@@ -22,7 +22,6 @@ const MOST_LAYERS: u32 = 256;
 /// have one number, parents and relative layers are in the tree, and no layer reaches itself by
 /// steps to parents and relative layers. What is no colour layer has the colour that it began with,
 /// and what is no buffer layer shows nothing.
-#[derive(Drop)]
 pub struct Tree {
     alloc: Global,
     most: u32,
@@ -107,5 +106,15 @@ impl Tree {
         ensures { IfOk result (λ order. order.items ≡ draw_order self.now.layers) }
     {
         order::draw_order(self.alloc, &self.layers)
+    }
+}
+
+impl Drop for Tree {
+    fn drop(self) {
+        let Tree {
+            alloc: _,
+            most: _,
+            layers: _,
+        } = self;
     }
 }

@@ -11,7 +11,6 @@ use std::sync::Arc;
 
 /// A turn that has entered, with its pixels handed out. It gives them back unused, or issues the
 /// next turn. Where it is dropped, the buffer has no further turn.
-#[derive(Drop)]
 pub struct Inside<P: Stamped> {
     pub(crate) table: Arc<TurnTable<P>>,
     pub(crate) seat: TableSeat<P>,
@@ -133,5 +132,19 @@ impl<P: Stamped> Inside<P> {
             promises,
         };
         Ok((busy, Turn::heir(again, heir, buffer, number + 1, leaves)))
+    }
+}
+
+impl<P: Stamped> Drop for Inside<P> {
+    fn drop(self) {
+        let Inside {
+            table: _,
+            seat: _,
+            buffer: _,
+            number: _,
+            expects: _,
+            loads: _,
+            shown: _,
+        } = self;
     }
 }

@@ -10,7 +10,6 @@ use std::sync::Arc;
 
 /// A turn that has not entered, after which the next one was issued: work that is still owed.
 /// Where it is dropped, no later turn of the buffer ever enters.
-#[derive(Drop)]
 pub struct Owed<P: Stamped> {
     pub(crate) table: Arc<TurnTable<P>>,
     pub(crate) seat: TableSeat<P>,
@@ -96,5 +95,18 @@ impl<P: Stamped> Owed<P> {
             promises,
         };
         Ok((busy, p))
+    }
+}
+
+impl<P: Stamped> Drop for Owed<P> {
+    fn drop(self) {
+        let Owed {
+            table: _,
+            seat: _,
+            buffer: _,
+            number: _,
+            expects: _,
+            promises: _,
+        } = self;
     }
 }

@@ -12,7 +12,6 @@ use std::sync::Arc;
 
 /// What one thread knows of the table: which turns left through it, and the greatest count of
 /// leaves of each buffer that it has seen.
-#[derive(Drop)]
 pub struct TurnSeat<P: Stamped> {
     pub(crate) table: Arc<TurnTable<P>>,
     pub(crate) seat: TableSeat<P>,
@@ -106,5 +105,11 @@ impl<P: Stamped> TurnSeat<P> {
         ensures exact { IsExactAlone self.new }
     {
         self.table.leave(&mut self.seat, turn, buffer);
+    }
+}
+
+impl<P: Stamped> Drop for TurnSeat<P> {
+    fn drop(self) {
+        let TurnSeat { table: _, seat: _ } = self;
     }
 }

@@ -9,7 +9,6 @@ use std::marker::Model;
 use std::sync::Arc;
 
 /// The right to open a number of buffers. Contracts see the list of their numbers.
-#[derive(Drop)]
 pub struct Stock<P: Stamped> {
     pub(crate) table: Arc<TurnTable<P>>,
     pub(crate) seat: TableSeat<P>,
@@ -34,7 +33,6 @@ impl<P: Stamped> Model for Stock<P> {
 }
 
 /// The right to open one buffer.
-#[derive(Drop)]
 pub struct Permit<P: Stamped> {
     table: Arc<TurnTable<P>>,
     seat: TableSeat<P>,
@@ -135,5 +133,26 @@ impl<P: Stamped> Permit<P> {
             loads: 0,
             shown: false,
         })
+    }
+}
+
+impl<P: Stamped> Drop for Permit<P> {
+    fn drop(self) {
+        let Permit {
+            table: _,
+            seat: _,
+            buffer: _,
+        } = self;
+    }
+}
+
+impl<P: Stamped> Drop for Stock<P> {
+    fn drop(self) {
+        let Stock {
+            table: _,
+            seat: _,
+            from: _,
+            count: _,
+        } = self;
     }
 }

@@ -23,7 +23,6 @@ use std::marker::Model;
 pub(crate) type TableSeat<P> = Seat<Home<P, <P as Stamped>::Stamp>, Knows<<P as Stamped>::Stamp>>;
 
 /// The table, and the allocator of its stamps. Contracts see which table it is.
-#[derive(Drop)]
 pub(crate) struct TurnTable<P: Stamped> {
     table: Table<Home<P, P::Stamp>, Knows<P::Stamp>, u64, TurnRule<P>, Global>,
     pub(crate) alloc: Global,
@@ -285,5 +284,11 @@ impl<P: Stamped> TurnTable<P> {
     {
         self.table.shared.join_seat::<TakeIn>(seat, other);
         self.table.shared.load::<Audit>(seat, 0);
+    }
+}
+
+impl<P: Stamped> Drop for TurnTable<P> {
+    fn drop(self) {
+        let TurnTable { table: _, alloc: _ } = self;
     }
 }

@@ -16,7 +16,6 @@ use std::marker::Model;
 /// operations that show buffers are the buffers, in order. There are at most 4,294,967,295
 /// operations, each on a layer of a number of 1 or more, with positions, crops and orientations in
 /// their ranges.
-#[derive(Drop)]
 pub struct Transaction<L: Lease> {
     pub(crate) alloc: Global,
     pub(crate) token: TokenId,
@@ -188,5 +187,18 @@ impl<L: Lease + Drop> Transaction<L> {
         }
         put_op(&mut self.ops, (buffer.layer, Op::Show(buffer.shown)));
         Ok(put_buffer(&mut self.buffers, buffer))
+    }
+}
+
+impl<L: Lease + Drop> Drop for Transaction<L> {
+    fn drop(self) {
+        let Transaction {
+            alloc: _,
+            token: _,
+            desired: _,
+            ops: _,
+            buffers: _,
+            barriers: _,
+        } = self;
     }
 }

@@ -21,7 +21,6 @@ use std::marker::Model;
 /// What a display shows of a layer tree. Its width and height are 1 to 1,024 pixels, and each clip
 /// lies in the display and in what its layer shows; every orientation is at most
 /// `GREATEST_ORIENTATION`.
-#[derive(Drop)]
 pub struct View {
     pub width: u32,
     pub height: u32,
@@ -127,4 +126,14 @@ pub fn view_of(alloc: Global, tree: &Tree, width: u32, height: u32) -> Result<Vi
 {
     let order = tree.draw_order()?;
     view_in_order(alloc, tree, &order, width, height)
+}
+
+impl Drop for View {
+    fn drop(self) {
+        let View {
+            width: _,
+            height: _,
+            drawn: _,
+        } = self;
+    }
 }
