@@ -4,7 +4,7 @@ ghost use Rattle.sf_txn.specs.Transactions.{all_replaced, later_time, merged};
 use crate::buffer::BufferOp;
 use crate::lease::Lease;
 use crate::lists::{make_room, put_buffers, put_ops};
-use crate::transaction::{Parts, Transaction};
+use crate::transaction::Transaction;
 use sf_base::NoMemory;
 
 /// The greater of the explicit times; automatic where both are.
@@ -41,8 +41,7 @@ impl<L: Lease + Drop> Transaction<L> {
         }
         put_ops(&mut self.ops, &other.ops);
         self.desired = later_time(self.desired, other.desired);
-        let Parts { buffers, .. } = other.into_parts();
-        put_buffers(&mut self.buffers, buffers.into_vec(), &mut replaced);
+        put_buffers(&mut self.buffers, other.into_buffers(), &mut replaced);
         Ok((self, replaced))
     }
 }
