@@ -1,13 +1,15 @@
 ghost use Rattle.std.specs.Prelude.{◌≡◌, true, Some, [], ◌∷◌};
 
+use case_words::{number32, token};
 use page_lease::Page;
-use sf_base::{NoMemory, TokenId};
+use sf_base::NoMemory;
 use sf_calls::{CallLock, Pass};
 use sf_token::{Arrivals, ArriveCall, ArriveReply, Arrived, ArrvEntry};
 use sf_txn::Transaction;
 use std::alloc::Global;
 use std::io;
 use std::marker::Brand;
+use std::str::SplitWhitespace;
 use std::sync::Wait;
 
 /// A call of one of the callers.
@@ -18,11 +20,11 @@ struct Asked {
 }
 
 /// The transaction that a caller sends at a step, for a token.
-fn sent(alloc: Global, step: &str, token: &str) -> Option<ArriveCall<Page>> {
-    let step = step.parse().ok()?;
-    let token = token.parse().ok()?;
+fn sent(alloc: Global, words: &mut SplitWhitespace<'_>) -> Option<ArriveCall<Page>> {
+    let step = number32(words)?;
+    let token = token(words)?;
     let mut txn = Transaction::new(alloc);
-    txn.address(TokenId(token));
+    txn.address(token);
     Some(ArriveCall::Send(step, txn))
 }
 
@@ -35,7 +37,7 @@ fn parse(alloc: Global, line: &str) -> Option<Asked> {
         _ => return None,
     };
     let call = match words.next()? {
-        "send" => sent(alloc, words.next()?, words.next()?)?,
+        "send" => sent(alloc, &mut words)?,
         "take" => ArriveCall::Take,
         _ => return None,
     };

@@ -1,6 +1,6 @@
 use crate::frames::show;
 use crate::reply::{Held, Reply};
-use crate::words::{fence, layer, number64, timeline};
+use case_words::{layer, number64, point, point_fence};
 use page_lease::Page;
 use sf_base::Seen;
 use sf_ready::{Facts, hold_of};
@@ -65,7 +65,7 @@ impl Case {
     fn show(&mut self, alloc: Global, words: &mut SplitWhitespace<'_>) -> Option<()> {
         let layer = layer(words)?;
         let frame = number64(words)?;
-        let fence = fence(words)?;
+        let fence = point_fence(words)?;
         self.drawn.push(words.next()? == "drawn").ok()?;
         show(&mut self.txn, alloc, layer, frame, fence, 1)
     }
@@ -93,8 +93,8 @@ impl Case {
 
     // Tells what was observed of a timeline.
     fn observe(&mut self, words: &mut SplitWhitespace<'_>) -> Option<Reply> {
-        let timeline = timeline(words)?;
-        self.seen.values[timeline.0 as usize - 1] = number64(words)?;
+        let (timeline, value) = point(words)?;
+        self.seen.values[timeline.0 as usize - 1] = value;
         Some(Reply::Done)
     }
 

@@ -1,6 +1,6 @@
 use crate::frames::show;
 use crate::reply::Reply;
-use crate::words::{layer, number32, token};
+use case_words::{layer, number32, token};
 use page_lease::{Ends, Page, Writes};
 use sf_base::{Fence, TokenId};
 use sf_calls::{Object, Outcome};

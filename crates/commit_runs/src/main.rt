@@ -27,7 +27,6 @@ mod case;
 mod frames;
 mod line;
 mod reply;
-mod words;
 
 use case::Case;
 use line::Line;

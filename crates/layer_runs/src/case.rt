@@ -1,7 +1,7 @@
 ghost use Rattle.std.specs.Prelude.{◌≤◌};
 
-use crate::words::number32;
 use crate::{compose, damage, fill, operation, read, scene, turns};
+use case_words::number32;
 use page_lease::Page;
 use sf_base::{LayerId, NoMemory};
 use sf_layer::{Kind, Op, Parent};

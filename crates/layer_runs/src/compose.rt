@@ -4,7 +4,7 @@ ghost use Rattle.sf_base.specs.Geometry.{IsWithin, LiesWithin};
 ghost use Rattle.sf_compose.specs.Readings.{IsReadable};
 ghost use Rattle.sf_region.specs.Points.{IsInBounds, far, neg_far};
 
-use crate::words::{colour, number32, rect};
+use case_words::{buffer_size, colour, rect};
 use sf_base::{Format, Items, Rect};
 use sf_compose::{compose, compose_frame, compose_one, compose_seen};
 use sf_damage::{dirty, visible};
@@ -39,15 +39,11 @@ fn fills(alloc: Global, words: &mut SplitWhitespace<'_>) -> Option<Vec<Fill>> {
 
 /// A picture of the size and with the fills that a line says.
 pub fn painted(alloc: Global, number: usize, words: &mut SplitWhitespace<'_>) -> Option<Painted> {
-    let width = number32(words)?;
-    let height = number32(words)?;
-    if width < 1 || width > 512 || height < 1 || height > 512 {
-        return None;
-    }
+    let size = buffer_size(words)?;
     let picture = Picture {
         number: u32::try_from(number).ok()?,
-        width,
-        height,
+        width: size.width,
+        height: size.height,
         fills: Items::new(fills(alloc, words)?),
         format: Format::Rgba,
     };

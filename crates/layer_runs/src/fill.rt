@@ -3,7 +3,7 @@ ghost use Rattle.sf_layer.specs.Ranges.{IsOperation};
 ghost use Rattle.sf_txn.specs.Transactions.{shows_of};
 
 use crate::show;
-use crate::words::{layer, number32, number64};
+use case_words::{any_layer, number32, number64};
 use page_lease::Page;
 use sf_base::{Fence, LayerId, NoMemory, QueueId, Rect, TokenId};
 use sf_layer::{Op, Shown};
@@ -78,12 +78,12 @@ fn set_buffer(
 
 /// The frame that a line names.
 fn frame_named(alloc: Global, words: &mut SplitWhitespace<'_>) -> Option<BufferOp<Page>> {
-    let layer = layer(words)?;
+    let layer = any_layer(words)?;
     frame(alloc, layer, number32(words)?).ok()
 }
 
 fn add_barrier(txn: &mut Transaction<Page>, words: &mut SplitWhitespace<'_>) -> Option<()> {
-    let layer = layer(words)?;
+    let layer = any_layer(words)?;
     txn.add_barrier(layer, number64(words)?).ok()
 }
 

@@ -46,7 +46,6 @@ mod read;
 mod scene;
 mod show;
 mod turns;
-mod words;
 
 use case::Case;
 use std::io;

@@ -1,4 +1,4 @@
-use crate::words::{colour, coordinate, flag, layer, number8, number32, number64, rect};
+use case_words::{any_layer, colour, coordinate, flag, number8, number32, number64, rect};
 use sf_base::{LayerId, QueueId, Rect};
 use sf_layer::{Kind, Op, Parent, Shown};
 use std::str::SplitWhitespace;
@@ -37,7 +37,7 @@ fn moving(name: &str, words: &mut SplitWhitespace<'_>) -> Option<Op> {
         "destroy" => Some(Op::Destroy),
         "reparent" => Some(Op::Reparent(parent(words)?)),
         "z" => Some(Op::Z(coordinate(words)?)),
-        "relative" => Some(Op::Relative(layer(words)?, coordinate(words)?)),
+        "relative" => Some(Op::Relative(any_layer(words)?, coordinate(words)?)),
         "position" => Some(Op::Position(coordinate(words)?, coordinate(words)?)),
         _ => None,
     }
@@ -62,7 +62,7 @@ fn looking(name: &str, words: &mut SplitWhitespace<'_>) -> Option<Op> {
 /// The operation of a line that begins with a layer's number.
 pub fn parse(line: &str) -> Option<(LayerId, Op)> {
     let mut words = line.split_whitespace();
-    let layer = layer(&mut words)?;
+    let layer = any_layer(&mut words)?;
     let name = words.next()?;
     let op = match moving(name, &mut words) {
         Some(op) => op,

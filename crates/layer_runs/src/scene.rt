@@ -3,8 +3,8 @@ ghost use Rattle.std.specs.Prelude.{◌≡◌, ◌≤◌, IfSome, IsTrue, length
 ghost use Rattle.sf_layer.specs.Ranges.{IsOperation};
 ghost use Rattle.sf_view.specs.Views.{IsDisplay};
 
-use crate::words::{layer, number32};
 use crate::{compose, damage, show};
+use case_words::{any_layer, number32};
 use sf_base::LayerId;
 use sf_layer::Op;
 use sf_picture::Painted;
@@ -187,7 +187,7 @@ pub fn ask<R: Print + Threads + Sync>(
 ) -> io::Result<bool> {
     match name {
         "order" => order(rt, tree)?,
-        "above" => match layer(words) {
+        "above" => match any_layer(words) {
             Some(id) => above(rt, alloc, tree, id)?,
             None => return Ok(false),
         },

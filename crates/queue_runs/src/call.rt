@@ -1,4 +1,4 @@
-use crate::words::{actor, fence, number32, number64, rect, slot, time};
+use case_words::{actor, fence, number32, number64, present_time, rect, slot};
 use sf_base::{ActorId, Fence, SlotId};
 use sf_queue::QueueOrder;
 use std::str::SplitWhitespace;
@@ -82,7 +82,7 @@ fn order(words: &mut SplitWhitespace<'_>, lent: Lent) -> Option<QueueOrder<u64>>
         picture: number32(words)?,
         width: number32(words)?,
         height: number32(words)?,
-        time: time(words)?,
+        time: present_time(words)?,
         crop: rect(words)?,
         fence: fence(words)?,
         right: number64(words)?,

@@ -4,6 +4,7 @@
 #![tactic(auto)]
 
 use call::Call;
+use case_words::buffer_size;
 use sf_base::QueueId;
 use sf_slots::Slots;
 use std::alloc::Global;
@@ -15,7 +16,6 @@ mod make;
 mod points;
 mod reply;
 mod state;
-mod words;
 
 /// The line begins a case: a new queue of this default size.
 fn opened(alloc: Global, line: &str) -> Option<Slots<u64>> {
@@ -23,12 +23,8 @@ fn opened(alloc: Global, line: &str) -> Option<Slots<u64>> {
     if words.next()? != "case" {
         return None;
     }
-    let width = words::number32(&mut words)?;
-    let height = words::number32(&mut words)?;
-    if !words::is_size(width, height) {
-        return None;
-    }
-    Slots::new(alloc, QueueId(1), width, height).ok()
+    let size = buffer_size(&mut words)?;
+    Slots::new(alloc, QueueId(1), size.width, size.height).ok()
 }
 
 /// Makes the call that the line says, and prints its reply.

@@ -4,7 +4,7 @@ ghost use Rattle.sf_slots.specs.Queue.{told_of};
 
 use crate::call::{Call, Lent, Size, Taken};
 use crate::reply::Reply;
-use crate::words::is_size;
+use case_words::is_buffer_size;
 use sf_base::{ActorId, Fence};
 use sf_queue::QueueOrder;
 use sf_slots::Slots;
@@ -96,7 +96,7 @@ fn detach_allowed(q: &mut Slots<u64>, lent: Lent) -> Reply {
 }
 
 fn attach(q: &mut Slots<u64>, by: ActorId, size: Size) -> Reply {
-    if q.settings().buffers == u64::MAX || !is_size(size.width, size.height) {
+    if q.settings().buffers == u64::MAX || !is_buffer_size(size.width, size.height) {
         return Reply::NotMade;
     }
     match sf_queue::attach(q, by, size.width, size.height) {
@@ -120,7 +120,7 @@ fn release(q: &mut Slots<u64>, taken: Taken, fence: Fence, right: u64) -> Reply 
 }
 
 fn attach_read(q: &mut Slots<u64>, size: Size) -> Reply {
-    if q.settings().buffers == u64::MAX || !is_size(size.width, size.height) {
+    if q.settings().buffers == u64::MAX || !is_buffer_size(size.width, size.height) {
         return Reply::NotMade;
     }
     match sf_consume::attach_read(q, size.width, size.height) {

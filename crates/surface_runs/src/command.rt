@@ -1,5 +1,6 @@
 //! What a line of a case asks for.
-use crate::words::{fence, number32, number64, place, point, rect, time};
+use crate::places::place;
+use case_words::{fence, number32, number64, point, present_time, rect};
 use sf_base::{Fence, Rect, TimelineId};
 use std::str::SplitWhitespace;
 
@@ -60,7 +61,7 @@ fn read_shape(words: &mut SplitWhitespace<'_>) -> Option<Shape> {
 fn read_order(words: &mut SplitWhitespace<'_>) -> Option<Order> {
     Some(Order {
         shape: read_shape(words)?,
-        time: time(words)?,
+        time: present_time(words)?,
         crop: rect(words)?,
         fence: fence(words)?,
     })

@@ -15,9 +15,9 @@ mod places;
 mod run;
 mod settling;
 mod tools;
-mod words;
 
 use answer::Answer;
+use case_words::{BufferSize, buffer_size};
 use desk::{Caller, Desk};
 use places::Places;
 use run::Run;
@@ -47,36 +47,20 @@ fn answer_to<B: TableName, W: Wait>(rt: &W, run: &mut Run<B>, line: &str) -> Ans
     }
 }
 
-/// The default size of a case's queue, in pixels.
-#[derive(Clone, Copy)]
-struct Size {
-    width: u32,
-    height: u32,
-    ghost wide: { 1 ≤ width },
-    ghost narrow: { width ≤ 512 },
-    ghost high: { 1 ≤ height },
-    ghost low: { height ≤ 512 },
-}
-
-/// The size that the first line of a case says.
-fn size_of(head: &str) -> Option<Size> {
+/// The default size of a case's queue, which the first line of the case says.
+fn size_of(head: &str) -> Option<BufferSize> {
     let mut words = head.split_whitespace();
     if words.next()? != "case" {
         return None;
     }
-    let width = words::number32(&mut words)?;
-    let height = words::number32(&mut words)?;
-    if width < 1 || width > 512 || height < 1 || height > 512 {
-        return None;
-    }
-    Some(Size { width, height })
+    buffer_size(&mut words)
 }
 
 /// Makes the calls of a case, with buffers of the table that B names.
 fn play_at<B: TableName, R: Print + Wait>(
     rt: &R,
     alloc: Global,
-    size: Size,
+    size: BufferSize,
     seat: TurnSeat<Painted>,
     stock: Stock<Painted>,
     lines: &[String],

@@ -4,6 +4,22 @@ use sf_surface::{Gives, Loose, ReadLease, WriteLease};
 use sf_turns::TableName;
 use std::alloc::Global;
 use std::mem;
+use std::str::SplitWhitespace;
+
+/// The next word, as the place of a name: `a` to `h`.
+pub fn place(words: &mut SplitWhitespace<'_>) -> Option<usize> {
+    match words.next()? {
+        "a" => Some(0),
+        "b" => Some(1),
+        "c" => Some(2),
+        "d" => Some(3),
+        "e" => Some(4),
+        "f" => Some(5),
+        "g" => Some(6),
+        "h" => Some(7),
+        _ => None,
+    }
+}
 
 /// The tokens of a case, each in its place.
 #[derive(Drop)]

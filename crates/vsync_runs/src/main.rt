@@ -21,7 +21,6 @@ mod compositor;
 mod reply;
 mod run;
 mod tell;
-mod words;
 
 use reply::Reply;
 use run::Run;

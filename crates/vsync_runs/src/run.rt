@@ -4,9 +4,9 @@ ghost use Rattle.vsync_runs.specs.Plain.{IsPlain};
 use crate::compositor::Compositor;
 use crate::reply::Reply;
 use crate::tell::{tell, tell_back};
-use crate::words::{fence, layer, number32, number64, timeline};
+use case_words::{layer, number32, number64, point, point_fence, token};
 use page_lease::{Ends, Page, Writes};
-use sf_base::{Fence, LayerId, QueueId, Rect, Seen, TokenId};
+use sf_base::{Fence, LayerId, QueueId, Rect, Seen};
 use sf_layer::{Kind, Op, Parent, Shown};
 use sf_txn::{BufferOp, Transaction};
 use std::alloc::Global;
@@ -66,7 +66,7 @@ impl Run {
         let frame = number64(words)?;
         let page = number32(words)?;
         let fence = match form {
-            "behind" => fence(words)?,
+            "behind" => point_fence(words)?,
             _ => Fence::none(),
         };
         let buffer = buffer(alloc, layer, frame, fence, page)?;
@@ -96,7 +96,7 @@ impl Run {
 
     // It arrives for a token.
     fn send(&mut self, alloc: Global, words: &mut SplitWhitespace<'_>) -> Option<Reply> {
-        let token = TokenId(number32(words)?);
+        let token = token(words)?;
         let mut txn = mem::replace(&mut self.next, Transaction::new(alloc));
         txn.address(token);
         self.compositor.send(txn)?;
@@ -108,8 +108,8 @@ impl Run {
         match form {
             "writes" => self.eye.count = number32(words)?,
             _ => {
-                let timeline = timeline(words)?;
-                self.seen.values[timeline.0 as usize - 1] = number64(words)?;
+                let (timeline, value) = point(words)?;
+                self.seen.values[timeline.0 as usize - 1] = value;
             }
         }
         Some(Reply::Done)
