@@ -2,7 +2,7 @@ ghost use Rattle.std.specs.Prelude.{◌<◌};
 
 use crate::points::Points;
 use crate::reply::Buffer;
-use sf_base::{Fence, SlotId};
+use sf_base::{ActorId, Fence, SlotId};
 use sf_slots::{SlotState, Slots};
 use std::io;
 
@@ -52,30 +52,42 @@ fn print_items(rt: &impl Print, q: &Slots<u64>) -> io::Result<()> {
     }
 }
 
-/// Prints the settings, the counts and the items.
-fn print_settings(rt: &impl Print, q: &Slots<u64>) -> io::Result<()> {
-    let settings = q.settings();
-    let producer = match settings.connected {
+/// Prints how many slots are usable, and how many are in each state.
+fn print_counts(rt: &impl Print, q: &Slots<u64>) -> io::Result<()> {
+    let free = q.count(SlotState::Free);
+    let dequeued = q.count(SlotState::Dequeued);
+    print!(rt; "  {} usable, {free} free, {dequeued} dequeued", q.usable())?;
+    let queued = q.count(SlotState::Queued);
+    let acquired = q.count(SlotState::Acquired);
+    println!(rt; ", {queued} queued, {acquired} acquired")
+}
+
+/// The number of a producer, or 0 for none.
+fn number_of(producer: Option<ActorId>) -> u32 {
+    match producer {
         Some(actor) => actor.0,
         None => 0,
-    };
-    println!(rt;
-        "  {} usable, {} free, {} dequeued, {} queued, {} acquired",
-        q.usable(),
-        q.count(SlotState::Free),
-        q.count(SlotState::Dequeued),
-        q.count(SlotState::Queued),
-        q.count(SlotState::Acquired)
+    }
+}
+
+/// Prints the settings.
+fn print_settings(rt: &impl Print, q: &Slots<u64>) -> io::Result<()> {
+    let settings = q.settings();
+    let producer = number_of(settings.connected);
+    print!(rt;
+        "  producer {producer}, something queued {}, abandoned {}",
+        settings.queued, settings.abandoned
     )?;
     println!(rt;
-        "  producer {producer}, something queued {}, abandoned {}, {} frames, {} buffers",
-        settings.queued, settings.abandoned, settings.frames, settings.buffers
+        ", {} frames, {} buffers",
+        settings.frames, settings.buffers
     )
 }
 
 /// Prints what is known of a queue.
 pub fn print(rt: &impl Print, q: &Slots<u64>) -> io::Result<()> {
     println!(rt; "state")?;
+    print_counts(rt, q)?;
     print_settings(rt, q)?;
     print_items(rt, q)?;
     for slot in 0..64u32 {
