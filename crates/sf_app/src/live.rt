@@ -46,7 +46,7 @@ fn live_with<R: Threads + Wait + Sync, K: Sink, G: Gate + Sync>(
 }
 
 /// Plays a scene live, each actor in a thread of its own with its gate before each step, and writes
-/// the records of that run. So many workers compose its frames. It may wait for the actors' threads.
+/// the records of that run. At most so many workers compose its frames. It may wait for the actors' threads.
 pub fn live<R: Threads + Wait + Sync, K: Sink, G: Gate + Sync>(
     rt: &R,
     alloc: Global,

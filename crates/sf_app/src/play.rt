@@ -43,7 +43,7 @@ fn play_with<R: Threads + Sync, K: Sink>(
     }
 }
 
-/// Plays a scene, whose frames so many workers compose, and writes the records of its play. They are
+/// Plays a scene, whose frames at most so many workers compose, and writes the records of its play. They are
 /// the same for every number of workers.
 pub fn play<R: Threads + Sync, K: Sink>(
     rt: &R,

@@ -37,7 +37,7 @@ fn sum_up<R: Threads + Sync, K: Sink>(
     }
 }
 
-/// Plays a scene, whose frames so many workers compose, and writes the records of its play, or the one
+/// Plays a scene, whose frames at most so many workers compose, and writes the records of its play, or the one
 /// record that sums them up.
 pub fn show<R: Threads + Sync, K: Sink>(
     rt: &R,

@@ -27,7 +27,7 @@ who is stuck.
                gen: a generated script of four producers; nothing is read
                live: the script that is read, each actor in a thread of its own. Its order is not
                followed, and the replies are written behind the last vsync
-  --workers N  how many workers compose a frame, 1 to 16; 1 if absent. The frames are the same
+  --workers N  how many workers may compose a frame, 1 to 16; 1 if absent. The frames are the same
   --number N   which script is generated, 0 to 18446744073709551615; 1 if absent. Only gen uses it
   --summary    writes, in place of the records, the one record SUMM of what they come to: how many
                replies, vsyncs, commits, rejected commits and frames, the sum of all bytes of

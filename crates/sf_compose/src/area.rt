@@ -31,3 +31,9 @@ pub fn cut(area: Area, rect: &Rect) -> Area
         bottom,
     }
 }
+
+// How many points an area has.
+pub fn points_of(area: Area) -> u64 {
+    let width = u64::from(area.right.saturating_sub(area.left));
+    width.saturating_mul(u64::from(area.bottom.saturating_sub(area.top)))
+}

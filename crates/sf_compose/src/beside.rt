@@ -6,6 +6,7 @@ ghost use Rattle.sf_compose.specs.Bands.{AcceptsBands, HasRows, IsCut, RepaintsB
 ghost use Rattle.sf_compose.specs.Frames.{Repaints};
 
 use crate::band::Band;
+use crate::share::Share;
 use std::thread;
 use std::thread::Threads;
 
@@ -38,40 +39,37 @@ fn size_of(band: Band) -> usize
     4 * ((band.bottom - band.top) as usize * band.width as usize)
 }
 
-// Has the rows of a band composed, at most so many by each thread, and by the caller's where these are
-// all.
+// Has the rows of a band composed, in as many threads as share them, and by the caller's where that is one.
 pub fn compose_bands<R: Threads + Sync, F: Fn(Band, &mut [u8]) + Sync>(
     rt: &R,
     f: &F,
-    rows: u32,
+    share: Share,
     band: Band,
     bytes: &mut [u8],
 )
-    requires some { 1 ≤ rows }
     requires ordered { band.top ≤ band.bottom }
     requires room { HasRows band bytes.old }
     requires accepts { AcceptsBands F.Fn f.now }
     ensures { (test : ℕ → ℕ → Bool) (image : ℕ → ℕ → RgbaIn) → RepaintsBands F.Fn f.now test image
         → Repaints band.width band.top band.bottom test image bytes.old bytes.new }
 {
-    if band.bottom - band.top <= rows {
+    if share.is_last() {
         compose_here(f, band, bytes);
     } else {
-        start_each(rt, f, rows, band, bytes);
+        start_each(rt, f, share, band, bytes);
     }
 }
 
-// Has the rows of a band composed, at most so many in each thread. All threads begin at once, since
-// the one that starts them composes nothing itself but where no thread can be made.
+// Has the rows of a band composed, each share in a thread. All threads begin one right after another,
+// since the one that starts them composes nothing itself but where no thread can be made.
 #[cycle(bands)]
 fn start_each<R: Threads + Sync, F: Fn(Band, &mut [u8]) + Sync>(
     rt: &R,
     f: &F,
-    rows: u32,
+    share: Share,
     band: Band,
     bytes: &mut [u8],
 )
-    requires some { 1 ≤ rows }
     requires ordered { band.top ≤ band.bottom }
     requires room { HasRows band bytes.old }
     requires accepts { AcceptsBands F.Fn f.now }
@@ -81,9 +79,9 @@ fn start_each<R: Threads + Sync, F: Fn(Band, &mut [u8]) + Sync>(
     if band.top == band.bottom {
         return;
     }
-    let (first, below) = cut_off(band, rows);
+    let (first, below) = cut_off(band, share.first_rows(band));
     let (now, later) = bytes.split_at_mut(size_of(first));
-    start_beside(rt, f, rows, first, now, below, later);
+    start_beside(rt, f, share.rest(), first, now, below, later);
 }
 
 // Composes a band in this thread.
@@ -101,13 +99,12 @@ fn compose_here<F: Fn(Band, &mut [u8])>(f: &F, band: Band, bytes: &mut [u8])
 fn start_beside<R: Threads + Sync, F: Fn(Band, &mut [u8]) + Sync>(
     rt: &R,
     f: &F,
-    rows: u32,
+    share: Share,
     first: Band,
     now: &mut [u8],
     below: Band,
     later: &mut [u8],
 )
-    requires some { 1 ≤ rows }
     requires ordered { below.top ≤ below.bottom }
     requires first { HasRows first now.old }
     requires below { HasRows below later.old }
@@ -123,9 +120,9 @@ fn start_beside<R: Threads + Sync, F: Fn(Band, &mut [u8]) + Sync>(
             → Repaints first.width first.top first.bottom test image now.entry.now now.exit.now }
     { compose_here(f, first, now) };
     let mut others = ||
-        requires { IsSync R.row × IsSync F.row × (1 ≤ rows) × (below.top ≤ below.bottom) × HasRows below later.now × AcceptsBands F.Fn f.now }
+        requires { IsSync R.row × IsSync F.row × (below.top ≤ below.bottom) × HasRows below later.now × AcceptsBands F.Fn f.now }
         ensures { (test : ℕ → ℕ → Bool) (image : ℕ → ℕ → RgbaIn) → RepaintsBands F.Fn f.entry.now test image
             → Repaints below.width below.top below.bottom test image later.entry.now later.exit.now }
-    { start_each(rt, f, rows, below, later) };
+    { start_each(rt, f, share, below, later) };
     thread::join_mut(rt, &mut one, &mut others);
 }

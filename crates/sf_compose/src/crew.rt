@@ -10,22 +10,35 @@ use crate::beside::compose_bands;
 use crate::one::compose_band;
 use crate::pixels::Pixels;
 use crate::seen::compose_band_seen;
+use crate::share::{Share, points_in};
 use sf_base::NoMemory;
 use sf_region::Region;
 use sf_view::View;
 use std::thread::Threads;
 
-// How many rows each worker has; the last may have fewer.
-fn rows_each(view: &View, workers: u32) -> u32
-    requires { 1 ≤ workers }
-    ensures { 1 ≤ result }
-{
-    view.height.div_ceil(workers)
+// How many points of layers are painted in a part if each layer shows in all of it.
+fn work_of(view: &View, part: &Region) -> u64 {
+    points_in(part, all_rows(view)).saturating_mul(view.drawn.len() as u64)
 }
 
-/// Composes a view into a part of a frame as `compose_one` does, with the same bytes, in as many
-/// threads as there are workers, 1 to 16: each has a band of the frame's rows. After want of memory
-/// the frame is as it was.
+// How many are painted if of each layer only so much shows. One worker need not know.
+fn work_of_seen(workers: u32, view: &View, shows: &[Region], part: &Region) -> u64 {
+    if workers <= 1 {
+        return 0;
+    }
+    let rows = all_rows(view);
+    let points = points_in(part, rows);
+    let mut work = 0u64;
+    for shown in shows {
+        work = work.saturating_add(points_in(shown, rows).min(points));
+    }
+    work
+}
+
+/// Composes a view into a part of a frame as `compose_one` does, with the same bytes, in at most as
+/// many threads as there are workers, 1 to 16: each has a band of the frame's rows. Where too little is
+/// painted for a thread to be worth its start, none is started. After want of memory the frame is as
+/// it was.
 pub fn compose<R: Threads + Sync, C: Pixels + Sync>(
     rt: &R,
     workers: u32,
@@ -44,7 +57,7 @@ pub fn compose<R: Threads + Sync, C: Pixels + Sync>(
     ensures err { OnErr result (frame.new ≡ frame.old) }
     ensures rest { KeepsRest view.now part.now frame.old frame.new }
 {
-    let rows = rows_each(view, workers);
+    let share = Share::among(workers, part, work_of(view, part));
     compose_bands(
         rt,
         &|band: Band, bytes: &mut [u8]|
@@ -54,7 +67,7 @@ pub fn compose<R: Threads + Sync, C: Pixels + Sync>(
         {
             compose_band(view, contents, sources, part, band, bytes);
         },
-        rows,
+        share,
         all_rows(view),
         frame,
     );
@@ -83,7 +96,7 @@ pub fn compose_seen_by<R: Threads + Sync, C: Pixels + Sync>(
     ensures err { OnErr result (frame.new ≡ frame.old) }
     ensures rest { KeepsRest view.now part.now frame.old frame.new }
 {
-    let rows = rows_each(view, workers);
+    let share = Share::among(workers, part, work_of_seen(workers, view, shows, part));
     compose_bands(
         rt,
         &|band: Band, bytes: &mut [u8]|
@@ -93,7 +106,7 @@ pub fn compose_seen_by<R: Threads + Sync, C: Pixels + Sync>(
         {
             compose_band_seen(view, contents, sources, shows, part, band, bytes);
         },
-        rows,
+        share,
         all_rows(view),
         frame,
     );

@@ -17,6 +17,7 @@ mod layer;
 mod one;
 mod pixels;
 mod seen;
+mod share;
 mod slices;
 mod solid;
 mod spans;

@@ -30,7 +30,7 @@ fn is_time(entry: &(u32, Hold)) -> bool
     }
 }
 
-/// Makes the next vsync and writes its records; so many workers compose its frame. Whether another
+/// Makes the next vsync and writes its records; at most so many workers compose its frame. Whether another
 /// one may do more with nothing else done: it committed something, or something waits for its time.
 pub(crate) fn show_next<R: Threads + Wait + Sync, K: Sink, B: TableName>(
     rt: &R,

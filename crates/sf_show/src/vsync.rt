@@ -65,7 +65,7 @@ fn shows_frame(commits: &[Commit]) -> bool
     commits.iter().any(is_accepted)
 }
 
-/// Shows the view of a vsync, which so many workers compose, and writes the record of its frame.
+/// Shows the view of a vsync, which at most so many workers compose, and writes the record of its frame.
 fn show_frame<R: Threads + Sync, K: Sink, C: Pixels + Sync>(
     rt: &R,
     workers: u32,
@@ -98,7 +98,7 @@ fn show_frame<R: Threads + Sync, K: Sink, C: Pixels + Sync>(
     }
 }
 
-/// Writes the records of a vsync, and shows its frame, which so many workers compose, where something
+/// Writes the records of a vsync, and shows its frame, which at most so many workers compose, where something
 /// was committed that was not rejected. A vsync that commits nothing has no records.
 pub fn show_vsync<R: Threads + Sync, K: Sink, C: Pixels + Sync>(
     rt: &R,
