@@ -1,9 +1,0 @@
-//! The compositor as a program, run with a word that it does not know.
-#![tactic(auto)]
-
-use sf_command::command;
-use std::process::ExitCode;
-
-fn main(rt: HostRuntime) -> ExitCode {
-    ExitCode::from(command(&rt, &rt))
-}

@@ -1,0 +1,86 @@
+"""Tests of sf_main called with words and streams of every kind; they need the program that `rt run` or `rt ci` built."""
+
+import os
+import struct
+import subprocess
+import unittest
+
+import run
+
+PROGRAM = run.built(run.TOP)
+USAGE = b"usage: sf_main [--run play|live|gen] [--workers N] [--number N] [--summary]\n"
+
+
+def called(*words, script=b"", **streams):
+    """The status of a call, and what it wrote on both streams."""
+    if "stdin" not in streams:
+        streams["input"] = script
+    ended = subprocess.run([PROGRAM, *words], **{"stdout": subprocess.PIPE, **streams}, stderr=subprocess.PIPE, timeout=60)
+    return ended.returncode, ended.stdout, ended.stderr
+
+
+def scene(name):
+    with open(os.path.join(run.TOP, "scenes", name), "rb") as file:
+        return file.read()
+
+
+def panes(count):
+    """A large display of so many panes that let light through; most of them move before the second frame."""
+    first, second = ["tx 1"], ["tx 1"]
+    for number in range(1, count + 1):
+        first += [f"set 1 {number} create colour 0", f"set 1 {number} colour {number:02x}{200 - number:02x}40c8", f"set 1 {number} alpha {255 - number}",
+                  f"set 1 {number} crop {7 * number} {11 * number} 700 {900 - 13 * number}"]
+        second += [f"set 1 {number} position {number % 5} {3 * number % 17}"]
+    turns = (first + ["apply 1 token 1"], second + ["apply 1 token 1"])
+    order = " v ".join(f"1*{len(steps)}" for steps in turns)
+    return "\n".join(["scene 1 1024 1024 16666667", "actor 1", *turns[0], *turns[1], f"order {order} v", "end", ""]).encode()
+
+
+@unittest.skipUnless(PROGRAM, "sf_main is not built")
+class Command(unittest.TestCase):
+    def test_the_page_of_help_names_every_option_and_status(self):
+        status, page, err = called("--help")
+        self.assertEqual((status, err), (0, b""))
+        for word in (b"--run V", b"--workers N", b"--number N", b"--summary", b"--help, -h", b"--version", b"docs/SCRIPT.md", b"docs/RECORDS.md"):
+            self.assertIn(word, page)
+        for number in range(6):
+            self.assertIn(b"\n        %d   " % number if number else b"status: 0   ", page)
+        self.assertEqual(called("-h"), (0, page, b""))
+
+    def test_the_version_stands_alone(self):
+        self.assertEqual(called("--version"), (0, b"sf_main 0.1.0\n", b""))
+
+    def test_wrong_words_are_told_and_nothing_is_played(self):
+        for words in (("--fast",), ("scene.sf",), ("--run",), ("--run", "sideways"), ("--workers", "0"), ("--workers", "17"), ("--number", "-1"),
+                      ("--summary", "--summary"), ("--run", "live", "--summary"), ("--help", "--version"), ("--run", "--help")):
+            with self.subTest(words=words):
+                self.assertEqual(called(*words, script=scene("red.sf")), (1, b"", USAGE))
+
+    def test_a_script_that_is_no_scene(self):
+        status, records, err = called(script=b"scene 1\nsideways\n")
+        self.assertEqual((status, err), (2, b"script fault\n"))
+        self.assertEqual(records, b"SFLT" + struct.pack(">4I", 12, 1, 3, 4))
+
+    def test_standard_input_that_cannot_be_read(self):
+        folder = os.open(run.TOP, os.O_RDONLY)
+        self.addCleanup(os.close, folder)
+        self.assertEqual(called(stdin=folder)[::2], (3, b"read failed\n"))
+
+    @unittest.skipUnless(os.path.exists("/dev/full"), "there is no /dev/full")
+    def test_standard_output_that_cannot_be_written(self):
+        for words in ((), ("--run", "live"), ("--run", "gen"), ("--summary",), ("--help",)):
+            with self.subTest(words=words), open("/dev/full", "wb") as full:
+                status, _, err = called(*words, script=scene("red.sf"), stdout=full)
+                self.assertEqual((status, err), (4, b"write failed\n"))
+
+    def test_the_frames_are_the_same_for_every_number_of_workers(self):
+        for name, script in (("phone", scene("phone.sf")), ("panes", panes(40))):
+            alone = called(script=script)
+            self.assertEqual((alone[0], alone[2]), (0, b""))
+            for workers in ("2", "5", "16"):
+                with self.subTest(name=name, workers=workers):
+                    self.assertEqual(called("--workers", workers, script=script), alone)
+
+
+if __name__ == "__main__":
+    unittest.main()
