@@ -3,14 +3,14 @@ use std::alloc::Global;
 use std::io;
 
 /// A step of an actor, each by its number.
-#[derive(Clone, Copy, Debug, PartialEq, Eq, PartialOrd, Ord)]
+#[derive(Clone, Copy, PartialEq, Eq, PartialOrd, Ord)]
 pub struct StepOf {
     pub actor: u64,
     pub step: u64,
 }
 
 /// The reply to a step, with the first three of its values, 0 where there are fewer.
-#[derive(Clone, Copy, Debug, PartialEq, Eq)]
+#[derive(Clone, Copy, PartialEq, Eq)]
 pub struct Reply {
     pub of: StepOf,
     pub status: u64,
@@ -18,14 +18,14 @@ pub struct Reply {
 }
 
 /// A transaction that arrived.
-#[derive(Clone, Copy, Debug, PartialEq, Eq, PartialOrd, Ord)]
+#[derive(Clone, Copy, PartialEq, Eq, PartialOrd, Ord)]
 pub struct Arrival {
     pub of: StepOf,
     pub token: u64,
 }
 
 /// A buffer that a transaction brought.
-#[derive(Clone, Copy, Debug, PartialEq, Eq)]
+#[derive(Clone, Copy, PartialEq, Eq)]
 pub struct Buffer {
     pub frame: u64,
     pub picture: u64,
@@ -43,7 +43,7 @@ pub struct Commit {
 }
 
 /// A call on a queue: the actor's step, or the vsync of the compositor, which is caller 0.
-#[derive(Clone, Copy, Debug, PartialEq, Eq)]
+#[derive(Clone, Copy, PartialEq, Eq)]
 pub struct Call {
     pub by: StepOf,
     pub kind: u64,
@@ -56,7 +56,7 @@ const TOKENS: usize = 4;
 
 /// What is on the display as far as it was committed: under which of the tokens 0 to 3 something was
 /// committed, and the last picture that came under each.
-#[derive(Clone, Copy, Debug, PartialEq, Eq)]
+#[derive(Clone, Copy, PartialEq, Eq)]
 pub struct View {
     begun: [bool; TOKENS],
     pictures: [u64; TOKENS],

@@ -1,5 +1,5 @@
 /// Why a call was not made. The call comes back as it was handed in.
-#[derive(Debug, Drop)]
+#[derive(Drop)]
 pub enum CallFault<C> {
     /// The object answered under the lock that it is not time for the call yet.
     NotYet(C),

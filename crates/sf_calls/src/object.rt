@@ -6,7 +6,7 @@ ghost use Rattle.sf_calls.specs.Outcomes.{IfDone, IfNotYet, IfNoMemory};
 
 /// A call in an object's history: its caller's number, and what the history keeps of the call
 /// and of its reply.
-#[derive(Clone, Copy, Debug, Drop)]
+#[derive(Clone, Copy, Drop)]
 pub struct Entry<C, R> {
     pub by: u32,
     pub call: C,
@@ -23,7 +23,7 @@ pub enum Answer<R> {
 }
 
 /// What a call did to the object.
-#[derive(Debug, Drop)]
+#[derive(Drop)]
 pub enum Outcome<C, R> {
     /// It is done: the history has one more entry.
     Done(R),

@@ -7,7 +7,7 @@ use sf_turns::TableName;
 use std::sync::Wait;
 
 /// For how many steps of an actor the gate was passed: for each once, before its first try.
-#[derive(Clone, Copy, Debug)]
+#[derive(Clone, Copy)]
 pub struct Gates {
     passed: u32,
 }

@@ -4,7 +4,7 @@ ghost use Rattle.sf_base.specs.Geometry.{IsWithin, LiesWithin};
 use sf_base::{QueueId, Rect};
 
 /// A buffer that a layer shows: the frame of a queue with the picture that was drawn in it.
-#[derive(Clone, Copy, Debug, PartialEq, Eq)]
+#[derive(Clone, Copy, PartialEq, Eq)]
 pub struct Shown {
     pub queue: QueueId,
     pub frame: u64,

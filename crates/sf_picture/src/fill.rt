@@ -1,7 +1,7 @@
 use sf_base::{Rect, Rgba};
 
 /// A rectangle of one colour. It may reach beyond its picture, and fills the part inside.
-#[derive(Clone, Copy, Debug, PartialEq, Eq)]
+#[derive(Clone, Copy, PartialEq, Eq)]
 pub struct Fill {
     pub rect: Rect,
     pub colour: Rgba,

@@ -18,7 +18,6 @@ use std::marker::Model;
 /// its edges lie within 2^25 of 0. The rectangles are canonical: they go in bands from top to
 /// bottom, within a band from left to right with gaps between them, and two bands that touch
 /// differ. So equal sets have equal lists, and an operation passes once over the bands of both.
-#[derive(Debug)]
 pub struct Region {
     alloc: Global,
     rects: Vec<Rect>,

@@ -12,7 +12,7 @@ pub const FIRST_PLACE: u32 = 33554432;
 pub const PAST_ALL: u32 = 100663296;
 
 /// The places of a row from `start` up to, and without, `end`.
-#[derive(Clone, Copy, Debug, PartialEq, Eq)]
+#[derive(Clone, Copy, PartialEq, Eq)]
 pub struct Span {
     pub start: u32,
     pub end: u32,

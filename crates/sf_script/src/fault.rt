@@ -45,7 +45,7 @@ impl<T: Drop> From<AllocFailed<T>> for LineFault {
 }
 
 /// Where a script has a fault, and which.
-#[derive(Clone, Copy, Debug, PartialEq, Eq)]
+#[derive(Clone, Copy, PartialEq, Eq)]
 pub struct ScriptFault {
     /// The number of the line, from 1; one past the last where the script ends too early, and 0
     /// where it is too long.
@@ -58,7 +58,7 @@ pub struct ScriptFault {
 }
 
 /// Why there is no scene.
-#[derive(Clone, Copy, Debug, PartialEq, Eq)]
+#[derive(Clone, Copy, PartialEq, Eq)]
 pub enum ParseFault {
     /// The bytes are no scene: the first line that has a fault, and in it the leftmost wrong word.
     Script(ScriptFault),

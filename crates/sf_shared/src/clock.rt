@@ -1,5 +1,5 @@
 /// When a caller last did something: its step, and the stamp of the call.
-#[derive(Clone, Copy, Debug, Drop)]
+#[derive(Clone, Copy, Drop)]
 pub struct Clock {
     pub step: u32,
     pub stamp: u64,

@@ -12,7 +12,7 @@ pub enum SlotState {
 }
 
 /// A buffer: its number in its queue, from 1, and its size in pixels.
-#[derive(Clone, Copy, Debug, PartialEq, Eq)]
+#[derive(Clone, Copy, PartialEq, Eq)]
 pub struct Held {
     pub number: u64,
     pub width: u32,
@@ -20,7 +20,7 @@ pub struct Held {
 }
 
 /// What is known of a slot, apart from the right to its pixels.
-#[derive(Clone, Copy, Debug, PartialEq, Eq)]
+#[derive(Clone, Copy, PartialEq, Eq)]
 pub struct Slot {
     pub state: SlotState,
     /// Its buffer, if it has one.

@@ -12,7 +12,7 @@ use std::alloc::Global;
 use std::marker::PhantomData;
 
 /// Why nothing was drawn. The token comes back as it was handed in.
-#[derive(Debug, Drop)]
+#[derive(Drop)]
 pub enum DrawFault<T> {
     /// The picture is not one that may be drawn in it.
     BadPicture(T),

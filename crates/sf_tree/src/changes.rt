@@ -12,7 +12,7 @@ use sf_layer::{Kind, Layer, Op, Parent};
 use std::alloc::Global;
 
 // Why a change was not made.
-#[derive(Clone, Copy, Debug, PartialEq, Eq)]
+#[derive(Clone, Copy, PartialEq, Eq)]
 pub enum ChangeFault {
     Rejected(Reject),
     NoMemory,

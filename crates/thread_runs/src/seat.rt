@@ -1,5 +1,5 @@
 /// Whose seat or pass a call is made through.
-#[derive(Clone, Copy, Debug)]
+#[derive(Clone, Copy)]
 pub enum Seat {
     First,
     Second,
