@@ -4,7 +4,7 @@ ghost use Rattle.sf_base.specs.Fences.{IsSignalled, SignalledTogether, Signalled
 use crate::TimelineId;
 
 /// What was observed of the timelines: the value of timeline t stands at t - 1.
-#[derive(Clone, Copy, PartialEq, Eq)]
+#[derive(Clone, Copy)]
 pub struct Seen {
     pub values: [u64; 64],
 }

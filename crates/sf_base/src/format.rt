@@ -4,7 +4,7 @@ ghost use Rattle.sf_base.specs.Formats.{seen_as, through_five_bits, through_six_
 use crate::Rgba;
 
 /// How the pixels of a buffer are kept.
-#[derive(Clone, Copy, PartialEq, Eq)]
+#[derive(Clone, Copy)]
 pub enum Format {
     /// Red, green, blue and alpha, 8 bits each.
     Rgba,

@@ -1,7 +1,7 @@
 use std::alloc::{AllocError, AllocFailed};
 
 /// Want of memory. A call that answers it has changed nothing, and hands back what it was given.
-#[derive(Clone, Copy, PartialEq, Eq)]
+#[derive(Clone, Copy)]
 pub struct NoMemory;
 
 impl From<AllocError> for NoMemory {

@@ -2,7 +2,7 @@ ghost use Rattle.std.specs.Prelude.{◌≡◌};
 ghost use Rattle.sf_base.specs.Statuses.{number_of};
 
 /// What a call on a BufferQueue answers. `Ok` is no refusal.
-#[derive(Clone, Copy, Debug, PartialEq, Eq)]
+#[derive(Clone, Copy, Debug)]
 pub enum QStatus {
     /// The call was done.
     Ok,

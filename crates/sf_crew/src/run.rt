@@ -33,7 +33,7 @@ use std::thread;
 use std::thread::{Scope, Threads};
 
 /// Why a run in threads came to no end.
-#[derive(Clone, Copy, PartialEq, Eq)]
+#[derive(Clone, Copy)]
 pub enum Stopped {
     NoMemory,
     /// The visitor could do no more.

@@ -10,7 +10,7 @@ use std::sync::Wait;
 use std::thread::Threads;
 
 /// A visitor can do no more. It keeps the cause.
-#[derive(Clone, Copy, PartialEq, Eq)]
+#[derive(Clone, Copy)]
 pub struct Ended;
 
 /// What whoever starts the threads does meanwhile, with the first seats, as a compositor does its

@@ -9,7 +9,7 @@ use byteorder::{BigEndian, ByteOrder};
 use std::alloc::Global;
 
 /// Why the bytes of a source were not read to their end.
-#[derive(Clone, Copy, PartialEq, Eq)]
+#[derive(Clone, Copy)]
 pub enum ReadFault {
     /// A read failed.
     Failed,
@@ -20,7 +20,7 @@ pub enum ReadFault {
 }
 
 /// A record was not written whole, since a write failed.
-#[derive(Clone, Copy, PartialEq, Eq)]
+#[derive(Clone, Copy)]
 pub struct WriteFault;
 
 // The most bytes that one read asks for.

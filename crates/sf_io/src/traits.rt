@@ -4,7 +4,7 @@ ghost use Rattle.std.specs.Io.KnownBytes.{ReadConsumes, WriteAppends};
 ghost use Rattle.sf_io.specs.Causes.{HasCause};
 
 /// A read or a write that failed: of the bytes nothing changed, and the count of faults rose.
-#[derive(Clone, Copy, PartialEq, Eq)]
+#[derive(Clone, Copy)]
 pub struct Failed;
 
 /// A source of bytes that counts its faults.

@@ -1,5 +1,5 @@
 /// What a layer can show. A layer keeps its kind for life.
-#[derive(Clone, Copy, PartialEq, Eq)]
+#[derive(Clone, Copy)]
 pub enum Kind {
     /// Nothing of its own: it groups the layers below it.
     Container,

@@ -4,7 +4,7 @@ use crate::shown::Shown;
 use sf_base::{LayerId, Rect, Rgba};
 
 /// A layer of the tree.
-#[derive(Clone, Copy, PartialEq, Eq)]
+#[derive(Clone, Copy)]
 pub struct Layer {
     pub number: LayerId,
     pub kind: Kind,

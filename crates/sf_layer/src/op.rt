@@ -9,7 +9,7 @@ use crate::shown::Shown;
 use sf_base::{LayerId, Rect, Rgba};
 
 /// An operation on a layer.
-#[derive(Clone, Copy, PartialEq, Eq)]
+#[derive(Clone, Copy)]
 pub enum Op {
     /// Makes the layer, the newest of all.
     Create(Kind, Parent),

@@ -1,7 +1,7 @@
 use sf_base::LayerId;
 
 /// What a layer hangs from.
-#[derive(Clone, Copy, PartialEq, Eq)]
+#[derive(Clone, Copy)]
 pub enum Parent {
     /// The display itself.
     Root,

@@ -3,7 +3,7 @@ ghost use Rattle.std.specs.String.{string_bytes};
 ghost use Rattle.sf_options.specs.Options.{about_named, about_of};
 
 /// What a word asks of the program itself.
-#[derive(Clone, Copy, PartialEq, Eq)]
+#[derive(Clone, Copy)]
 pub enum About {
     Help,
     Version,

@@ -9,7 +9,7 @@ use sf_words::number_within;
 use std::alloc::Global;
 
 /// What the program runs.
-#[derive(Clone, Copy, PartialEq, Eq)]
+#[derive(Clone, Copy)]
 pub enum Run {
     /// The script, one step at a time, in its order.
     Play,
@@ -20,7 +20,7 @@ pub enum Run {
 }
 
 /// What the words ask for.
-#[derive(Clone, Copy, PartialEq, Eq)]
+#[derive(Clone, Copy)]
 pub struct Options {
     pub run: Run,
     /// By how many workers a frame is composed: 1 to 16.
@@ -32,7 +32,7 @@ pub struct Options {
 }
 
 /// Why there are no options.
-#[derive(Clone, Copy, PartialEq, Eq)]
+#[derive(Clone, Copy)]
 pub enum OptionsFault {
     WrongWords,
     NoMemory,

@@ -4,7 +4,7 @@ ghost use Rattle.sf_play.specs.Places.{settled};
 use sf_scene::Pick;
 
 /// Where a play stands.
-#[derive(Clone, Copy, PartialEq, Eq)]
+#[derive(Clone, Copy)]
 pub enum Place {
     /// Before a turn of a pick of the order: the pick's place, from 0, and how many of its turns are
     /// done.

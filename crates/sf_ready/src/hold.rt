@@ -7,7 +7,7 @@ use sf_base::{LayerId, QueueId, Seen, TimelineId};
 use sf_txn::{Lease, Transaction};
 
 /// Why a pending transaction does not commit yet.
-#[derive(Clone, Copy, Debug, PartialEq, Eq)]
+#[derive(Clone, Copy, Debug)]
 pub enum Hold {
     /// It is not the first of its apply token.
     Behind,

@@ -295,7 +295,7 @@ fn body(alloc: Global, shown: &Record) -> Result<Vec<u8>, NoMemory>
 }
 
 /// Why a run ended early.
-#[derive(Clone, Copy, PartialEq, Eq)]
+#[derive(Clone, Copy)]
 pub enum RunFault {
     /// The sink failed.
     WriteFault,

@@ -2,7 +2,7 @@ use sf_base::Items;
 use sf_script::ScriptFault;
 
 /// What a run shows of its scene.
-#[derive(Clone, Copy, PartialEq, Eq)]
+#[derive(Clone, Copy)]
 pub struct SceneHeader {
     pub version: u32,
     /// In pixels.
@@ -25,7 +25,7 @@ pub struct Reply {
 }
 
 /// What a vsync saw of a timeline.
-#[derive(Clone, Copy, PartialEq, Eq)]
+#[derive(Clone, Copy)]
 pub struct TimelineValue {
     pub timeline: u32,
     pub value: u64,
@@ -43,7 +43,7 @@ pub struct VsyncHeader {
 }
 
 /// A buffer that a transaction brought to a layer, and the crop of it that is shown.
-#[derive(Clone, Copy, PartialEq, Eq)]
+#[derive(Clone, Copy)]
 pub struct CommittedBuffer {
     pub layer: u32,
     pub queue: u32,
@@ -78,7 +78,7 @@ pub struct Frame {
 }
 
 /// What a run shows of an arrival.
-#[derive(Clone, Copy, PartialEq, Eq)]
+#[derive(Clone, Copy)]
 pub struct ArrivalEntry {
     pub actor: u32,
     pub step: u32,
@@ -86,7 +86,7 @@ pub struct ArrivalEntry {
 }
 
 /// A call on a queue.
-#[derive(Clone, Copy, PartialEq, Eq)]
+#[derive(Clone, Copy)]
 pub struct HistoryEntry {
     /// The actor that called, or 0 for the compositor.
     pub caller: u32,
@@ -113,7 +113,7 @@ pub struct QueueHistory {
 
 /// A transaction that is held at the end of a run: the number of its arrival, the number of the
 /// hold, and what the hold is for.
-#[derive(Clone, Copy, PartialEq, Eq)]
+#[derive(Clone, Copy)]
 pub struct HeldEntry {
     pub arrival: u32,
     pub hold: u32,
@@ -122,14 +122,14 @@ pub struct HeldEntry {
 }
 
 /// An actor that is stuck at the end of a run, and the step that is not done.
-#[derive(Clone, Copy, PartialEq, Eq)]
+#[derive(Clone, Copy)]
 pub struct StuckEntry {
     pub actor: u32,
     pub step: u32,
 }
 
 /// What records come to.
-#[derive(Clone, Copy, PartialEq, Eq)]
+#[derive(Clone, Copy)]
 pub struct Summary {
     /// The replies to steps.
     pub replies: u64,

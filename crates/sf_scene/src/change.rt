@@ -2,7 +2,7 @@ use sf_base::Rgba;
 
 /// What a `set` step changes in a layer. A parent is the number of a layer, 0 for the root, or
 /// none: without a parent a layer and what stands below it are not shown.
-#[derive(Clone, Copy, PartialEq, Eq)]
+#[derive(Clone, Copy)]
 pub enum Change {
     /// A new layer that shows nothing itself, below this parent.
     CreateContainer(Option<u32>),

@@ -1,5 +1,5 @@
 /// A declared BufferQueue, and the default size of its buffers in pixels.
-#[derive(Clone, Copy, PartialEq, Eq)]
+#[derive(Clone, Copy)]
 pub struct QueueDecl {
     /// 1 to 16.
     pub number: u32,
@@ -10,7 +10,7 @@ pub struct QueueDecl {
 }
 
 /// A further display, beside the scene's own, which has number 1 and stack 0.
-#[derive(Clone, Copy, PartialEq, Eq)]
+#[derive(Clone, Copy)]
 pub struct DisplayDecl {
     /// 2 to 8.
     pub number: u32,
@@ -23,7 +23,7 @@ pub struct DisplayDecl {
 }
 
 /// A capture: a layer and what stands below it are painted by themselves.
-#[derive(Clone, Copy, PartialEq, Eq)]
+#[derive(Clone, Copy)]
 pub struct CaptureDecl {
     /// 1 to 8.
     pub number: u32,
@@ -36,7 +36,7 @@ pub struct CaptureDecl {
 }
 
 /// A hit test: which layer is in front at a point.
-#[derive(Clone, Copy, PartialEq, Eq)]
+#[derive(Clone, Copy)]
 pub struct HitDecl {
     /// 1 to 64.
     pub number: u32,
@@ -47,7 +47,7 @@ pub struct HitDecl {
 }
 
 /// An entry of the order: who is picked, and how often in a row.
-#[derive(Clone, Copy, PartialEq, Eq)]
+#[derive(Clone, Copy)]
 pub struct Pick {
     /// The number of an actor, or 0 for a vsync.
     pub actor: u32,

@@ -58,7 +58,7 @@ pub struct ScriptFault {
 }
 
 /// Why there is no scene.
-#[derive(Clone, Copy, PartialEq, Eq)]
+#[derive(Clone, Copy)]
 pub enum ParseFault {
     /// The bytes are no scene: the first line that has a fault, and in it the leftmost wrong word.
     Script(ScriptFault),

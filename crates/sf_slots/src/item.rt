@@ -21,7 +21,7 @@ pub struct Item<R> {
 }
 
 /// A queued frame without its right.
-#[derive(Clone, Copy, PartialEq, Eq)]
+#[derive(Clone, Copy)]
 pub struct PlainItem {
     pub slot: SlotId,
     pub held: Held,

@@ -3,7 +3,7 @@ ghost use Rattle.std.specs.Prelude.{◌≡◌};
 use sf_base::Fence;
 
 /// Where a slot's buffer is: in the queue, lent to the producer, in an item, or with the consumer.
-#[derive(Clone, Copy, Debug, PartialEq, Eq)]
+#[derive(Clone, Copy, Debug)]
 pub enum SlotState {
     Free,
     Dequeued,
@@ -12,7 +12,7 @@ pub enum SlotState {
 }
 
 /// A buffer: its number in its queue, from 1, and its size in pixels.
-#[derive(Clone, Copy, PartialEq, Eq)]
+#[derive(Clone, Copy)]
 pub struct Held {
     pub number: u64,
     pub width: u32,
@@ -20,7 +20,7 @@ pub struct Held {
 }
 
 /// What is known of a slot, apart from the right to its pixels.
-#[derive(Clone, Copy, PartialEq, Eq)]
+#[derive(Clone, Copy)]
 pub struct Slot {
     pub state: SlotState,
     /// Its buffer, if it has one.

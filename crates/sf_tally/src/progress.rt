@@ -17,7 +17,7 @@ const HOLD: u32 = 0x484f_4c44;
 const STUK: u32 = 0x5354_554b;
 
 // The sums so far, and the place in the record that is being written.
-#[derive(Clone, Copy, PartialEq, Eq)]
+#[derive(Clone, Copy)]
 pub(crate) struct Progress {
     pub(crate) summary: Summary,
     // How many bytes of the head came.

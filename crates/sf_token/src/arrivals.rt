@@ -48,7 +48,7 @@ impl<L: Lease> Model for Batch<L> {
 }
 
 /// Who applied a transaction, at which step, and for which token.
-#[derive(Clone, Copy, PartialEq, Eq)]
+#[derive(Clone, Copy)]
 pub struct ArrvEntry {
     pub actor: ActorId,
     pub step: u32,

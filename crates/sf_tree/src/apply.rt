@@ -10,7 +10,7 @@ use sf_layer::Op;
 use std::alloc::Global;
 
 /// Why no operation was done.
-#[derive(Clone, Copy, PartialEq, Eq)]
+#[derive(Clone, Copy)]
 pub enum ApplyFault {
     /// The operation of this number, from 1, is the first that is rejected, for this cause, which
     /// is the first of these, by number, that it meets:

@@ -12,7 +12,7 @@ use sf_layer::{Kind, Layer, Op, Parent};
 use std::alloc::Global;
 
 // Why a change was not made.
-#[derive(Clone, Copy, PartialEq, Eq)]
+#[derive(Clone, Copy)]
 pub enum ChangeFault {
     Rejected(Reject),
     NoMemory,

@@ -5,7 +5,7 @@ use sf_base::Rgba;
 use sf_layer::{Kind, Layer, Shown};
 
 /// What a drawn layer shows.
-#[derive(Clone, Copy, PartialEq, Eq)]
+#[derive(Clone, Copy)]
 pub enum Content {
     /// One colour everywhere.
     Colour(Rgba),

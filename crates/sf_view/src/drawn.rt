@@ -2,7 +2,7 @@ use crate::content::Content;
 use sf_base::{LayerId, Rect};
 
 /// A layer as a display draws it.
-#[derive(Clone, Copy, PartialEq, Eq)]
+#[derive(Clone, Copy)]
 pub struct Drawn {
     pub layer: LayerId,
     /// The points of the display at which it is drawn. It may be empty.

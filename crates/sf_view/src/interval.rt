@@ -4,7 +4,7 @@ ghost use Rattle.sf_view.specs.Intervals.{is_in_interval, HasExtent};
 
 // The pixels of a row or a column from one on and before another: none, where the other is not
 // greater.
-#[derive(Clone, Copy, PartialEq, Eq)]
+#[derive(Clone, Copy)]
 pub struct Interval {
     pub from: i32,
     pub to: i32,

@@ -15,7 +15,7 @@ use sf_layer::Layer;
 
 // Where a layer lies on the display, how opaque it is drawn, and the part of the display to which
 // its crop and those of its ancestors cut it.
-#[derive(Clone, Copy, PartialEq, Eq)]
+#[derive(Clone, Copy)]
 pub struct Placement {
     pub x: i32,
     pub y: i32,

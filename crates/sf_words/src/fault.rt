@@ -2,7 +2,7 @@ ghost use Rattle.std.specs.Prelude.{◌≡◌};
 ghost use Rattle.sf_words.specs.Causes.{number_of};
 
 /// What is wrong with a word.
-#[derive(Clone, Copy, PartialEq, Eq)]
+#[derive(Clone, Copy)]
 pub enum Cause {
     /// The line is not UTF-8.
     NotUtf8,
@@ -51,7 +51,7 @@ impl Cause {
 
 /// A fault in a line, told by how many words there are from the wrong one on: none where a word is
 /// missing, and one more than the line has where the fault is of the line.
-#[derive(Clone, Copy, PartialEq, Eq)]
+#[derive(Clone, Copy)]
 pub struct WordFault {
     pub left: usize,
     pub cause: Cause,
