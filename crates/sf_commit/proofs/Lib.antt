@@ -1,4 +1,3 @@
-pub mod AskingLemmas
 pub mod CommitLemmas
 pub mod DecideLemmas
 pub mod FollowLemmas
@@ -8,9 +7,7 @@ pub mod LeadLemmas
 pub mod LendLemmas
 pub mod ListLemmas
 pub mod MarkLemmas
-pub mod NextLemmas
 pub mod SettleLemmas
 pub mod StandingAlong
 pub mod StandingLemmas
 pub mod VsyncLemmas
-pub mod SearchLemmas

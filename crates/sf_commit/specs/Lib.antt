@@ -1,4 +1,3 @@
-pub mod Asking
 pub mod Deciding
 pub mod Following
 pub mod Handlers
@@ -6,7 +5,6 @@ pub mod Holding
 pub mod Inside
 pub mod Leases
 pub mod Lending
-pub mod Next
 pub mod OnLayers
 pub mod Releases
 pub mod Rounds

@@ -17,6 +17,7 @@ use Rattle.sf_ready.specs.Holds.{hold_of}
 use Rattle.sf_ready.specs.declared.hold.Hold.{Hold}
 use Rattle.sf_ready.specs.declared.hold.Hold.TheVariants as hold
 use Rattle.sf_token.specs.Pending.{Arrival, head_of, is_of}
+use Rattle.sf_next.specs.Heads.{head_hold, ready_of}
 use Rattle.sf_commit.specs.OnLayers.{OnLayer, brought, gone_with, on_after}
 use Rattle.sf_commit.specs.declared.vsync.Commit.{Commit}
 
@@ -96,24 +97,12 @@ module _ {L : Type 0} where
   facts_of r = record { frames = r.frames; fresh = r.fresh; pressed = pressed_in r.stage.tree.layers }
 
   module _ (drawn : L → Bool) (seen : Seen) (expected : ℕ) where
-    -- why the first transaction of a token waits, where `drawn` tells of a lease whether its write has ended
-    abbrev pub head_hold : FactsOf → Arrival L → Option Hold
-    head_hold facts arrived = hold_of arrived.txn (map (λ (buffer : Buffer L). drawn buffer.lease) arrived.txn.buffers) facts seen expected
-
-    abbrev pub ready_if : FactsOf → Option (Arrival L) → Option (Arrival L)
-    ready_if facts None = None
-    ready_if facts (Some arrived) = if is_none (head_hold facts arrived) then Some arrived else None
-
-    -- the first transaction of a token, where nothing holds it
-    abbrev pub ready_of : FactsOf → List (Arrival L) → TokenId → Option (Arrival L)
-    ready_of facts pending token = ready_if facts (head_of token pending)
-
     -- the next transaction to commit: what is first of its token and not held, while those of lower tokens are held
     abbrev pub IsNext : Round L → Option (Arrival L) → Type 0
-    IsNext r None = (token : TokenId) → ready_of (facts_of r) r.pending token ≡ None
+    IsNext r None = (token : TokenId) → ready_of drawn seen expected (facts_of r) r.pending token ≡ None
     IsNext r (Some next) =
-        (ready_of (facts_of r) r.pending next.txn.token ≡ Some next)
-        × ((token : TokenId) → token.0 < next.txn.token.0 → ready_of (facts_of r) r.pending token ≡ None)
+        (ready_of drawn seen expected (facts_of r) r.pending next.txn.token ≡ Some next)
+        × ((token : TokenId) → token.0 < next.txn.token.0 → ready_of drawn seen expected (facts_of r) r.pending token ≡ None)
 
     -- these are committed, each when it is the next
     abbrev pub Leads : Round L → List (Arrival L) → Round L → Type 0
@@ -130,7 +119,7 @@ module _ {L : Type 0} where
     abbrev pub hold_at : Round L → Arrival L → Option Hold
     hold_at r arrived =
         if option_map_or (λ (first : Arrival L). first.number == arrived.number) (head_of arrived.txn.token r.pending) false
-        then head_hold (facts_of r) arrived else Some hold.Behind
+        then head_hold drawn seen expected (facts_of r) arrived else Some hold.Behind
 
     abbrev pub held : Round L → List (ℕ × Hold)
     held r = filter_map (λ (arrived : Arrival L). option_map (λ h. (arrived.number, h)) (hold_at r arrived)) r.pending

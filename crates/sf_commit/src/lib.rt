@@ -4,7 +4,6 @@
 //! pixels can be lent while the next vsync is decided.
 #![tactic(auto)]
 
-mod asking;
 mod commit;
 mod decide;
 mod finish;
@@ -13,7 +12,6 @@ mod handler;
 mod held;
 mod keeping;
 mod lending;
-mod next;
 mod note;
 mod on;
 mod opening;

@@ -19,7 +19,8 @@ use Rattle.sf_txn.specs.Leases.{IsLooked, IsLookedBuffer}
 use Rattle.sf_txn.specs.Transactions.{without_first}
 use Rattle.sf_txn.specs.declared.lease.Lease.{Ghosts}
 use Rattle.sf_commit.specs.OnLayers.{OnLayer, brought, gone_with, is_on, on_after, without}
-use Rattle.sf_commit.specs.Rounds.{Leads, Round, StageOf, committed, facts_of, ready_if, stage_after, stage_with}
+use Rattle.sf_commit.specs.Rounds.{Leads, Round, StageOf, committed, facts_of, stage_after, stage_with}
+use Rattle.sf_next.specs.Heads.{ready_if}
 
 module _ {R : Type 0} (read : ReadLeaseOf → R) where
   -- what is read off leases on layers, and off those of transactions
@@ -160,7 +161,7 @@ module _ {R : Type 0} (read : ReadLeaseOf → R) where
       where
         first_is : (head : Option (Arrival ReadLeaseOf)) → ready_if drawn seen expected (facts_of r) head ≡ Some next → head ≡ Some next
         first_is None is = is
-        first_is (Some a) is = elim (cases_Bool (is_none (Rattle.sf_commit.specs.Rounds.head_hold drawn seen expected (facts_of r) a))) [
+        first_is (Some a) is = elim (cases_Bool (is_none (Rattle.sf_next.specs.Heads.head_hold drawn seen expected (facts_of r) a))) [
           | inl met ↦ rw met at is
           | inr unmet ↦ absurd (cc (rw unmet at is))
         ]

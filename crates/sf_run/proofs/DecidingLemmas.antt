@@ -13,7 +13,8 @@ use Rattle.sf_token.specs.Pending.{Arrival, head_of, is_of}
 use Rattle.sf_txn.specs.Buffers.{Buffer}
 use Rattle.sf_txn.specs.Transactions.{without_first}
 use Rattle.sf_commit.proofs.DecideLemmas.{all_left, hold_same}
-use Rattle.sf_commit.specs.Rounds.{Decided, IsNext, Leads, Round, committed, facts_of, head_hold, held, hold_at, ready_if, ready_of}
+use Rattle.sf_commit.specs.Rounds.{Decided, IsNext, Leads, Round, committed, facts_of, held, hold_at}
+use Rattle.sf_next.specs.Heads.{head_hold, ready_if, ready_of}
 use Rattle.sf_actor.specs.Names.{FrameOf}
 use Rattle.sf_actor.specs.Written.{FrameNumber}
 use Rattle.sf_run.proofs.EndLemmas.{flags_shown, head_framed}

@@ -15,7 +15,8 @@ use Rattle.sf_ready.specs.declared.hold.Hold.TheVariants as hold
 use Rattle.sf_token.specs.Pending.{Arrival, IsRisingFrom, has_number, head_of, is_of}
 use Rattle.sf_txn.specs.Buffers.{Buffer}
 use Rattle.sf_txn.specs.Transactions.{Contents}
-use Rattle.sf_commit.specs.Rounds.{IsNext, Round, facts_of, head_hold, held, hold_at}
+use Rattle.sf_commit.specs.Rounds.{IsNext, Round, facts_of, held, hold_at}
+use Rattle.sf_next.specs.Heads.{head_hold}
 use Rattle.sf_actor.specs.Names.{FrameOf}
 use Rattle.sf_actor.specs.Written.{FrameNumber}
 use Rattle.sf_record.specs.declared.record.HeldEntry.{HeldEntry}

@@ -7,7 +7,8 @@ use Rattle.sf_base.specs.declared.ids.TokenId.{TokenId}
 use Rattle.sf_token.specs.Pending.{Arrival, head_of, is_of}
 use Rattle.sf_txn.specs.Transactions.{without_first}
 use Rattle.sf_ready.specs.Facts.{FactsOf}
-use Rattle.sf_commit.specs.Rounds.{Decided, IsNext, Round, committed, facts_of, head_hold, ready_if, ready_of}
+use Rattle.sf_commit.specs.Rounds.{Decided, IsNext, Round, committed, facts_of}
+use Rattle.sf_next.specs.Heads.{head_hold, ready_if, ready_of}
 use Rattle.sf_scene.specs.Scene.{SceneValue}
 use Rattle.sf_actor.specs.Names.{FrameOf}
 use Rattle.sf_run.specs.Commits.{is_written}

@@ -15,7 +15,8 @@ use Rattle.sf_tree.specs.Changes.{Rejection, after}
 use Rattle.sf_tree.specs.Trees.{TreeOf}
 use Rattle.sf_txn.specs.Buffers.{Buffer}
 use Rattle.sf_commit.proofs.DecideLemmas.{all_left, hold_same}
-use Rattle.sf_commit.specs.Rounds.{IsNext, Leads, Round, StageOf, commit_of, committed, facts_of, head_hold, ready_if, ready_of, stage_with}
+use Rattle.sf_commit.specs.Rounds.{IsNext, Leads, Round, StageOf, commit_of, committed, facts_of, stage_with}
+use Rattle.sf_next.specs.Heads.{head_hold, ready_if, ready_of}
 use Rattle.sf_commit.specs.declared.vsync.Commit.{Commit as Decided}
 use Rattle.sf_actor.specs.Names.{FrameOf}
 use Rattle.sf_actor.specs.Written.{FrameNumber}

@@ -15,7 +15,8 @@ use Rattle.sf_view.specs.Image.{drawn_in, image, image_in}
 use Rattle.sf_compose.specs.Frames.{frame_bytes, row_bytes}
 use Rattle.sf_ready.specs.Holds.{hold_of}
 use Rattle.sf_token.specs.Pending.{Arrival}
-use Rattle.sf_commit.specs.Rounds.{Round, committed, facts_of, ready_if}
+use Rattle.sf_commit.specs.Rounds.{Round, committed, facts_of}
+use Rattle.sf_next.specs.Heads.{ready_if}
 use Rattle.sf_scene.specs.Scene.{SceneValue}
 use Rattle.sf_actor.specs.declared.done.Done.{Done}
 use Rattle.sf_actor.specs.Names.{FrameOf}

@@ -16,7 +16,8 @@ use Rattle.sf_ready.specs.Holds.{barrier_hold, fence_hold, hold_of, point_hold, 
 use Rattle.sf_ready.specs.declared.hold.Hold.{Hold}
 use Rattle.sf_ready.specs.declared.hold.Hold.TheVariants as hold
 use Rattle.sf_token.specs.Pending.{Arrival, head_of}
-use Rattle.sf_commit.specs.Rounds.{Round, facts_of, head_hold, hold_at}
+use Rattle.sf_commit.specs.Rounds.{Round, facts_of, hold_at}
+use Rattle.sf_next.specs.Heads.{head_hold}
 use Rattle.sf_run.specs.Progress.{is_time}
 use Rattle.sf_run.proofs.Members.{has_cases, has_first, has_here, has_later, has_none}
 

@@ -9,7 +9,8 @@ use Rattle.sf_layer.specs.declared.shown.Shown.{Shown}
 use Rattle.sf_view.specs.Contents.{unsigned}
 use Rattle.sf_ready.specs.declared.hold.Hold.{Hold}
 use Rattle.sf_token.specs.Pending.{Arrival, is_of}
-use Rattle.sf_commit.specs.Rounds.{facts_of, head_hold}
+use Rattle.sf_commit.specs.Rounds.{facts_of}
+use Rattle.sf_next.specs.Heads.{head_hold}
 use Rattle.sf_commit.specs.declared.vsync.Commit.{Commit as Decided}
 use Rattle.sf_actor.specs.Names.{FrameOf}
 use Rattle.sf_actor.specs.Points.{reached_by}

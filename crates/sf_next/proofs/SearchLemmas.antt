@@ -11,7 +11,7 @@ use Rattle.std.specs.declared.cmp.Ordering.TheVariants.{Equal, Greater, Less}
 use Rattle.std.proofs.lemmas.Bool.{eq-eqb, ltb-false, ltb-true, ne_eqb}
 use Rattle.std.proofs.lemmas.List.Elements.{All-cons, All-nil, All-weaker}
 use Rattle.sf_token.specs.declared.looks.Looks.{Looks}
-use Rattle.sf_commit.specs.Next.{AreRising, drawn_for}
+use Rattle.sf_next.specs.Next.{AreRising, drawn_for}
 
 index_rises : (a b n : ℕ) → a ≤ b → ordering_index (nat_cmp a n) ≤ ordering_index (nat_cmp b n)
 index_rises a b n le = by_rank (nat_cmp a n) (nat_cmp b n) (ranks a n) (ranks b n)

@@ -1,6 +1,6 @@
 use Rattle.std.proofs.Common.{◌≡◌, ◌||◌, length}
 use Rattle.sf_base.specs.declared.ids.TokenId.{TokenId}
-use Rattle.sf_commit.specs.Asking.{has_token}
+use Rattle.sf_next.specs.Asking.{has_token}
 use Rattle.sf_commit.proofs.next.ask_again.Given as goal
 
 abbrev pub invariant-loop-token : goal.invariant-loop-token

@@ -1,5 +1,5 @@
 ghost use Rattle.std.specs.Prelude.{◌≡◌, [], OnOk};
-ghost use Rattle.sf_commit.specs.Asking.{HasAlso, TakesLowest};
+ghost use Rattle.sf_next.specs.Asking.{HasAlso, TakesLowest};
 
 use sf_base::{NoMemory, TokenId};
 use std::alloc::Global;
@@ -8,7 +8,7 @@ use std::marker::Model;
 
 /// The tokens whose first transactions may commit yet in a vsync, by their numbers.
 #[derive(Drop)]
-pub(crate) struct Asking {
+pub struct Asking {
     tokens: BTreeSet<u32>,
 }
 

@@ -1,5 +1,5 @@
 use Rattle.std.proofs.Common.{◌∙◌, refl, sym}
-use Rattle.sf_commit.proofs.AskingLemmas.{moves, moves_none, shorter}
+use Rattle.sf_next.proofs.AskingLemmas.{moves, moves_none, shorter}
 use Rattle.sf_commit.proofs.next.ask_again.Goals as goal
 
 pub loop-token-init : goal.loop-token-init

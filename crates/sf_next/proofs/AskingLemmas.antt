@@ -20,10 +20,10 @@ use Rattle.sf_ready.specs.declared.hold.Hold.TheVariants as hold
 use Rattle.sf_token.specs.Pending.{Arrival, head_of, is_of}
 use Rattle.sf_txn.specs.Buffers.{Buffer}
 use Rattle.sf_txn.specs.Transactions.{without_first}
-use Rattle.sf_commit.proofs.NextLemmas.{not_found}
-use Rattle.sf_commit.specs.Asking.{AsksEnough, AsksRest, FindsNext, HasAlso, IsAnswer, IsOut, TakesLowest, answer_of, has_token, lasts}
-use Rattle.sf_commit.specs.Rounds.{head_hold, ready_if, ready_of}
-use Rattle.sf_commit.specs.declared.next.Answer.TheVariants as answer
+use Rattle.sf_next.proofs.NextLemmas.{not_found}
+use Rattle.sf_next.specs.Asking.{AsksEnough, AsksRest, FindsNext, HasAlso, IsAnswer, IsOut, TakesLowest, answer_of, has_token, lasts}
+use Rattle.sf_next.specs.Heads.{head_hold, ready_if, ready_of}
+use Rattle.sf_next.specs.declared.next.Answer.TheVariants as answer
 
 both_false : (a b : Bool) → (a || b) ≡ false → (a ≡ false) × (b ≡ false)
 both_false true b e = absurd (true≢false e)

@@ -1,10 +1,10 @@
 use Rattle.std.proofs.Common.{sym, subst}
 use Rattle.std.specs.Option.{IfSome}
 use Rattle.sf_token.specs.Pending.{is_of}
-use Rattle.sf_commit.proofs.AskingLemmas.{answers, out_none}
-use Rattle.sf_commit.proofs.NextLemmas.{found_holds}
-use Rattle.sf_commit.specs.Asking.{IsAnswer}
-use Rattle.sf_commit.specs.Next.{IsLookedAt}
+use Rattle.sf_next.proofs.AskingLemmas.{answers, out_none}
+use Rattle.sf_next.proofs.NextLemmas.{found_holds}
+use Rattle.sf_next.specs.Asking.{IsAnswer}
+use Rattle.sf_next.specs.Next.{IsLookedAt}
 use Rattle.sf_commit.proofs.next.ask.Goals as goal
 
 pub first_hold-requires-clause-looked : goal.first_hold-requires-clause-looked

@@ -7,10 +7,10 @@ use Rattle.sf_ready.specs.Facts.{FactsOf}
 use Rattle.sf_ready.specs.declared.hold.Hold.{Hold}
 use Rattle.sf_ready.specs.declared.hold.Hold.TheVariants as hold
 use Rattle.sf_token.specs.Pending.{Arrival}
-use Rattle.sf_commit.specs.Next.{IsNextToken}
-use Rattle.sf_commit.specs.Rounds.{ready_of}
-use Rattle.sf_commit.specs.declared.next.Answer.{Answer}
-use Rattle.sf_commit.specs.declared.next.Answer.TheVariants as answer
+use Rattle.sf_next.specs.Next.{IsNextToken}
+use Rattle.sf_next.specs.Heads.{ready_of}
+use Rattle.sf_next.specs.declared.next.Answer.{Answer}
+use Rattle.sf_next.specs.declared.next.Answer.TheVariants as answer
 
 -- a token is among those of these numbers
 abbrev pub has_token : List ℕ → TokenId → Bool

@@ -1,5 +1,5 @@
 use Rattle.std.proofs.Common.{◌∙◌, sym}
-use Rattle.sf_commit.proofs.AskingLemmas.{none_below}
+use Rattle.sf_next.proofs.AskingLemmas.{none_below}
 use Rattle.sf_commit.proofs.asking.Asking.take_lowest.Goals as goal
 
 pub returns : goal.returns

@@ -2,9 +2,9 @@ ghost use Rattle.std.specs.List.{All};
 ghost use Rattle.std.specs.Option.{IfSome};
 ghost use Rattle.std.specs.Prelude.{◌≡◌, ◌||◌, IfOk, OnOk, true};
 ghost use Rattle.sf_base.specs.declared.ids.TokenId.{TokenId};
-ghost use Rattle.sf_commit.specs.Asking.{AsksEnough, FindsNext, IsAnswer, answer_of, has_token};
-ghost use Rattle.sf_commit.specs.Next.{AreRising, IsLookedAt, IsNextToken, drawn_for};
-ghost use Rattle.sf_commit.specs.Rounds.{head_hold, ready_of};
+ghost use Rattle.sf_next.specs.Asking.{AsksEnough, FindsNext, IsAnswer, answer_of, has_token};
+ghost use Rattle.sf_next.specs.Next.{AreRising, IsLookedAt, IsNextToken, drawn_for};
+ghost use Rattle.sf_next.specs.Heads.{head_hold, ready_of};
 
 use crate::asking::Asking;
 use sf_base::{NoMemory, Seen, TokenId};
@@ -124,7 +124,7 @@ fn ask_again(asking: &mut Asking, stopped: Asking) -> Result<(), NoMemory>
 
 /// The token of the next transaction to commit: the lowest of those whose first one is not held. Of
 /// the tokens to be asked those go that are out for the rest of the vsync.
-pub(crate) fn next_token<L: Lease + Drop>(
+pub fn next_token<L: Lease + Drop>(
     alloc: Global,
     asking: &mut Asking,
     queues: &TokenQueues<L>,

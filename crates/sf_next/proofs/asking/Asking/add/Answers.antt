@@ -1,4 +1,4 @@
-use Rattle.sf_commit.proofs.AskingLemmas.{also}
+use Rattle.sf_next.proofs.AskingLemmas.{also}
 use Rattle.sf_commit.proofs.asking.Asking.add.Goals as goal
 
 pub returns : goal.returns

@@ -1,5 +1,5 @@
 use Rattle.std.proofs.Common.{length}
-use Rattle.sf_commit.proofs.AskingLemmas.{Asked}
+use Rattle.sf_next.proofs.AskingLemmas.{Asked}
 use Rattle.sf_commit.proofs.next.first_ready.Given as goal
 
 abbrev pub invariant-loop-token : goal.invariant-loop-token

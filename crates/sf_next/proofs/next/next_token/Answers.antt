@@ -1,4 +1,4 @@
-use Rattle.sf_commit.proofs.AskingLemmas.{among_again, enough_again}
+use Rattle.sf_next.proofs.AskingLemmas.{among_again, enough_again}
 use Rattle.sf_commit.proofs.next.next_token.Goals as goal
 
 pub returns-clause-next : goal.returns-clause-next

@@ -1,4 +1,4 @@
-use Rattle.sf_commit.proofs.AskingLemmas.{asked_none, asked_out, asked_stopped, finds, finds_none, shorter}
+use Rattle.sf_next.proofs.AskingLemmas.{asked_none, asked_out, asked_stopped, finds, finds_none, shorter}
 use Rattle.sf_commit.proofs.next.first_ready.Goals as goal
 
 pub loop-token-init : goal.loop-token-init

@@ -1,0 +1,10 @@
+//! Which pending transaction a vsync commits next: the first of the lowest token whose first
+//! transaction nothing holds. Tokens that were held by what a commit can change are asked again after
+//! each commit; the others are out for the rest of the vsync.
+#![tactic(auto)]
+
+mod asking;
+mod next;
+
+pub use asking::Asking;
+pub use next::next_token;
