@@ -114,7 +114,7 @@ fn send_out<
 ) -> Result<(FirstSeats<B>, Vec<Hand<'s, B>>), Stopped>
     requires first { IsFirst B.table locks.now first }
     requires kept { (start : V) × V.keeps start visitor.old locks.now first }
-    requires few { length crews.items ≤ 16 }
+    requires few { length crews.items ≤ 64 }
     requires aboard { AllByRecursion (Aboard B.table locks.now pictures.now) crews.items }
     ensures attended { (start : V) → V.keeps start visitor.old locks.now first
         → IfOk result (λ rest. Attends (V.keeps start) B.table locks.now first rest.0 visitor.new) }
@@ -168,7 +168,7 @@ fn crowd<
 ) -> (V, Result<(FirstSeats<B>, Vec<Crew<B>>), Stopped>)
     requires first { IsFirst B.table locks.now first }
     requires kept { (start : V) × V.keeps start visitor locks.now first }
-    requires few { length crews.items ≤ 16 }
+    requires few { length crews.items ≤ 64 }
     requires aboard { AllByRecursion (Aboard B.table locks.now pictures.now) crews.items }
     ensures attended { (start : V) → V.keeps start visitor locks.now first → IfOk result.1 (λ rest. Attends (V.keeps start) B.table locks.now first rest.0 result.0) }
     ensures left { (start : V) → V.keeps start visitor locks.now first → IfErr result.1 (HasLeft (V.keeps start) (V.ended start) locks.now result.0) }
@@ -180,7 +180,7 @@ fn crowd<
         move |scope| -> (V, Result<(FirstSeats<B>, Vec<Crew<B>>), Stopped>)
             requires first { IsFirst B.table locks.now first }
             requires kept { (start : V) × V.keeps start visitor locks.now first }
-            requires few { length crews.items ≤ 16 }
+            requires few { length crews.items ≤ 64 }
             requires aboard { AllByRecursion (Aboard B.table locks.now pictures.now) crews.items }
             ensures attended { (start : V) → V.keeps start visitor locks.entry.now first
                 → IfOk result.1 (λ rest. Attends (V.keeps start) B.table locks.entry.now first rest.0 result.0) }
@@ -247,7 +247,7 @@ pub fn run_crews<
     requires first { IsFirst B.table locks.now first }
     requires none { gave_of first ≡ [] }
     requires unused { KnowsNothing first.seats }
-    requires few { length actors.items ≤ 16 }
+    requires few { length actors.items ≤ 64 }
     requires rising { IsStrictlyIncreasing (first.seats.by ∷ map number_of actors.items) }
     requires newcomers { AllByRecursion (IsNewcomer B.table locks.now pictures.now first.seats) actors.items }
     requires kept { (boarded : FirstIn B) → IsFirst B.table locks.now boarded → GivesEach first (map number_of actors.items) boarded

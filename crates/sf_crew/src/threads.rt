@@ -29,7 +29,7 @@ pub(crate) fn send<'s, E, R: Wait + Sync, G: Gate + Sync, B: TableName + Send + 
     place: usize,
     crew: Crew<B>,
 ) -> Hand<'s, B>
-    requires place { place < 16 }
+    requires place { place < 64 }
     requires aboard { Aboard B.table locks.now pictures.now crew }
     ensures { IsHand B.table locks.now pictures.now crew result }
 {
@@ -41,7 +41,7 @@ pub(crate) fn send<'s, E, R: Wait + Sync, G: Gate + Sync, B: TableName + Send + 
     let started = scope.spawn_with(
         promise,
         move || -> Back<B>
-            requires place { place < 16 }
+            requires place { place < 64 }
             requires aboard { Aboard B.table locks.now pictures.now crew }
             ensures { IfWhole B.table locks.entry.now pictures.entry.now crew result }
         { work(rt, locks, pictures, watch, gate, place, crew) },
@@ -66,7 +66,7 @@ pub(crate) fn send_all<'s, E, R: Wait + Sync, G: Gate + Sync, B: TableName + Sen
     gate: &'s G,
     crews: Vec<Crew<B>>,
 ) -> Option<Vec<Hand<'s, B>>>
-    requires few { length crews.items ≤ 16 }
+    requires few { length crews.items ≤ 64 }
     requires aboard { AllByRecursion (Aboard B.table locks.now pictures.now) crews.items }
     ensures { IfSome result (λ hands. AreHands B.table locks.now pictures.now crews.items hands.items) }
 {

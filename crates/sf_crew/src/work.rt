@@ -40,7 +40,7 @@ pub(crate) fn work<R: Wait, G: Gate, B: TableName>(
     place: usize,
     crew: Crew<B>,
 ) -> Back<B>
-    requires place { place < 16 }
+    requires place { place < 64 }
     requires aboard { Aboard B.table locks.now pictures.now crew }
     ensures { IfWhole B.table locks.now pictures.now crew result }
 {

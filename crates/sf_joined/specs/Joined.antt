@@ -17,7 +17,7 @@ use Rattle.sf_record.specs.declared.event.Event.{Event}
 use Rattle.sf_record.specs.declared.event.Event.TheVariants as event
 use Rattle.sf_record.specs.declared.event.VsyncReport.{VsyncReport}
 use Rattle.sf_run.specs.Replies.{reply_shown}
-use Rattle.sf_run.specs.Stages.{most_layers}
+use Rattle.sf_scene.specs.Limits.{most_layers}
 use Rattle.sf_shared.specs.declared.locks.Locks.{Locks}
 use Rattle.sf_crew.specs.Walks.{Moment}
 use Rattle.sf_play.specs.Players.{PlayerOf, SoFar, before_round}

@@ -11,7 +11,7 @@ use Rattle.sf_actor.specs.Desks.{KnowsAll, mark_among}
 use Rattle.sf_actor.specs.Plain.{PlainOf, home_of as plain_home, view_of as plain_view}
 use Rattle.sf_steps.specs.declared.actor.Actor.{Actor}
 use Rattle.sf_cast.specs.Casts.{CastOf, IsCast}
-use Rattle.sf_run.specs.Stages.{most_layers}
+use Rattle.sf_scene.specs.Limits.{most_layers}
 use Rattle.sf_shared.specs.declared.locks.Locks.{Locks}
 use Rattle.sf_crew.specs.declared.ashore.Ashore.{Ashore}
 use Rattle.sf_joined.specs.Joined.{IsJoined, cast_joined}

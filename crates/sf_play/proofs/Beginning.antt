@@ -19,7 +19,7 @@ use Rattle.sf_turns.specs.Views.{SeatView}
 use Rattle.sf_txn.specs.Buffers.{Buffer}
 use Rattle.sf_commit.specs.Handlers.{HandlerOf, new_handler}
 use Rattle.sf_commit.specs.OnLayers.{OnLayer}
-use Rattle.sf_scene.specs.Limits.{IsWithinLimits}
+use Rattle.sf_scene.specs.Limits.{IsWithinLimits, most_layers}
 use Rattle.sf_scene.specs.Scene.{SceneValue, has_queue}
 use Rattle.sf_scene.specs.declared.declarations.QueueDecl.{QueueDecl}
 use Rattle.sf_scene.specs.declared.step.ActorScript.{ActorScript}
@@ -44,7 +44,7 @@ use Rattle.sf_run.specs.Histories.{IsReleased, Released, queue_number, released_
 use Rattle.sf_run.specs.Progress.{HasPlayed}
 use Rattle.sf_run.specs.Replies.{replies_in, replies_to, reply_shown}
 use Rattle.sf_run.specs.Runs.{calls_of}
-use Rattle.sf_run.specs.Stages.{most_layers, told_from, told_of}
+use Rattle.sf_run.specs.Stages.{told_from, told_of}
 use Rattle.sf_run.specs.Vsyncs.{WasSignalled, rising_timelines, timeline_of, vsyncs_in}
 use Rattle.sf_play.proofs.Compositing.{keeps_all}
 use Rattle.sf_play.proofs.Seeing.{any_has}

@@ -11,7 +11,7 @@ use Rattle.sf_turns.specs.Counts.{range, stock_at}
 use Rattle.sf_turns.specs.Views.{SeatView}
 use Rattle.sf_ready.specs.declared.hold.Hold.{Hold}
 use Rattle.sf_commit.specs.Handlers.{HandlerOf, new_handler}
-use Rattle.sf_scene.specs.Limits.{IsWithinLimits}
+use Rattle.sf_scene.specs.Limits.{IsWithinLimits, most_layers}
 use Rattle.sf_scene.specs.Scene.{SceneValue, has_queue as has_declared}
 use Rattle.sf_scene.specs.declared.declarations.QueueDecl.{QueueDecl}
 use Rattle.sf_scene.specs.declared.step.ActorScript.{ActorScript}
@@ -32,7 +32,6 @@ use Rattle.sf_run.proofs.Parts.{map_twice}
 use Rattle.sf_run.proofs.Rising.{rising_queues_are}
 use Rattle.sf_run.specs.Actors.{mark_declared}
 use Rattle.sf_run.specs.Histories.{queue_number, rising_queues}
-use Rattle.sf_run.specs.Stages.{most_layers}
 use Rattle.sf_run.specs.Turns.{calls_in}
 use Rattle.sf_rights.proofs.InTurnBeginning.{draws_begin}
 use Rattle.sf_rights.proofs.MakersBeginning.{makers_begin}

@@ -19,7 +19,8 @@ use Rattle.sf_run.specs.Commits.{CommitInOrder, CommitsReady, OvertakesHeld, Say
 use Rattle.sf_run.specs.Framing.{framed_on}
 use Rattle.sf_run.specs.Holds.{uncommitted}
 use Rattle.sf_run.specs.Progress.{AreWrittenToo, HasPlayed, IsOfArrival}
-use Rattle.sf_run.specs.Stages.{CommitAt, VsyncAt, most_layers, round_at_end, told_from, told_of}
+use Rattle.sf_run.specs.Stages.{CommitAt, VsyncAt, round_at_end, told_from, told_of}
+use Rattle.sf_scene.specs.Limits.{most_layers}
 use Rattle.sf_run.specs.Vsyncs.{AllNext, AllNextTo, commits_in}
 
 -- more is written

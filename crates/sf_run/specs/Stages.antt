@@ -1,18 +1,15 @@
 -- How far the commits of a run have come: vsync by vsync and commit by commit, what the decision core makes of them.
-use Rattle.std.specs.Prelude.{ℕ, ◌==◌, if◌then◌else◌, List, [], ◌∷◌, find, map}
+use Rattle.std.specs.Prelude.{ℕ, List, [], ◌∷◌, find, map}
 use Rattle.std.specs.Option.{unwrap_or}
 use Rattle.sf_token.specs.Pending.{Arrival, has_number}
 use Rattle.sf_txn.specs.Transactions.{empty}
 use Rattle.sf_commit.specs.OnLayers.{shown_on}
 use Rattle.sf_commit.specs.Rounds.{Round, committed}
+use Rattle.sf_scene.specs.Limits.{most_layers}
 use Rattle.sf_scene.specs.Scene.{SceneValue}
 use Rattle.sf_actor.specs.Names.{FrameOf}
 use Rattle.sf_record.specs.declared.event.VsyncReport.{VsyncReport}
 use Rattle.sf_record.specs.declared.record.Commit.{Commit}
-
--- how many layers there can be in a tree
-abbrev pub most_layers : ℕ → ℕ
-most_layers version = if version == 2 then 1024 else 256
 
 -- before the first vsync: no layers, and nothing was ever committed. What is pending is not told here.
 abbrev pub bare_round : SceneValue → Round FrameOf

@@ -29,7 +29,8 @@ ghost use Rattle.sf_run.specs.Holds.{AreHeld, uncommitted};
 ghost use Rattle.sf_run.specs.Progress.{AreWrittenToo, GivesBack, GoesOnBy, HasPlayed, SaysVsync, ShowsWhatIsWritten, WroteWhatShows};
 ghost use Rattle.sf_run.specs.Progress.{frame_after, held_shown, is_time, released_by};
 ghost use Rattle.sf_run.specs.Seeing.{HasSeen, TellsTime, value_shown};
-ghost use Rattle.sf_run.specs.Stages.{VsyncAt, bare_round, most_layers, round_at_end, told_of};
+ghost use Rattle.sf_run.specs.Stages.{VsyncAt, bare_round, round_at_end, told_of};
+ghost use Rattle.sf_scene.specs.Limits.{most_layers};
 ghost use Rattle.sf_run.specs.Vsyncs.{commits_in, rising_timelines};
 
 use sf_txn::Lease;

@@ -13,6 +13,10 @@ use Rattle.sf_scene.specs.declared.step.Step.{Step}
 abbrev pub most_actors : ℕ → ℕ
 most_actors version = if version == 2 then 64 else 16
 
+-- how many layers there can be in a tree
+abbrev pub most_layers : ℕ → ℕ
+most_layers version = if version == 2 then 1024 else 256
+
 -- the format's version, the display and the period are in their ranges
 pub record IsHeader (version width height period : ℕ) : Type 0 where
   pub first_version : 1 ≤ version

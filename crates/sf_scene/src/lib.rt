@@ -8,12 +8,14 @@ mod ask;
 mod build;
 mod change;
 mod declarations;
+mod limits;
 mod points;
 mod scene;
 mod step;
 
 pub use change::Change;
 pub use declarations::{CaptureDecl, DisplayDecl, HitDecl, Pick, QueueDecl};
+pub use limits::{most_actors, most_layers};
 pub use points::Points;
 pub use scene::Scene;
 pub use step::{ActorScript, Step};

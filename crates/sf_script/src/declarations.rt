@@ -2,7 +2,7 @@ ghost use Rattle.std.specs.Prelude.{◌≡◌, ◌==◌, ◌≤◌, false, IfOk}
 ghost use Rattle.sf_base.specs.declared.format.Format.TheVariants.{Rgba};
 ghost use Rattle.sf_words.specs.Text.{words_of};
 ghost use Rattle.sf_words.specs.Reading.{Gives, number_at};
-ghost use Rattle.sf_scene.specs.Limits.{IsHeader, most_actors};
+ghost use Rattle.sf_scene.specs.Limits.{IsHeader};
 ghost use Rattle.sf_scene.specs.Ranges.{IsFill, IsQueue, IsTimeline};
 ghost use Rattle.sf_scene.specs.Scene.{has_actor, has_queue, has_timeline};
 ghost use Rattle.sf_script.specs.Declarations.{fill_at, format_at, format_of, header_at, new_actor_at, new_number_at};
@@ -12,7 +12,7 @@ ghost use Rattle.sf_script.specs.Fits.{ActorFits, IsNew, PictureFits};
 use crate::line::Header;
 use sf_base::{Format, Items, Rect};
 use sf_picture::{Fill, Picture};
-use sf_scene::{QueueDecl, Scene};
+use sf_scene::{QueueDecl, Scene, most_actors};
 use sf_words::{
     Cause, WordFault, colour, demand, end, fixed, is, next_word, number32, number64, word, wrong,
 };
@@ -171,20 +171,13 @@ pub fn fill_line(line: &[u8]) -> Result<Fill, WordFault>
     Ok(Fill { rect, colour })
 }
 
-/// The greatest number of an actor in this version.
-pub fn greatest_actor(version: u32) -> u32
-    ensures { result ≡ most_actors version }
-{
-    if version == 2 { 64 } else { 16 }
-}
-
 /// `actor A`
 #[tactic(auto, unfolding(crate::specs::Declarations::new_actor_at))]
 pub fn actor_line(scene: &Scene, line: &[u8]) -> Result<u32, WordFault>
     ensures given { Gives (λ x. x) result (new_actor_at scene.now (words_of line.now)) }
     ensures fits { IfOk result (ActorFits scene.now) }
 {
-    let (number, rest) = number32(line, 1, greatest_actor(scene.version))?;
+    let (number, rest) = number32(line, 1, most_actors(scene.version))?;
     demand(!scene.has_actor(number), line, Cause::Twice)?;
     end(rest)?;
     Ok(number)

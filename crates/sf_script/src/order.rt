@@ -6,9 +6,8 @@ ghost use Rattle.sf_scene.specs.Limits.{IsPick};
 ghost use Rattle.sf_script.specs.Memory.{GivesUnless};
 ghost use Rattle.sf_script.specs.Order.{order_at, pick_at, pick_of, picked_of, picks_at, times_of};
 
-use crate::declarations::greatest_actor;
 use crate::fault::LineFault;
-use sf_scene::{Pick, Scene};
+use sf_scene::{Pick, Scene, most_actors};
 use sf_words::{Cause, WordFault, is, next_word, number_within, word, wrong};
 use std::alloc::Global;
 
@@ -65,7 +64,7 @@ fn declared_pick(scene: &Scene, line: &[u8], word: &[u8]) -> Result<Pick, WordFa
     ensures given { Gives (λ x. x) result (pick_at scene.now (length (words_of line.now)) word.now) }
     ensures fits { IfOk result (IsPick scene.now.actors) }
 {
-    let Some(pick) = pick(greatest_actor(scene.version), word) else {
+    let Some(pick) = pick(most_actors(scene.version), word) else {
         return Err(wrong(line, Cause::BadWord));
     };
     if pick.actor == 0 || scene.has_actor(pick.actor) {

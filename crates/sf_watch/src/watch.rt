@@ -3,7 +3,7 @@ ghost use Rattle.std.specs.Prelude.{◌<◌};
 use std::sync::{Condvar, Mutex, Wait};
 
 /// How many threads are watched at most.
-pub const MOST_WATCHED: usize = 16;
+pub const MOST_WATCHED: usize = 64;
 
 /// News that wrap by as much as this are older ones.
 const LEAST_BEHIND: u64 = 1 << 63;
@@ -128,7 +128,7 @@ impl Watch {
 
     /// No thread could be started for this place. Nobody waits for it.
     pub fn turn_away<R: Wait>(&self, rt: &R, place: usize)
-        requires { place < 16 }
+        requires { place < 64 }
     {
         let mut board = self.board.lock(rt);
         board.turned_away[place] = true;
@@ -137,7 +137,7 @@ impl Watch {
 
     /// Whether none could be.
     pub fn is_turned_away<R: Wait>(&self, rt: &R, place: usize) -> bool
-        requires { place < 16 }
+        requires { place < 64 }
     {
         self.board.lock(rt).turned_away[place]
     }

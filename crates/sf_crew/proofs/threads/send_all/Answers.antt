@@ -13,7 +13,7 @@ pub send-hand-requires-clause-place : goal.send-hand-requires-clause-place
 send-hand-requires-clause-place g c =
     let t = YieldsList-turn (YieldsList-from_vec c.args.crews.items (search rules) (search rules)) c.loop-crew.yielded _ c.loop-crew.yielded_by c.next.result c.next.new.self c.in-Some.crew c.in-Some.is c.next.ensures.steps in
     let long = zip_long (IsHand {B = g.row.B.Denot} g.B.TableName.table c.args.locks.now c.args.pictures.now) c.loop-crew.yielded c.loop-crew.hands.items c.loop-crew.invariant.hands in
-    let low : c.len-place.result < 16 = omega (arith, t.0, long, c.requires.few, c.len-place.ensures) in search rules
+    let low : c.len-place.result < 64 = omega (arith, t.0, long, c.requires.few, c.len-place.ensures) in search rules
 
 pub send-hand-requires-clause-aboard : goal.send-hand-requires-clause-aboard
 send-hand-requires-clause-aboard g c =
