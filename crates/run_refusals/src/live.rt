@@ -1,0 +1,39 @@
+ghost use Rattle.std.specs.Prelude.{◌≡◌, ◌≤◌, [], true, OnOk};
+ghost use Rattle.sf_cast.specs.Scripts.{are_playable, permits_of};
+ghost use Rattle.sf_live.specs.Runs.{WroteLive};
+ghost use Rattle.sf_turns.specs.Counts.{range};
+
+use sf_io::{Gate, Sink};
+use sf_live::live;
+use sf_picture::Painted;
+use sf_record::RunFault;
+use sf_scene::Scene;
+use sf_turns::{Stock, TableName, TurnSeat};
+use std::alloc::Global;
+use std::sync::Wait;
+use std::thread::Threads;
+
+/// A live run that is whole has written records that mean what such a run of its scene means.
+pub fn live_means<R: Threads + Wait + Sync, K: Sink, G: Gate + Sync, B: TableName + Send + Sync>(
+    rt: &R,
+    alloc: Global,
+    workers: u32,
+    sink: &mut K,
+    gate: &G,
+    scene: Scene,
+    seat: TurnSeat<Painted>,
+    stock: Stock<Painted>,
+) -> Result<(), RunFault>
+    requires some { 1 ≤ workers }
+    requires few { workers ≤ 16 }
+    requires version { scene.version ≡ 1 }
+    requires playable { are_playable scene.actors ≡ true }
+    requires own { (seat.table ≡ B.table) × (stock.table ≡ B.table) }
+    requires first { (seat.is_first ≡ true) × (seat.out ≡ 0) }
+    requires fresh { seat.leaves ≡ [] }
+    requires whole { stock.buffers ≡ range 0 (permits_of scene.actors) }
+    requires sized { permits_of scene.actors ≤ B.table.slots }
+    ensures ok { OnOk result (WroteLive scene (K.taken sink.old) (K.taken sink.new)) }
+{
+    live::<R, K, G, B>(rt, alloc, workers, sink, gate, scene, seat, stock)
+}
