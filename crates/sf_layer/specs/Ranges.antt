@@ -3,7 +3,6 @@ use Rattle.std.specs.Prelude.{◌<◌, ◌≤◌, ℤ, pos, negsuc, ◌≤ℤ◌
 use Rattle.sf_base.specs.Geometry.{LiesWithin}
 use Rattle.sf_base.specs.declared.geometry.Rect.{Rect}
 use Rattle.sf_base.specs.declared.ids.LayerId.{LayerId}
-use Rattle.sf_layer.specs.declared.orient.TheConstants.{GREATEST_ORIENTATION}
 use Rattle.sf_layer.specs.declared.op.Op.{Op}
 use Rattle.sf_layer.specs.declared.op.Op.TheVariants as op
 
@@ -24,7 +23,7 @@ abbrev pub IsInRange : Op → Type 0
 IsInRange (op.Position x y) = IsCoordinate x × IsCoordinate y
 IsInRange (op.Crop (Some crop)) = IsCrop crop
 IsInRange (op.Show shown) = LiesWithin shown.crop 512 512
-IsInRange (op.Orient orient) = orient ≤ GREATEST_ORIENTATION
+IsInRange (op.Orient orient) = orient ≤ 7
 IsInRange _ = Unit {0}
 
 -- an operation on a layer of a number, which is 1 or more

@@ -30,7 +30,7 @@ pub struct Layer {
     pub colour: Rgba,
     /// What a buffer layer shows.
     pub shown: Option<Shown>,
-    /// How its buffer's crop is turned, 0 to `GREATEST_ORIENTATION`: so many quarter turns clockwise,
-    /// counted modulo 4, after a mirroring from left to right where it is 4 or more.
+    /// How its buffer's crop is turned, 0 to 7: so many quarter turns clockwise, counted modulo 4,
+    /// after a mirroring from left to right where it is 4 or more.
     pub orient: u8,
 }

@@ -6,13 +6,11 @@
 mod kind;
 mod layer;
 mod op;
-mod orient;
 mod parent;
 mod shown;
 
 pub use kind::Kind;
 pub use layer::Layer;
 pub use op::Op;
-pub use orient::GREATEST_ORIENTATION;
 pub use parent::Parent;
 pub use shown::Shown;

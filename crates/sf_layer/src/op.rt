@@ -3,7 +3,6 @@ ghost use Rattle.sf_layer.specs.Kinds.{kind_of};
 ghost use Rattle.sf_layer.specs.Ranges.{IsCoordinate, IsCrop, IsInRange};
 
 use crate::kind::Kind;
-use crate::orient::GREATEST_ORIENTATION;
 use crate::parent::Parent;
 use crate::shown::Shown;
 use sf_base::{LayerId, Rect, Rgba};
@@ -40,8 +39,8 @@ pub enum Op {
     Backpressure(bool),
     /// Sets what a buffer layer shows. The crop lies within 512 x 512.
     Show(Shown),
-    /// Sets how the layer's buffer is turned, 0 to `GREATEST_ORIENTATION`. It may be set on any
-    /// layer, and changes nothing on one that shows no buffer.
+    /// Sets how the layer's buffer is turned, 0 to 7. It may be set on any layer, and changes
+    /// nothing on one that shows no buffer.
     Orient(u8),
 }
 
@@ -86,6 +85,8 @@ impl Op {
 const FARTHEST: i32 = 16_384;
 // How wide and high a layer's crop is at most, in pixels.
 const GREATEST_CROP: u32 = 16_384;
+// The greatest orientation of a buffer: there are eight, from 0 on.
+const GREATEST_ORIENTATION: u8 = 7;
 
 // Whether it is a position or a crop's corner.
 fn is_coordinate(at: i32) -> bool
