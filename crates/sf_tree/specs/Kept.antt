@@ -5,7 +5,6 @@ use Rattle.sf_base.specs.declared.ids.LayerId.{LayerId}
 use Rattle.sf_base.specs.Geometry.{LiesWithin}
 use Rattle.sf_layer.specs.Ranges.{IsCoordinate, IsCrop}
 use Rattle.sf_layer.specs.declared.kind.Kind.TheVariants as kind
-use Rattle.sf_layer.specs.declared.orient.TheConstants.{GREATEST_ORIENTATION}
 use Rattle.sf_layer.specs.declared.layer.Layer.{Layer}
 use Rattle.sf_layer.specs.declared.parent.Parent.TheVariants as parent
 use Rattle.sf_tree.specs.Layers.{index_of, has_layer, has_parent}
@@ -35,7 +34,7 @@ pub record IsLayerInRange (layer : Layer) : Type 0 where
   pub y : IsCoordinate layer.position.1
   pub crop : IfSome layer.crop IsCrop
   pub shown : IfSome layer.shown (λ shown. LiesWithin shown.crop 512 512)
-  pub orient : layer.orient ≤ GREATEST_ORIENTATION
+  pub orient : layer.orient ≤ 7
 
 -- what is no colour layer has the colour that it began with, and what is no buffer layer shows nothing
 pub record IsOfKind (layer : Layer) : Type 0 where

@@ -2,7 +2,6 @@
 use Rattle.std.specs.Prelude.{◌≡◌, ℕ, ◌<◌, ◌≤◌, Bool, true, List, Some, ℤ, pos, ◌≤ℤ◌, ◌+ℤ◌}
 use Rattle.std.specs.List.{All, AllZip}
 use Rattle.sf_base.specs.declared.ids.LayerId.{LayerId}
-use Rattle.sf_layer.specs.declared.orient.TheConstants.{GREATEST_ORIENTATION}
 use Rattle.sf_tree.specs.DrawOrder.{draw_order}
 use Rattle.sf_layer.specs.declared.layer.Layer.{Layer}
 use Rattle.sf_view.specs.declared.drawn.Drawn.{Drawn}
@@ -39,7 +38,7 @@ pub record IsDisplay (width height : ℕ) : Type 0 where
 pub record IsView (view : ViewOf) : Type 0 where
   pub display : IsDisplay view.width view.height
   pub clips : All (IsClip view.width view.height) view.drawn
-  pub orients : All (λ drawn. drawn.orient ≤ GREATEST_ORIENTATION) view.drawn
+  pub orients : All (λ drawn. drawn.orient ≤ 7) view.drawn
 
 -- a layer of a tree as the view draws it; its clip has the points of the display that are in the layer
 pub record Draws (tree : List Layer) (width height : ℕ) (layer : Layer) (drawn : Drawn) : Type 0 where

@@ -13,14 +13,13 @@ use crate::interval::Interval;
 use crate::placement::{Placement, cut_to_content};
 use crate::placing::{layer_at, place};
 use sf_base::{Items, LayerId, NoMemory, Rect};
-use sf_layer::{GREATEST_ORIENTATION, Layer};
+use sf_layer::Layer;
 use sf_tree::Tree;
 use std::alloc::Global;
 use std::marker::Model;
 
 /// What a display shows of a layer tree. Its width and height are 1 to 1,024 pixels, and each clip
-/// lies in the display and in what its layer shows; every orientation is at most
-/// `GREATEST_ORIENTATION`.
+/// lies in the display and in what its layer shows; every orientation is at most 7.
 pub struct View {
     pub width: u32,
     pub height: u32,
@@ -70,7 +69,7 @@ fn draw_layer(layer: &Layer, content: Content, at: Placement, width: u32, height
     requires placed { IsPlacement width height at }
     ensures draws { (tree : List LayerValue) → IsPlaced width height (ancestry tree layer.now) at → Draws tree width height layer.now result }
     ensures clip { IsClip width height result }
-    ensures orient { result.orient ≤ GREATEST_ORIENTATION }
+    ensures orient { result.orient ≤ 7 }
 {
     let shown = cut_to_content(at, &content, layer.orient);
     Drawn {

@@ -4,7 +4,6 @@ use Rattle.std.proofs.lemmas.List.{take_all}
 use Rattle.std.proofs.lemmas.List.Elements.{All-push}
 use Rattle.std.proofs.lemmas.Slice.Zip.{all_zipped_more}
 use Rattle.sf_layer.specs.declared.layer.Layer.{Layer}
-use Rattle.sf_layer.specs.declared.orient.TheConstants.{GREATEST_ORIENTATION}
 use Rattle.sf_tree.specs.Kept.{IsLayerInRange}
 use Rattle.sf_tree.proofs.Lookups.{layer_of-none, layer_of-place}
 use Rattle.sf_tree.proofs.Ranks.{All-layer_of}
@@ -60,7 +59,7 @@ loop-id-preserved c =
       found = rw (written_back c.place-at.new.found c.loop-id.found.items c.loop-id.found.len (c.place-at.ensures.found.size ∙ sym c.loop-id.invariant.found.size) c.loop-id.found.ok.0) c.place-at.ensures.found;
       draws = rw (c.in_ok-push.ensures.items, more) (all_zipped_more (Draws c.args.tree.now.layers c.args.width c.args.height) _ _ _ _ c.loop-id.invariant.draws (c.draw_layer.ensures.draws c.args.tree.now.layers (c.place-at.ensures.placed c.layer_at-layer.result c.layer_at-layer.ensures.layer)));
       clips = subst (λ (drawn : List Drawn). All (IsClip c.args.width c.args.height) drawn) (sym c.in_ok-push.ensures.items) (All-push (IsClip c.args.width c.args.height) _ _ c.loop-id.invariant.clips c.draw_layer.ensures.clip);
-      orients = subst (λ (drawn : List Drawn). All (λ d. d.orient ≤ GREATEST_ORIENTATION) drawn) (sym c.in_ok-push.ensures.items) (All-push (λ (d : Drawn). d.orient ≤ GREATEST_ORIENTATION) _ _ c.loop-id.invariant.orients c.draw_layer.ensures.orient);
+      orients = subst (λ (drawn : List Drawn). All (λ d. d.orient ≤ 7) drawn) (sym c.in_ok-push.ensures.items) (All-push (λ (d : Drawn). d.orient ≤ 7) _ _ c.loop-id.invariant.orients c.draw_layer.ensures.orient);
     }
 
 pub returns : goal.returns

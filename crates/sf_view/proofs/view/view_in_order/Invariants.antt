@@ -1,6 +1,5 @@
 use Rattle.std.proofs.Common.{◌≤◌, take}
 use Rattle.std.specs.List.{All, AllZip}
-use Rattle.sf_layer.specs.declared.orient.TheConstants.{GREATEST_ORIENTATION}
 use Rattle.sf_view.specs.Placements.{AreFound}
 use Rattle.sf_view.specs.Views.{Draws, IsClip}
 use Rattle.sf_view.proofs.ViewLemmas.{with_content}
@@ -11,5 +10,5 @@ invariant-loop-id l = record {
   found : AreFound l.tree.layers l.width l.height l.found.items;
   draws : AllZip (Draws l.tree.layers l.width l.height) (with_content l.tree.layers (take l.id-index l.order)) l.drawn.items;
   clips : All (IsClip l.width l.height) l.drawn.items;
-  orients : All (λ drawn. drawn.orient ≤ GREATEST_ORIENTATION) l.drawn.items;
+  orients : All (λ drawn. drawn.orient ≤ 7) l.drawn.items;
 }
