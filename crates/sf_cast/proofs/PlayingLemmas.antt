@@ -1,6 +1,6 @@
 -- The actors of a scene may play.
 use Rattle.std.proofs.Common.{◌≡◌, ℕ, ◌≤◌, Bool, true, false, ◌||◌, List, [], ◌∷◌, get_or, map, Option, Some, None, refl, ap, ◌∙◌, sym, subst, arith}
-use Rattle.std.specs.Prelude.{◌==◌, IfSome, nat_le}
+use Rattle.std.specs.Prelude.{◌==◌, IfSome}
 use Rattle.std.specs.List.{All, list_any}
 use Rattle.std.specs.List.Sorted.{IsPermutation}
 use Rattle.std.proofs.lemmas.Bool.{eqb-true, false≢true}
@@ -26,10 +26,7 @@ use Rattle.sf_steps.specs.Playable.{IsTaken, MayPlay}
 use Rattle.sf_cast.specs.Opening.{new_queue}
 use Rattle.sf_cast.specs.Scripts.{are_playable, are_taken, is_taken}
 
-le_from : (m n : ℕ) → nat_le m n ≡ true → m ≤ n
-le_from m n e = grind arith
-
--- a change that a scene allows is one that layers take, but for orientations
+-- a change that a scene allows is one that layers take
 taken_change : (number layer : ℕ) (c : Change) → IsChange c → is_taken (step.Set number layer c) ≡ true → IsInRange (op_of c)
 taken_change number layer (change.CreateContainer above) is taken = tt
 taken_change number layer (change.CreateColour above) is taken = tt
@@ -51,7 +48,7 @@ taken_change number layer (change.Hidden on) is taken = tt
 taken_change number layer (change.Opaque on) is taken = tt
 taken_change number layer (change.Colour colour) is taken = tt
 taken_change number layer (change.Backpressure on) is taken = tt
-taken_change number layer (change.Orient orientation) is taken = le_from _ _ taken
+taken_change number layer (change.Orient orientation) is taken = is
 
 taken_step : (s : Step) → IsStep s → is_taken s ≡ true → IsTaken s
 taken_step (step.Connect queue) is taken = tt

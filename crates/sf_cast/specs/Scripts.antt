@@ -1,7 +1,6 @@
 -- What a cast needs of the scripts that it plays.
-use Rattle.std.specs.Prelude.{◌≡◌, ℕ, Bool, true, List, nat_le}
+use Rattle.std.specs.Prelude.{◌≡◌, ◌==◌, ℕ, Bool, true, List}
 use Rattle.std.specs.List.{list_all, sum_by}
-use Rattle.sf_layer.specs.declared.orient.TheConstants.{GREATEST_ORIENTATION}
 use Rattle.sf_picture.specs.declared.picture.Picture.{Picture}
 use Rattle.sf_scene.specs.Limits.{IsWithinLimits}
 use Rattle.sf_scene.specs.Scene.{SceneValue}
@@ -12,15 +11,15 @@ use Rattle.sf_scene.specs.declared.step.Step.{Step}
 use Rattle.sf_scene.specs.declared.step.Step.TheVariants as step
 use Rattle.sf_actor.specs.Tries.{dequeues_in}
 
--- a step sets no orientation that layers don't take
+-- a step sets no orientation but 0
 abbrev pub is_taken : Step → Bool
-is_taken (step.Set number layer (change.Orient orientation)) = nat_le orientation GREATEST_ORIENTATION
+is_taken (step.Set number layer (change.Orient orientation)) = orientation == 0
 is_taken other = true
 
 abbrev pub are_taken : ActorScript → Bool
 are_taken script = list_all is_taken script.steps
 
--- no step of these scripts does
+-- no step of these scripts sets another
 abbrev pub are_playable : List ActorScript → Bool
 are_playable scripts = list_all are_taken scripts
 
