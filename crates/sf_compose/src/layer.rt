@@ -9,7 +9,9 @@ ghost use Rattle.sf_compose.specs.Painting.{is_in_area, Paints, PaintsSpan};
 ghost use Rattle.sf_compose.specs.Readings.{AreReadable, IsReadable, under_drawn, under_one};
 ghost use Rattle.sf_compose.specs.Seen.{ArePaintable, IsPaintable};
 ghost use Rattle.sf_picture.specs.Pixels.{pixel_at};
-ghost use Rattle.sf_base.specs.Geometry.{is_within, LiesWithin};
+ghost use Rattle.sf_base.specs.Geometry.{covers, is_within, LiesWithin};
+ghost use Rattle.sf_compose.specs.Turns.{pixel_shown};
+ghost use Rattle.sf_view.specs.Boxes.{box_of};
 ghost use Rattle.sf_view.specs.Contents.{source_of, unsigned};
 
 use crate::area::{Area, cut};
@@ -18,7 +20,9 @@ use crate::contents::read;
 use crate::ground::may_hide;
 use crate::pixels::Pixels;
 use crate::spans::{copy_pixels, paint_colour, paint_pixels};
+use crate::turned::{Turned, copy_turned, paint_turned};
 use sf_base::{Rect, Rgba};
+use sf_layer::Shown;
 use sf_picture::Painted;
 use sf_view::{Content, Drawn};
 
@@ -219,6 +223,43 @@ fn seen_colour(colour: Rgba, opaque: bool) -> Rgba
     }
 }
 
+// Paints what a drawn layer shows of a buffer over an area that its box has.
+fn paint_buffer(
+    picture: &Painted,
+    shown: Shown,
+    drawn: &Drawn,
+    frame: &mut [u8],
+    band: Band,
+    area: Area,
+)
+    requires crop { LiesWithin shown.crop picture.now.width picture.now.height }
+    requires orient { drawn.now.orient ≤ 7 }
+    requires inside { (x y : ℕ) → is_in_area area x y ≡ true → covers (box_of shown.crop drawn.now.orient drawn.now.place) (pos x) (pos y) ≡ true }
+    requires within { IsInBand band area }
+    requires room { HasRows band frame.old }
+    ensures { Paints band.width band.top (is_in_area area) (λ x y under.
+        painted under (source_of drawn.now.opaque (pixel_shown picture.now shown.crop drawn.now.orient drawn.now.place (pos x) (pos y))) drawn.now.alpha) frame.old frame.new }
+{
+    if drawn.orient == 0 {
+        let crop = Crop {
+            rect: shown.crop,
+            place: drawn.place,
+            opaque: drawn.opaque,
+            alpha: drawn.alpha,
+        };
+        paint_crop(picture, crop, frame, band, area);
+    } else {
+        let turned = Turned {
+            crop: shown.crop,
+            orient: drawn.orient,
+            place: drawn.place,
+            opaque: drawn.opaque,
+            alpha: drawn.alpha,
+        };
+        paint_turned(picture, turned, frame, band, area);
+    }
+}
+
 // Paints a drawn layer over the points of an area that are in its clip.
 pub fn paint_layer<C: Pixels>(
     drawn: &Drawn,
@@ -242,14 +283,47 @@ pub fn paint_layer<C: Pixels>(
             paint_area(frame, band, area, colour, drawn.alpha);
         }
         Content::Buffer(shown) => {
-            let crop = Crop {
-                rect: shown.crop,
-                place: drawn.place,
-                opaque: drawn.opaque,
-                alpha: drawn.alpha,
-            };
-            paint_crop(read(contents, source), crop, frame, band, area);
+            paint_buffer(read(contents, source), shown, drawn, frame, band, area);
         }
+    }
+}
+
+// Copies what a drawn layer shows of a buffer over an area that its box has, and tells whether each
+// of its pixels hides what was there. If not, some of them may be copied.
+fn copy_buffer(
+    picture: &Painted,
+    shown: Shown,
+    drawn: &Drawn,
+    frame: &mut [u8],
+    band: Band,
+    area: Area,
+) -> bool
+    requires crop { LiesWithin shown.crop picture.now.width picture.now.height }
+    requires orient { drawn.now.orient ≤ 7 }
+    requires inside { (x y : ℕ) → is_in_area area x y ≡ true → covers (box_of shown.crop drawn.now.orient drawn.now.place) (pos x) (pos y) ≡ true }
+    requires within { IsInBand band area }
+    requires room { HasRows band frame.old }
+    ensures spared { Spares band.width band.top (is_in_area area) frame.old frame.new }
+    ensures copied { IsTrue result → (below : ℕ → ℕ → RgbaValue) → Paints band.width band.top (is_in_area area) (λ x y under.
+        painted (below x y) (pixel_shown picture.now shown.crop drawn.now.orient drawn.now.place (pos x) (pos y)) 255) frame.old frame.new }
+{
+    if drawn.orient == 0 {
+        let crop = Crop {
+            rect: shown.crop,
+            place: drawn.place,
+            opaque: false,
+            alpha: 255,
+        };
+        copy_crop(picture, crop, frame, band, area)
+    } else {
+        let turned = Turned {
+            crop: shown.crop,
+            orient: drawn.orient,
+            place: drawn.place,
+            opaque: false,
+            alpha: 255,
+        };
+        copy_turned(picture, turned, frame, band, area)
     }
 }
 
@@ -277,13 +351,7 @@ pub fn copy_layer<C: Pixels>(
     match drawn.content {
         Content::Colour(_) => false,
         Content::Buffer(shown) => {
-            let crop = Crop {
-                rect: shown.crop,
-                place: drawn.place,
-                opaque: false,
-                alpha: 255,
-            };
-            copy_crop(read(contents, source), crop, frame, band, area)
+            copy_buffer(read(contents, source), shown, drawn, frame, band, area)
         }
     }
 }

@@ -3,6 +3,7 @@
 //! only in the part that is asked for. It is composed in slices of rows, all layers one after another
 //! in each. Each layer goes row by row, one call of a row kernel for each, and a slice begins with the
 //! topmost layer that hides all of it.
+//! Of a buffer that is turned or mirrored, each row is first picked into a row of its own.
 #![tactic(auto)]
 
 mod area;
@@ -21,6 +22,7 @@ mod share;
 mod slices;
 mod solid;
 mod spans;
+mod turned;
 mod whole;
 
 pub use crew::{compose, compose_seen_by};

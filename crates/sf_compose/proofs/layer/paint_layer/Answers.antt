@@ -5,13 +5,13 @@ use Rattle.sf_base.specs.declared.pixel.Rgba.{Rgba}
 use Rattle.sf_compose.specs.Painting.{is_in_area}
 use Rattle.sf_view.specs.Views.{is_in_clip}
 use Rattle.sf_compose.proofs.CropLemmas.{both_right}
-use Rattle.sf_compose.proofs.LayerLemmas.{colour_pixel, in_upright_box, Paints-one, upright_pixel}
+use Rattle.sf_compose.proofs.LayerLemmas.{colour_pixel, in_shown_box, Paints-one, shown_pixel}
 use Rattle.sf_compose.proofs.layer.paint_layer.Goals as goal
 
-pub paint_crop-requires-clause-inside : goal.paint_crop-requires-clause-inside
+pub paint_buffer-requires-clause-inside : goal.paint_buffer-requires-clause-inside
 unfolding covers
-paint_crop-requires-clause-inside g c = λ x y t.
-    in_upright_box c.args.drawn.now c.in-Buffer.shown (pos x) (pos y) c.in-Buffer.is c.requires.paintable.upright
+paint_buffer-requires-clause-inside g c = λ x y t.
+    in_shown_box c.args.drawn.now c.in-Buffer.shown (pos x) (pos y) c.in-Buffer.is
     (c.requires.paintable.inside x y (both_right (is_in_area c.args.area x y) (is_in_clip c.args.drawn.now (pos x) (pos y)) (sym (c.cut-area.ensures.points x y) ∙ t)))
 
 pub returns-in-Colour : goal.returns-in-Colour
@@ -23,5 +23,5 @@ returns-in-Colour g c =
 pub returns-in-Buffer : goal.returns-in-Buffer
 unfolding covers
 returns-in-Buffer g c =
-    Paints-one c.args.band.width c.args.band.top c.cut-area.result c.args.area (map g.C.Pixels.picture c.args.contents.now) c.args.drawn.now c.args.source _ _ _ c.paint_crop.ensures c.cut-area.ensures.points
-    (λ x y under t. ap (λ (pixel : Rgba). painted under pixel c.args.drawn.now.alpha) (upright_pixel (map g.C.Pixels.picture c.args.contents.now) c.args.drawn.now c.in-Buffer.shown c.args.source c.read.result.now (pos x) (pos y) c.in-Buffer.is c.requires.paintable.upright c.read.ensures))
+    Paints-one c.args.band.width c.args.band.top c.cut-area.result c.args.area (map g.C.Pixels.picture c.args.contents.now) c.args.drawn.now c.args.source _ _ _ c.paint_buffer.ensures c.cut-area.ensures.points
+    (λ x y under t. ap (λ (pixel : Rgba). painted under pixel c.args.drawn.now.alpha) (shown_pixel (map g.C.Pixels.picture c.args.contents.now) c.args.drawn.now c.in-Buffer.shown c.args.source c.read.result.now (pos x) (pos y) c.in-Buffer.is c.read.ensures))

@@ -1,0 +1,37 @@
+use Rattle.std.proofs.Common.{◌≡◌, ◌∙◌, ◌+◌, ◌*◌, ap, arith, rules, pos, to_z, of_z, w32, ℕ}
+use Rattle.sf_picture.specs.declared.picture.Picture.{Picture}
+use Rattle.sf_view.specs.Contents.{unsigned}
+use Rattle.sf_compose.specs.Turns.{point_shown, step_of}
+use Rattle.sf_compose.proofs.TurnLemmas.{turned_has, turned_pixel}
+use Rattle.sf_compose.proofs.turned.pick_turned.Goals as goal
+
+pub pick_row-requires-clause-inside : goal.pick_row-requires-clause-inside
+pick_row-requires-clause-inside c = λ k low.
+    let fits : to_z w32 (of_z w32 c.step_of-step.result) ≡ c.step_of-step.result = search rules in
+    let width : c.picture.result.now.width ≡ c.args.picture.now.width = ap (λ (p : Picture). p.width) c.picture.ensures.same in
+    let width_2 : c.picture-2.result.now.width ≡ c.args.picture.now.width = ap (λ (p : Picture). p.width) c.picture-2.ensures.same in
+    let first : c.shown_number-first.result ≡ unsigned (point_shown c.args.turned.crop c.args.turned.orient c.args.turned.place (pos c.args.left) (pos c.args.y)).1 * c.args.picture.now.width + unsigned (point_shown c.args.turned.crop c.args.turned.orient c.args.turned.place (pos c.args.left) (pos c.args.y)).0 =
+    c.shown_number-first.ensures ∙ ap (λ (n : ℕ). unsigned (point_shown c.args.turned.crop c.args.turned.orient c.args.turned.place (pos c.args.left) (pos c.args.y)).1 * n + unsigned (point_shown c.args.turned.crop c.args.turned.orient c.args.turned.place (pos c.args.left) (pos c.args.y)).0) width in
+    let step : to_z w32 (of_z w32 c.step_of-step.result) ≡ step_of c.args.turned.orient c.args.picture.now.width = fits ∙ (c.step_of-step.ensures ∙ ap (step_of c.args.turned.orient) width_2) in
+    let size = c.requires.size in
+    let ordered = c.requires.ordered in
+    turned_has c.args.turned.crop c.args.turned.orient c.args.turned.place c.args.left k c.args.y c.args.picture.now.width c.args.picture.now.height c.shown_number-first.result _ c.bytes.result.now c.requires.orient c.requires.crop
+    (c.requires.inside c.args.left (omega arith) (omega (arith, ordered)))
+    (c.requires.inside (c.args.left + k) (omega arith) (omega (arith, size, low, ordered)))
+    c.bytes.ensures.size first step
+
+pub returns-clause-pixels : goal.returns-clause-pixels
+returns-clause-pixels c = λ k low.
+    let fits : to_z w32 (of_z w32 c.step_of-step.result) ≡ c.step_of-step.result = search rules in
+    let width : c.picture.result.now.width ≡ c.args.picture.now.width = ap (λ (p : Picture). p.width) c.picture.ensures.same in
+    let width_2 : c.picture-2.result.now.width ≡ c.args.picture.now.width = ap (λ (p : Picture). p.width) c.picture-2.ensures.same in
+    let first : c.shown_number-first.result ≡ unsigned (point_shown c.args.turned.crop c.args.turned.orient c.args.turned.place (pos c.args.left) (pos c.args.y)).1 * c.args.picture.now.width + unsigned (point_shown c.args.turned.crop c.args.turned.orient c.args.turned.place (pos c.args.left) (pos c.args.y)).0 =
+    c.shown_number-first.ensures ∙ ap (λ (n : ℕ). unsigned (point_shown c.args.turned.crop c.args.turned.orient c.args.turned.place (pos c.args.left) (pos c.args.y)).1 * n + unsigned (point_shown c.args.turned.crop c.args.turned.orient c.args.turned.place (pos c.args.left) (pos c.args.y)).0) width in
+    let step : to_z w32 (of_z w32 c.step_of-step.result) ≡ step_of c.args.turned.orient c.args.picture.now.width = fits ∙ (c.step_of-step.ensures ∙ ap (step_of c.args.turned.orient) width_2) in
+    let size = c.requires.size in
+    let ordered = c.requires.ordered in
+    turned_pixel c.args.picture.now c.args.turned.crop c.args.turned.orient c.args.turned.place c.args.left k c.args.y c.shown_number-first.result _ c.bytes.result.now c.pick_row.new.dst c.requires.orient c.requires.crop
+    (c.requires.inside c.args.left (omega arith) (omega (arith, ordered)))
+    (c.requires.inside (c.args.left + k) (omega arith) (omega (arith, low, ordered)))
+    c.bytes.ensures first step
+    (λ j is. c.pick_row.ensures.each_pixel k j (omega (arith, size, low)) is)
