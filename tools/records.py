@@ -4,6 +4,11 @@
     records.py dump [FILE]          a sentence for each record
     records.py lines [FILE]         the numbers of each record, a line each, for programs to compare
     records.py png FOLDER [FILE]    each frame as FOLDER/frame-NUMBER.png
+    records.py apng PICTURE [--slow N] [FILE]
+                                    the frames at their times in one animated PNG, N times slower; the last one
+                                    stands for a second before the first comes again
+    records.py y4m [FILE]           the frames as raw video, a picture for each vsync, for ffmpeg and mpv, as in
+                                    `records.py y4m FILE | mpv -`
     records.py trace [FILE]         a timeline as JSON, for chrome://tracing or Perfetto
     records.py summary [--script SCRIPT] [FILE]
                                     what the run comes to: frames, commits and rejects, what waits and who is
@@ -25,6 +30,7 @@ import json
 import os
 import sys
 
+from animation import NoFrames, apng, frames_of, y4m
 from explaining import explained
 from pictures import write_frames
 from scripts import read_script
@@ -33,10 +39,13 @@ from summing import summed
 from timeline import trace
 from wording import plain, sentence
 
-COMMANDS = ("dump", "lines", "png", "trace", "summary", "explain")
-# Commands with a path of their own before the file: a folder to write to, or a script to look into.
-WITH_PATH = ("png", "explain")
+COMMANDS = ("dump", "lines", "png", "apng", "y4m", "trace", "summary", "explain")
+# Commands with a path of their own before the file: a folder or a picture to write, or a script to look into.
+WITH_PATH = ("png", "apng", "explain")
+# The option that a command may have, with its value.
+OPTIONS = {"summary": "--script", "apng": "--slow"}
 FAULT_SHOWN = 3
+MOST_SLOW = 1000
 
 
 def script_fault(records):
@@ -54,38 +63,55 @@ def explanation(script, records):
     return [f"{script}: no fault is told, but the stream was cut off"]
 
 
-def told(records, command, path):
-    """The lines that a command writes."""
+def animated(records, picture, slow):
+    """Writes the frames as an animated PNG, and answers its path."""
+    pieces = list(apng(frames_of(records), slow))
+    with open(picture, "wb") as file:
+        file.writelines(pieces)
+    return picture
+
+
+def told(records, command, path, option):
+    """The lines that a command writes, or the pieces where it writes bytes."""
     if command == "dump":
         yield from map(sentence, records)
+    elif command == "apng":
+        yield animated(records, path, int(option or 1))
+    elif command == "y4m":
+        yield from y4m(frames_of(records))
     elif command == "lines":
         yield from map(plain, records)
     elif command == "png":
         yield from write_frames(path, records)
     elif command == "summary":
-        yield from summed(records, read_script(contents(path)) if path else None)
+        yield from summed(records, read_script(contents(option)) if option else None)
     elif command == "explain":
         yield from explanation(path, records)
     else:
         yield json.dumps(trace(records), indent=1)
 
 
+def fits(option, value):
+    """Whether an option may have this value."""
+    return option != "--slow" or (value.isascii() and value.isdigit() and 0 < int(value) <= MOST_SLOW)
+
+
 def arguments(words):
-    """The command, its own path and its file, or None where the words are wrong."""
+    """The command, its own path, the value of its option and its file, or None where the words are wrong."""
     command, *names = words or [""]
-    path = None
+    path, value, option = None, None, OPTIONS.get(command)
     if command in WITH_PATH:
         if not names:
             return None
         path = names.pop(0)
-    elif command == "summary" and names[:1] == ["--script"]:
-        if len(names) < 2:
+    if option and names[:1] == [option]:
+        if len(names) < 2 or not fits(option, names[1]):
             return None
-        path = names[1]
+        value = names[1]
         names = names[2:]
     if command not in COMMANDS or len(names) > 1:
         return None
-    return command, path, names[0] if names else None
+    return command, path, value, names[0] if names else None
 
 
 def contents(name):
@@ -101,12 +127,25 @@ def complain(text):
     print(f"records.py: {text}", file=sys.stderr)
 
 
-def run(command, path, name):
+def put(piece):
+    """Writes a line, or bytes as they are."""
+    if isinstance(piece, bytes):
+        sys.stdout.buffer.write(piece)
+    else:
+        print(piece)
+
+
+def run(command, path, option, name):
     if sys.stdout is None:
         raise OSError("standard output is closed")
+    if command == "y4m" and sys.stdout.isatty():
+        raise OSError("a raw video is nothing for a terminal: send it on, as in `records.py y4m FILE | mpv -`")
     records, of_stream = read(contents(name))
-    for line in told(records, command, path):
-        print(line)
+    try:
+        for piece in told(records, command, path, option):
+            put(piece)
+    except NoFrames as fault:
+        of_stream = of_stream + [str(fault)]
     sys.stdout.flush()
     wrong = faults(records, of_stream)
     for line in wrong:
