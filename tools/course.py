@@ -1,0 +1,315 @@
+"""A run followed from vsync to vsync: after each the layer tree, what was committed, what waits and why, and how far each
+actor is.
+
+Only vsyncs that commit or reject something have records, so only these are moments; the last moment is the end of the
+run. A live run writes its replies behind the last vsync: when its actors did their steps is not told, and so neither
+is what waited before the end.
+"""
+
+import copy
+from collections import Counter
+from typing import NamedTuple, Optional
+
+from arrivals import Lent, Reader, Shown
+from declarations import read_declarations
+from holds import Seen, why_held
+from layer_tree import Content, Tree
+from scripts import read_script
+from slots import DEQUEUED, MAX_DEQUEUED, Slots, changes_of
+from summing import REASONS, Run, awaited_text
+from wording import HOLDS, REJECTIONS
+
+
+class Mismatch(Exception):
+    """The script is not the one of these records."""
+
+
+class Commit(NamedTuple):
+    """A transaction that a vsync took: its arrival, and where it was rejected the place of the operation and the cause."""
+
+    arrival: int
+    token: int
+    operation: int
+    cause: Optional[str]
+
+
+class Reply(NamedTuple):
+    """The reply to a step, with the number of vsyncs before it."""
+
+    actor: int
+    step: int
+    status: int
+    values: list
+    moment: int
+
+
+class Moment:
+    """What there is after a vsync, or at the end, where `number` is None. `layers` and `drawn` are None where the records do
+    not tell the tree. `frame` is the place of the frame that the display shows among all frames, None before the first."""
+
+    def __init__(self, number, time, timelines):
+        self.number, self.time, self.timelines = number, time, timelines
+        self.commits, self.held, self.next = [], [], []
+        self.frame, self.is_new, self.outline, self.drawn = None, False, None, None
+
+
+class Queue(NamedTuple):
+    """A queue: its calls, each with the number of vsyncs before it, and what they do to its slots."""
+
+    number: int
+    calls: list
+    moments: list
+    changes: list
+
+
+class Course:
+    """The moments of a run. `fault` says what of the tree could not be rebuilt, if something could not."""
+
+    def __init__(self, records, script):
+        self.records = [record for record in records if record.fields is not None]
+        self.script = read_script(script)
+        self.declarations = read_declarations(script)
+        self.run = Run(records, self.script)
+        if not self.run.is_of_script():
+            raise Mismatch("the script is not the one of these records")
+        self.scene = next((record.fields for record in self.records if record.tag == "SCEN"), None)
+        tags = [record.tag for record in self.records]
+        self.is_live = "REPL" in tags and "VSYN" in tags and tags.index("VSYN") < tags.index("REPL")
+        self.replies, self.moments, self.frames, self.fault = [], [], [], None
+        self.reader = Reader(self.script, {number: picture[:2] for number, picture in self.declarations.pictures.items()})
+        self.tree, self.shown, self.latched, self.committed = Tree(), {}, set(), set()
+        self.follow()
+        self.queues = [self.queue(number, calls) for number, calls in self.run.histories.items()]
+        self.end()
+
+    # The replies.
+
+    def take_replies(self):
+        """All replies, each with the number of vsyncs before it."""
+        moment = 0
+        for record in self.records:
+            moment += record.tag == "VSYN"
+            if record.tag == "REPL":
+                fields = record.fields
+                yield Reply(fields["actor"], fields["step"], fields["status"], [value for (value,) in fields["values"]], moment)
+
+    def read_reply(self, reply):
+        self.replies.append(reply)
+        try:
+            self.reader.read(*reply)
+        except (KeyError, IndexError, AttributeError, ValueError) as fault:
+            raise Mismatch("the script is not the one of these records") from fault
+
+    # The vsyncs.
+
+    def follow(self):
+        replies = self.take_replies()
+        if self.is_live:
+            for reply in replies:
+                self.read_reply(reply)
+        for record, following in zip(self.records, self.records[1:] + [None]):
+            if record.tag == "REPL" and not self.is_live:
+                self.read_reply(next(replies))
+            elif record.tag == "VSYN":
+                self.begin(record.fields)
+            elif record.tag == "COMM" and self.moments:
+                self.commit(record.fields)
+            elif record.tag == "FRAM" and self.moments:
+                self.frames.append(record.fields["pixels"])
+                self.moments[-1].is_new = True
+            if record.tag in ("VSYN", "COMM", "FRAM") and self.moments and (following is None or following.tag not in ("COMM", "FRAM")):
+                self.settle()
+
+    def begin(self, fields):
+        self.moments.append(Moment(fields["number"], fields["expected"], dict(fields["timelines"])))
+        self.latched = set()
+
+    def commit(self, fields):
+        number, result = fields["arrival"], fields["result"]
+        self.committed.add(number)
+        cause = REJECTIONS.get(result, f"cause {result}") if result else None
+        self.moments[-1].commits.append(Commit(number, fields["token"], fields["operation"], cause))
+        if not result:
+            for layer, _, frame, *_ in fields["buffers"]:
+                self.shown[layer] = max(frame, self.shown.get(layer, 0))
+                self.latched.add(layer)
+            self.change_tree(self.reader.arrivals.get(number), fields)
+
+    def change_tree(self, arrival, fields):
+        """Does the operations of a committed transaction, as far as the tree is known."""
+        if self.fault:
+            return
+        if arrival is None:
+            self.fault = f"the records do not tell the operations of arrival {fields['arrival']}"
+            return
+        rows = iter(fields["buffers"])
+        try:
+            for operation in arrival.operations:
+                content = None
+                if operation.frame:
+                    _, queue, frame, picture, *crop = next(rows)
+                    content = Content(queue, frame, picture, tuple(crop))
+                self.tree.apply(operation, content)
+        except (KeyError, StopIteration):
+            self.fault = f"the operations of arrival {arrival.number} do not fit the layers that are there"
+
+    def settle(self):
+        """Notes what there is once a vsync has done all."""
+        moment = self.moments[-1]
+        moment.frame = len(self.frames) - 1 if self.frames else None
+        self.note_tree(moment)
+        if not self.is_live:
+            moment.held = self.held_at(moment)
+
+    def note_tree(self, moment):
+        if not self.fault and self.scene:
+            moment.outline = self.tree.outline()
+            moment.drawn = self.tree.drawn(self.scene["width"], self.scene["height"])
+
+    # What waits.
+
+    def pending(self):
+        """The arrivals that are not committed yet, and of each token the first."""
+        waiting = [arrival for number, arrival in sorted(self.reader.arrivals.items()) if number not in self.committed]
+        first = {}
+        for arrival in waiting:
+            first.setdefault(arrival.token, arrival.number)
+        return waiting, first
+
+    def held_at(self, moment):
+        """Why each arrival waits that this vsync left, as its number and a text."""
+        waiting, first = self.pending()
+        seen = Seen(moment.time, moment.timelines, self.reader.frames, len(self.moments) - 1, self.shown, self.tree.layers, self.latched, first)
+        told = copy.copy(self.run)
+        told.arrivals = [self.arrival_row(number) for number in range(1, max(self.reader.arrivals, default=0) + 1)]
+        told.reached, told.shown, told.first_held = Counter(moment.timelines), dict(self.shown), first
+        told.queued = {frame: queued.by for frame, queued in self.reader.frames.items()}
+        held = []
+        for arrival in waiting:
+            hold = why_held(arrival, seen)
+            text = REASONS[HOLDS[hold[0]]](told, arrival.number, *hold[1:]) if hold else "the records do not tell why"
+            held.append((arrival.number, text))
+        return held
+
+    def arrival_row(self, number):
+        arrival = self.reader.arrivals.get(number)
+        return (arrival.actor, arrival.step, arrival.token) if arrival else (0, 0, 0)
+
+    # The queues.
+
+    def moment_of(self):
+        """The number of vsyncs before each step, and the place of each vsync."""
+        steps = {(reply.actor, reply.step): reply.moment for reply in self.replies}
+        vsyncs = {moment.number: place for place, moment in enumerate(self.moments)}
+        return steps, vsyncs
+
+    def slots(self):
+        """The slots of a queue without calls."""
+        values = {(reply.actor, reply.step): reply.values for reply in self.replies}
+        return Slots(lambda actor, step: int(self.script.step(actor, step).words[2]), lambda actor, step: values.get((actor, step), [0] * 4)[3])
+
+    def queue(self, number, calls):
+        steps, vsyncs = self.moment_of()
+        last, moments = len(self.moments), []
+        for caller, step, *_ in reversed(calls):
+            if caller == 0:
+                last = vsyncs.get(step, last)
+            elif not self.is_live:
+                last = min(last, steps.get((caller, step), last))
+            moments.append(last)
+        return Queue(number, calls, moments[::-1], list(changes_of(calls, self.slots())))
+
+    # The actors.
+
+    def done_by(self, moment):
+        """How many steps of each actor have a reply before a moment."""
+        count = Counter(reply.actor for reply in self.replies if reply.moment <= moment)
+        return {actor: count[actor] for actor in self.script.steps}
+
+    def end(self):
+        """Adds the end of the run, and of each moment who waits."""
+        last = self.moments[-1] if self.moments else None
+        end = Moment(None, None, dict(self.run.reached))
+        end.frame = last.frame if last else None
+        self.note_tree(end)
+        end.held = [(arrival, REASONS[HOLDS[hold]](self.run, arrival, a, b)) for arrival, hold, a, b in self.run.held if hold in HOLDS]
+        end.next = [(actor, step, awaited_text(self.run, actor, step).lstrip(": ")) for actor, step in self.run.stuck]
+        self.moments.append(end)
+        if not self.is_live:
+            Waiting(self).note()
+
+
+class Waiting:
+    """Finds, moment by moment, which actors could not do their next step."""
+
+    def __init__(self, course):
+        self.course = course
+        self.reader = Reader(course.script, course.reader.sizes)
+        self.slots = {queue.number: course.slots() for queue in course.queues}
+        self.called = {queue.number: 0 for queue in course.queues}
+        self.done = Counter()
+
+    def note(self):
+        replies = list(self.course.replies)
+        for place, moment in enumerate(self.course.moments[:-1]):
+            while replies and replies[0].moment <= place:
+                reply = replies.pop(0)
+                self.reader.read(*reply)
+                self.done[reply.actor] += 1
+            self.follow_queues(place)
+            for actor in self.course.script.steps:
+                step = self.course.script.step(actor, self.done[actor] + 1)
+                reason = self.why(actor, step.words) if step else None
+                if reason:
+                    moment.next.append((actor, self.done[actor] + 1, reason))
+
+    def follow_queues(self, place):
+        for queue in self.course.queues:
+            at, slots = self.called[queue.number], self.slots[queue.number]
+            while at < len(queue.calls) and queue.moments[at] <= place:
+                caller, step, kind, status, slot, frame = queue.calls[at]
+                if status == 0:
+                    slots.call(caller, step, kind, slot, frame)
+                at += 1
+            self.called[queue.number] = at
+
+    def point(self, timeline, value):
+        """What is wanted of a timeline that has not reached a value; None where it has."""
+        reached = self.reader.signalled.get(timeline, 0)
+        return None if reached >= value else f"timeline {timeline} has not reached {value}, it is at {reached}"
+
+    def why(self, actor, words):
+        """Why a step would have to wait now, or None."""
+        if words[0] == "wait":
+            return self.point(int(words[1]), int(words[2]))
+        if words[0] == "dequeuewait" and int(words[1]) in self.slots:
+            return self.no_slot(int(words[1]))
+        if words[0] == "draw":
+            return self.no_pixels(self.reader.actors[actor].names.get(words[1]))
+        return None
+
+    def no_slot(self, queue):
+        slots = self.slots[queue]
+        if slots.has_free() or slots.count(DEQUEUED) >= slots.settings[MAX_DEQUEUED] + slots.settings.get(None, 0):
+            return None
+        counts = Counter(state for state, _ in slots.states.values())
+        return f"queue {queue} has no free slot: " + ", ".join(f"{count} {state}" for state, count in sorted(counts.items()))
+
+    def no_pixels(self, held):
+        """Why a draw in what a name holds would have to wait: its fence, or a draw that is owed before it."""
+        if isinstance(held, Lent) and not held.drawn:
+            points = [self.point(timeline, value) for timeline, value in sorted(held.points.items())]
+            unreached = [text for text in points if text]
+            if unreached:
+                return f"its buffer's fence is not signalled: {unreached[0]}"
+            return self.owed(held.queue, held.slot, None)
+        if isinstance(held, Shown) and held.owed:
+            queued = self.reader.frames[held.queue, held.frame]
+            return self.owed(held.queue, queued.slot, held.frame)
+        return None
+
+    def owed(self, queue, slot, before):
+        """The oldest frame of a slot that is queued and not drawn, before another one."""
+        owing = [frame for (of, frame), queued in self.reader.frames.items()
+                 if of == queue and queued.slot == slot and queued.drawn is None and (before is None or frame < before)]
+        return f"queue {queue} frame {min(owing)} had its buffer before, and is not drawn" if owing else None
