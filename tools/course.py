@@ -7,7 +7,7 @@ is what waited before the end.
 """
 
 import copy
-from collections import Counter
+from collections import Counter, deque
 from typing import NamedTuple, Optional
 
 from arrivals import Lent, Reader, Shown
@@ -31,6 +31,14 @@ class Commit(NamedTuple):
     token: int
     operation: int
     cause: Optional[str]
+
+
+class Hold(NamedTuple):
+    """A transaction that waits: its arrival, the name of the hold and what it comes from."""
+
+    arrival: int
+    name: str
+    text: str
 
 
 class Reply(NamedTuple):
@@ -177,19 +185,29 @@ class Course:
         return waiting, first
 
     def held_at(self, moment):
-        """Why each arrival waits that this vsync left, as its number and a text."""
+        """Why each arrival waits that this vsync left."""
         waiting, first = self.pending()
         seen = Seen(moment.time, moment.timelines, self.reader.frames, len(self.moments) - 1, self.shown, self.tree.layers, self.latched, first)
         told = copy.copy(self.run)
         told.arrivals = [self.arrival_row(number) for number in range(1, max(self.reader.arrivals, default=0) + 1)]
         told.reached, told.shown, told.first_held = Counter(moment.timelines), dict(self.shown), first
         told.queued = {frame: queued.by for frame, queued in self.reader.frames.items()}
-        held = []
-        for arrival in waiting:
-            hold = why_held(arrival, seen)
-            text = REASONS[HOLDS[hold[0]]](told, arrival.number, *hold[1:]) if hold else "the records do not tell why"
-            held.append((arrival.number, text))
-        return held
+        return [self.hold_of(arrival.number, why_held(arrival, seen), told) for arrival in waiting]
+
+    def hold_of(self, number, hold, told):
+        """Why an arrival waits, by its hold with two values, and by what is told of the run at that time."""
+        if hold is None or hold[0] not in HOLDS:
+            return Hold(number, "", "the records do not tell why")
+        name = HOLDS[hold[0]]
+        text = self.fence_text(told, *hold[1:]) if name == "Fence" else REASONS[name](told, number, *hold[1:])
+        return Hold(number, name, text)
+
+    def fence_text(self, told, timeline, value):
+        """The point that a frame waits for, and the step that would bring it about."""
+        by = next(((actor, number) for actor, steps in self.script.steps.items() for number, step in enumerate(steps, 1)
+                   if step.words[0] == "signal" and int(step.words[1]) == timeline and int(step.words[2]) >= value), None)
+        return (f"a frame's fence is not signalled: {told.point_text(timeline, value)}; "
+                + (f"it is raised by {told.step_text(*by)}" if by else "no step raises it so far"))
 
     def arrival_row(self, number):
         arrival = self.reader.arrivals.get(number)
@@ -219,12 +237,7 @@ class Course:
             moments.append(last)
         return Queue(number, calls, moments[::-1], list(changes_of(calls, self.slots())))
 
-    # The actors.
-
-    def done_by(self, moment):
-        """How many steps of each actor have a reply before a moment."""
-        count = Counter(reply.actor for reply in self.replies if reply.moment <= moment)
-        return {actor: count[actor] for actor in self.script.steps}
+    # The end.
 
     def end(self):
         """Adds the end of the run, and of each moment who waits."""
@@ -232,8 +245,8 @@ class Course:
         end = Moment(None, None, dict(self.run.reached))
         end.frame = last.frame if last else None
         self.note_tree(end)
-        end.held = [(arrival, REASONS[HOLDS[hold]](self.run, arrival, a, b)) for arrival, hold, a, b in self.run.held if hold in HOLDS]
-        end.next = [(actor, step, awaited_text(self.run, actor, step).lstrip(": ")) for actor, step in self.run.stuck]
+        end.held = [self.hold_of(arrival, tuple(hold), self.run) for arrival, *hold in self.run.held]
+        end.next = [(actor, step, awaited_text(self.run, actor, step).strip(": ")) for actor, step in self.run.stuck]
         self.moments.append(end)
         if not self.is_live:
             Waiting(self).note()
@@ -250,10 +263,10 @@ class Waiting:
         self.done = Counter()
 
     def note(self):
-        replies = list(self.course.replies)
+        replies = deque(self.course.replies)
         for place, moment in enumerate(self.course.moments[:-1]):
             while replies and replies[0].moment <= place:
-                reply = replies.pop(0)
+                reply = replies.popleft()
                 self.reader.read(*reply)
                 self.done[reply.actor] += 1
             self.follow_queues(place)
@@ -290,7 +303,7 @@ class Waiting:
 
     def no_slot(self, queue):
         slots = self.slots[queue]
-        if slots.has_free() or slots.count(DEQUEUED) >= slots.settings[MAX_DEQUEUED] + slots.settings.get(None, 0):
+        if slots.has_free() or slots.count(DEQUEUED) >= slots.settings[MAX_DEQUEUED]:
             return None
         counts = Counter(state for state, _ in slots.states.values())
         return f"queue {queue} has no free slot: " + ", ".join(f"{count} {state}" for state, count in sorted(counts.items()))

@@ -1,0 +1,139 @@
+"""A run as one page to look into: what view_page.html shows, as data.
+
+The page has all in itself: it fetches nothing. What many moments have alike (a layer's state, how it is painted) stands
+once, and moments name it by its place.
+"""
+
+import base64
+import json
+import os
+import zlib
+
+from course import Course
+from wording import CALLS, REFUSALS, STATUSES, call_name, named
+
+FOLDER = os.path.dirname(os.path.abspath(__file__))
+# The page, and what stands in it in the place of which words.
+PAGE, PARTS = "view_page.html", {"PAINTER\n": "view_painter.js", "SCRIPT\n": "view_page.js"}
+DATA, TITLE = "/*DATA*/null", "TITLE"
+NO_SLOT = 4294967295
+
+
+class Once:
+    """A list in which each thing stands once."""
+
+    def __init__(self):
+        self.items, self.places = [], {}
+
+    def place(self, key, item):
+        """The place of the thing with this key, which is put in if it is not there."""
+        if key not in self.places:
+            self.places[key] = len(self.items)
+            self.items.append(item)
+        return self.places[key]
+
+
+def content_of(content):
+    return {**content._asdict(), "crop": list(content.crop)} if content else None
+
+
+def layer_of(layer):
+    return {**layer._asdict(), "content": content_of(layer.content)}
+
+
+def drawn_of(drawn):
+    return {**drawn._asdict(), "content": content_of(drawn.content)}
+
+
+def frame_text(pixels):
+    """The pixels of a frame, packed, as text."""
+    return base64.b64encode(zlib.compress(pixels)).decode("ascii")
+
+
+def step_of(course, actor, number):
+    """The line of a step and its words; none where the script has no such step."""
+    step = course.script.step(actor, number)
+    return [step.line, step.text()] if step else [0, ""]
+
+
+def arrival_of(course, arrival):
+    return {
+        "number": arrival.number, "token": arrival.token, "actor": arrival.actor, "step": step_of(course, arrival.actor, arrival.step),
+        "desired": arrival.desired,
+        "barriers": [step_of(course, barrier.actor, barrier.step) for barrier in arrival.barriers],
+        "operations": [[operation.layer, *step_of(course, operation.actor, operation.step)] for operation in arrival.operations],
+    }
+
+
+def moment_of(moment, layers, drawn):
+    return {
+        "vsync": moment.number, "time": moment.time, "timelines": sorted(moment.timelines.items()),
+        "frame": moment.frame, "isNew": moment.is_new,
+        "commits": [commit._asdict() for commit in moment.commits],
+        "held": [hold._asdict() for hold in moment.held],
+        "waiting": [list(waiting) for waiting in moment.next],
+        "tree": None if moment.outline is None else [[layers.place(layer, layer_of(layer)), depth] for layer, depth in moment.outline],
+        "drawn": None if moment.drawn is None else [drawn.place(one, drawn_of(one)) for one in moment.drawn],
+    }
+
+
+def call_of(course, call, moment):
+    """A call as the page shows it: its moment, who made it, its text, how it went, and its slot."""
+    caller, step, kind, status, slot, frame = call
+    line, words = step_of(course, caller, step) if caller else (0, "")
+    who = f"actor {caller}, line {line}: {words}" if caller else f"vsync {step}: {named(CALLS, kind)}"
+    went = "" if status == 0 else f"{named(STATUSES, status)}: {REFUSALS.get(status, 'refused')}"
+    return [moment, who, call_name(kind, NO_SLOT, frame), went, None if slot == NO_SLOT else slot]
+
+
+def queue_of(course, queue):
+    width, height = course.declarations.queues.get(queue.number, (0, 0))
+    return {"number": queue.number, "width": width, "height": height,
+            "calls": [call_of(course, call, moment) for call, moment in zip(queue.calls, queue.moments)], "changes": queue.changes}
+
+
+def reply_of(reply):
+    """A reply as the page shows it: its moment, what was refused and why, and its values."""
+    went = "" if reply.status == 0 else f"{named(STATUSES, reply.status)}: {REFUSALS.get(reply.status, 'refused')}"
+    return [reply.moment, went, " ".join(map(str, reply.values))]
+
+
+def actor_of(course, actor):
+    return {"number": actor, "steps": [[step.line, step.text()] for step in course.script.steps[actor]],
+            "replies": [reply_of(reply) for reply in course.replies if reply.actor == actor]}
+
+
+def view_data(name, course):
+    """All that the page shows of a run."""
+    layers, drawn = Once(), Once()
+    moments = [moment_of(moment, layers, drawn) for moment in course.moments]
+    scene = course.scene or {"width": 0, "height": 0, "period": 0}
+    return {
+        "name": name, "width": scene["width"], "height": scene["height"], "period": scene["period"],
+        "isLive": course.is_live, "fault": course.fault, "isWhole": any(record.tag == "DONE" for record in course.records),
+        "pictures": {number: picture._asdict() for number, picture in course.declarations.pictures.items()},
+        "layers": layers.items, "drawn": drawn.items, "moments": moments,
+        "arrivals": {arrival.number: arrival_of(course, arrival) for arrival in course.reader.arrivals.values()},
+        "queues": [queue_of(course, queue) for queue in course.queues],
+        "actors": [actor_of(course, actor) for actor in sorted(course.script.steps)],
+        "frames": [frame_text(pixels) for pixels in course.frames],
+    }
+
+
+def embedded(data):
+    """Data as it may stand in a script of a page."""
+    return json.dumps(data, separators=(",", ":")).replace("<", "\\u003c")
+
+
+def part(name):
+    with open(os.path.join(FOLDER, name), encoding="utf-8") as file:
+        return file.read()
+
+
+def view_page(name, records, script):
+    """The page of the run of a script of this name."""
+    page = part(PAGE)
+    for word, file in PARTS.items():
+        page = page.replace("\n" + word, "\n" + part(file), 1)
+    title = name.replace("&", "&amp;").replace("<", "&lt;")
+    return page.replace(TITLE, title, 1).replace(DATA, embedded(view_data(name, Course(records, script))), 1)
