@@ -20,8 +20,11 @@ from summing import REASONS, Run, awaited_text
 from wording import HOLDS, REJECTIONS
 
 
-class Mismatch(Exception):
-    """The script is not the one of these records."""
+class NoCourse(Exception):
+    """Records and script tell no run together."""
+
+
+NOT_OF_SCRIPT = "the script is not the one of these records"
 
 
 class Commit(NamedTuple):
@@ -76,11 +79,13 @@ class Course:
     def __init__(self, records, script):
         self.records = [record for record in records if record.fields is not None]
         self.script = read_script(script)
-        self.declarations = read_declarations(script)
+        self.scene = next((record.fields for record in self.records if record.tag == "SCEN"), None)
+        if self.scene is None:
+            raise NoCourse("the stream has no run")
         self.run = Run(records, self.script)
         if not self.run.is_of_script():
-            raise Mismatch("the script is not the one of these records")
-        self.scene = next((record.fields for record in self.records if record.tag == "SCEN"), None)
+            raise NoCourse(NOT_OF_SCRIPT)
+        self.declarations = read_declarations(script)
         tags = [record.tag for record in self.records]
         self.is_live = "REPL" in tags and "VSYN" in tags and tags.index("VSYN") < tags.index("REPL")
         self.replies, self.moments, self.frames, self.fault = [], [], [], None
@@ -106,7 +111,7 @@ class Course:
         try:
             self.reader.read(*reply)
         except (KeyError, IndexError, AttributeError, ValueError) as fault:
-            raise Mismatch("the script is not the one of these records") from fault
+            raise NoCourse(NOT_OF_SCRIPT) from fault
 
     # The vsyncs.
 
@@ -156,7 +161,8 @@ class Course:
                 content = None
                 if operation.frame:
                     _, queue, frame, picture, *crop = next(rows)
-                    content = Content(queue, frame, picture, tuple(crop))
+                    name = self.script.step(operation.actor, operation.step).words[3]
+                    content = Content(queue, frame, picture, tuple(crop), name)
                 self.tree.apply(operation, content)
         except (KeyError, StopIteration):
             self.fault = f"the operations of arrival {arrival.number} do not fit the layers that are there"
@@ -170,7 +176,7 @@ class Course:
             moment.held = self.held_at(moment)
 
     def note_tree(self, moment):
-        if not self.fault and self.scene:
+        if not self.fault:
             moment.outline = self.tree.outline()
             moment.drawn = self.tree.drawn(self.scene["width"], self.scene["height"])
 

@@ -15,12 +15,14 @@ def product(a, b):
 
 
 class Content(NamedTuple):
-    """The frame that a layer shows: its queue and number, its picture, and the crop of it that shows."""
+    """The frame that a layer shows: its queue and number, its picture, the crop of it that shows, and the name by which the
+    actor that showed it had it."""
 
     queue: int
     frame: int
     picture: int
     crop: tuple
+    name: str
 
 
 class Layer(NamedTuple):

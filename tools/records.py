@@ -13,6 +13,9 @@
     records.py summary [--script SCRIPT] [FILE]
                                     what the run comes to: frames, commits and rejects, what waits and who is
                                     stuck, and why, each queue; with the script, which lines that are
+    records.py view --script SCRIPT [FILE]
+                                    a page to look into the run, for a browser: the layers, transactions, queues and
+                                    actors from vsync to vsync
     records.py explain SCRIPT [FILE]
                                     the fault of a script that is no scene: its line, the word, the cause,
                                     and what would be right there; or that it has none
@@ -31,19 +34,21 @@ import os
 import sys
 
 from animation import NoFrames, apng, frames_of, y4m
+from course import NoCourse
 from explaining import explained
 from pictures import write_frames
 from scripts import read_script
 from stream import LAST, faults, read
 from summing import summed
 from timeline import trace
+from viewing import view_page
 from wording import plain, sentence
 
-COMMANDS = ("dump", "lines", "png", "apng", "y4m", "trace", "summary", "explain")
+COMMANDS = ("dump", "lines", "png", "apng", "y4m", "trace", "summary", "view", "explain")
 # Commands with a path of their own before the file: a folder or a picture to write, or a script to look into.
 WITH_PATH = ("png", "apng", "explain")
 # The option that a command may have, with its value.
-OPTIONS = {"summary": "--script", "apng": "--slow"}
+OPTIONS = {"summary": "--script", "view": "--script", "apng": "--slow"}
 FAULT_SHOWN = 3
 MOST_SLOW = 1000
 
@@ -85,6 +90,8 @@ def told(records, command, path, option):
         yield from write_frames(path, records)
     elif command == "summary":
         yield from summed(records, read_script(contents(option)) if option else None)
+    elif command == "view":
+        yield view_page(os.path.basename(option), records, contents(option))
     elif command == "explain":
         yield from explanation(path, records)
     else:
@@ -109,7 +116,7 @@ def arguments(words):
             return None
         value = names[1]
         names = names[2:]
-    if command not in COMMANDS or len(names) > 1:
+    if command not in COMMANDS or len(names) > 1 or (command == "view" and value is None):
         return None
     return command, path, value, names[0] if names else None
 
@@ -144,7 +151,7 @@ def run(command, path, option, name):
     try:
         for piece in told(records, command, path, option):
             put(piece)
-    except NoFrames as fault:
+    except (NoFrames, NoCourse) as fault:
         of_stream = of_stream + [str(fault)]
     sys.stdout.flush()
     wrong = faults(records, of_stream)

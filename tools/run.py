@@ -10,6 +10,7 @@ folder crates/. The folder gets
     dump.txt         a sentence for each record
     trace.json       a timeline, for chrome://tracing or Perfetto
     frame-N.png      the frame of vsync N
+    view.html        a page to look into the run, for a browser
 
 in the place of those that an earlier run left there.
 
@@ -33,12 +34,14 @@ import os
 import re
 import sys
 
+from course import NoCourse
 from explaining import explained
 from pictures import write_frames
 from scripts import read_script
 from stream import faults, read
 from summing import summed
 from timeline import trace
+from viewing import view_page
 from waiting import EACH, awaited
 from wording import sentence
 
@@ -49,7 +52,7 @@ USUAL_SCENE = os.path.join(TOP, "scenes", "phone.sf")
 WHOLE = (0, 2)
 INTERRUPTED = 130
 # What a run leaves in its folder.
-LEFT = ("records.bin", "dump.txt", "trace.json")
+LEFT = ("records.bin", "dump.txt", "trace.json", "view.html")
 FRAME = re.compile(r"frame-[0-9]+\.png")
 UNPROVED, PROVED = ["rt", "try"], ["rt", "run"]
 DOES = {
@@ -142,6 +145,17 @@ def contents(path):
         return file.read()
 
 
+def leave_view(records, scene, folder):
+    """Writes the page to look into the run, and names it."""
+    try:
+        page = view_page(os.path.basename(scene), records, contents(scene))
+    except NoCourse as fault:
+        complain(f"there is no view.html: {fault}")
+        return
+    write_text(folder, "view.html", page)
+    print(os.path.relpath(os.path.join(folder, "view.html")))
+
+
 def leave(records, scene, folder):
     """Writes what a whole stream tells into the folder, and says what it comes to."""
     write_text(folder, "dump.txt", "".join(sentence(record) + "\n" for record in records))
@@ -152,6 +166,7 @@ def leave(records, scene, folder):
         for line in explained(os.path.relpath(scene), contents(scene), records[0].fields):
             print(line, file=sys.stderr)
         return
+    leave_view(records, scene, folder)
     for line in summed(records, read_script(contents(scene))):
         print(line)
 

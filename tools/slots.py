@@ -4,7 +4,6 @@ The history does not say which frame a queued one replaced or an acquire dropped
 mode, the second from the reply to the step.
 """
 
-NO_SLOT = 4294967295
 FREE, DEQUEUED, QUEUED, ACQUIRED = "free", "dequeued", "queued", "acquired"
 (DISCONNECT, MAX_DEQUEUED, ASYNC, DEQUEUE, QUEUE, CANCEL, PRODUCER_DETACH, PRODUCER_ATTACH,
  MAX_ACQUIRED, ABANDON, ACQUIRE, RELEASE, CONSUMER_DETACH, CONSUMER_ATTACH) = 2, 3, 4, 5, 7, 8, 9, 10, 11, 12, 13, 14, 15, 16

@@ -89,7 +89,7 @@ async function checkAll() {
     checked += check !== null;
     if (check && check.count === 0) same++;
     else if (check) differ.push(RUN.moments[place].vsync);
-    byId("checked").textContent = `Of ${places.length} frames ${same} are the same as this page paints them`
+    byId("checked").textContent = `Of all ${places.length} frames, ${same} are the same as this page paints them`
       + (differ.length ? `; they differ at vsync ${differ.slice(0, 8).join(", ")}.` : checked < places.length ? ".." : ".");
     await new Promise((done) => setTimeout(done, 0));
   }
@@ -126,13 +126,13 @@ function showPoint() {
   if (!now.point) return;
   const [x, y] = now.point, found = layersAt(drawnOf(moment()), pictures, x, y);
   const top = found.find((one) => one.isSeen);
-  fill("at", make("span", "", `At ${x} ${y}: `, make("strong", "", top ? `layer ${top.layer} is on top` : "no layer shows, the display is black"), found.length ? ". From the top:" : "."));
+  fill("at", make("span", "", `At ${x} ${y}: `, make("strong", "", top ? `${titleOf(top.layer)} is on top` : "no layer shows, the display is black"), found.length ? ". From the top:" : "."));
   let coveredBy = null;
   for (const one of found) {
     const [className, text] = shownThere(one, coveredBy);
     if (coveredBy === null && one.cover === 255) coveredBy = one.layer;
     const colour = one.source.map((channel) => channel.toString(16).padStart(2, "0")).join("");
-    byId("stack").append(pickable(one.layer, 0, make("span", "", `layer ${one.layer} `, make("span", className, text), make("span", "faint mono", ` ${colour}`))));
+    byId("stack").append(pickable(one.layer, 0, make("span", "", make("strong", "", titleOf(one.layer)), " ", make("span", className, text), make("span", "faint mono", ` ${colour}`))));
   }
 }
 
@@ -147,11 +147,24 @@ function pickable(layer, depth, inside) {
   return item;
 }
 
+// A layer's number, and the name that its frame had, if it shows one.
+function titleOf(number) {
+  const layer = layersOf(moment()).find((one) => one.number === number);
+  return `layer ${number}` + (layer && layer.content ? ` (${layer.content.name})` : "");
+}
+
+function swatch(layer) {
+  if (layer.kind !== "colour") return null;
+  const square = make("i", "swatch"), [red, green, blue, alpha] = channels(layer.colour);
+  square.style.background = alpha ? `rgb(${[red, green, blue].map((one) => Math.min(255, one * 255 / alpha)).join(" ")} / ${alpha / 255})` : "transparent";
+  return square;
+}
+
 function contentText(layer) {
   if (layer.kind === "container") return "container";
   if (layer.kind === "colour") return `colour ${layer.colour}`;
   if (!layer.content) return "buffer, no frame yet";
-  return `queue ${layer.content.queue} frame ${layer.content.frame}, picture ${layer.content.picture}`;
+  return `${layer.content.name}: queue ${layer.content.queue} frame ${layer.content.frame}, picture ${layer.content.picture}`;
 }
 
 function changedHere() {
@@ -171,7 +184,7 @@ function showTree() {
     const tags = [
       changed.has(layer.number) && ["good", "changed"], layer.hidden && ["faint", "hidden"], layer.relative !== null && ["faint", `relative to ${layer.relative}`],
       layer.alpha < 255 && ["faint", `alpha ${layer.alpha}`], layer.kind !== "container" && !drawn.has(layer.number) && ["wait", "not shown"]];
-    byId("tree").append(pickable(layer.number, layer.depth, make("span", "", make("strong", "", `layer ${layer.number}`), ` ${contentText(layer)}`,
+    byId("tree").append(pickable(layer.number, layer.depth, make("span", "", make("strong", "", `layer ${layer.number}`), ` ${contentText(layer)}`, swatch(layer),
       ...tags.filter((tag) => tag).map(([className, text]) => make("span", `tag ${className}`, text)))));
   }
 }
@@ -211,7 +224,7 @@ function thumbnail(layer) {
   const { width, height } = RUN.pictures[layer.content.picture], canvas = make("canvas", "");
   canvas.id = "thumb";
   [canvas.width, canvas.height] = [width, height];
-  canvas.style.width = `${Math.max(width, 60)}px`;
+  canvas.style.width = `${Math.round(width * Math.min(4, 160 / width, 160 / height))}px`;
   canvas.title = `picture ${layer.content.picture}, ${width} x ${height}`;
   canvas.getContext("2d").putImageData(new ImageData(new Uint8ClampedArray(pictures.pixels(layer.content.picture)), width, height), 0, 0);
   return canvas;
@@ -265,7 +278,7 @@ function heldCard(hold) {
 
 function showTransactions() {
   const one = moment();
-  fill("taken", ...(one.commits.length ? one.commits.map(takenCard) : [make("span", "faint", one.vsync === null ? "The run has ended." : "none")]));
+  fill("taken", ...(one.commits.length ? one.commits.map(takenCard) : [make("span", "faint", "The run has ended.")]));
   byId("waiting-title").textContent = one.vsync === null ? "Waiting at the end" : "Waiting behind this vsync, and why";
   const untold = RUN.isLive && one.vsync !== null;
   fill("waiting", ...(one.held.length ? one.held.map(heldCard) : [make("span", "faint", untold ? "A live run tells only at its end what waits." : "none")]));
@@ -367,17 +380,17 @@ function strip(queue) {
   }
   for (let call = from; call < to; call++) {
     const mark = drawing("rect", { x: left + (call - from) * wide, y: 0, width: wide, height: slots * high + 12, fill: "transparent", "data-call": call });
-    mark.append(drawing("title", {}, `${queue.calls[call][1]}${queue.calls[call][3] ? `\nrefused: ${queue.calls[call][3]}` : ""}`));
+    mark.append(drawing("title", {}, `${queue.calls[call][1]}${queue.calls[call][2] ? `\nrefused: ${queue.calls[call][2]}` : ""}`));
     mark.onclick = () => go(Math.min(queue.calls[call][0], RUN.moments.length - 1));
     svg.append(mark);
-    if (queue.calls[call][3]) svg.append(drawing("text", { x: left + (call - from) * wide + 4, y: slots * high + 10, fill: "var(--bad)", "pointer-events": "none" }, "✗"));
+    if (queue.calls[call][2]) svg.append(drawing("text", { x: left + (call - from) * wide + 4, y: slots * high + 10, fill: "var(--bad)", "pointer-events": "none" }, "✗"));
   }
   return make("div", "strip", svg);
 }
 
 function queueCard(queue) {
   const calls = queue.calls.filter((call) => call[0] === now.place);
-  const lines = calls.slice(-12).map(([, who, , went, slot]) =>
+  const lines = calls.slice(-12).map(([, who, went, slot]) =>
     make("span", `step mono ${went ? "bad" : ""}`, who, make("span", "faint", slot === null ? "" : `  slot ${slot}`), went ? `  refused: ${went}` : ""));
   return make("div", "", make("h3", "", `queue ${queue.number} `, make("span", "tag faint", `${queue.width} x ${queue.height}, ${queue.calls.length} calls`)), strip(queue),
     calls.length > 12 ? make("span", "faint", `.. ${calls.length - 12} before`) : null, ...lines);

@@ -10,13 +10,16 @@ import os
 import zlib
 
 from course import Course
-from wording import CALLS, REFUSALS, STATUSES, call_name, named
+from wording import NO_SLOT, REFUSALS, STATUSES, call_name, named
 
 FOLDER = os.path.dirname(os.path.abspath(__file__))
 # The page, and what stands in it in the place of which words.
 PAGE, PARTS = "view_page.html", {"PAINTER\n": "view_painter.js", "SCRIPT\n": "view_page.js"}
 DATA, TITLE = "/*DATA*/null", "TITLE"
-NO_SLOT = 4294967295
+# What the values of a reply are, by the first word of the step.
+LENT = ("slot", "buffer", "new")
+VALUES = {"dequeue": LENT, "dequeuewait": LENT, "request": ("slot", "buffer", "width", "height"), "queue": ("slot", "frame"),
+          "pattach": ("slot", "buffer"), "acquire": ("slot", "frame", "picture", "dropped"), "cattach": ("slot",), "apply": ("arrival",)}
 
 
 class Once:
@@ -50,6 +53,11 @@ def frame_text(pixels):
     return base64.b64encode(zlib.compress(pixels)).decode("ascii")
 
 
+def refusal(status):
+    """Why something was refused; nothing where it was done."""
+    return "" if status == 0 else f"{named(STATUSES, status)}: {REFUSALS.get(status, 'refused')}"
+
+
 def step_of(course, actor, number):
     """The line of a step and its words; none where the script has no such step."""
     step = course.script.step(actor, number)
@@ -78,12 +86,11 @@ def moment_of(moment, layers, drawn):
 
 
 def call_of(course, call, moment):
-    """A call as the page shows it: its moment, who made it, its text, how it went, and its slot."""
+    """A call as the page shows it: its moment, who made it, why it was refused, and its slot."""
     caller, step, kind, status, slot, frame = call
     line, words = step_of(course, caller, step) if caller else (0, "")
-    who = f"actor {caller}, line {line}: {words}" if caller else f"vsync {step}: {named(CALLS, kind)}"
-    went = "" if status == 0 else f"{named(STATUSES, status)}: {REFUSALS.get(status, 'refused')}"
-    return [moment, who, call_name(kind, NO_SLOT, frame), went, None if slot == NO_SLOT else slot]
+    who = f"actor {caller}, line {line}: {words}" if caller else f"vsync {step}: {call_name(kind, NO_SLOT, frame)}"
+    return [moment, who, refusal(status), None if slot == NO_SLOT else slot]
 
 
 def queue_of(course, queue):
@@ -92,24 +99,31 @@ def queue_of(course, queue):
             "calls": [call_of(course, call, moment) for call, moment in zip(queue.calls, queue.moments)], "changes": queue.changes}
 
 
-def reply_of(reply):
+def values_text(word, values):
+    """The values of a reply to a step with this first word, each with its name; behind them the points of a fence."""
+    names = VALUES.get(word, ())
+    texts = [f"{name} {value}" for name, value in zip(names, values)]
+    points = values[len(names):]
+    return ", ".join(texts + [f"fence timeline {timeline} at {value}" for timeline, value in zip(points[::2], points[1::2])])
+
+
+def reply_of(course, reply):
     """A reply as the page shows it: its moment, what was refused and why, and its values."""
-    went = "" if reply.status == 0 else f"{named(STATUSES, reply.status)}: {REFUSALS.get(reply.status, 'refused')}"
-    return [reply.moment, went, " ".join(map(str, reply.values))]
+    word = course.script.step(reply.actor, reply.step).words[0]
+    return [reply.moment, refusal(reply.status), values_text(word, reply.values)]
 
 
 def actor_of(course, actor):
     return {"number": actor, "steps": [[step.line, step.text()] for step in course.script.steps[actor]],
-            "replies": [reply_of(reply) for reply in course.replies if reply.actor == actor]}
+            "replies": [reply_of(course, reply) for reply in course.replies if reply.actor == actor]}
 
 
 def view_data(name, course):
     """All that the page shows of a run."""
     layers, drawn = Once(), Once()
     moments = [moment_of(moment, layers, drawn) for moment in course.moments]
-    scene = course.scene or {"width": 0, "height": 0, "period": 0}
     return {
-        "name": name, "width": scene["width"], "height": scene["height"], "period": scene["period"],
+        "name": name, "width": course.scene["width"], "height": course.scene["height"],
         "isLive": course.is_live, "fault": course.fault, "isWhole": any(record.tag == "DONE" for record in course.records),
         "pictures": {number: picture._asdict() for number, picture in course.declarations.pictures.items()},
         "layers": layers.items, "drawn": drawn.items, "moments": moments,

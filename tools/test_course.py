@@ -1,0 +1,351 @@
+"""Tests of a run followed from vsync to vsync: its transactions, its layer tree, what waits, and its queues."""
+
+import os
+import subprocess
+import unittest
+
+import run
+from arrivals import Operation
+from course import Course, NoCourse
+from holds import Seen, why_held
+from layer_tree import Content, Tree, intersection, product
+from pictures import rows_of
+from slots import Slots, changes_of
+from stream import FORMS, PIXELS, U32, Rows, read
+from test_records import NO_SLOT
+
+PROGRAM = run.built(run.TOP)
+
+
+def scene(name):
+    with open(os.path.join(run.TOP, "scenes", name), "rb") as file:
+        return file.read()
+
+
+def encoded_number(text, size):
+    return int(text).to_bytes(size, "big")
+
+
+def encoded_pixels(words):
+    return b"".join(int(count) * bytes.fromhex(colour) for count, colour in (word.split("*") for word in words))
+
+
+def encoded(line):
+    """The record of a line as `records.py lines` writes it."""
+    head, *entries = line.split(" | ")
+    tag, *words = head.split()
+    body = b""
+    for _, form in FORMS[tag]:
+        if form == PIXELS:
+            body += encoded_pixels(words)
+        elif not isinstance(form, Rows):
+            body += encoded_number(words.pop(0), form)
+        else:
+            rows = [word.split("=") for word in words] if tag in ("REPL", "VSYN") else [entry.split() for entry in entries]
+            body += encoded_number(len(rows), U32)
+            body += b"".join(encoded_number(*pair) for row in rows for pair in zip(row, form.columns))
+    return tag.encode() + encoded_number(len(body), U32) + body
+
+
+def stream(*parts):
+    """The bytes of the records of lines, each part one line or several."""
+    return b"".join(encoded(line) for part in parts for line in part.strip().splitlines())
+
+
+def course(data, script):
+    records, _ = read(data)
+    return Course(records, script)
+
+
+# The runs of two scenes.
+HELD = stream(
+    "SCEN 1 96 64 16666667\nREPL 1 1 0\nREPL 1 2 0 0 1 1\nREPL 1 3 0 0 1 96 64\nREPL 1 4 0\nREPL 1 5 0 0 1\nREPL 1 6 0 0 1 1 0 1 5",
+    *(f"REPL 1 {step} 0" for step in (7, 8, 9)), "REPL 1 10 0 1", *(f"REPL 1 {step} 0" for step in range(11, 16)), "REPL 1 16 0 2",
+    *(f"REPL 2 {step} 0" for step in range(1, 6)), "REPL 2 6 0 3",
+    "VSYN 1 16666667 1=0\nCOMM 2 3 0 0\nFRAM 1 5568*000000ff 576*20c020ff\nREPL 3 1 0",
+    "VSYN 2 33333334 1=5\nCOMM 1 1 0 0 | 1 1 1 1 0 0 96 64\nCOMM 1 2 0 0",
+    f"FRAM 2 576*c02020ff 976*304878ff {'32*f0d060ff 64*304878ff ' * 31}32*f0d060ff 1008*304878ff 576*20c020ff",
+    "ARRV | 1 10 1 | 1 16 1 | 2 6 2\nHIST 1 | 1 1 1 0 4294967295 0 | 1 2 5 0 0 0 | 1 3 6 0 0 0 | 1 5 7 0 0 1 | 1 6 13 0 0 1\nHOLD\nSTUK\nDONE")
+REJECTED = stream(
+    "SCEN 1 64 48 16666667\nREPL 1 1 0\nREPL 1 2 0\nREPL 1 3 0\nREPL 1 4 0 1\nVSYN 1 16666667\nCOMM 1 1 0 0\nFRAM 1 3072*ff0000ff",
+    "REPL 1 5 0\nREPL 1 6 0\nREPL 1 7 0\nREPL 1 8 0 2\nVSYN 2 33333334\nCOMM 1 2 1 2\nARRV | 1 4 1 | 1 8 1\nHOLD\nSTUK\nDONE")
+
+
+def painted(drawn, pictures, width, height):
+    """What a display shows of layers, one pixel after another, as docs/SCRIPT.md says it."""
+    def pixel_of(layer, x, y):
+        if layer.content is None:
+            return bytes.fromhex(layer.colour)
+        picture = pictures[layer.content.picture]
+        column, row = x - layer.place[0] + layer.content.crop[0], y - layer.place[1] + layer.content.crop[1]
+        covering = [colour for left, top, wide, high, colour in picture.fills if left <= column < left + wide and top <= row < top + high]
+        return bytes.fromhex(covering[-1] if covering else "00000000")
+
+    rows = [[[0, 0, 0, 255] for _ in range(width)] for _ in range(height)]
+    known = {}
+    for layer in drawn:
+        left, top, wide, high = layer.clip
+        for y in range(top, top + high):
+            for x in range(left, left + wide):
+                red, green, blue, alpha = known.get((layer, x, y)) or known.setdefault((layer, x, y), pixel_of(layer, x, y))
+                own, under = (red, green, blue, 255 if layer.opaque else alpha), rows[y][x]
+                cover = product(own[3], layer.alpha)
+                rows[y][x] = [min(255, product(one, layer.alpha) + product(below, 255 - cover)) for one, below in zip(own, under)]
+    return b"".join(bytes(pixel) for row in rows for pixel in row)
+
+
+class Held(unittest.TestCase):
+    """The run of scenes/held.sf."""
+
+    @classmethod
+    def setUpClass(cls):
+        cls.course = course(HELD, scene("held.sf"))
+        cls.first, cls.second, cls.end = cls.course.moments
+
+    def test_moments(self):
+        self.assertEqual([(moment.number, moment.time, moment.frame, moment.is_new) for moment in self.course.moments],
+                         [(1, 16666667, 0, True), (2, 33333334, 1, True), (None, None, 1, False)])
+        self.assertEqual((self.course.fault, self.course.is_live), (None, False))
+
+    def test_what_waits_and_why(self):
+        fence, behind = self.first.held
+        self.assertEqual(fence[:2], (1, "Fence"))
+        self.assertIn("timeline 1 has not reached 5, it is at 0", fence.text)
+        self.assertIn("it is raised by actor 3 step 1 (line 37: signal 1 5)", fence.text)
+        self.assertEqual(behind, (2, "Behind", "it is behind arrival 1 of its token"))
+        self.assertEqual((self.second.held, self.end.held), ([], []))
+
+    def test_commits(self):
+        self.assertEqual([[commit.arrival for commit in moment.commits] for moment in self.course.moments], [[3], [1, 2], []])
+
+    def test_operations_are_the_lines_of_their_steps(self):
+        arrival = self.course.reader.arrivals[2]
+        lines = [self.course.script.step(operation.actor, operation.step).text() for operation in arrival.operations]
+        self.assertEqual(lines, ["set 1 2 create colour 0", "set 1 2 colour c02020ff", "set 1 2 crop 0 0 96 6", "set 1 2 z 2"])
+        self.assertEqual(self.course.reader.arrivals[1].frames(), [(1, (1, 1))])
+
+    def test_layers(self):
+        self.assertEqual([(layer.number, depth) for layer, depth in self.second.outline], [(2, 0), (3, 0), (1, 0)])
+        self.assertEqual([(drawn.layer, drawn.clip) for drawn in self.second.drawn], [(1, (0, 0, 96, 64)), (3, (0, 58, 96, 6)), (2, (0, 0, 96, 6))])
+        self.assertEqual(self.second.drawn[0].content, Content(1, 1, 1, (0, 0, 96, 64), "i"))
+
+    def test_the_frames_are_those_of_the_layers(self):
+        for moment in (self.first, self.second):
+            pixels = painted(moment.drawn, self.course.declarations.pictures, 96, 64)
+            self.assertEqual(rows_of(pixels, 96), rows_of(self.course.frames[moment.frame], 96))
+
+    def test_slots(self):
+        (queue,) = self.course.queues
+        self.assertEqual(queue.changes, [[1, 0, "dequeued", 0], [3, 0, "queued", 1], [4, 0, "acquired", 1]])
+        self.assertEqual(queue.moments, [0] * 5)
+
+
+class Other(unittest.TestCase):
+    def test_a_rejected_transaction_changes_nothing(self):
+        rejected = course(REJECTED, scene("whole-or-nothing.sf"))
+        first, second, _ = rejected.moments
+        self.assertEqual(second.commits, [(2, 1, 2, "the layer, or the parent or relative that it names, is not there")])
+        self.assertEqual((second.outline, second.drawn, second.is_new), (first.outline, first.drawn, False))
+
+    def test_another_script_or_no_run_is_told(self):
+        for data, name in ((HELD, "phone.sf"), (HELD, "red.sf"), (stream("SFLT 1 1 2"), "held.sf")):
+            with self.assertRaises(NoCourse, msg=name):
+                course(data, scene(name))
+
+    def test_a_stream_that_is_cut_off_is_followed_as_far_as_it_goes(self):
+        cut = course(HELD[:HELD.index(b"ARRV")], scene("held.sf"))
+        self.assertEqual([moment.number for moment in cut.moments], [1, 2, None])
+        self.assertEqual(cut.moments[1].drawn, course(HELD, scene("held.sf")).moments[1].drawn)
+
+    def test_a_live_run_tells_its_replies_behind_its_vsyncs(self):
+        records, _ = read(HELD)
+        replies = [record for record in records if record.tag == "REPL"]
+        head, middle, tail = records[:1], [record for record in records[1:] if record.tag in ("VSYN", "COMM", "FRAM")], records[-5:]
+        live = Course(head + middle + replies + tail, scene("held.sf"))
+        self.assertTrue(live.is_live)
+        self.assertEqual([moment.drawn for moment in live.moments], [moment.drawn for moment in course(HELD, scene("held.sf")).moments])
+        self.assertEqual(live.moments[0].held, [])
+
+    def test_operations_that_do_not_fit_are_told_and_the_rest_goes_on(self):
+        missing = HELD.replace(stream("COMM 2 3 0 0"), stream("COMM 2 7 0 0"))
+        broken = course(missing, scene("held.sf"))
+        self.assertEqual(broken.fault, "the records do not tell the operations of arrival 7")
+        self.assertEqual([moment.drawn for moment in broken.moments], [None, None, None])
+        self.assertEqual(len(broken.frames), 2)
+
+    def test_who_waits_is_told_at_each_vsync(self):
+        script = (b"scene 1 2 1 1000000\ntimeline 1\nactor 1\nwait 1 5\ntx 1\napply 1 token 1\nactor 2\ntx 1\nset 1 1 create colour 0\napply 1 token 1\n"
+                  b"signal 1 3\ntx 1\napply 1 token 1\nend\n")
+        data = stream("SCEN 1 2 1 1000000\nREPL 2 1 0\nREPL 2 2 0\nREPL 2 3 0 1\nVSYN 1 1000000 1=0\nCOMM 1 1 0 0\nFRAM 1 2*000000ff\nREPL 2 4 0\nREPL 2 5 0",
+                      "REPL 2 6 0 2\nVSYN 2 2000000 1=3\nCOMM 1 2 0 0\nFRAM 2 2*000000ff\nARRV | 2 3 1 | 2 6 1\nHOLD\nSTUK | 1 1\nDONE")
+        waiting = [moment.next for moment in course(data, script).moments]
+        self.assertEqual(waiting, [[(1, 1, f"timeline 1 has not reached 5, it is at {value}")] for value in (0, 3, 3)])
+
+
+class Merging(unittest.TestCase):
+    """What a transaction has, by its steps."""
+
+    def arrival(self, *steps):
+        lines = [b"scene 1 2 1 1000000", b"actor 1", *[step.encode() for step in steps], b"end"]
+        replies = "\n".join(f"REPL 1 {number} 0" + (" 1" if step.startswith("apply") else "") for number, step in enumerate(steps, 1))
+        return course(stream("SCEN 1 2 1 1000000", replies, "DONE"), b"\n".join(lines)).reader.arrivals[1]
+
+    def changes(self, arrival):
+        return [(operation.layer, " ".join(operation.change)) for operation in arrival.operations]
+
+    def test_a_change_takes_the_place_of_an_earlier_one_of_its_kind(self):
+        arrival = self.arrival("tx 1", "set 1 1 z 1", "set 1 2 z 2", "set 1 1 crop 0 0 1 1", "set 1 1 relative 2 5", "set 1 1 crop none", "apply 1 token 1")
+        self.assertEqual(self.changes(arrival), [(2, "z 2"), (1, "relative 2 5"), (1, "crop none")])
+
+    def test_creating_and_destroying_take_no_place(self):
+        arrival = self.arrival("tx 1", "set 1 1 create colour 0", "set 1 1 z 1", "set 1 1 destroy", "set 1 1 create colour 0", "set 1 1 z 2", "apply 1 token 1")
+        self.assertEqual(self.changes(arrival), [(1, "create colour 0"), (1, "destroy"), (1, "create colour 0"), (1, "z 2")])
+
+    def test_a_merge_puts_operations_behind_and_keeps_the_later_time(self):
+        arrival = self.arrival("tx 1", "tx 02", "set 1 1 z 1", "desire 1 7", "barrier 1 1 3", "set 2 1 z 4", "desire 2 9", "desire 2 5", "barrier 2 2 4",
+                               "merge 1 2", "apply 1 token 1")
+        self.assertEqual(self.changes(arrival), [(1, "z 4")])
+        self.assertEqual((arrival.desired, [barrier[:2] for barrier in arrival.barriers]), (7, [(1, 3), (2, 4)]))
+
+    def test_a_step_that_was_refused_changes_nothing(self):
+        script = b"scene 1 2 1 1000000\nactor 1\ntx 1\nset 1 1 z 1\nset 1 1 z 2\napply 1 token 1\nend\n"
+        data = stream("SCEN 1 2 1 1000000\nREPL 1 1 0\nREPL 1 2 0\nREPL 1 3 15\nREPL 1 4 0 1\nDONE")
+        self.assertEqual(self.changes(course(data, script).reader.arrivals[1]), [(1, "z 1")])
+
+
+class Trees(unittest.TestCase):
+    def tree(self, *changes):
+        tree = Tree()
+        for number, change in changes:
+            tree.apply(Operation(number, tuple(change.split()), None, 1, 1), None)
+        return tree
+
+    def order(self, *changes):
+        return [layer.number for layer in self.tree(*changes).draw_order()]
+
+    def test_by_z_and_then_by_age(self):
+        self.assertEqual(self.order((1, "create colour 0"), (2, "create colour 0"), (3, "create colour 0"), (1, "z 1"), (3, "z -1")), [3, 2, 1])
+
+    def test_children_below_zero_are_behind_their_parent(self):
+        self.assertEqual(self.order((1, "create colour 0"), (2, "create colour 1"), (3, "create colour 1"), (3, "z -1"), (4, "create colour 0")), [3, 1, 2, 4])
+
+    def test_a_relative_is_drawn_with_what_it_is_relative_to(self):
+        changes = (1, "create colour 0"), (2, "create colour 0"), (3, "create colour 1"), (3, "relative 2 -1")
+        self.assertEqual(self.order(*changes), [1, 3, 2])
+        self.assertEqual(self.order(*changes, (3, "z 0")), [1, 3, 2])
+        self.assertEqual(self.order(*changes, (2, "hidden 1")), [1])
+
+    def test_what_hidden_and_lost_layers_hide(self):
+        changes = (1, "create container 0"), (2, "create colour 1"), (3, "create colour 2"), (4, "create colour none")
+        self.assertEqual(self.order(*changes), [1, 2, 3])
+        self.assertEqual(self.order(*changes, (1, "hidden 1")), [])
+        self.assertEqual(self.order(*changes, (2, "reparent none")), [1])
+        self.assertEqual(self.order(*changes, (4, "reparent 3")), [1, 2, 3, 4])
+
+    def test_what_a_destroyed_layer_leaves(self):
+        tree = self.tree((1, "create container 0"), (2, "create colour 1"), (3, "create colour 0"), (3, "relative 1 4"), (1, "destroy"))
+        self.assertEqual((tree.layers[2].parent, tree.layers[3].relative, tree.layers[3].z), (None, None, 4))
+        self.assertEqual([layer.number for layer in tree.draw_order()], [3])
+
+    def test_place_crop_and_alpha_come_from_the_parents(self):
+        tree = self.tree((1, "create container 0"), (1, "position 10 20"), (1, "crop 0 0 30 30"), (1, "alpha 128"),
+                         (2, "create colour 1"), (2, "position -5 5"), (2, "crop 0 0 100 10"), (2, "alpha 128"))
+        (drawn,) = tree.drawn(64, 48)
+        self.assertEqual((drawn.place, drawn.clip, drawn.alpha), ((5, 25), (10, 25, 30, 10), 64))
+
+    def test_what_has_nothing_to_show_is_not_drawn(self):
+        self.assertEqual(self.tree((1, "create container 0"), (2, "create buffer 0")).drawn(8, 8), [])
+
+    def test_rectangles_without_a_point_in_common(self):
+        self.assertEqual(intersection((0, 0, 4, 4), (6, 1, 2, 2))[2:], (0, 2))
+
+    def test_products_are_rounded(self):
+        self.assertEqual([product(a, b) for a, b in ((255, 255), (255, 7), (128, 128), (1, 127), (1, 128))], [255, 7, 64, 0, 1])
+
+
+class Holds(unittest.TestCase):
+    def test_each_hold_in_its_order(self):
+        script = (b"scene 1 2 1 1000000\ntimeline 1\nqueue 1 2 1\npicture 1 2 1\nactor 1\nconnect 1\ndequeue 1 as a\nrequest a\nqueue a 1 fence 1 4\nacquire 1 as b\n"
+                  b"tx 1\nbuffer 1 5 b\nbarrier 1 6 3\napply 1 token 1\nend\n")
+        data = stream("SCEN 1 2 1 1000000\nREPL 1 1 0\nREPL 1 2 0 0 1 1\nREPL 1 3 0 0 1 2 1\nREPL 1 4 0 0 1\nREPL 1 5 0 0 1 1 0 1 4\nREPL 1 6 0\nREPL 1 7 0",
+                      "REPL 1 8 0\nREPL 1 9 0 1\nDONE")
+        reader = course(data, script).reader
+        arrival, queued = reader.arrivals[1], reader.frames[1, 1]
+        layers = Tree()
+        layers.apply(Operation(5, ("create", "buffer", "0"), None, 1, 1), None)
+        layers.apply(Operation(5, ("backpressure", "1"), None, 1, 1), None)
+
+        def hold(time=10, first=1, reached=0, drawn=None, shown=None, latched=(), desired=None):
+            queued.drawn = drawn
+            seen = Seen(time, {1: reached}, reader.frames, 0, shown or {}, layers.layers, set(latched), {1: first})
+            return why_held(arrival._replace(desired=desired), seen)
+
+        self.assertEqual(hold(first=9), (1, 0, 0))
+        self.assertEqual(hold(desired=1_000_000_010), (2, 1_000_000_010, 0))
+        self.assertEqual(hold(desired=1_000_000_011), (3, 1, 4))
+        self.assertEqual(hold(desired=10), (3, 1, 4))
+        self.assertEqual(hold(reached=4), (4, 1, 1))
+        self.assertEqual(hold(reached=4, drawn=0), (5, 6, 3))
+        self.assertEqual(hold(reached=4, drawn=0, shown={6: 2}), (5, 6, 3))
+        self.assertEqual(hold(reached=4, drawn=0, shown={6: 3}, latched=[5]), (6, 5, 0))
+        self.assertEqual(hold(reached=4, drawn=0, shown={6: 3}, latched=[5], desired=1), None)
+        self.assertEqual(hold(reached=4, drawn=0, shown={6: 3}), None)
+
+
+class QueueSlots(unittest.TestCase):
+    def changes(self, calls, words=None, dropped=0):
+        slots = Slots(lambda caller, step: (words or {})[step], lambda caller, step: dropped)
+        return list(changes_of([(1, step, kind, status, slot, frame) for step, (kind, status, slot, frame) in enumerate(calls, 1)], slots)), slots
+
+    def test_a_frame_that_takes_anothers_place_frees_its_slot(self):
+        changes, slots = self.changes([(4, 0, NO_SLOT, 0), (5, 0, 0, 0), (7, 0, 0, 1), (5, 0, 1, 0), (7, 0, 1, 2)], {1: 1})
+        self.assertEqual(changes, [[1, 0, "dequeued", 0], [2, 0, "queued", 1], [3, 1, "dequeued", 0], [4, 0, "free", 0], [4, 1, "queued", 2]])
+        self.assertEqual((slots.usable(), slots.has_free()), (3, True))
+
+    def test_frames_that_an_acquire_drops_free_their_slots(self):
+        changes, _ = self.changes([(7, 0, 0, 1), (7, 0, 1, 2), (13, 0, 1, 2)], dropped=1)
+        self.assertEqual(changes[2:], [[2, 0, "free", 0], [2, 1, "acquired", 2]])
+
+    def test_refused_calls_change_nothing(self):
+        self.assertEqual(self.changes([(5, 13, 0, 0), (7, 11, 0, 1)])[0], [])
+
+    def test_a_disconnect_frees_what_was_lent_and_abandoning_all(self):
+        calls = [(5, 0, 0, 0), (7, 0, 1, 1), (2, 0, NO_SLOT, 0), (12, 0, NO_SLOT, 0)]
+        self.assertEqual(self.changes(calls)[0][2:], [[2, 0, "free", 0], [3, 1, "free", 0]])
+
+
+@unittest.skipUnless(PROGRAM, "sf_main is not built")
+class Played(unittest.TestCase):
+    """Runs of the program: the layers that are rebuilt show the frames that it wrote."""
+
+    def played(self, script, *words):
+        data = subprocess.run([PROGRAM, *words], input=script, stdout=subprocess.PIPE, timeout=60).stdout
+        return course(data, script)
+
+    def assert_painted(self, followed):
+        self.assertIsNone(followed.fault)
+        size = followed.scene["width"], followed.scene["height"]
+        for moment in followed.moments:
+            if moment.is_new:
+                pixels = painted(moment.drawn, followed.declarations.pictures, *size)
+                self.assertTrue(pixels == followed.frames[moment.frame], f"vsync {moment.number}")
+
+    def test_the_frames_of_small_scenes(self):
+        for name in ("windows.sf", "glass.sf", "late.sf", "sizes.sf", "refusals.sf", "panes.sf", "picture.sf"):
+            with self.subTest(name=name):
+                self.assert_painted(self.played(scene(name)))
+
+    def test_the_frames_of_a_live_run(self):
+        for name in ("windows.sf", "late.sf"):
+            with self.subTest(name=name):
+                self.assert_painted(self.played(scene(name), "--run", "live"))
+
+    def test_each_transaction_that_is_left_at_a_vsync_has_its_reason(self):
+        for name in ("held.sf", "late.sf", "camera.sf", "stuck.sf", "windows.sf"):
+            for moment in self.played(scene(name)).moments:
+                for hold in moment.held:
+                    self.assertTrue(hold.name, f"{name}: {hold}")
+
+
+if __name__ == "__main__":
+    unittest.main()
