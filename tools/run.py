@@ -15,14 +15,16 @@ folder crates/. The folder gets
 in the place of those that an earlier run left there.
 
 What the run comes to is told on standard output, with what waits and who is stuck, and why. The fault
-of a script that is no scene is shown at its place, on standard error; so is how far the program is,
-while it builds and plays: the time, the steps, vsyncs and frames so far, and their bytes.
+of a script that is no scene is shown at its place, on standard error. While it builds and plays, one
+line there says what it does and for how long, of about how long: each second in its place on a terminal,
+else every 15 seconds.
 
 The program that `rt run` built in crates/sf_main is used where no source is newer than it. Where there
-is none, the program is compiled and run as it stands, by `rt try`: that takes less than a minute, and
-no proof is asked for. Such a run may write at most 1 MiB of records, which all come at its end. With
---proved the program is proved and built first by `rt run`, the first time for long, later only what
-changed. What was built has no such limit.
+is none, a smaller program, which plays in turns and does nothing else, is made of the crates in a
+temporary folder, compiled as it stands and run, by `rt try`: that takes about a minute, and no proof is
+asked for. Such a run may write at most 1 MiB of records, which all come at its end. With --proved the
+program is proved and built first by `rt run`, the first time for long, later only what changed. What
+was built has no such limit.
 
 status: that of the program (0 played, 2 the script is no scene), or 1 where there is no answer, 2
 where words are wrong or a file cannot be read or written, or 130 where it was interrupted.
@@ -33,7 +35,10 @@ import json
 import os
 import re
 import sys
+import tempfile
+from typing import NamedTuple
 
+import small_program
 from course import NoCourse
 from explaining import explained
 from pictures import write_frames
@@ -42,7 +47,7 @@ from stream import faults, read
 from summing import summed
 from timeline import trace
 from viewing import view_page
-from waiting import EACH, awaited
+from waiting import EACH, Stages, awaited
 from wording import sentence
 
 TOP = os.path.dirname(os.path.dirname(os.path.abspath(__file__)))
@@ -54,11 +59,24 @@ INTERRUPTED = 130
 # What a run leaves in its folder.
 LEFT = ("records.bin", "dump.txt", "trace.json", "view.html")
 FRAME = re.compile(r"frame-[0-9]+\.png")
-UNPROVED, PROVED = ["rt", "try"], ["rt", "run"]
-DOES = {
-    "try": "compiles and plays it as it stands, without any proof (half a minute to a minute)",
-    "run": "proves what is not proved yet, builds and plays it",
-}
+# What `rt try` does, and about how long on four idle processors at 2.5 GHz. Its first run is on an interpreter, which cannot
+# read standard input: one step of it is enough.
+UNPROVED = ["rt", "try", "--steps", "1"]
+COMPILERS, LOADED = ("clang", "ld.lld"), ("ld-linux-x86-64", "program")
+TRIES = ("checks types and borrows, without any proof", (), 38), ("compiles", COMPILERS, 22), ("plays", LOADED, 3)
+TRIES_WHOLE = ("checks types and borrows, without any proof", (), 65), ("compiles", COMPILERS, 42), ("plays", LOADED, 3)
+NO_INTERPRETER = "interpreter: no-answer:"
+# The status of `rt try` where a crate is refused.
+REFUSED = 1
+
+
+class Way(NamedTuple):
+    """A way to play a scene: a command and the folder that it is called in, what it does, and its stages."""
+
+    command: list
+    folder: str
+    does: str
+    stages: Stages
 
 
 def complain(text):
@@ -90,13 +108,27 @@ def built(top):
         return None
 
 
-def command_for(proved, top):
-    """The command that plays a scene, and what it does first."""
-    program = None if proved else built(top)
-    if program:
-        return [program], f"{os.path.relpath(program)} plays it"
-    command = PROVED if proved else UNPROVED
-    return command, DOES[command[1]]
+def way_of_program(program, top):
+    """Plays by a program that stands built."""
+    return Way([program], os.path.join(top, FOLDER_OF_PROGRAM), f"{os.path.relpath(program)} plays it", Stages(("plays", (), None)))
+
+
+def way_of_proof(top):
+    """Proves and builds the program first."""
+    stages = Stages(("proves, builds and plays", (), None))
+    return Way(["rt", "run"], os.path.join(top, FOLDER_OF_PROGRAM), "proves what is not proved yet, builds and plays it", stages)
+
+
+def way_of_small_program(top, folder):
+    """Compiles a smaller program as it stands."""
+    does = "compiles a program that plays it as it stands, without any proof (about a minute)"
+    return Way(UNPROVED, small_program.make(top, folder), does, Stages(*TRIES))
+
+
+def way_of_whole_program(top):
+    """Compiles the program as it stands."""
+    does = "compiles the whole program as it stands, without any proof (about two minutes)"
+    return Way(UNPROVED, os.path.join(top, FOLDER_OF_PROGRAM), does, Stages(*TRIES_WHOLE))
 
 
 class Progress:
@@ -111,20 +143,47 @@ class Progress:
         self.open = self.on_terminal
         self.out.flush()
 
+    def say(self, line):
+        """Passes on what the command says, but that it was not interpreted."""
+        if not line.startswith(NO_INTERPRETER):
+            self.end()
+            self.out.write(line)
+            self.out.flush()
+
     def end(self):
         if self.open:
             self.out.write("\n")
         self.open = False
 
 
-def play(command, top, scene, records):
+def play(way, scene, records):
     """The status of a command that plays a scene; its records go into a file. What `rt` says goes on to standard error."""
+    print(f"{os.path.relpath(scene)}: {way.does}", file=sys.stderr, flush=True)
     progress = Progress(sys.stderr)
     try:
         with open(scene, "rb") as script, open(records, "wb") as sink:
-            return awaited(command, os.path.join(top, FOLDER_OF_PROGRAM), script, sink, progress.tell, progress.each)
+            return awaited(way.command, way.folder, script, sink, progress.tell, progress.say, way.stages, progress.each)
     finally:
         progress.end()
+
+
+def play_unproved(scene, records, top):
+    """Plays a scene by the smaller program, or by the whole one where the smaller one is refused; the command and its status."""
+    with tempfile.TemporaryDirectory(prefix="surbeldoi-") as folder:
+        status = play(way_of_small_program(top, folder), scene, records)
+    if status == REFUSED and not os.path.getsize(records):
+        complain("the smaller program is refused, since the crates are not as it needs them")
+        status = play(way_of_whole_program(top), scene, records)
+    return UNPROVED, status
+
+
+def play_somehow(proved, scene, records, top):
+    """Plays a scene by what there is; the command and its status."""
+    program = None if proved else built(top)
+    if not program and not proved:
+        return play_unproved(scene, records, top)
+    way = way_of_program(program, top) if program else way_of_proof(top)
+    return way.command, play(way, scene, records)
 
 
 def clear(folder):
@@ -173,11 +232,9 @@ def leave(records, scene, folder):
 
 def run(proved, scene, folder, top=TOP):
     with open(scene, "rb"):
-        command, does = command_for(proved, top)
-    print(f"{os.path.relpath(scene)}: {does}", file=sys.stderr, flush=True)
-    clear(folder)
+        clear(folder)
     path = os.path.join(folder, "records.bin")
-    status = play(command, top, scene, path)
+    command, status = play_somehow(proved, scene, path, top)
     records, of_stream = read(contents(path))
     if status not in WHOLE or not records:
         complain(f"{' '.join(command)} ended with status {status} and gave no whole run; what came stands in {os.path.relpath(path)}")

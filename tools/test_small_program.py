@@ -1,0 +1,66 @@
+"""Tests of the smaller program that is compiled for a first look."""
+
+import os
+import re
+import tempfile
+import unittest
+
+import run
+import small_program
+
+
+class Made(unittest.TestCase):
+    """The program that is made of the crates as they stand."""
+
+    @classmethod
+    def setUpClass(cls):
+        folder = tempfile.TemporaryDirectory()
+        cls.addClassCleanup(folder.cleanup)
+        cls.folder = folder.name
+        cls.crate = small_program.make(run.TOP, cls.folder)
+        with open(os.path.join(cls.folder, "crates.txt"), encoding="utf-8") as file:
+            cls.lines = small_program.listed_crates(file.read())
+
+    def contents(self, *names):
+        with open(os.path.join(self.folder, *names), encoding="utf-8") as file:
+            return file.read()
+
+    def test_each_crate_that_is_used_is_there_and_no_other(self):
+        for crate, (_, uses) in self.lines.items():
+            self.assertTrue(os.path.isdir(os.path.join(self.folder, "crates", crate, "src")), crate)
+            for used in uses:
+                self.assertTrue(used in self.lines or not used.startswith("sf_"), f"{crate}: {used}")
+        self.assertEqual(sorted(os.listdir(os.path.join(self.folder, "crates"))), sorted(self.lines))
+
+    def test_it_is_smaller(self):
+        with open(os.path.join(run.TOP, "crates.txt"), encoding="utf-8") as file:
+            whole = small_program.below(["sf_main"], small_program.listed_crates(file.read()))
+        self.assertLess(len(self.lines), len(whole))
+        for crate in ("sf_live", "sf_crew", "sf_options", "sf_generate"):
+            self.assertNotIn(crate, self.lines)
+            self.assertIn(crate, whole)
+
+    def test_each_module_is_there_and_what_it_uses_is_named(self):
+        main = self.contents("crates", small_program.NAME, "src", "main.rt")
+        modules = re.findall(r"^mod (\w+);", main, re.M)
+        self.assertEqual(sorted(modules), ["play", "script"])
+        for module in modules:
+            text = self.contents("crates", small_program.NAME, "src", module + ".rt")
+            for name in re.findall(r"^use %s::(?:\{([^}]*)\}|(\w+));" % module, main, re.M):
+                for item in "".join(name).split(", "):
+                    self.assertIn(f"pub fn {item}", text)
+            for crate in re.findall(r"^use (sf_\w+)", text, re.M):
+                self.assertIn(crate, self.lines[small_program.NAME][1])
+
+    def test_sources_are_copied_as_they_stand_without_proofs(self):
+        for name in ("play.rt", "script.rt"):
+            with open(os.path.join(run.TOP, "crates", "sf_app", "src", name), encoding="utf-8") as file:
+                self.assertEqual(self.contents("crates", small_program.NAME, "src", name), file.read())
+        self.assertEqual(os.listdir(os.path.join(self.folder, "crates", "sf_show")), ["src"])
+
+    def test_what_may_wait_stays_behind_a_crates_name(self):
+        self.assertEqual(small_program.listed_crates("# all\na may_wait=3: b c # two\nb:\n"), {"a": ("a may_wait=3", ["b", "c"]), "b": ("b", [])})
+
+
+if __name__ == "__main__":
+    unittest.main()
