@@ -19,6 +19,11 @@
     records.py explain SCRIPT [FILE]
                                     the fault of a script that is no scene: its line, the word, the cause,
                                     and what would be right there; or that it has none
+    records.py check --script SCRIPT [--play] [--live] [FILE]
+                                    whether the records mean what the scene of the script allows
+                                    (docs/MEANING.md), by these two alone; else the first part that does not
+                                    hold, the record, and why. --play asks besides for the records of the
+                                    play, --live for the replies of a live run behind its last vsync
     records.py --help               this page
 
 FILE is standard input if it is not given. The layout of records is in docs/RECORDS.md. Only Python's
@@ -27,6 +32,8 @@ standard library is needed.
 status: 0 the stream is right, and for explain the script has no fault; 1 something is wrong with the
 stream (what can be read is told, and what is wrong stands on standard error), or the reader of the
 output went away; 2 wrong words, or a file cannot be read or written; 3 explain has shown a fault.
+For check: 0 the records are accepted; 1 they are refused; 2 the script is no scene that is played, the
+stream has no records of a run, words are wrong, or a file cannot be read.
 """
 
 import json
@@ -34,17 +41,20 @@ import os
 import sys
 
 from animation import NoFrames, apng, frames_of, y4m
+from checking import NoRun, checked
 from course import NoCourse
 from explaining import explained
 from pictures import write_frames
+from scenes import NoScene
 from scripts import read_script
 from stream import LAST, faults, read
 from summing import summed
 from timeline import trace
+from told import Refused
 from viewing import view_page
 from wording import plain, sentence
 
-COMMANDS = ("dump", "lines", "png", "apng", "y4m", "trace", "summary", "view", "explain")
+COMMANDS = ("dump", "lines", "png", "apng", "y4m", "trace", "summary", "view", "explain", "check")
 # Commands with a path of their own before the file: a folder or a picture to write, or a script to look into.
 WITH_PATH = ("png", "apng", "explain")
 # The option that a command may have, with its value.
@@ -162,16 +172,43 @@ def run(command, path, option, name):
     return FAULT_SHOWN if command == "explain" and script_fault(records) is not None else 0
 
 
+def check_arguments(words):
+    """The script, what is asked besides, and the file, or None where the words are wrong."""
+    if len(words) < 2 or words[0] != "--script":
+        return None
+    script, names, asked = words[1], words[2:], []
+    while names and names[0] in ("--play", "--live"):
+        asked.append(names.pop(0))
+    if len(set(asked)) < len(asked) or len(names) > 1:
+        return None
+    return script, asked, names[0] if names else None
+
+
+def check(script, asked, name):
+    """Says whether records mean what the scene of a script allows."""
+    try:
+        found = checked(contents(script), *read(contents(name)), "--play" in asked, "--live" in asked)
+    except (NoScene, NoRun) as fault:
+        complain(fault)
+        return 2
+    except Refused as refused:
+        print(f"refused: {refused}")
+        return 1
+    print(f"accepted: {found}")
+    return 0
+
+
 def main(words):
     if words in (["--help"], ["-h"]):
         print(__doc__.strip())
         return 0
-    parsed = arguments(words)
+    is_check = words[:1] == ["check"]
+    parsed = check_arguments(words[1:]) if is_check else arguments(words)
     if parsed is None:
         print(__doc__.strip(), file=sys.stderr)
         return 2
     try:
-        return run(*parsed)
+        return check(*parsed) if is_check else run(*parsed)
     except BrokenPipeError:
         # Nobody reads on; what Python still holds back for them goes nowhere.
         os.dup2(os.open(os.devnull, os.O_WRONLY), sys.stdout.fileno())

@@ -1,0 +1,246 @@
+"""A scene: what a script of version 1 declares, and the steps of its actors, as values.
+
+The forms are those of grammar.py. This reads a script by itself, so that a run can be checked without the program
+that played it; where a script is no scene it only says in which line, and sf_main says why.
+"""
+
+import re
+from functools import lru_cache
+from typing import NamedTuple
+
+from grammar import CHANGES, LINES, STEPS, parts_of
+from scripts import lines_of, texts_of
+
+MOST_BYTES, MOST_STEPS, MOST_FILLS, MOST_NAMES = 1_048_576, 4096, 1024, 32
+U32, U64 = (1 << 32) - 1, (1 << 64) - 1
+RANGES = {
+    "WIDTH": (1, 1024), "HEIGHT": (1, 1024), "PERIOD": (1_000_000, 1_000_000_000), "TIMELINE": (1, 64), "QUEUE": (1, 16),
+    "ACTOR": (1, 16), "PICTURE": (1, 256), "BWIDTH": (1, 512), "BHEIGHT": (1, 512), "X": (0, 511), "Y": (0, 511), "FLAG": (0, 1),
+    "COUNT": (0, U32), "AWIDTH": (0, U32), "AHEIGHT": (0, U32), "VALUE": (0, U64), "FRAME": (0, U64), "TIME": (0, (1 << 63) - 1),
+    "TX": (1, 64), "LAYER": (1, U32), "TOKEN": (1, U32), "Z": (-(1 << 31), (1 << 31) - 1), "PX": (-16384, 16384), "PY": (-16384, 16384),
+    "CWIDTH": (0, 16384), "CHEIGHT": (0, 16384), "ALPHA": (0, 255), "ORIENT": (0, 7), "VERSION": (1, 2),
+}
+SIGNED = ("Z", "PX", "PY")
+NUMBER = re.compile(r"-?[0-9]{1,20}", re.ASCII)
+COLOUR = re.compile(r"[0-9a-fA-F]{8}", re.ASCII)
+NAME = re.compile(r"[A-Za-z][A-Za-z0-9_]{0,15}", re.ASCII)
+PICK = re.compile(r"(v|[0-9]{1,20})(?:\*([0-9]{1,20}))?", re.ASCII)
+RANKS = ("scene", "timeline", "queue", "picture", "actor", "order", "end")
+
+
+class NoScene(Exception):
+    """A script that is no scene, or none that is played; it says why in a sentence."""
+
+
+class Picture(NamedTuple):
+    """A picture: its size, and its fills, each as a corner, a size and a colour of four bytes."""
+
+    width: int
+    height: int
+    fills: list
+
+
+class Step(NamedTuple):
+    """A step: its line, its first word, its numbers and names in order, and its parts in brackets by their first words."""
+
+    line: int
+    verb: str
+    args: tuple
+    more: dict
+
+
+class Scene:
+    """What a script declares, the steps of each actor, and the picks of the order, 0 being the vsync."""
+
+    def __init__(self):
+        self.width = self.height = self.period = 0
+        self.timelines, self.queues, self.pictures, self.actors, self.order = [], {}, {}, {}, []
+
+
+@lru_cache(None)
+def form_parts(form):
+    """The words that a form needs, and its parts in brackets."""
+    words = form.split()
+    needed = next((at for at, word in enumerate(words) if word.startswith("[")), len(words))
+    return words[:needed], parts_of(words[needed:])
+
+
+def number_of(kind, text):
+    """The number that a word of a kind means, or None."""
+    if not NUMBER.fullmatch(text) or text.startswith("-") and kind not in SIGNED:
+        return None
+    low, high = RANGES[kind]
+    return int(text) if low <= int(text) <= high else None
+
+
+def value_of(kind, text):
+    """What a word of a kind means, or None where it is none of this kind. `none` as a parent is -1."""
+    if kind == "NAME":
+        return text if NAME.fullmatch(text) else None
+    if kind == "COLOUR":
+        return bytes.fromhex(text) if COLOUR.fullmatch(text) else None
+    if kind == "PARENT":
+        number = number_of("COUNT", text)
+        return -1 if text == "none" else number
+    return number_of(kind, text)
+
+
+def values_of(kinds, words):
+    """What words mean that stand for these kinds and fixed words, or None where one is wrong."""
+    values = []
+    for kind, word in zip(kinds, words):
+        if kind not in RANGES and kind not in ("NAME", "COLOUR", "PARENT"):
+            if kind != word:
+                return None
+            continue
+        value = value_of(kind, word)
+        if value is None:
+            return None
+        values.append((kind, value))
+    return values
+
+
+def parsed(form, words):
+    """The values of a line of this form with their kinds, and those of its parts in brackets, or None."""
+    needed, parts = form_parts(form)
+    found = values_of(needed, words) if len(words) >= len(needed) else None
+    if found is None:
+        return None
+    more, used = {}, len(needed)
+    while used < len(words):
+        chosen = next((at for at, (part, _) in enumerate(parts) if part[0] == words[used]), None)
+        if chosen is None:
+            return None
+        part, repeats = parts[chosen]
+        values = values_of(part, words[used:used + len(part)]) if used + len(part) <= len(words) else None
+        if values is None:
+            return None
+        more.setdefault(part[0], []).append(values)
+        used, parts = used + len(part), parts[chosen if repeats else chosen + 1:]
+    return found, more
+
+
+FORMS_OF_STEPS = {}
+for a_form in STEPS[:-1] + tuple("set TX LAYER " + change for change in CHANGES):
+    FORMS_OF_STEPS.setdefault(a_form.split()[0], []).append(a_form)
+FORMS_OF_LINES = {form.split()[0]: form for form in LINES}
+
+
+def change_of(form, values):
+    """The change that a `set` line of this form means: its first word and its values."""
+    first, *more = form.split()[3:]
+    if first == "create":
+        return (first, more[0], values[0])
+    if first == "crop":
+        return (first, tuple(values) or None)
+    return (first, *values)
+
+
+class Reader:
+    """Reads a script line by line into a scene."""
+
+    def __init__(self):
+        self.scene, self.rank, self.actor, self.picture, self.names = Scene(), -1, None, None, set()
+        self.declared = {"TIMELINE": self.scene.timelines, "QUEUE": self.scene.queues, "PICTURE": self.scene.pictures}
+
+    def step(self, line, words):
+        """One more step of the actor; false where it is none."""
+        if words[0] == "set" and words[3:4] == ["orient"]:
+            raise NoScene(f"line {line} sets an orientation, which is read and not played yet")
+        for form in FORMS_OF_STEPS[words[0]]:
+            found = parsed(form, words)
+            if found is None:
+                continue
+            return self.add_step(line, form, *found)
+        return False
+
+    def add_step(self, line, form, found, more):
+        every = found + [value for values in more.values() for each in values for value in each]
+        if any(kind in self.declared and value not in self.declared[kind] for kind, value in every):
+            return False
+        names = [value for kind, value in found if kind == "NAME"]
+        given = names[-1:] if " as " in form else []
+        if any(name not in self.names for name in names[:len(names) - len(given)]):
+            return False
+        self.names.update(given)
+        steps, values = self.scene.actors[self.actor], tuple(value for _, value in found)
+        if form.startswith("set "):
+            values = values[:2] + (change_of(form, values[2:]),)
+        parts = {word: [tuple(value for _, value in each) for each in several] for word, several in more.items()}
+        steps.append(Step(line, form.split()[0], values, parts))
+        return len(self.names) <= MOST_NAMES and len(steps) <= MOST_STEPS
+
+    def declare(self, first, values):
+        """A line that declares something; false where its number is declared already."""
+        scene = self.scene
+        if first == "scene":
+            scene.width, scene.height, scene.period = values[1:]
+            return True
+        if first == "fill":
+            if self.picture is None or len(scene.pictures[self.picture].fills) >= MOST_FILLS:
+                return False
+            scene.pictures[self.picture].fills.append(values)
+            return True
+        number = values[0] if values else 0
+        there = {"timeline": scene.timelines, "queue": scene.queues, "picture": scene.pictures, "actor": scene.actors, "end": ()}[first]
+        if number in there:
+            return False
+        if first == "timeline":
+            scene.timelines.append(number)
+        elif first == "queue":
+            scene.queues[number] = values[1:]
+        elif first == "picture":
+            scene.pictures[number], self.picture = Picture(values[1], values[2], []), number
+        elif first == "actor":
+            scene.actors[number], self.actor, self.names = [], number, set()
+        return True
+
+    def picks(self, words):
+        """The picks of a line of the order; false where one is none."""
+        for word in words:
+            found = PICK.fullmatch(word)
+            if not found:
+                return False
+            actor, times = 0 if found[1] == "v" else int(found[1]), int(found[2] or 1)
+            if not 1 <= times <= 256 or actor not in self.scene.actors and found[1] != "v":
+                return False
+            self.scene.order.append((actor, times))
+        return bool(words)
+
+    def add(self, line, words):
+        """One more line; false where it is none of a scene at its place."""
+        first = words[0]
+        if self.rank == 6 or (self.rank == -1) != (first == "scene"):
+            return False
+        if self.actor is not None and first in FORMS_OF_STEPS:
+            return self.rank == 4 and self.step(line, words)
+        if first not in FORMS_OF_LINES:
+            return False
+        rank = RANKS.index("picture" if first == "fill" else first)
+        if rank < self.rank:
+            return False
+        self.rank = rank
+        if first == "order":
+            return self.picks(words[1:])
+        found = parsed(FORMS_OF_LINES[first], words)
+        if found is None:
+            return False
+        values = tuple(value for _, value in found[0])
+        if first == "scene" and values[0] == 2:
+            raise NoScene("the script is of version 2, which is read and not played yet")
+        return self.declare(first, values)
+
+
+def read_scene(script):
+    """The scene that a script spells. Raises NoScene where it spells none, or one that is not played yet."""
+    if len(script) > MOST_BYTES:
+        raise NoScene(f"the script has {len(script)} bytes, and may have {MOST_BYTES}")
+    reader = Reader()
+    for line, text in enumerate(lines_of(script), 1):
+        words = texts_of(text)
+        if words and not reader.add(line, words):
+            raise NoScene(f"line {line} is none of a scene at its place: {text[:80]}")
+    if reader.rank != 6:
+        raise NoScene("the script ends without the line end")
+    reader.scene.timelines.sort()
+    return reader.scene

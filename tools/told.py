@@ -1,0 +1,113 @@
+"""The records of a run in their order, and what a refused one is refused for."""
+
+from stream import Record
+from typing import NamedTuple
+
+
+class Refused(Exception):
+    """The records do not mean what their scene allows: the part that does not hold, the place in the stream, and why."""
+
+    def __init__(self, part, where, why):
+        super().__init__(f"{part}: {where}: {why}")
+        self.part, self.where, self.why = part, where, why
+
+
+class Numbered(NamedTuple):
+    """A record with its place in the stream, from 1."""
+
+    place: int
+    tag: str
+    fields: dict
+
+    def text(self):
+        return f"record {self.place}, {self.tag}"
+
+
+class Vsync(NamedTuple):
+    """The records of a vsync; `frame` is None where it has none."""
+
+    record: Numbered
+    commits: list
+    frame: Numbered
+
+
+class Shown:
+    """The records of a run, by what they show."""
+
+    def __init__(self):
+        self.replies, self.vsyncs, self.histories = [], [], []
+        self.arrivals = self.held = self.stuck = None
+
+
+class Ordered:
+    """Takes the records of a stream one after another."""
+
+    def __init__(self, records):
+        self.records, self.at = [Numbered(place, record.tag, record.fields) for place, record in enumerate(records, 1)], 0
+
+    def tag(self):
+        return self.records[self.at].tag if self.at < len(self.records) else "the end"
+
+    def wrong(self, wanted):
+        where = self.records[self.at].text() if self.at < len(self.records) else "the end of the stream"
+        return Refused("order", where, f"{wanted} has to stand here")
+
+    def take(self, tag):
+        if self.tag() != tag:
+            raise self.wrong(tag)
+        self.at += 1
+        return self.records[self.at - 1]
+
+    def take_all(self, tag):
+        taken = []
+        while self.tag() == tag:
+            taken.append(self.take(tag))
+        return taken
+
+    def vsync(self):
+        vsync = self.take("VSYN")
+        commits = self.take_all("COMM")
+        frame = self.take("FRAM") if self.tag() == "FRAM" else None
+        if frame and frame.fields["number"] != vsync.fields["number"]:
+            raise Refused("order", frame.text(), f"it is of vsync {frame.fields['number']}, and stands behind VSYN {vsync.fields['number']}")
+        return Vsync(vsync, commits, frame)
+
+    def shown(self, scene):
+        opening, shown = self.take("SCEN"), Shown()
+        expected = {"version": 1, "width": scene.width, "height": scene.height, "period": scene.period}
+        if opening.fields != expected:
+            raise Refused("order", opening.text(), f"it says {list(opening.fields.values())}, and the script {list(expected.values())}")
+        while self.tag() in ("REPL", "VSYN"):
+            if self.tag() == "REPL":
+                shown.replies.append(self.take("REPL"))
+            else:
+                shown.vsyncs.append(self.vsync())
+        shown.arrivals = self.take("ARRV")
+        shown.histories = self.take_all("HIST")
+        shown.held, shown.stuck = self.take("HOLD"), self.take("STUK")
+        self.take("DONE")
+        if self.at < len(self.records):
+            raise self.wrong("nothing")
+        return shown
+
+
+def shown_of(scene, records, of_stream):
+    """What the records of a stream show, each of which has to be whole and of its form."""
+    for place, record in enumerate(records, 1):
+        if record.faults:
+            raise Refused("order", f"record {place}, {record.tag}", record.faults[0])
+    if of_stream:
+        raise Refused("order", "the end of the stream", of_stream[0])
+    return Ordered(records).shown(scene)
+
+
+def is_late(shown):
+    """Whether the replies stand behind the last vsync, by actor and step: the first record that does not, or None."""
+    last = shown.vsyncs[-1].record.place if shown.vsyncs else 0
+    before = (0, 0)
+    for reply in shown.replies:
+        at = (reply.fields["actor"], reply.fields["step"])
+        if reply.place < last or at <= before:
+            return reply
+        before = at
+    return None
