@@ -12,7 +12,7 @@ from playing import Play, buffer_row
 from queues import RELEASE, WOULD_BLOCK, Queue, open_point
 from scenes import NoScene, read_scene
 from steps import Lent, frame_call
-from told import Refused, is_late, shown_of
+from ordering import Refused, is_late, shown_of
 from tracing import check_fences, step_text, traces_of
 from transactions import BEHIND, hold_of, lasting_hold
 from wording import CALLS, HOLDS, NO_SLOT, STATUSES, named, sentence
@@ -36,7 +36,7 @@ def arrivals_of(traces, record):
             raise Refused("arrive", where, f"it is of step {step} with token {token}, and actor {actor} sent the next with step {sent.step} and token {sent.token}")
         told = sent.reply.fields["values"][0][0]
         if told != number:
-            raise Refused("replies", step_text(traces.scene, sent.reply), f"it says arrival {told}, and the arrivals have it as {number}")
+            raise Refused("arrive", where, f"its step was told that it is arrival {told}, in record {sent.reply.place}")
         arrivals.append((token, sent.txn))
     for actor, left in due.items():
         if left:
@@ -220,8 +220,7 @@ class Vsyncs:
         if held:
             raise Refused("commits", record.text(), f"arrival {record.fields['arrival']} is held there: {hold_text(held)}")
         for later in following:
-            is_lower = later.fields["token"] < record.fields["token"]
-            if is_lower and 0 < later.fields["arrival"] <= len(self.arrivals) and not self.hold(later.fields["arrival"], expected):
+            if later.fields["token"] < record.fields["token"] and not self.hold(later.fields["arrival"], expected):
                 raise Refused("commits", later.text(), f"nothing held token {later.fields['token']} at the place of token {record.fields['token']} before it")
         txn = self.pending.commit(record)
         self.check_buffers(record, txn)

@@ -44,13 +44,13 @@ from animation import NoFrames, apng, frames_of, y4m
 from checking import NoRun, checked
 from course import NoCourse
 from explaining import explained
+from ordering import Refused
 from pictures import write_frames
 from scenes import NoScene
 from scripts import read_script
 from stream import LAST, faults, read
 from summing import summed
 from timeline import trace
-from told import Refused
 from viewing import view_page
 from wording import plain, sentence
 

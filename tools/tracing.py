@@ -4,7 +4,7 @@ waited for, and which frames it drew."""
 import queues
 from queues import BAD_VALUE, OK, QUEUE, Reply, merged
 from steps import Actor, Lent
-from told import Refused
+from ordering import Refused
 from typing import NamedTuple
 from wording import STATUSES, named
 

@@ -1,0 +1,538 @@
+"""Tests of records.py check: what it accepts, and what it refuses, part by part."""
+
+import contextlib
+import io
+import os
+import random
+import re
+import subprocess
+import tempfile
+import unittest
+
+import records
+import run
+from checking import NoRun, checked
+from painting import Painter, mul
+from playing import Play
+from scenes import NoScene, Picture, read_scene
+from stream import PIXELS, Record, Rows, FORMS
+from ordering import Refused
+from trees import after, draw_order, with_parents
+
+TOP = run.TOP
+PROGRAM = run.built(TOP)
+STORED = os.path.join(TOP, "crates", "worked_runs")
+LIVE = os.path.join(TOP, "crates", "live_runs", "data")
+
+
+def contents(*path):
+    with open(os.path.join(TOP, *path), "rb") as file:
+        return file.read()
+
+
+def record(tag, fields):
+    return Record(tag, fields, b"", False, [])
+
+
+def played(script):
+    """The records of the play of a script, by the player of the tools."""
+    return [record(*told) for told in Play(read_scene(script)).records()]
+
+
+def verdict(script, told, is_play=False, is_live=False):
+    """The part for which records are refused, or None."""
+    try:
+        checked(script, told, [], is_play, is_live)
+    except Refused as refused:
+        return refused.part
+    return None
+
+
+def rows_of(columns, text):
+    return [tuple(map(int, re.split("[ =]", row.strip()))) for row in text.split("|") if row.strip()]
+
+
+def field_of(form, words):
+    """A field of a record, from the words of its line."""
+    if form == PIXELS:
+        runs = (word.split("*") for word in words)
+        return b"".join(bytes.fromhex(colour) * int(length) for length, colour in runs)
+    if not isinstance(form, Rows):
+        return int(words[0])
+    if "|" in words or not words:
+        return rows_of(form.columns, " ".join(words))
+    return [tuple(map(int, word.split("="))) for word in words]
+
+
+def record_of(line):
+    """The record that a line of the plain form says."""
+    tag, *words = line.split()
+    fields = {}
+    for name, form in FORMS[tag]:
+        is_one = form != PIXELS and not isinstance(form, Rows)
+        fields[name] = field_of(form, words[:1] if is_one else words)
+        words = words[1:] if is_one else []
+    return record(tag, fields)
+
+
+def script_of(title):
+    """The script of a stored run: that of its name, a line behind it, and a comment up to its length."""
+    name, _, line = title.partition(": ")
+    path = os.path.join(STORED, "data", name)
+    script = contents(path + ".sf") + (line.replace(";", "\n").encode() if os.path.exists(path + ".lines") else b"")
+    return script + b"#" * (int(contents(path + ".length")) - len(script) if os.path.exists(path + ".length") else 0)
+
+
+def stored_runs():
+    """The titles of the stored runs that came to their end, each with the lines of its records."""
+    parts = re.split(r"^== (.*) status ([0-9])\n", contents(STORED, "stdout").decode(), flags=re.M)
+    runs = zip(parts[1::3], parts[2::3], parts[3::3])
+    return [(title, lines.split("==")[0].splitlines()) for title, status, lines in runs if status == "0" and lines.startswith("SCEN")]
+
+
+def words_of_run(title):
+    path = os.path.join(STORED, "data", title.partition(": ")[0] + ".words")
+    return contents(path).split() if os.path.exists(path) else []
+
+
+def found(told, tag, at=0):
+    """The place of the record with this tag that so many stand before."""
+    return [place for place, one in enumerate(told) if one.tag == tag][at]
+
+
+def without(tag, at=0):
+    return lambda told: told[:found(told, tag, at)] + told[found(told, tag, at) + 1:]
+
+
+def doubled(tag, at=0):
+    return lambda told: told[:found(told, tag, at)] + told[found(told, tag, at):][:1] + told[found(told, tag, at):]
+
+
+def moved(tag, at, by):
+    """The record stands so many places later."""
+    def change(told):
+        place = found(told, tag, at)
+        left = told[:place] + told[place + 1:]
+        return left[:place + by] + [told[place]] + left[place + by:]
+    return change
+
+
+def with_fields(tag, at, edit):
+    """A record with other fields: `edit` changes them."""
+    def change(told):
+        place = found(told, tag, at)
+        fields = dict(told[place].fields)
+        edit(fields)
+        return told[:place] + [record(tag, fields)] + told[place + 1:]
+    return change
+
+
+def with_number(tag, at, name, by=1):
+    return with_fields(tag, at, lambda fields: fields.update({name: fields[name] + by}))
+
+
+def with_rows(tag, at, name, edit):
+    return with_fields(tag, at, lambda fields: fields.update({name: edit(list(fields[name]))}))
+
+
+def with_row(tag, at, name, row, column, by=1):
+    """A number of a row is another."""
+    def edit(rows):
+        numbers = list(rows[row])
+        numbers[column] += by
+        return rows[:row] + [tuple(numbers)] + rows[row + 1:]
+    return with_rows(tag, at, name, edit)
+
+
+def without_row(tag, at, name, row):
+    return with_rows(tag, at, name, lambda rows: rows[:row] + rows[row + 1:])
+
+
+def with_pixel(told):
+    def edit(fields):
+        fields["pixels"] = fields["pixels"][:5] + bytes([fields["pixels"][5] ^ 1]) + fields["pixels"][6:]
+    return with_fields("FRAM", 0, edit)(told)
+
+
+def done_after_all(told):
+    """The first step that is stuck is done, and its actor has no step left."""
+    actor, step = told[found(told, "STUK")].fields["stuck"][0]
+    told = without_row("STUK", 0, "stuck", 0)(told)
+    place = found(told, "ARRV")
+    return told[:place] + [record("REPL", {"actor": actor, "step": step, "status": 0, "values": []})] + told[place:]
+
+
+def two(first, second):
+    return lambda told: second(first(told))
+
+
+# Two actors: a frame with a fence, one that is drawn late, a rejected transaction, one that a barrier holds for good, one that
+# is behind it, and a wait that nobody ends. The vsyncs see timeline 1 at 0, at 5 and at 7.
+BUSY = b"""scene 1 4 2 1000000
+timeline 1
+timeline 2
+queue 1 2 2
+queue 2 2 2
+picture 1 2 2
+fill 0 0 2 1 102030ff
+picture 2 2 2
+fill 0 0 2 2 80808080
+actor 1
+connect 1
+maxdequeued 1 3
+dequeue 1 as s
+request s
+draw s 1
+queue s 1 fence 1 5
+acquire 1 as i
+tx 1
+set 1 1 create buffer 0
+buffer 1 1 i
+apply 1 token 2
+dequeue 1 as s
+request s
+queue s 2 crop 0 0 1 2
+acquire 1 as i
+tx 1
+buffer 1 1 i
+apply 1 token 2
+signal 1 5
+draw s 2
+signal 1 7
+actor 2
+tx 1
+set 1 2 create colour 0
+set 1 2 colour ff0000ff
+set 1 2 z -1
+apply 1 token 4
+tx 1
+set 1 9 destroy
+apply 1 token 1
+tx 1
+barrier 1 1 9
+apply 1 token 3
+tx 1
+apply 1 token 3
+wait 2 1
+order 1*11 2*5 v 1*8 v 2*3 v 2*20 1*2 v
+end
+"""
+# A draw that an older owed one of the same buffer stops.
+OWED = b"""scene 1 1 1 1000000
+queue 1 1 1
+picture 1 1 1
+actor 1
+connect 1
+dequeue 1 as s
+request s
+queue s 1
+acquire 1 as i
+release i
+dequeue 1 as t
+draw t 1
+end
+"""
+# A buffer that is detached behind the signal of its fence.
+DETACHED = b"""scene 1 1 1 1000000
+timeline 1
+queue 1 1 1
+picture 1 1 1
+actor 1
+connect 1
+dequeue 1 as s
+request s
+draw s 1
+queue s 1 fence 1 3
+acquire 1 as i
+cdetach i as b
+signal 1 3
+cdetach i as b
+end
+"""
+# A dequeue that waits for a slot for good.
+BLOCKED = b"""scene 1 1 1 1000000
+queue 1 1 1
+actor 1
+connect 1
+dequeue 1 as a
+dequeue 1 as b
+dequeuewait 1 as c
+end
+"""
+REFUSED = {
+    "order": [without("DONE"), without("SCEN"), doubled("SCEN"), without("STUK"), moved("FRAM", 0, -1), with_number("FRAM", 0, "number"),
+              with_number("SCEN", 0, "width"), with_number("SCEN", 0, "period"), doubled("FRAM"), moved("DONE", 0, -1), doubled("DONE"),
+              moved("ARRV", 0, 1), with_number("SCEN", 0, "version")],
+    "replies": [without("REPL", 3), doubled("REPL", 3), moved("REPL", 2, 1), with_number("REPL", 0, "actor", 8), with_number("REPL", 0, "status"),
+                with_row("REPL", 2, "values", 0, 0), with_row("REPL", 2, "values", 1, 0), with_row("REPL", 2, "values", 2, 0, -1),
+                with_row("REPL", 6, "values", 2, 0), with_row("REPL", 6, "values", 3, 0), with_row("REPL", 6, "values", 5, 0),
+                without_row("REPL", 2, "values", 0), with_number("REPL", 11, "step")],
+    "arrive": [without_row("ARRV", 0, "arrivals", 1), with_row("ARRV", 0, "arrivals", 0, 2), with_row("ARRV", 0, "arrivals", 0, 1),
+               with_row("ARRV", 0, "arrivals", 0, 0), with_rows("ARRV", 0, "arrivals", lambda rows: rows[:1] + rows),
+               with_row("ARRV", 0, "arrivals", 0, 0, 8), with_row("REPL", 10, "values", 0, 0)],
+    "vsyncs": [with_number("VSYN", 1, "expected"), with_row("VSYN", 1, "timelines", 0, 1), with_row("VSYN", 1, "timelines", 0, 0, 2),
+               without_row("VSYN", 1, "timelines", 0), two(with_number("VSYN", 0, "number", 9), with_number("FRAM", 0, "number", 9)),
+               two(with_number("VSYN", 0, "number", -1), with_number("FRAM", 0, "number", -1)),
+               two(with_row("VSYN", 0, "timelines", 0, 1, 7), with_row("VSYN", 1, "timelines", 0, 1, 0))],
+    "commits": [with_number("COMM", 0, "result"), with_number("COMM", 2, "result", -1), with_number("COMM", 2, "operation"), with_number("COMM", 1, "arrival"),
+                with_number("COMM", 1, "token"), with_row("COMM", 1, "buffers", 0, 0), with_row("COMM", 1, "buffers", 0, 2),
+                with_row("VSYN", 1, "timelines", 0, 1, -5), doubled("COMM", 0)],
+    "calls": [without_row("HIST", 0, "calls", 0), with_rows("HIST", 0, "calls", lambda rows: rows[:1] + rows), with_row("HIST", 0, "calls", 2, 4),
+              with_row("HIST", 0, "calls", 0, 0, 8), with_row("HIST", 0, "calls", 0, 3), with_row("HIST", 0, "calls", 2, 2), with_row("HIST", 0, "calls", 4, 5),
+              with_rows("HIST", 0, "calls", lambda rows: rows[1:2] + rows[:1] + rows[2:]), with_rows("HIST", 0, "calls", lambda rows: rows[:-1]),
+              without("HIST", 1), doubled("HIST", 1), with_number("HIST", 1, "queue"), moved("HIST", 0, 1)],
+    "frames": [with_pixel, without("FRAM"), without("FRAM", 2)],
+    "buffers": [with_row("COMM", 1, "buffers", 0, 3), with_row("COMM", 1, "buffers", 0, 4), with_row("COMM", 3, "buffers", 0, 6)],
+    "holds": [without_row("HOLD", 0, "held", 0), with_row("HOLD", 0, "held", 0, 1, -1), with_row("HOLD", 0, "held", 0, 3), with_row("HOLD", 0, "held", 1, 1),
+              with_rows("HOLD", 0, "held", lambda rows: rows[::-1]), with_row("HOLD", 0, "held", 1, 0)],
+    "ends": [without_row("STUK", 0, "stuck", 0), with_rows("STUK", 0, "stuck", lambda rows: rows + rows), with_row("STUK", 0, "stuck", 0, 1),
+             with_row("STUK", 0, "stuck", 0, 0, -1)],
+    "traces": [done_after_all],
+}
+
+
+class Parts(unittest.TestCase):
+    def test_a_play_is_accepted(self):
+        for script in (BUSY, OWED, DETACHED, BLOCKED):
+            self.assertIsNone(verdict(script, played(script), is_play=True))
+
+    def test_each_part_refuses_what_it_has_to(self):
+        told = played(BUSY)
+        for part, changes in REFUSED.items():
+            for number, change in enumerate(changes):
+                with self.subTest(part=part, number=number):
+                    self.assertEqual(verdict(BUSY, change(told)), part)
+
+    def test_a_draw_before_an_older_one(self):
+        self.assertEqual(verdict(OWED, done_after_all(played(OWED))), "turns")
+
+    def test_a_detach_whose_fence_the_actor_has_shown(self):
+        told = played(DETACHED)
+        late = two(without("REPL", 8), without_row("HIST", 0, "calls", 5))(told)
+        place = found(late, "ARRV")
+        late = late[:place] + [record("REPL", {"actor": 1, "step": 9, "status": 11, "values": []})] + late[place:]
+        self.assertEqual(verdict(DETACHED, late), "traces")
+
+    def test_a_dequeue_that_has_to_wait_and_is_refused(self):
+        told = played(BLOCKED)
+        refused = with_fields("HIST", 0, lambda fields: fields["calls"].append((1, 4, 5, 13, 4294967295, 0)))(done_after_all(told))
+        place = [at for at, one in enumerate(refused) if one.tag == "REPL"][-1]
+        refused[place].fields["status"] = 13
+        self.assertEqual(verdict(BLOCKED, refused), "traces")
+
+    def test_a_step_that_is_stuck_though_it_is_ready(self):
+        told = without("REPL", 8)(played(DETACHED))
+        self.assertEqual(verdict(DETACHED, two(without_row("HIST", 0, "calls", 5), with_rows("STUK", 0, "stuck", lambda rows: [(1, 9)]))(told)), "ends")
+
+    def test_what_is_free(self):
+        told = played(BUSY)
+        for change in (moved("REPL", 10, 1), moved("REPL", 16, -3), with_row("VSYN", 2, "timelines", 0, 1, 2)):
+            self.assertIsNone(verdict(BUSY, change(told)))
+            self.assertEqual(verdict(BUSY, change(told), is_play=True), "play")
+
+    def test_replies_of_a_live_run_stand_behind_its_vsyncs(self):
+        told = played(BUSY)
+        replies = sorted((one for one in told if one.tag == "REPL"), key=lambda one: (one.fields["actor"], one.fields["step"]))
+        rest = [one for one in told if one.tag != "REPL"]
+        place = found(rest, "ARRV")
+        self.assertEqual(verdict(BUSY, told, is_live=True), "live")
+        self.assertIsNone(verdict(BUSY, rest[:place] + replies + rest[place:], is_live=True))
+        self.assertEqual(verdict(BUSY, rest[:place] + replies[::-1] + rest[place:], is_live=True), "replies")
+
+    def test_a_stream_that_ends_too_early(self):
+        for count in (1, 5, 20):
+            with self.assertRaises(Refused):
+                checked(BUSY, played(BUSY)[:count], ["the stream ends without DONE"], False, False)
+
+    def test_no_scene_or_no_run(self):
+        for script in (b"", b"scene 1 1 1 1000000\n", b"scene 2 1 1 1000000\nend\n", BUSY.replace(b"z -1", b"orient 1"), BUSY.replace(b"picture 2", b"picture 1")):
+            with self.assertRaises(NoScene):
+                checked(script, played(BUSY), [], False, False)
+        for told in ([], [record("SUMM", {})]):
+            with self.assertRaises(NoRun):
+                checked(BUSY, told, [], False, False)
+
+
+def table_of_scripts():
+    """The scripts of script_faults, each with what is said of it there."""
+    folder = os.path.join("crates", "script_faults")
+    titles, scripts, base = [], [], b""
+    for line in contents(folder, "stdin").split(b"\n")[:-1]:
+        if line[:1] == b"=":
+            base = scripts[-1] if titles and titles[-1][:2] != b"=+" else base
+            titles.append(line)
+            scripts.append(base + line[3:] + b"\n" if line[:2] == b"=+" else b"")
+        elif line[:1] == b"*":
+            count, _, text = line[1:].partition(b" ")
+            scripts[-1] += (text + b"\n") * int(count)
+        else:
+            scripts[-1] += line + b"\n"
+    said = [line.rpartition(b": ")[2] for line in contents(folder, "stdout").split(b"\n")[:-1] if not line.startswith(b"cut ")]
+    return zip(scripts, said, strict=True)
+
+
+def is_read(script):
+    try:
+        return read_scene(script) is not None
+    except NoScene:
+        return False
+
+
+class Scenes(unittest.TestCase):
+    def test_scripts_are_scenes_where_the_program_says_so(self):
+        count = 0
+        for script, said in table_of_scripts():
+            is_played = said == b"scene" and b"scene 2" not in script and b" orient " not in script
+            self.assertEqual(is_read(script), is_played, script[:300])
+            count += is_played
+        self.assertGreater(count, 8)
+
+
+def pixel_of(picture, x, y):
+    """The colour of the last fill that covers a pixel."""
+    colours = [colour for left, top, width, height, colour in picture.fills if left <= x < left + width and top <= y < top + height]
+    return colours[-1] if colours else bytes(4)
+
+
+def painted_at(tree, pictures, x, y):
+    """A pixel of the image of a tree, layer by layer."""
+    pixel = [0, 0, 0, 255]
+    for layer in draw_order(tree):
+        px = py = 0
+        alpha, is_inside = 255, True
+        for above in with_parents(tree, layer):
+            px, py, alpha = px + above.position[0], py + above.position[1], mul(alpha, above.alpha)
+            left, top, width, height = above.crop or (-1 << 20, -1 << 20, 1 << 22, 1 << 22)
+            is_inside = is_inside and left <= x - px < left + width and top <= y - py < top + height
+        source = layer.colour
+        if layer.kind == "buffer" and layer.shown:
+            left, top, width, height = layer.shown.crop
+            is_inside = is_inside and 0 <= x - px < width and 0 <= y - py < height
+            source = pixel_of(pictures[layer.shown.picture], x - px + left, y - py + top)
+        if is_inside and (layer.kind == "colour" or layer.kind == "buffer" and layer.shown):
+            source = source[:3] + b"\xff" if layer.opaque else source
+            pixel = [min(255, mul(s, alpha) + mul(d, 255 - mul(source[3], alpha))) for s, d in zip(source, pixel)]
+    return bytes(pixel)
+
+
+class ShownFrame:
+    def __init__(self, picture, crop):
+        self.picture, self.crop = picture, crop
+
+
+def some_tree(chance):
+    """A tree of some layers."""
+    operations = []
+    for number in range(1, chance.randrange(2, 9)):
+        parent = chance.choice([0] + list(range(1, number)))
+        kind = chance.choice(("colour", "buffer", "buffer", "container"))
+        operations += [(number, ("create", kind, parent)), (number, ("position", chance.randrange(-3, 6), chance.randrange(-3, 6))),
+                       (number, ("alpha", chance.choice((255, 128, 3)))), (number, ("z", chance.randrange(-1, 2))), (number, ("opaque", chance.randrange(2)))]
+        if chance.random() < 0.4:
+            operations.append((number, ("crop", (chance.randrange(-2, 4), chance.randrange(-2, 4), chance.randrange(8), chance.randrange(8)))))
+        if kind == "colour":
+            operations.append((number, ("colour", chance.randbytes(4))))
+        elif kind == "buffer":
+            x, y = chance.randrange(4), chance.randrange(4)
+            operations.append((number, ("show", ShownFrame(chance.randrange(1, 3), (x, y, chance.randrange(1, 6 - x), chance.randrange(1, 6 - y))))))
+        if chance.random() < 0.2 and number > 1:
+            operations.append((number, ("relative", chance.randrange(1, number), chance.randrange(-1, 2))))
+    return after({}, operations)[0]
+
+
+class Painting(unittest.TestCase):
+    def test_an_image_is_that_of_its_points(self):
+        chance = random.Random(5)
+        fills = [[(chance.randrange(5), chance.randrange(5), chance.randrange(1, 5), chance.randrange(1, 5), chance.randbytes(4)) for _ in range(6)] for _ in range(2)]
+        pictures = {number: Picture(5, 5, fill) for number, fill in enumerate(fills, 1)}
+        for _ in range(150):
+            tree, painter = some_tree(chance), Painter(pictures, 7, 5)
+            points = b"".join(painted_at(tree, pictures, x, y) for y in range(5) for x in range(7))
+            self.assertEqual(painter.image(tree), points)
+
+
+class Stored(unittest.TestCase):
+    def test_each_stored_run_is_accepted(self):
+        count = 0
+        for title, lines in stored_runs():
+            words = words_of_run(title)
+            if b"gen" in words:
+                continue
+            with self.subTest(title=title):
+                told = [record_of(line) for line in lines]
+                self.assertIsNone(verdict(script_of(title), told, is_play=b"live" not in words, is_live=b"live" in words))
+                count += 1
+        self.assertGreater(count, 100)
+
+
+def bytes_of(script, *words):
+    return subprocess.run([PROGRAM, *words], input=script, stdout=subprocess.PIPE, timeout=60, check=True).stdout
+
+
+@unittest.skipUnless(PROGRAM, "sf_main is not built")
+class Program(unittest.TestCase):
+    def check(self, script, is_live, *words):
+        told, of_stream = records.read(bytes_of(script, *words))
+        try:
+            checked(script, told, of_stream, not is_live, is_live)
+        except Refused as refused:
+            self.fail(str(refused))
+
+    def test_plays_and_live_runs_of_the_scenes_are_accepted(self):
+        for folder in (os.path.join(TOP, "scenes"), LIVE):
+            for number, name in enumerate(sorted(os.listdir(folder))):
+                script = contents(folder, name)
+                with self.subTest(name=name):
+                    self.check(script, False, "--workers", str(number % 3 + 1))
+                    for again in range(3):
+                        self.check(script, True, "--run", "live", "--workers", str((number + again) % 4 + 1))
+
+
+def called(*words):
+    """The status of a call, and what it wrote on both streams."""
+    out, err = io.StringIO(), io.StringIO()
+    with contextlib.redirect_stdout(out), contextlib.redirect_stderr(err):
+        status = records.main(list(words))
+    return status, out.getvalue(), err.getvalue()
+
+
+class Calls(unittest.TestCase):
+    def setUp(self):
+        self.folder = tempfile.TemporaryDirectory()
+        self.addCleanup(self.folder.cleanup)
+        page = contents("docs", "RECORDS.md").decode().split("## A whole stream")[1]
+        blocks = [[line[4:] for line in block.splitlines()] for block in page.split("\n\n") if block.startswith("    ")]
+        self.script, self.stream = self.file("red.sf", "\n".join(blocks[0]).encode()), bytes.fromhex("".join(blocks[1]))
+
+    def file(self, name, data):
+        path = os.path.join(self.folder.name, name)
+        with open(path, "wb") as file:
+            file.write(data)
+        return path
+
+    def test_the_stream_of_the_page_is_accepted(self):
+        status, out, err = called("check", "--script", self.script, "--play", self.file("red.bin", self.stream))
+        self.assertEqual((status, out, err), (0, "accepted: 4 replies, 1 vsyncs, 1 commits, 1 frames\n", ""))
+
+    def test_a_refusal_says_the_part_the_record_and_why(self):
+        changed = self.stream.replace(bytes.fromhex("ff0000ffff0000ff"), bytes.fromhex("ff0000ffff0100ff"))
+        status, out, err = called("check", "--script", self.script, self.file("red.bin", changed))
+        self.assertEqual((status, out, err), (1, "refused: frames: record 8, FRAM: the pixel at 1 0 is ff0100ff, where the layers make it ff0000ff\n", ""))
+        status, out, _ = called("check", "--script", self.script, self.file("cut.bin", self.stream[:-1]))
+        self.assertEqual((status, out), (1, "refused: order: record 12, DONE: the stream ends inside it, after 7 bytes\n"))
+
+    def test_no_scene_no_records_and_wrong_words(self):
+        stream = self.file("red.bin", self.stream)
+        for words in (("check",), ("check", stream), ("check", "--script"), ("check", "--script", self.script, "--play", "--play", stream),
+                      ("check", "--script", self.script, stream, stream), ("check", "--script", self.script, "--fast", stream),
+                      ("check", "--script", os.path.join(self.folder.name, "none.sf"), stream),
+                      ("check", "--script", self.file("no.sf", b"scene 1 1 1 1000000\n"), stream),
+                      ("check", "--script", self.script, self.file("empty.bin", b""))):
+            with self.subTest(words=words):
+                status, out, err = called(*words)
+                self.assertEqual((status, out), (2, ""))
+                self.assertTrue(err)
+
+
+if __name__ == "__main__":
+    unittest.main()
