@@ -12,7 +12,7 @@ from playing import Play, buffer_row
 from queues import RELEASE, WOULD_BLOCK, Queue, open_point
 from scenes import NoScene, read_scene
 from steps import Lent, frame_call
-from ordering import Refused, is_late, shown_of
+from ordering import Ordered, Refused, early_reply
 from tracing import check_fences, step_text, traces_of
 from transactions import BEHIND, hold_of, lasting_hold
 from wording import CALLS, HOLDS, NO_SLOT, STATUSES, named, sentence
@@ -350,17 +350,18 @@ def check_play(scene, records):
             raise Refused("play", f"record {place}, {record.tag}", f"the play of the scene has here: {wanted}")
 
 
-def checked(script, records, of_stream, is_play, is_live):
+def checked(script, records, is_play, is_live):
     """What the records come to whose meaning is the scene's. Raises NoScene, NoRun or Refused."""
     scene = read_scene(script)
     if not records:
         raise NoRun("the stream is empty")
     if records[0].tag == "SUMM":
         raise NoRun("the stream is the summary of a run, and has no records of it")
-    shown = shown_of(scene, records, of_stream)
+    shown = Ordered(records).shown(scene)
     check_meaning(scene, shown)
-    if is_live and is_late(shown):
-        raise Refused("live", is_late(shown).text(), "replies of a live run stand behind the last vsync, by actor and step")
+    early = early_reply(shown) if is_live else None
+    if early:
+        raise Refused("live", early.text(), "replies of a live run stand behind the last vsync, by actor and step")
     if is_play:
         check_play(scene, records)
     commits = sum(len(vsync.commits) for vsync in shown.vsyncs)

@@ -1,6 +1,5 @@
-"""The records of a run in their order, and what a refused one is refused for."""
+"""The records of a run in their order, and what refuses them."""
 
-from stream import Record
 from typing import NamedTuple
 
 
@@ -18,6 +17,7 @@ class Numbered(NamedTuple):
     place: int
     tag: str
     fields: dict
+    faults: list
 
     def text(self):
         return f"record {self.place}, {self.tag}"
@@ -40,10 +40,10 @@ class Shown:
 
 
 class Ordered:
-    """Takes the records of a stream one after another."""
+    """Takes the records of a stream one after another. Each has to be whole and of its form."""
 
     def __init__(self, records):
-        self.records, self.at = [Numbered(place, record.tag, record.fields) for place, record in enumerate(records, 1)], 0
+        self.records, self.at = [Numbered(place, record.tag, record.fields, record.faults) for place, record in enumerate(records, 1)], 0
 
     def tag(self):
         return self.records[self.at].tag if self.at < len(self.records) else "the end"
@@ -55,8 +55,11 @@ class Ordered:
     def take(self, tag):
         if self.tag() != tag:
             raise self.wrong(tag)
+        record = self.records[self.at]
+        if record.faults:
+            raise Refused("order", record.text(), record.faults[0])
         self.at += 1
-        return self.records[self.at - 1]
+        return record
 
     def take_all(self, tag):
         taken = []
@@ -73,6 +76,7 @@ class Ordered:
         return Vsync(vsync, commits, frame)
 
     def shown(self, scene):
+        """What all records show, in the order that a run of this scene has."""
         opening, shown = self.take("SCEN"), Shown()
         expected = {"version": 1, "width": scene.width, "height": scene.height, "period": scene.period}
         if opening.fields != expected:
@@ -82,6 +86,8 @@ class Ordered:
                 shown.replies.append(self.take("REPL"))
             else:
                 shown.vsyncs.append(self.vsync())
+        if self.tag() != "ARRV":
+            raise self.wrong("REPL, VSYN or ARRV")
         shown.arrivals = self.take("ARRV")
         shown.histories = self.take_all("HIST")
         shown.held, shown.stuck = self.take("HOLD"), self.take("STUK")
@@ -91,18 +97,8 @@ class Ordered:
         return shown
 
 
-def shown_of(scene, records, of_stream):
-    """What the records of a stream show, each of which has to be whole and of its form."""
-    for place, record in enumerate(records, 1):
-        if record.faults:
-            raise Refused("order", f"record {place}, {record.tag}", record.faults[0])
-    if of_stream:
-        raise Refused("order", "the end of the stream", of_stream[0])
-    return Ordered(records).shown(scene)
-
-
-def is_late(shown):
-    """Whether the replies stand behind the last vsync, by actor and step: the first record that does not, or None."""
+def early_reply(shown):
+    """The first reply that does not stand behind the last vsync, by actor and step, or None."""
     last = shown.vsyncs[-1].record.place if shown.vsyncs else 0
     before = (0, 0)
     for reply in shown.replies:

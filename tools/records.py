@@ -187,7 +187,7 @@ def check_arguments(words):
 def check(script, asked, name):
     """Says whether records mean what the scene of a script allows."""
     try:
-        found = checked(contents(script), *read(contents(name)), "--play" in asked, "--live" in asked)
+        found = checked(contents(script), read(contents(name))[0], "--play" in asked, "--live" in asked)
     except (NoScene, NoRun) as fault:
         complain(fault)
         return 2

@@ -42,7 +42,7 @@ def played(script):
 def verdict(script, told, is_play=False, is_live=False):
     """The part for which records are refused, or None."""
     try:
-        checked(script, told, [], is_play, is_live)
+        checked(script, told, is_play, is_live)
     except Refused as refused:
         return refused.part
     return None
@@ -342,15 +342,15 @@ class Parts(unittest.TestCase):
     def test_a_stream_that_ends_too_early(self):
         for count in (1, 5, 20):
             with self.assertRaises(Refused):
-                checked(BUSY, played(BUSY)[:count], ["the stream ends without DONE"], False, False)
+                checked(BUSY, played(BUSY)[:count], False, False)
 
     def test_no_scene_or_no_run(self):
         for script in (b"", b"scene 1 1 1 1000000\n", b"scene 2 1 1 1000000\nend\n", BUSY.replace(b"z -1", b"orient 1"), BUSY.replace(b"picture 2", b"picture 1")):
             with self.assertRaises(NoScene):
-                checked(script, played(BUSY), [], False, False)
+                checked(script, played(BUSY), False, False)
         for told in ([], [record("SUMM", {})]):
             with self.assertRaises(NoRun):
-                checked(BUSY, told, [], False, False)
+                checked(BUSY, told, False, False)
 
 
 def table_of_scripts():
@@ -472,9 +472,9 @@ def bytes_of(script, *words):
 @unittest.skipUnless(PROGRAM, "sf_main is not built")
 class Program(unittest.TestCase):
     def check(self, script, is_live, *words):
-        told, of_stream = records.read(bytes_of(script, *words))
+        told, _ = records.read(bytes_of(script, *words))
         try:
-            checked(script, told, of_stream, not is_live, is_live)
+            checked(script, told, not is_live, is_live)
         except Refused as refused:
             self.fail(str(refused))
 
