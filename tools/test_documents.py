@@ -1,5 +1,6 @@
 """Tests of the documents: their links lead somewhere, and RECORDS.md's stream is what it says."""
 
+import glob
 import os
 import re
 import unittest
@@ -29,6 +30,12 @@ def indented(path, heading):
     return [re.findall(r"^    (.*)$", block, re.M) for block in re.split(r"\n\n", section) if block.startswith("    ")]
 
 
+def without_comments(path):
+    """The lines of a script, which may have any bytes."""
+    with open(path, encoding="latin-1") as file:
+        return [line for line in file.read().splitlines() if not line.startswith("#")]
+
+
 class Documents(unittest.TestCase):
     def test_links_lead_to_files_and_headings(self):
         for path in DOCUMENTS:
@@ -48,6 +55,13 @@ class Documents(unittest.TestCase):
         self.assertEqual(sum(len(record.raw) for record in records), 260)
         self.assertEqual([plain(record) for record in records], lines)
         self.assertEqual([line for line in text("scenes/red.sf").splitlines() if not line.startswith("#")], script)
+
+    def test_whole_scripts_on_the_page_beside_android_are_cases(self):
+        blocks = [re.findall(r"^    (.*)$", block, re.M) for block in text("docs/ANDROID.md").split("\n\n") if block.startswith("    scene ")]
+        cases = [without_comments(path) for path in glob.glob(os.path.join(TOP, "crates", "worked_runs", "data", "*.sf"))]
+        self.assertEqual(len(blocks), 2)
+        for block in blocks:
+            self.assertIn([line for line in block if not line.startswith("#")], cases)
 
     def test_the_page_on_scripts_has_each_form(self):
         page = text("docs/SCRIPT.md")
