@@ -1,7 +1,6 @@
 -- Counts of looks.
-use Rattle.std.specs.Prelude.{◌≡◌, ℕ, ◌-◌, ◌<◌, ◌≤◌, ◌^◌, ◌⊎◌}
+use Rattle.std.specs.Prelude.{◌≡◌, ℕ, ◌+◌, ◌-◌, ◌^◌, min}
 
--- a count never falls, and has risen or stands at its greatest value
-pub record HasRisen (old new : ℕ) : Type 0 where
-  pub no_less : old ≤ new
-  pub more : (old < new) ⊎ (new ≡ 2 ^ 64 - 1)
+-- a count rises by just one, up to its greatest value
+abbrev pub HasRisen : ℕ → ℕ → Type 0
+HasRisen old new = new ≡ min (old + 1) (2 ^ 64 - 1)

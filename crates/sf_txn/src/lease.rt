@@ -66,7 +66,8 @@ pub trait Lease: Sized {
     ghost closing_fits: { Self.Mark → Self.Closing → Type 0 };
 
     /// Whether the buffer's write has ended, as one look through the eye shows it: exactly where the
-    /// eye knows it then. Once it is true, it stays true through this eye.
+    /// eye knows it then. Once it is true, it stays true through this eye. The lease counts just this
+    /// look, up to the greatest number.
     fn drawn(&mut self, eye: &mut Self::Eye) -> bool
         requires { fits (mark eye.old) self.old }
         ensures shown { shown self.new ≡ result }

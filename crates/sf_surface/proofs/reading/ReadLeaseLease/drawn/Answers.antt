@@ -4,7 +4,7 @@ use Rattle.sf_turns.specs.Views.{SeatView}
 use Rattle.sf_base.proofs.PointLemmas.{greatest-last, value_here}
 use Rattle.sf_txn.specs.Counts.{HasRisen}
 use Rattle.sf_surface.specs.Tokens.{ReadLeaseOf, Right}
-use Rattle.sf_surface.proofs.Seen.{seen_on, risen_by_one}
+use Rattle.sf_surface.proofs.Seen.{seen_on}
 use Rattle.sf_surface.proofs.reading.ReadLeaseLease.drawn.Goals as goal
 
 pub returns-clause-keeps : goal.returns-clause-keeps
@@ -14,7 +14,7 @@ returns-clause-keeps g c = λ other known.
 pub returns-clause-looks : goal.returns-clause-looks
 returns-clause-looks g c =
     subst (λ (l : ReadLeaseOf). HasRisen l.turn.loads c.ready.new.self.loads) c.self.view_is
-    (risen_by_one c.self.inside.turn.loads c.ready.new.self.loads c.ready.ensures.risen (ap (λ (t : Right). t.loads) c.ready.ensures.counted))
+    (ap (λ (t : Right). t.loads) c.ready.ensures.counted)
 
 pub returns-clause-known : goal.returns-clause-known
 returns-clause-known g c =
