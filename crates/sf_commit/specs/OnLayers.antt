@@ -1,6 +1,6 @@
 -- The buffers that layers show, and what a transaction's operations do to them.
-use Rattle.std.specs.Prelude.{ℕ, ◌+◌, ◌==◌, ◌&&◌, Bool, true, false, List, [], ◌∷◌, ◌++◌, Option, Some, None}
-use Rattle.std.specs.List.{find}
+use Rattle.std.specs.Prelude.{◌≡◌, ◌≢◌, ℕ, ◌+◌, ◌<◌, ◌==◌, Bool, true, false, List, [], ◌∷◌, ◌++◌, length, get_or, take, Option, Some, None}
+use Rattle.std.specs.List.{All, find}
 use Rattle.std.specs.Option.{option_to_list}
 use Rattle.sf_base.specs.Fences.{no_points}
 use Rattle.sf_base.specs.declared.fences.Fence.{Fence}
@@ -43,9 +43,14 @@ module _ {L : Type 0} where
   abbrev pub is_on : LayerId → OnLayer L → Bool
   is_on layer on = on.layer.0 == layer.0
 
-  -- it is this frame of a queue
-  abbrev pub is_frame : Shown → OnLayer L → Bool
-  is_frame shown on = (on.shown.queue.0 == shown.queue.0) && (on.shown.frame == shown.frame)
+  -- no layer shows just this: the frame of a queue with its picture and its crop
+  abbrev pub AreOthers : Shown → List (OnLayer L) → Type 0
+  AreOthers shown on = All (λ (one : OnLayer L). one.shown ≢ shown) on
+
+  -- the place of the first buffer on a layer that is just this one, and none exactly where no layer shows it
+  abbrev pub IsPlaceOf : Shown → List (OnLayer L) → Option ℕ → Type 0
+  IsPlaceOf shown on None = AreOthers shown on
+  IsPlaceOf shown on (Some place) = (place < length on) × ((d : OnLayer L) → (get_or on place d).shown ≡ shown) × AreOthers shown (take place on)
 
   -- nothing is shown on the layer any more: at most one buffer was
   abbrev pub without : LayerId → List (OnLayer L) → List (OnLayer L)

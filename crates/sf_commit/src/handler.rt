@@ -1,11 +1,10 @@
-ghost use Rattle.std.specs.List.{position};
 ghost use Rattle.std.specs.Prelude.{◌≡◌, ◌≤◌, true, false, [], IfOk, IsErr, None, OnErr, Some, is_some, map};
 ghost use Rattle.sf_token.specs.Pending.{IsRisingFrom};
 ghost use Rattle.sf_view.specs.Views.{IsDisplay};
 ghost use Rattle.sf_commit.specs.Handlers.{Decides, FitsHandler, IsHandler, Stops, last_of, new_handler};
 ghost use Rattle.sf_commit.specs.Leases.{pictures};
 ghost use Rattle.sf_commit.specs.Lending.{AllKept, ends_of};
-ghost use Rattle.sf_commit.specs.OnLayers.{at_hand, is_frame, lent_from};
+ghost use Rattle.sf_commit.specs.OnLayers.{IsPlaceOf, at_hand, lent_from};
 ghost use Rattle.sf_token.specs.Looking.{AllLeases};
 ghost use Rattle.sf_txn.specs.Leases.{IsEyeAfter};
 
@@ -15,7 +14,7 @@ use crate::follow::decide_all;
 use crate::keeping::KeptRead;
 use crate::lending::{Contents, Room, leave_unlent, mark_at_hand, mark_lent, put_back};
 use crate::opening::{Reading, gather};
-use crate::sources::index_of_frame;
+use crate::sources::index_of_shown;
 use crate::vsync::Vsync;
 use sf_base::{Items, NoMemory, Seen};
 use sf_layer::Shown;
@@ -296,18 +295,21 @@ where
         &self.contents
     }
 
-    /// The layers, as the last vsync left them. It takes no memory.
+    /// The layers, as the last vsync left them, also while pixels are lent. It takes no memory.
     pub fn tree(&self) -> &Tree
-        ensures { result.now ≡ self.now.tree }
+        ensures tree { result.now ≡ self.now.tree }
+        ensures kept { self.now.is_spent ≡ false → IsHandler L.Lease self.now }
     {
         &self.tree
     }
 
-    /// The place of this frame of a queue in the contents, as they stand when nothing is lent; None
-    /// exactly where no layer shows it. It takes no memory.
+    /// The place of just this buffer, with its picture and its crop, in the contents, as they stand
+    /// when nothing is lent; None exactly where no layer shows it. It may be asked while pixels are
+    /// lent, and takes no memory.
     pub fn source(&self, shown: &Shown) -> Option<u32>
-        ensures { result ≡ position (is_frame shown.now) self.now.on }
+        ensures source { IsPlaceOf shown.now self.now.on result }
+        ensures kept { self.now.is_spent ≡ false → IsHandler L.Lease self.now }
     {
-        u32::try_from(index_of_frame(&self.on, shown)?).ok()
+        u32::try_from(index_of_shown(&self.on, shown)?).ok()
     }
 }

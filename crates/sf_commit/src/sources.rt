@@ -1,7 +1,7 @@
 ghost use Rattle.std.specs.List.{position};
 ghost use Rattle.std.specs.Prelude.{◌≡◌, IfOk, map};
 ghost use Rattle.sf_commit.specs.Handlers.{source_of};
-ghost use Rattle.sf_commit.specs.OnLayers.{is_frame, is_on};
+ghost use Rattle.sf_commit.specs.OnLayers.{IsPlaceOf, is_on};
 
 use crate::opening::Reading;
 use sf_base::{LayerId, NoMemory};
@@ -17,11 +17,16 @@ fn index_of<L: Lease>(on: &[Reading<L>], layer: LayerId) -> Option<usize>
     on.iter().position(|one| one.layer.0 == layer.0)
 }
 
-/// The place of a frame of a queue, if a layer shows it.
-pub(crate) fn index_of_frame<L: Lease>(on: &[Reading<L>], shown: &Shown) -> Option<usize>
-    ensures { result ≡ position (is_frame shown.now) on.now }
+/// The place of just this buffer, with its picture and its crop, if a layer shows it.
+pub(crate) fn index_of_shown<L: Lease>(on: &[Reading<L>], shown: &Shown) -> Option<usize>
+    ensures { IsPlaceOf shown.now on.now result }
 {
-    on.iter().position(|one| one.shown.queue.0 == shown.queue.0 && one.shown.frame == shown.frame)
+    for place in 0..on.len() {
+        if on[place].shown == *shown {
+            return Some(place);
+        }
+    }
+    None
 }
 
 /// The place of a drawn layer's buffer, or 0 where it shows none. A place beyond 32 bits is more than
