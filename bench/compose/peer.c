@@ -5,7 +5,7 @@
  *   picture WIDTH HEIGHT [X Y WIDTH HEIGHT R G B A ..]
  *   view                              the layers after it are the next view's, from the back
  *   colour R G B A ALPHA OPAQUE X Y WIDTH HEIGHT
- *   buffer PICTURE ALPHA OPAQUE X Y WIDTH HEIGHT SOURCE_X SOURCE_Y
+ *   buffer PICTURE ALPHA OPAQUE X Y WIDTH HEIGHT SOURCE_X SOURCE_Y ORIENT
  *
  * usage: peer ROUNDS < SCENE */
 #include <pixman.h>
@@ -16,7 +16,7 @@
 
 enum { MOST_PICTURES = 64, MOST_LAYERS = 512, VIEWS = 2 };
 
-struct layer { int is_buffer, picture, alpha, opaque, x, y, width, height, source_x, source_y; uint32_t pixel; };
+struct layer { int is_buffer, picture, alpha, opaque, x, y, width, height, source_x, source_y, orient; uint32_t pixel; };
 struct view { int count; struct layer layers[MOST_LAYERS]; };
 
 /* A picture twice: as it is, and with its alpha ignored, for opaque layers. */
@@ -36,6 +36,20 @@ static pixman_color_t colour_of(uint32_t pixel) {
     uint8_t c[4];
     memcpy(c, &pixel, 4);
     return (pixman_color_t){(uint16_t)(c[0] * 257), (uint16_t)(c[1] * 257), (uint16_t)(c[2] * 257), (uint16_t)(c[3] * 257)};
+}
+
+/* Takes the points of a turned layer's box to the points of its picture. */
+static void turn(const struct layer *l, pixman_image_t *source) {
+    int back_across = 2 <= l->orient && l->orient <= 5, back_down = l->orient % 4 == 1 || l->orient % 4 == 2, sideways = l->orient % 2;
+    int across = back_across ? -1 : 1, down = back_down ? -1 : 1;
+    int left = l->source_x + (back_across ? l->width : 0), top = l->source_y + (back_down ? l->height : 0);
+    pixman_transform_t to_picture = {{
+        {sideways ? 0 : pixman_int_to_fixed(across), sideways ? pixman_int_to_fixed(across) : 0, pixman_int_to_fixed(left)},
+        {sideways ? pixman_int_to_fixed(down) : 0, sideways ? 0 : pixman_int_to_fixed(down), pixman_int_to_fixed(top)},
+        {0, 0, pixman_fixed_1},
+    }};
+    pixman_image_set_transform(source, &to_picture);
+    pixman_image_set_filter(source, PIXMAN_FILTER_NEAREST, NULL, 0);
 }
 
 static void compose(const struct view *view, pixman_image_t *frame, uint32_t *pixels) {
@@ -59,7 +73,14 @@ static void compose(const struct view *view, pixman_image_t *frame, uint32_t *pi
             pixman_color_t cover = {0, 0, 0, (uint16_t)(l->alpha * 257)};
             mask = pixman_image_create_solid_fill(&cover);
         }
-        pixman_image_composite32(PIXMAN_OP_OVER, source, mask, frame, l->source_x, l->source_y, 0, 0, l->x, l->y, l->width, l->height);
+        if (l->orient) {
+            int sideways = l->orient % 2;
+            turn(l, source);
+            pixman_image_composite32(PIXMAN_OP_OVER, source, mask, frame, 0, 0, 0, 0, l->x, l->y, sideways ? l->height : l->width, sideways ? l->width : l->height);
+            pixman_image_set_transform(source, NULL);
+        } else {
+            pixman_image_composite32(PIXMAN_OP_OVER, source, mask, frame, l->source_x, l->source_y, 0, 0, l->x, l->y, l->width, l->height);
+        }
         if (mask) pixman_image_unref(mask);
         if (own) pixman_image_unref(own);
     }
@@ -106,7 +127,7 @@ int main(int argc, char **argv) {
         else if (!strncmp(line, "colour", 6))
             views[at].layers[views[at].count++] = (struct layer){.pixel = pixel_of(n), .alpha = n[4], .opaque = n[5], .x = n[6], .y = n[7], .width = n[8], .height = n[9]};
         else if (!strncmp(line, "buffer", 6))
-            views[at].layers[views[at].count++] = (struct layer){.is_buffer = 1, .picture = n[0], .alpha = n[1], .opaque = n[2], .x = n[3], .y = n[4], .width = n[5], .height = n[6], .source_x = n[7], .source_y = n[8]};
+            views[at].layers[views[at].count++] = (struct layer){.is_buffer = 1, .picture = n[0], .alpha = n[1], .opaque = n[2], .x = n[3], .y = n[4], .width = n[5], .height = n[6], .source_x = n[7], .source_y = n[8], .orient = n[9]};
     }
     uint32_t *pixels = malloc((size_t)width * (size_t)height * 4);
     pixman_image_t *frame = pixman_image_create_bits_no_clear(PIXMAN_a8b8g8r8, width, height, pixels, width * 4);

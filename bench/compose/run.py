@@ -35,19 +35,21 @@ class Colour:
 
 
 class Buffer:
-    """A layer that shows a part of a picture at a place."""
+    """A layer that shows a part of a picture at a place, turned by an orientation."""
 
-    def __init__(self, picture, place, crop, alpha=255, opaque=False):
+    def __init__(self, picture, place, crop, alpha=255, opaque=False, orient=0):
         self.picture, self.place, self.crop, self.alpha, self.opaque = picture, place, crop, alpha, opaque
+        self.orient = orient
 
     kind = "buffer"
 
     def looks(self, number):
-        return ["%d position %d %d" % ((number,) + self.place), "%d show 1 1 %d %d %d %d %d" % ((number, self.picture) + self.crop)]
+        return ["%d position %d %d" % ((number,) + self.place), "%d show 1 1 %d %d %d %d %d" % ((number, self.picture) + self.crop),
+                "%d orient %d" % (number, self.orient)]
 
     def peer(self):
         x, y, width, height = self.crop
-        return "buffer %d %d %d %d %d %d %d %d %d" % ((self.picture, self.alpha, int(self.opaque)) + self.place + (width, height, x, y))
+        return "buffer %d %d %d %d %d %d %d %d %d %d" % ((self.picture, self.alpha, int(self.opaque)) + self.place + (width, height, x, y, self.orient))
 
 
 class Scene:
@@ -103,6 +105,15 @@ def tiles(count):
     before = [tile(i) for i in range(count)]
     after = [tile(i, 20 if i == count // 2 else 0) for i in range(count)]
     return Scene((1024, 1024), [], before, after)
+
+
+def turned(orient, opaque=False, alpha=255):
+    """A buffer of 512 x 512 over the whole display, with a new frame each time."""
+    def picture(first, second):
+        stripes = ["%d %d %d %d %d 80 90 255" % (16 * i, 7 * i, 8, 200, 8 * i) for i in range(30)]
+        return "512 512 0 0 512 512 %d %d 96 255 " % (first, second) + " ".join(stripes)
+    views = [[Buffer(number, (0, 0), (0, 0, 512, 512), orient=orient, opaque=opaque, alpha=alpha)] for number in (0, 1)]
+    return Scene((512, 512), [picture(32, 64), picture(64, 32)], *views)
 
 
 def run(command, text):
@@ -193,6 +204,9 @@ def main():
         beside_pixman(program, "the same of opaque layers", phone(opaque=True), times)
         beside_pixman(program, "phone, a new frame of the camera each time", phone(app=0, camera=3), times)
         beside_pixman(program, "256 tiles, one of which moves", tiles(256), times, 201)
+        for name, orient in (("not turned", 0), ("a quarter turn", 1), ("mirrored", 4)):
+            beside_pixman(program, "a buffer of 512 x 512, " + name, turned(orient), times, 401)
+            beside_pixman(program, "the same with the layer's alpha at 200", turned(orient, alpha=200), times, 401)
     by_workers(times)
     of_marks(times)
 
