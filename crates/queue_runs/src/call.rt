@@ -1,153 +1,243 @@
+//! What a line of a case asks for: a call, and the words after its name.
 use case_words::{actor, fence, number32, number64, present_time, rect, slot};
-use sf_base::{ActorId, Fence, SlotId};
-use sf_queue::QueueOrder;
+use sf_base::{ActorId, Fence, Rect, SlotId};
 use std::str::SplitWhitespace;
 
-/// A buffer that a producer holds: who it is, its slot and its number.
+/// What a line asks for.
 #[derive(Clone, Copy)]
-pub struct Lent {
-    pub by: ActorId,
-    pub slot: SlotId,
-    pub buffer: u64,
-}
-
-/// A frame that a consumer holds: its slot and its number.
-#[derive(Clone, Copy)]
-pub struct Taken {
-    pub slot: SlotId,
-    pub frame: u64,
-}
-
-/// A size in pixels.
-#[derive(Clone, Copy)]
-pub struct Size {
-    pub width: u32,
-    pub height: u32,
-}
-
-/// A call on a queue. Rights are numbers. What is `Allowed` asks for the refusal first, and then makes
-/// the call that can't be refused.
-#[derive(Drop)]
 pub enum Call {
-    Connect(ActorId),
-    Disconnect(ActorId),
-    MaxDequeued(u32),
-    Async(bool),
-    /// With the right to a new buffer, where one is needed.
-    Dequeue(ActorId, Size, u64),
-    Request(Lent),
-    Queue(ActorId, QueueOrder<u64>),
-    QueueAllowed(ActorId, QueueOrder<u64>),
-    Cancel(Lent, Fence, u64),
-    CancelAllowed(Lent, Fence, u64),
-    Detach(Lent),
-    DetachAllowed(Lent),
-    Attach(ActorId, Size),
-    MaxAcquired(u32),
+    Connect,
+    Disconnect,
+    MaxDequeued,
+    Async,
+    Dequeue,
+    /// A dequeue that may wait.
+    DequeueWait,
+    Request,
+    Queue,
+    /// What is allowed asks for the refusal first, and then makes the call that can't be refused.
+    QueueAllowed,
+    Cancel,
+    CancelAllowed,
+    Detach,
+    DetachAllowed,
+    Attach,
+    MaxAcquired,
     Abandon,
-    Acquire(u64),
-    Release(Taken, Fence, u64),
-    DetachRead(Taken),
-    AttachRead(Size),
+    Acquire,
+    Release,
+    DetachRead,
+    AttachRead,
+    /// Draws a picture in a lease, or one that is owed.
+    Draw,
+    /// Reads the first pixel of a frame.
+    Read,
+    /// A timeline is seen at a value from now on.
+    See,
     /// Prints what is known of the queue.
     State,
 }
 
-fn lent_buffer(words: &mut SplitWhitespace<'_>) -> Option<Lent> {
-    Some(Lent {
-        by: actor(words)?,
-        slot: slot(words)?,
-        buffer: number64(words)?,
+/// What a word, or the next few, say of a call.
+#[derive(Clone, Copy)]
+pub enum Part {
+    Actor,
+    Place,
+    Slot,
+    /// The number of a buffer or of a frame, a time that is expected, or a timeline's value.
+    Number,
+    /// A limit, or the number of a timeline.
+    Count,
+    Picture,
+    Size,
+    Time,
+    Crop,
+    Fence,
+    Right,
+}
+
+/// All that a line may say of a call. What a call has no word for is 0.
+#[derive(Clone, Copy)]
+pub struct Said {
+    pub by: ActorId,
+    /// Where the token lies that a call brings, and where the token comes that it gets; for a call
+    /// without either it is no place.
+    pub place: usize,
+    pub slot: SlotId,
+    pub number: u64,
+    pub count: u32,
+    pub picture: u32,
+    pub width: u32,
+    pub height: u32,
+    pub time: Option<u64>,
+    pub crop: Rect,
+    pub fence: Fence,
+    pub right: u64,
+}
+
+/// The call of a name.
+fn named(name: &str) -> Option<Call> {
+    Some(match name {
+        "connect" => Call::Connect,
+        "disconnect" => Call::Disconnect,
+        "maxdequeued" => Call::MaxDequeued,
+        "async" => Call::Async,
+        "dequeue" => Call::Dequeue,
+        "dequeuewait" => Call::DequeueWait,
+        "request" => Call::Request,
+        "queue" => Call::Queue,
+        "queue-allowed" => Call::QueueAllowed,
+        "cancel" => Call::Cancel,
+        "cancel-allowed" => Call::CancelAllowed,
+        "detach" => Call::Detach,
+        "detach-allowed" => Call::DetachAllowed,
+        "attach" => Call::Attach,
+        "maxacquired" => Call::MaxAcquired,
+        "abandon" => Call::Abandon,
+        "acquire" => Call::Acquire,
+        "release" => Call::Release,
+        "detachread" => Call::DetachRead,
+        "attachread" => Call::AttachRead,
+        "draw" => Call::Draw,
+        "read" => Call::Read,
+        "see" => Call::See,
+        "state" => Call::State,
+        _ => return None,
     })
 }
 
-fn taken_frame(words: &mut SplitWhitespace<'_>) -> Option<Taken> {
-    Some(Taken {
-        slot: slot(words)?,
-        frame: number64(words)?,
-    })
-}
-
-fn size_asked(words: &mut SplitWhitespace<'_>) -> Option<Size> {
-    Some(Size {
-        width: number32(words)?,
-        height: number32(words)?,
-    })
-}
-
-fn order(words: &mut SplitWhitespace<'_>, lent: Lent) -> Option<QueueOrder<u64>> {
-    Some(QueueOrder {
-        slot: lent.slot,
-        buffer: lent.buffer,
-        picture: number32(words)?,
-        width: number32(words)?,
-        height: number32(words)?,
-        time: present_time(words)?,
-        crop: rect(words)?,
-        fence: fence(words)?,
-        right: number64(words)?,
-    })
-}
-
-/// A call of the producer, by its name.
-fn producer_call(name: &str, words: &mut SplitWhitespace<'_>) -> Option<Call> {
-    match name {
-        "dequeue" => Some(Call::Dequeue(actor(words)?, size_asked(words)?, number64(words)?)),
-        "request" => Some(Call::Request(lent_buffer(words)?)),
-        "detach" => Some(Call::Detach(lent_buffer(words)?)),
-        "detach-allowed" => Some(Call::DetachAllowed(lent_buffer(words)?)),
-        "attach" => Some(Call::Attach(actor(words)?, size_asked(words)?)),
-        _ => None,
-    }
-}
-
-/// A call of the producer that hands a right in.
-fn handing_call(name: &str, words: &mut SplitWhitespace<'_>) -> Option<Call> {
-    let lent = lent_buffer(words)?;
-    match name {
-        "queue" => Some(Call::Queue(lent.by, order(words, lent)?)),
-        "queue-allowed" => Some(Call::QueueAllowed(lent.by, order(words, lent)?)),
-        "cancel" => Some(Call::Cancel(lent, fence(words)?, number64(words)?)),
-        "cancel-allowed" => Some(Call::CancelAllowed(lent, fence(words)?, number64(words)?)),
-        _ => None,
-    }
-}
-
-/// A call of the consumer, by its name.
-fn consumer_call(name: &str, words: &mut SplitWhitespace<'_>) -> Option<Call> {
-    match name {
-        "acquire" => Some(Call::Acquire(number64(words)?)),
-        "release" => Some(Call::Release(taken_frame(words)?, fence(words)?, number64(words)?)),
-        "detachread" => Some(Call::DetachRead(taken_frame(words)?)),
-        "attachread" => Some(Call::AttachRead(size_asked(words)?)),
-        _ => None,
-    }
-}
-
-/// A call that changes the settings, by its name.
-fn setting_call(name: &str, words: &mut SplitWhitespace<'_>) -> Option<Call> {
-    match name {
-        "connect" => Some(Call::Connect(actor(words)?)),
-        "disconnect" => Some(Call::Disconnect(actor(words)?)),
-        "maxdequeued" => Some(Call::MaxDequeued(number32(words)?)),
-        "maxacquired" => Some(Call::MaxAcquired(number32(words)?)),
-        "async" => Some(Call::Async(number32(words)? == 1)),
-        "abandon" => Some(Call::Abandon),
-        "state" => Some(Call::State),
-        _ => None,
-    }
-}
-
-/// The call that a line says: its name and its words.
-pub fn parse(line: &str) -> Option<Call> {
-    let mut words = line.split_whitespace();
-    let name = words.next()?;
-    match name {
-        "dequeue" | "request" | "detach" | "detach-allowed" | "attach" => {
-            producer_call(name, &mut words)
+/// What stands after a call's name where rights are numbers.
+fn parts_with_numbers(call: Call) -> Option<&'static [Part]> {
+    Some(match call {
+        Call::Connect | Call::Disconnect => &[Part::Actor],
+        Call::MaxDequeued | Call::MaxAcquired | Call::Async => &[Part::Count],
+        Call::Abandon | Call::State => &[],
+        Call::Dequeue => &[Part::Actor, Part::Size, Part::Right],
+        Call::Request | Call::Detach | Call::DetachAllowed => {
+            &[Part::Actor, Part::Slot, Part::Number]
         }
-        "queue" | "queue-allowed" | "cancel" | "cancel-allowed" => handing_call(name, &mut words),
-        "acquire" | "release" | "detachread" | "attachread" => consumer_call(name, &mut words),
-        _ => setting_call(name, &mut words),
+        Call::Queue | Call::QueueAllowed => &[
+            Part::Actor,
+            Part::Slot,
+            Part::Number,
+            Part::Picture,
+            Part::Size,
+            Part::Time,
+            Part::Crop,
+            Part::Fence,
+            Part::Right,
+        ],
+        Call::Cancel | Call::CancelAllowed => {
+            &[
+                Part::Actor,
+                Part::Slot,
+                Part::Number,
+                Part::Fence,
+                Part::Right,
+            ]
+        }
+        Call::Attach => &[Part::Actor, Part::Size],
+        Call::Acquire => &[Part::Number],
+        Call::Release => &[Part::Slot, Part::Number, Part::Fence, Part::Right],
+        Call::DetachRead => &[Part::Slot, Part::Number],
+        Call::AttachRead => &[Part::Size],
+        Call::DequeueWait | Call::Draw | Call::Read | Call::See => return None,
+    })
+}
+
+/// What stands after a call's name where rights are turns.
+fn parts_with_turns(call: Call) -> Option<&'static [Part]> {
+    Some(match call {
+        Call::Connect | Call::Disconnect | Call::Abandon => &[],
+        Call::MaxDequeued | Call::MaxAcquired | Call::Async => &[Part::Count],
+        Call::Dequeue | Call::DequeueWait => &[Part::Place, Part::Size],
+        Call::Request
+        | Call::Detach
+        | Call::Attach
+        | Call::Read
+        | Call::DetachRead
+        | Call::AttachRead => &[Part::Place],
+        Call::Draw => &[Part::Place, Part::Picture, Part::Size],
+        Call::Queue => &[
+            Part::Place,
+            Part::Picture,
+            Part::Size,
+            Part::Time,
+            Part::Crop,
+            Part::Fence,
+        ],
+        Call::Cancel | Call::Release => &[Part::Place, Part::Fence],
+        Call::Acquire => &[Part::Place, Part::Number],
+        Call::See => &[Part::Count, Part::Number],
+        Call::QueueAllowed | Call::CancelAllowed | Call::DetachAllowed | Call::State => {
+            return None;
+        }
+    })
+}
+
+/// The next word, as the place of a letter: `a` to `h`.
+fn place(words: &mut SplitWhitespace<'_>) -> Option<usize> {
+    "abcdefgh".find(words.next()?)
+}
+
+impl Said {
+    /// Reads the words of one part.
+    fn read(&mut self, part: Part, words: &mut SplitWhitespace<'_>) -> Option<()> {
+        match part {
+            Part::Actor => self.by = actor(words)?,
+            Part::Place => self.place = place(words)?,
+            Part::Slot => self.slot = slot(words)?,
+            Part::Number => self.number = number64(words)?,
+            Part::Count => self.count = number32(words)?,
+            Part::Picture => self.picture = number32(words)?,
+            Part::Size => {
+                self.width = number32(words)?;
+                self.height = number32(words)?;
+            }
+            Part::Time => self.time = present_time(words)?,
+            Part::Crop => self.crop = rect(words)?,
+            Part::Fence => self.fence = fence(words)?,
+            Part::Right => self.right = number64(words)?,
+        }
+        Some(())
     }
+}
+
+/// What the rights of a case are.
+#[derive(Clone, Copy)]
+pub enum Rights {
+    Numbers,
+    Turns,
+}
+
+/// The call that these words ask for, and what they say of it.
+pub fn read(rights: Rights, words: &mut SplitWhitespace<'_>) -> Option<(Call, Said)> {
+    let call = named(words.next()?)?;
+    let parts = match rights {
+        Rights::Numbers => parts_with_numbers(call)?,
+        Rights::Turns => parts_with_turns(call)?,
+    };
+    let mut said = Said {
+        by: ActorId(0),
+        place: usize::MAX,
+        slot: SlotId(0),
+        number: 0,
+        count: 0,
+        picture: 0,
+        width: 0,
+        height: 0,
+        time: None,
+        crop: Rect {
+            x: 0,
+            y: 0,
+            width: 0,
+            height: 0,
+        },
+        fence: Fence::none(),
+        right: 0,
+    };
+    for part in parts {
+        said.read(*part, words)?;
+    }
+    Some((call, said))
 }

@@ -1,77 +1,61 @@
-//! Runs of calls on BufferQueues: reads cases of calls from standard input, makes them on a queue
-//! whose rights are numbers, and prints each reply and what is left in the slots. `stdin` says how a
-//! call is written.
+//! Runs of calls on BufferQueues: reads cases of calls from standard input, makes them on a queue,
+//! and prints each with its answer. `stdin` says how a case is written. The rights to a queue's
+//! buffers are numbers, and what is left in its slots is printed; or they are turns of buffers that
+//! two actors draw and read through passes under a lock, and the history is printed at the end.
 #![tactic(auto)]
 
-use call::Call;
-use case_words::buffer_size;
-use sf_base::QueueId;
-use sf_slots::Slots;
+mod answer;
+mod bringing;
+mod call;
+mod desk;
+mod numbers;
+mod reply;
+mod run;
+mod state;
+mod tools;
+mod turns;
+
+use call::Rights;
+use case_words::{BufferSize, buffer_size};
 use std::alloc::Global;
 use std::io;
-use std::io::{BufRead, BufReader};
+use std::sync::Wait;
 
-mod call;
-mod make;
-mod points;
-mod reply;
-mod state;
-
-/// The line begins a case: a new queue of this default size.
-fn opened(alloc: Global, line: &str) -> Option<Slots<u64>> {
-    let mut words = line.split_whitespace();
-    if words.next()? != "case" {
-        return None;
-    }
-    let size = buffer_size(&mut words)?;
-    Slots::new(alloc, QueueId(1), size.width, size.height).ok()
+/// What the first line of a case says: what its rights are, and its queue's default size.
+fn head_of(head: &str) -> Option<(Rights, BufferSize)> {
+    let mut words = head.split_whitespace();
+    let rights = match words.next()? {
+        "case" => Rights::Numbers,
+        "turns" => Rights::Turns,
+        _ => return None,
+    };
+    Some((rights, buffer_size(&mut words)?))
 }
 
-/// Makes the call that the line says, and prints its reply.
-fn line_made(rt: &impl Print, queue: &mut Slots<u64>, line: &str) -> io::Result<()> {
-    match call::parse(line) {
-        Some(Call::State) => state::print(rt, queue),
-        Some(call) => {
-            let reply = make::reply_to(queue, call);
-            println!(rt; "{line}: {reply}")
-        }
-        None => println!(rt; "{line}: not a call"),
+/// Makes the calls of a case, and prints what came out.
+fn play<R: Print + Wait>(rt: &R, alloc: Global, lines: &[String]) -> io::Result<()> {
+    let [head, calls @ ..] = lines else {
+        return Ok(());
+    };
+    println!(rt; "{head}")?;
+    match head_of(head.as_str()) {
+        Some((Rights::Numbers, size)) => numbers::play(rt, alloc, size, calls),
+        Some((Rights::Turns, size)) => turns::play(rt, alloc, size, calls),
+        None => println!(rt; "no case"),
     }
-}
-
-/// A line that says nothing: it is empty or a comment.
-fn is_silent(line: &str) -> bool {
-    line.is_empty() || line.starts_with('#')
-}
-
-/// One line of the input. Answers the queue of the case that it begins.
-fn step(
-    rt: &impl Print,
-    alloc: Global,
-    queue: &mut Option<Slots<u64>>,
-    line: &str,
-) -> io::Result<Option<Slots<u64>>> {
-    if is_silent(line) {
-        return Ok(None);
-    }
-    if let Some(new) = opened(alloc, line) {
-        println!(rt; "{line}")?;
-        return Ok(Some(new));
-    }
-    match queue {
-        Some(queue) => line_made(rt, queue, line)?,
-        None => println!(rt; "{line}: before the first case")?,
-    }
-    Ok(None)
 }
 
 fn main(rt: HostRuntime) -> io::Result<()> {
-    let mut queue: Option<Slots<u64>> = None;
-    for line in BufReader::new(rt.alloc(), rt.reader())?.lines(rt.alloc()) {
+    let alloc = rt.alloc();
+    let mut lines = Vec::new(alloc);
+    for line in rt.lines(alloc) {
         let line = line?;
-        if let Some(new) = step(&rt, rt.alloc(), &mut queue, line.as_str().trim())? {
-            queue = Some(new);
+        if line.is_empty() {
+            play(&rt, alloc, &lines)?;
+            lines = Vec::new(alloc);
+        } else if !line.starts_with('#') {
+            lines.push(line)?;
         }
     }
-    Ok(())
+    play(&rt, alloc, &lines)
 }

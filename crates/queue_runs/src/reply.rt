@@ -1,115 +1,125 @@
-use crate::points::Points;
-use sf_base::{QStatus, SlotId};
+//! How answers are printed.
+use sf_base::{Fence, QStatus, SlotId};
 use sf_consume::Acquired;
 use sf_queue::Dequeued;
 use sf_slots::Held;
-use std::fmt;
+use std::io;
 
-/// What a call answered, with the values that came out.
-#[derive(Drop)]
-pub enum Reply {
-    Refused(QStatus),
-    /// A refusal that hands back the right which came with the call.
-    HandedBack(QStatus, u64),
-    Done,
-    Lent(Dequeued<u64>),
-    Known(Held),
-    Frame(u64),
-    Seated(SlotId, Held),
-    Taken(Acquired<u64>),
-    /// A size or a counter that the call does not take.
-    NotMade,
-}
-
-impl From<Result<(), QStatus>> for Reply {
-    fn from(made: Result<(), QStatus>) -> Reply {
-        match made {
-            Ok(()) => Reply::Done,
-            Err(cause) => Reply::Refused(cause),
-        }
+/// The name of a status.
+pub fn status_name(status: QStatus) -> &'static str {
+    match status {
+        QStatus::Ok => "Ok",
+        QStatus::Stale => "Stale",
+        QStatus::NoBuffer => "NoBuffer",
+        QStatus::PresentLater => "PresentLater",
+        QStatus::NoInit => "NoInit",
+        QStatus::BadValue => "BadValue",
+        QStatus::InvalidOperation => "InvalidOperation",
+        QStatus::WouldBlock => "WouldBlock",
+        QStatus::NoSlot => "NoSlot",
     }
 }
 
-/// A buffer as text.
-#[derive(Clone, Copy)]
-pub struct Buffer(pub Held);
+/// Prints a refusal.
+pub fn refused(rt: &impl Print, cause: QStatus) -> io::Result<()> {
+    println!(rt; "{}", status_name(cause))
+}
 
-impl fmt::Display for Buffer {
-    fn fmt<W: fmt::Write>(&self, f: &mut fmt::Formatter<W>) -> fmt::Result {
-        write!(
-            f,
-            "buffer {} of {} x {}",
-            self.0.number, self.0.width, self.0.height
-        )
+/// Prints a refusal that hands a right back.
+pub fn handed_back(rt: &impl Print, cause: QStatus, right: u64) -> io::Result<()> {
+    println!(rt; "{}, right {right} back", status_name(cause))
+}
+
+/// Prints the answer of a call that gives nothing out.
+pub fn done(rt: &impl Print, made: Result<(), QStatus>) -> io::Result<()> {
+    match made {
+        Ok(()) => println!(rt; "done"),
+        Err(cause) => refused(rt, cause),
     }
 }
 
-/// The right to a buffer that gave way to a new one.
-#[derive(Clone, Copy)]
-struct Old(Option<u64>);
-
-impl fmt::Display for Old {
-    fn fmt<W: fmt::Write>(&self, f: &mut fmt::Formatter<W>) -> fmt::Result {
-        match self.0 {
-            Some(right) => write!(f, ", the old right {right}"),
-            None => Ok(()),
-        }
+/// Prints the answer of a call that takes a right.
+pub fn taken_in(rt: &impl Print, made: Result<(), (QStatus, u64)>) -> io::Result<()> {
+    match made {
+        Ok(()) => println!(rt; "done"),
+        Err((cause, right)) => handed_back(rt, cause, right),
     }
 }
 
-/// A present time.
-#[derive(Clone, Copy)]
-struct Time(Option<u64>);
-
-impl fmt::Display for Time {
-    fn fmt<W: fmt::Write>(&self, f: &mut fmt::Formatter<W>) -> fmt::Result {
-        match self.0 {
-            Some(time) => write!(f, "time {time}"),
-            None => write!(f, "no time"),
-        }
-    }
-}
-
-fn fmt_lent<W: fmt::Write>(lent: &Dequeued<u64>, f: &mut fmt::Formatter<W>) -> fmt::Result {
-    let buffer = Buffer(lent.held);
-    let age = if lent.reallocated { "new" } else { "as it was" };
-    let fence = Points(lent.fence);
-    let old = Old(lent.old);
-    write!(
-        f,
-        "slot {}, {buffer}, {age}, {fence}, right {}{old}",
-        lent.slot.0, lent.right
+/// Prints a buffer.
+pub fn print_buffer(rt: &impl Print, held: Held) -> io::Result<()> {
+    print!(rt;
+        "buffer {} of {} x {}",
+        held.number, held.width, held.height
     )
 }
 
-fn fmt_taken<W: fmt::Write>(taken: &Acquired<u64>, f: &mut fmt::Formatter<W>) -> fmt::Result {
-    let item = &taken.item;
-    let buffer = Buffer(item.held);
-    let fence = Points(item.fence);
-    let time = Time(item.time);
-    let mode = if item.droppable { "droppable" } else { "kept" };
-    write!(
-        f,
-        "slot {}, {buffer}, frame {}, picture {}, ",
-        item.slot.0, item.frame, item.picture
-    )?;
-    write!(f, "{time}, {mode}, crop {} {} ", item.crop.x, item.crop.y)?;
-    write!(f, "{} {}, {fence}, ", item.crop.width, item.crop.height)?;
-    write!(f, "right {}, {} dropped", item.right, taken.dropped)
-}
-
-impl fmt::Display for Reply {
-    fn fmt<W: fmt::Write>(&self, f: &mut fmt::Formatter<W>) -> fmt::Result {
-        match self {
-            Reply::Refused(cause) => write!(f, "{cause:?}"),
-            Reply::HandedBack(cause, right) => write!(f, "{cause:?}, right {right} back"),
-            Reply::Done => write!(f, "done"),
-            Reply::Lent(lent) => fmt_lent(lent, f),
-            Reply::Known(held) => write!(f, "{}", Buffer(*held)),
-            Reply::Frame(frame) => write!(f, "frame {frame}"),
-            Reply::Seated(slot, held) => write!(f, "slot {}, {}", slot.0, Buffer(*held)),
-            Reply::Taken(taken) => fmt_taken(taken, f),
-            Reply::NotMade => write!(f, "not made"),
+/// Prints a fence: its points, as `3:70`, or `-` where there are none.
+pub fn print_fence(rt: &impl Print, fence: &Fence) -> io::Result<()> {
+    print!(rt; ", fence")?;
+    if *fence == Fence::none() {
+        print!(rt; " -")?;
+    }
+    for (place, value) in fence.values.iter().enumerate() {
+        if *value > 0 {
+            print!(rt; " {}:{value}", place + 1)?;
         }
     }
+    Ok(())
+}
+
+/// Prints the answer of a request.
+pub fn known(rt: &impl Print, made: Result<Held, QStatus>) -> io::Result<()> {
+    match made {
+        Ok(held) => {
+            print_buffer(rt, held)?;
+            println!(rt)
+        }
+        Err(cause) => refused(rt, cause),
+    }
+}
+
+/// Prints the answer of a call that puts a buffer in.
+pub fn seated(rt: &impl Print, made: Result<(SlotId, Held), QStatus>) -> io::Result<()> {
+    match made {
+        Ok((slot, held)) => {
+            print!(rt; "slot {}, ", slot.0)?;
+            print_buffer(rt, held)?;
+            println!(rt)
+        }
+        Err(cause) => refused(rt, cause),
+    }
+}
+
+/// Prints what a dequeue lends.
+pub fn lent(rt: &impl Print, lent: &Dequeued<u64>) -> io::Result<()> {
+    print!(rt; "slot {}, ", lent.slot.0)?;
+    print_buffer(rt, lent.held)?;
+    let age = if lent.reallocated { "new" } else { "as it was" };
+    print!(rt; ", {age}")?;
+    print_fence(rt, &lent.fence)?;
+    match lent.old {
+        Some(right) => println!(rt; ", right {}, the old right {right}", lent.right),
+        None => println!(rt; ", right {}", lent.right),
+    }
+}
+
+/// Prints the frame that an acquire gives.
+pub fn acquired(rt: &impl Print, taken: &Acquired<u64>) -> io::Result<()> {
+    let item = &taken.item;
+    print!(rt; "slot {}, ", item.slot.0)?;
+    print_buffer(rt, item.held)?;
+    print!(rt; ", frame {}, picture {}, ", item.frame, item.picture)?;
+    match item.time {
+        Some(time) => print!(rt; "time {time}, ")?,
+        None => print!(rt; "no time, ")?,
+    }
+    let mode = if item.droppable { "droppable" } else { "kept" };
+    let crop = item.crop;
+    print!(rt;
+        "{mode}, crop {} {} {} {}",
+        crop.x, crop.y, crop.width, crop.height
+    )?;
+    print_fence(rt, &item.fence)?;
+    println!(rt; ", right {}, {} dropped", item.right, taken.dropped)
 }

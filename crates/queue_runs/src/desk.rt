@@ -2,8 +2,7 @@
 ghost use Rattle.std.specs.Prelude.{◌≡◌, ◌≤◌, true, Some, [], ◌∷◌};
 ghost use Rattle.sf_surface.specs.Marks.{PermitFits};
 
-use crate::answer::Shown;
-use crate::settling::Made;
+use crate::tools::Made;
 use sf_base::{NoMemory, QueueId};
 use sf_calls::{CallLock, Pass};
 use sf_surface::{QCall, QueueMark, QueueObject};
@@ -127,7 +126,10 @@ impl<B: TableName> Desk<B> {
 /// Prints the calls on a queue, as records show them.
 fn print_history<B: TableName>(rt: &impl Print, object: &QueueObject<B>) -> io::Result<()> {
     for entry in object.entries() {
-        println!(rt; "  {}", Shown(*entry))?;
+        println!(rt;
+            "  {}.{}: kind {}, status {}, slot {}, frame {}",
+            entry.caller, entry.step, entry.kind, entry.status, entry.slot, entry.frame
+        )?;
     }
     Ok(())
 }

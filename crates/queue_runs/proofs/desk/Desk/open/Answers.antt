@@ -6,8 +6,8 @@ use Rattle.sf_surface.specs.declared.call.QCall.{QCall}
 use Rattle.sf_surface.specs.declared.call.QReply.{QReply}
 use Rattle.sf_surface.specs.declared.mark.QueueMark.{QueueMark}
 use Rattle.sf_surface.specs.Objects.{ObjectOf, mark_of}
-use Rattle.surface_runs.proofs.PassLemmas.{not_second}
-use Rattle.surface_runs.proofs.desk.Desk.open.Goals as goal
+use Rattle.queue_runs.proofs.PassLemmas.{not_second}
+use Rattle.queue_runs.proofs.desk.Desk.open.Goals as goal
 
 pub new-requires-clause-wide : goal.new-requires-clause-wide
 new-requires-clause-wide g c = c.requires.wide

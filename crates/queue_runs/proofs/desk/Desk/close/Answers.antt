@@ -5,8 +5,8 @@ use Rattle.sf_calls.specs.Views.{PassView}
 use Rattle.sf_surface.specs.declared.call.QCall.{QCall}
 use Rattle.sf_surface.specs.declared.call.QReply.{QReply}
 use Rattle.sf_surface.specs.declared.mark.QueueMark.{QueueMark}
-use Rattle.surface_runs.proofs.PassLemmas.{only_second}
-use Rattle.surface_runs.proofs.desk.Desk.close.Goals as goal
+use Rattle.queue_runs.proofs.PassLemmas.{only_second}
+use Rattle.queue_runs.proofs.desk.Desk.close.Goals as goal
 
 pub meet-requires-clause-own : goal.meet-requires-clause-own
 meet-requires-clause-own g c = c.args.self.own
