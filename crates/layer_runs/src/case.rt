@@ -1,18 +1,18 @@
-ghost use Rattle.std.specs.Prelude.{◌≤◌};
-
-use crate::{compose, damage, fill, operation, read, scene, turns};
-use case_words::number32;
+use crate::answer::Answer;
+use crate::made::Made;
+use crate::{answer, compose, fill, frames, operation, read, scene, show};
+use case_words::{any_layer, number32, number64};
 use page_lease::Page;
-use sf_base::{LayerId, NoMemory};
+use sf_base::{LayerId, NoMemory, TokenId};
 use sf_layer::{Kind, Op, Parent};
 use sf_picture::Painted;
 use sf_tree::Tree;
 use sf_txn::Transaction;
 use sf_view::View;
 use std::alloc::{AllocError, Global};
-use std::io;
 use std::str::SplitWhitespace;
 use std::thread::Threads;
+use std::{io, mem};
 
 /// What a case has come to.
 #[derive(Drop)]
@@ -24,6 +24,7 @@ pub struct Case {
     txn: Transaction<Page>,
     other: Transaction<Page>,
     before: Option<View>,
+    made: Made,
 }
 
 /// A tree for at most as many layers as a line says.
@@ -40,12 +41,10 @@ fn many(alloc: Global, words: &mut SplitWhitespace<'_>) -> Option<Vec<(LayerId, 
     let from = number32(words)?;
     let to = number32(words)?;
     let mut ops = Vec::new(alloc);
-    for number in from..to {
+    for number in from..=to {
         ops.push((LayerId(number), Op::Create(Kind::Colour, Parent::Root)))
             .ok()?;
     }
-    ops.push((LayerId(to), Op::Create(Kind::Colour, Parent::Root)))
-        .ok()?;
     Some(ops)
 }
 
@@ -60,49 +59,41 @@ impl Case {
                 txn: Transaction::new(alloc),
                 other: Transaction::new(alloc),
                 before: None,
+                made: Made::new(alloc),
             }),
             Err(NoMemory) => Err(AllocError),
         }
     }
 
-    /// Begins anew with an empty tree, and keeps the transactions.
-    fn with_tree(&mut self, tree: Option<Tree>) -> bool {
-        match tree {
-            Some(tree) => {
-                self.tree = tree;
-                true
-            }
-            None => false,
-        }
-    }
-
-    fn with_ops(&mut self, ops: Option<Vec<(LayerId, Op)>>) -> bool {
-        match ops {
-            Some(ops) => {
-                self.ops = ops;
-                true
-            }
-            None => false,
-        }
-    }
-
-    fn with_picture(&mut self, picture: Option<Painted>) -> bool {
-        match picture {
-            Some(picture) => self.contents.push(picture).is_ok(),
-            None => false,
-        }
-    }
-
     /// The kept operations, which are none then.
     fn take_ops(&mut self) -> Vec<(LayerId, Op)> {
-        std::mem::replace(&mut self.ops, Vec::new(self.alloc))
+        mem::replace(&mut self.ops, Vec::new(self.alloc))
     }
 
-    fn merge(&mut self, rt: &impl Print) -> io::Result<()> {
-        let txn = std::mem::replace(&mut self.txn, Transaction::new(self.alloc));
-        let other = std::mem::replace(&mut self.other, Transaction::new(self.alloc));
-        self.txn = fill::merge(rt, txn, other)?;
-        Ok(())
+    /// The transaction, which is empty then.
+    fn take_txn(&mut self) -> Transaction<Page> {
+        mem::replace(&mut self.txn, Transaction::new(self.alloc))
+    }
+
+    /// Does what a line says that prints nothing.
+    fn keep(&mut self, name: &str, words: &mut SplitWhitespace<'_>) -> Option<()> {
+        match name {
+            "limit" => self.tree = limited(self.alloc, words)?,
+            "many" => self.ops = many(self.alloc, words)?,
+            "keep" => self.before = Some(scene::viewed(self.alloc, &self.tree, words)?),
+            "other" => mem::swap(&mut self.txn, &mut self.other),
+            "token" => self.txn.address(TokenId(number32(words)?)),
+            "desire" => self.txn.desire(number64(words)?),
+            "barrier" => {
+                let layer = any_layer(words)?;
+                self.txn.add_barrier(layer, number64(words)?).ok()?;
+            }
+            layer => {
+                let layer = LayerId(layer.parse().ok()?);
+                self.ops.push((layer, operation::parse(words)?)).ok()?;
+            }
+        }
+        Some(())
     }
 
     /// Does what a line says of kept operations and transactions. Answers whether it says something.
@@ -118,176 +109,145 @@ impl Case {
                 fill::set_all(rt, &mut self.txn, &ops)?;
             }
             "commit" => scene::apply(rt, &mut self.tree, self.txn.ops())?,
-            "other" => std::mem::swap(&mut self.txn, &mut self.other),
-            "merge" => self.merge(rt)?,
+            "merge" => {
+                let txn = self.take_txn();
+                let other = mem::replace(&mut self.other, Transaction::new(self.alloc));
+                self.txn = fill::merge(rt, txn, other)?;
+            }
+            "show" => fill::show_all(rt, &self.txn)?,
+            "order" => scene::order(rt, &self.tree)?,
             _ => return Ok(false),
         }
         Ok(true)
     }
 
-    /// Looks at what the transaction shows, or reads it. Answers whether the line says so.
-    fn read(
+    /// Does what a line says of a layer or a count. Answers whether it says something.
+    fn use_number(
         &mut self,
         rt: &impl Print,
         name: &str,
         words: &mut SplitWhitespace<'_>,
     ) -> io::Result<bool> {
-        if name != "look" && name != "read" {
-            return Ok(false);
-        }
-        let Some(count) = number32(words) else {
+        let Some(number) = number32(words) else {
             return Ok(false);
         };
-        if name == "look" {
-            read::look(rt, self.alloc, &mut self.txn, count)?;
-        } else {
-            let txn = std::mem::replace(&mut self.txn, Transaction::new(self.alloc));
-            read::read(rt, self.alloc, txn, count)?;
+        match name {
+            "above" => scene::above(rt, self.alloc, &self.tree, LayerId(number))?,
+            "look" => read::look(rt, self.alloc, &mut self.txn, number)?,
+            "read" => read::read(rt, self.alloc, self.take_txn(), number)?,
+            "marks" => {
+                let total = frames::marks(self.alloc, &self.tree, &self.before, number);
+                frames::print_marks(rt, total)?;
+            }
+            _ => match number32(words) {
+                Some(frame) => {
+                    fill::set_buffer(rt, self.alloc, &mut self.txn, LayerId(number), frame)?
+                }
+                None => return Ok(false),
+            },
         }
         Ok(true)
     }
 
-    /// Keeps the operation that a line says.
-    fn keep(&mut self, line: &str) -> bool {
-        match operation::parse(line) {
-            Some(op) => self.ops.push(op).is_ok(),
-            None => false,
-        }
-    }
-
-    /// Keeps a view as the one before.
-    fn with_view(&mut self, view: Option<View>) -> bool {
-        self.before = view;
-        self.before.is_some()
-    }
-
-    /// Prints where a view differs from the one before.
-    fn compare(&self, rt: &impl Print, view: Option<View>) -> io::Result<bool> {
-        match (&self.before, view) {
-            (Some(before), Some(view)) => {
-                damage::changed(rt, self.alloc, before, &view)?;
-                Ok(true)
-            }
-            _ => Ok(false),
-        }
-    }
-
-    /// Prints a view's frame, composed over that of the view before.
-    fn compose_again(&self, rt: &impl Print, view: Option<View>) -> io::Result<bool> {
-        match (&self.before, view) {
-            (Some(before), Some(view)) => {
-                let frame = compose::again(self.alloc, before, &view, &self.contents);
-                scene::print_frame(rt, "again", frame)?;
-                Ok(true)
-            }
-            _ => Ok(false),
-        }
-    }
-
-    /// Prints the last of frames of the view before and of another in turns.
-    fn take_turns<R: Print + Threads + Sync>(
+    /// Prints what a line asks of a view. Answers whether it asks for something.
+    fn look_at(
         &self,
-        rt: &R,
-        words: &mut SplitWhitespace<'_>,
-    ) -> io::Result<bool> {
-        let Some(work) = words.next().and_then(turns::parse) else {
-            return Ok(false);
-        };
-        let Some(count) = number32(words) else {
-            return Ok(false);
-        };
-        match (&self.before, scene::viewed(self.alloc, &self.tree, words)) {
-            (Some(before), Some(view)) => {
-                let frame = turns::turns(
-                    rt,
-                    self.alloc,
-                    work,
-                    count,
-                    before,
-                    &view,
-                    &self.contents,
-                );
-                scene::print_frame(rt, "turns", frame)?;
-                Ok(true)
-            }
-            _ => Ok(false),
-        }
-    }
-
-    /// Prints what comes of looking many times at what changed since the view before.
-    fn mark(&self, rt: &impl Print, words: &mut SplitWhitespace<'_>) -> io::Result<bool> {
-        let Some(count) = number32(words) else {
-            return Ok(false);
-        };
-        let Some(before) = &self.before else {
-            return Ok(false);
-        };
-        match turns::marks(self.alloc, &self.tree, before, count) {
-            Some(total) => println!(rt; "marks: {total}")?,
-            None => println!(rt; "marks: no memory")?,
-        }
-        Ok(true)
-    }
-
-    /// Does what a line says of the view before. Answers whether it says something.
-    fn use_view<R: Print + Threads + Sync>(
-        &mut self,
-        rt: &R,
+        rt: &impl Print,
         name: &str,
         words: &mut SplitWhitespace<'_>,
     ) -> io::Result<bool> {
-        match name {
-            "keep" => {
-                let view = scene::viewed(self.alloc, &self.tree, words);
-                Ok(self.with_view(view))
-            }
-            "dirty" => {
-                let view = scene::viewed(self.alloc, &self.tree, words);
-                self.compare(rt, view)
-            }
-            "again" => {
-                let view = scene::viewed(self.alloc, &self.tree, words);
-                self.compose_again(rt, view)
-            }
-            "turns" => self.take_turns(rt, words),
-            "marks" => self.mark(rt, words),
-            _ => Ok(false),
-        }
-    }
-
-    /// Does what a line says that begins with a name.
-    fn do_named<R: Print + Threads + Sync>(&mut self, rt: &R, line: &str) -> io::Result<bool> {
-        let mut words = line.split_whitespace();
-        let Some(name) = words.next() else {
+        let Some(view) = scene::viewed(self.alloc, &self.tree, words) else {
             return Ok(false);
         };
-        if name == "limit" {
-            let tree = limited(self.alloc, &mut words);
-            return Ok(self.with_tree(tree));
+        match (name, &self.before) {
+            ("view", _) => show::view(rt, &view)?,
+            ("shows", _) => frames::shows(rt, self.alloc, &view)?,
+            (_, Some(before)) => frames::changed(rt, self.alloc, before, &view)?,
+            _ => return Ok(false),
         }
-        if name == "many" {
-            let ops = many(self.alloc, &mut words);
-            return Ok(self.with_ops(ops));
-        }
-        if name == "picture" {
-            let picture = compose::painted(self.alloc, self.contents.len(), &mut words);
-            return Ok(self.with_picture(picture));
-        }
-        Ok(
-            self.use_kept(rt, name)?
-                || self.read(rt, name, &mut words)?
-                || self.use_view(rt, name, &mut words)?
-                || scene::ask(rt, self.alloc, &self.tree, &self.contents, name, &mut words)?
-                || fill::fill(rt, self.alloc, &mut self.txn, name, &mut words)?,
-        )
+        Ok(true)
     }
 
-    /// Does what a line says.
+    /// The pixels that a line asks for.
+    fn pixels<R: Threads + Sync>(
+        &self,
+        rt: &R,
+        name: &str,
+        words: &mut SplitWhitespace<'_>,
+    ) -> Option<Vec<u8>> {
+        let (alloc, contents) = (self.alloc, self.contents.as_slice());
+        match name {
+            "frame" => {
+                let view = scene::viewed(alloc, &self.tree, words)?;
+                compose::whole(alloc, &view, contents)
+            }
+            "again" | "turns" => {
+                let (work, count) = frames::turns_asked(name, words)?;
+                let view = scene::viewed(alloc, &self.tree, words)?;
+                let before = self.before.as_ref()?;
+                frames::turns(rt, alloc, work, count, before, &view, contents)
+            }
+            _ => {
+                let work = frames::part_asked(name, words)?;
+                let view = scene::sized(alloc, &self.tree, words)?;
+                frames::part(rt, alloc, work, &view, contents, words)
+            }
+        }
+    }
+
+    /// Does what a line says of regions, rows, pictures, fences and statuses.
+    fn answer_to(&mut self, name: &str, words: &mut SplitWhitespace<'_>) -> Option<Answer> {
+        let form = words.next()?;
+        match name {
+            "region" => self.made.region(form, words),
+            "row" => self.made.row(form, words),
+            "fence" => self.made.fence(form, words),
+            "status" => Some(Answer::Statuses),
+            _ => match form.parse() {
+                Ok(width) => {
+                    let number = self.contents.len();
+                    let picture = compose::painted(self.alloc, number, width, words)?;
+                    self.contents.push(picture).ok()?;
+                    Some(Answer::Done)
+                }
+                Err(_) => self.made.picture(form, words),
+            },
+        }
+    }
+
+    /// Does what a line says. Answers whether it says something.
+    fn use_line<R: Print + Threads + Sync>(&mut self, rt: &R, line: &str) -> io::Result<bool> {
+        let mut words = line.split_whitespace();
+        let Some(name) = words.next() else {
+            return Ok(true);
+        };
+        match name {
+            "above" | "look" | "read" | "marks" | "buffer" => {
+                self.use_number(rt, name, &mut words)
+            }
+            "view" | "shows" | "dirty" => self.look_at(rt, name, &mut words),
+            "frame" | "again" | "turns" | "part" | "crew" | "seen" => {
+                let pixels = self.pixels(rt, name, &mut words);
+                show::frame(rt, name, pixels)?;
+                Ok(true)
+            }
+            "region" | "row" | "picture" | "fence" | "status" => {
+                match self.answer_to(name, &mut words) {
+                    Some(answer) => answer::print(rt, line, &answer)?,
+                    None => return Ok(false),
+                }
+                Ok(true)
+            }
+            _ => Ok(self.use_kept(rt, name)? || self.keep(name, &mut words).is_some()),
+        }
+    }
+
+    /// Does what a line says, or tells that it says nothing.
     pub fn follow<R: Print + Threads + Sync>(&mut self, rt: &R, line: &str) -> io::Result<()> {
         if line.starts_with("case ") {
             println!(rt; "{line}")?;
             *self = Case::new(self.alloc)?;
-        } else if !self.keep(line) && !self.do_named(rt, line)? {
+        } else if !self.use_line(rt, line)? {
             println!(rt; "{line}: says nothing")?;
         }
         Ok(())

@@ -1,49 +1,61 @@
 ghost use Rattle.std.specs.List.{AllZip};
-ghost use Rattle.std.specs.Prelude.{◌≡◌, ◌+ℤ◌, ◌≤◌, ◌≤ℤ◌, IfSome, IsTrue, pos};
+ghost use Rattle.std.specs.Prelude.{◌≡◌, ◌≤◌, IfSome, IsTrue};
 ghost use Rattle.sf_base.specs.Geometry.{IsWithin, LiesWithin};
 ghost use Rattle.sf_compose.specs.Readings.{IsReadable};
-ghost use Rattle.sf_region.specs.Points.{IsInBounds, far, neg_far};
 
-use case_words::{buffer_size, colour, rect};
+use case_words::{colour, is_buffer_size, number32, rect};
 use sf_base::{Format, Items, Rect};
 use sf_compose::{compose, compose_frame, compose_one, compose_seen};
-use sf_damage::{dirty, visible};
+use sf_damage::visible;
 use sf_picture::{Fill, Painted, Picture, paint};
 use sf_region::Region;
 use sf_view::{Content, Drawn, View};
 use std::alloc::Global;
-use std::io;
 use std::str::SplitWhitespace;
 use std::thread::Threads;
 
 /// How many fills or rectangles a line has at most.
-const MOST_PARTS: u32 = 64;
+pub const MOST_PARTS: u32 = 64;
 
-fn fill(words: &mut SplitWhitespace<'_>) -> Option<Fill> {
-    Some(Fill {
-        rect: rect(words)?,
-        colour: colour(words)?,
-    })
+/// How a part is composed into a frame.
+#[derive(Clone, Copy)]
+pub enum Work {
+    /// By one, of each layer all of it.
+    Whole,
+    /// By so many workers.
+    Crew(u32),
+    /// Of each layer only what shows.
+    Seen,
 }
 
+/// The fills that a line says.
 fn fills(alloc: Global, words: &mut SplitWhitespace<'_>) -> Option<Vec<Fill>> {
     let mut list = Vec::new(alloc);
     for _ in 0..MOST_PARTS {
-        let Some(fill) = fill(words) else {
+        let Some(rect) = rect(words) else {
             break;
         };
-        list.push(fill).ok()?;
+        let colour = colour(words)?;
+        list.push(Fill { rect, colour }).ok()?;
     }
     Some(list)
 }
 
-/// A picture of the size and with the fills that a line says.
-pub fn painted(alloc: Global, number: usize, words: &mut SplitWhitespace<'_>) -> Option<Painted> {
-    let size = buffer_size(words)?;
+/// A picture of this width, and of the height and with the fills that a line says.
+pub fn painted(
+    alloc: Global,
+    number: usize,
+    width: u32,
+    words: &mut SplitWhitespace<'_>,
+) -> Option<Painted> {
+    let height = number32(words)?;
+    if !is_buffer_size(width, height) {
+        return None;
+    }
     let picture = Picture {
         number: u32::try_from(number).ok()?,
-        width: size.width,
-        height: size.height,
+        width,
+        height,
         fills: Items::new(fills(alloc, words)?),
         format: Format::Rgba,
     };
@@ -105,15 +117,11 @@ pub fn whole(alloc: Global, view: &View, contents: &[Painted]) -> Option<Vec<u8>
     compose_frame(alloc, view, contents, &sources).ok()
 }
 
-/// A frame of sevens.
-fn sevens(alloc: Global, view: &View) -> Option<Vec<u8>> {
-    let size = 4 * (view.width as usize * view.height as usize);
-    vec![in alloc; 7u8; size].ok()
-}
-
 /// Composes a part into a frame.
-pub fn add(
+pub fn add<R: Threads + Sync>(
+    rt: &R,
     alloc: Global,
+    work: Work,
     view: &View,
     contents: &[Painted],
     part: &Region,
@@ -125,151 +133,19 @@ pub fn add(
     if frame.len() != 4 * (view.width as usize * view.height as usize) {
         return None;
     }
-    compose_one(alloc, view, contents, &sources, part, frame).ok()
-}
-
-/// Composes a part into a frame by so many workers.
-pub fn add_by<R: Threads + Sync>(
-    rt: &R,
-    workers: u32,
-    alloc: Global,
-    view: &View,
-    contents: &[Painted],
-    part: &Region,
-    frame: &mut Vec<u8>,
-) -> Option<()> {
-    let Some(sources) = sources(alloc, view.drawn.as_slice(), contents) else {
-        return None;
-    };
-    if workers < 1
-        || workers > 16
-        || frame.len() != 4 * (view.width as usize * view.height as usize)
-    {
-        return None;
-    }
-    compose(rt, workers, view, contents, &sources, part, frame).ok()
-}
-
-/// Composes a part into a frame, of each layer only what shows.
-pub fn add_seen(
-    alloc: Global,
-    view: &View,
-    contents: &[Painted],
-    part: &Region,
-    frame: &mut Vec<u8>,
-) -> Option<()> {
-    let Some(sources) = sources(alloc, view.drawn.as_slice(), contents) else {
-        return None;
-    };
-    let Ok(shown) = visible(alloc, view) else {
-        return None;
-    };
-    if frame.len() != 4 * (view.width as usize * view.height as usize) {
-        return None;
-    }
-    compose_seen(alloc, view, contents, &sources, &shown, part, frame).ok()
-}
-
-/// Whether so many pixels from one on lie where a region's may.
-fn is_near(from: i32, extent: u32) -> bool
-    ensures { IsTrue result → (neg_far ≤ℤ from) × ((from +ℤ pos extent) ≤ℤ far) }
-{
-    -33_554_432 <= from && i64::from(from) + i64::from(extent) <= 33_554_432
-}
-
-/// Whether a rectangle's edges lie where a region's may.
-fn is_in_bounds(rect: &Rect) -> bool
-    ensures { IsTrue result → IsInBounds rect.now }
-{
-    is_near(rect.x, rect.width) && is_near(rect.y, rect.height)
-}
-
-/// The points of the rectangles that a line says.
-fn region(alloc: Global, words: &mut SplitWhitespace<'_>) -> Option<Region> {
-    let mut all = Region::empty(alloc);
-    for _ in 0..MOST_PARTS {
-        let Some(rect) = rect(words) else {
-            break;
-        };
-        if !is_in_bounds(&rect) {
-            return None;
+    match work {
+        Work::Whole => compose_one(alloc, view, contents, &sources, part, frame).ok(),
+        Work::Crew(workers) => {
+            if workers < 1 || workers > 16 {
+                return None;
+            }
+            compose(rt, workers, view, contents, &sources, part, frame).ok()
         }
-        all = all.union(&Region::rect(alloc, rect).ok()?).ok()?;
-    }
-    Some(all)
-}
-
-/// The bytes of a frame of sevens after the rectangles that a line says were composed into it.
-pub fn part(
-    alloc: Global,
-    view: &View,
-    contents: &[Painted],
-    words: &mut SplitWhitespace<'_>,
-) -> Option<Vec<u8>> {
-    let part = region(alloc, words)?;
-    let mut frame = sevens(alloc, view)?;
-    add(alloc, view, contents, &part, &mut frame)?;
-    Some(frame)
-}
-
-/// The same, by so many workers.
-pub fn crew<R: Threads + Sync>(
-    rt: &R,
-    workers: u32,
-    alloc: Global,
-    view: &View,
-    contents: &[Painted],
-    words: &mut SplitWhitespace<'_>,
-) -> Option<Vec<u8>> {
-    let part = region(alloc, words)?;
-    let mut frame = sevens(alloc, view)?;
-    add_by(rt, workers, alloc, view, contents, &part, &mut frame)?;
-    Some(frame)
-}
-
-/// The bytes of a frame of sevens after what shows in these rectangles was composed into it.
-pub fn seen(
-    alloc: Global,
-    view: &View,
-    contents: &[Painted],
-    words: &mut SplitWhitespace<'_>,
-) -> Option<Vec<u8>> {
-    let part = region(alloc, words)?;
-    let mut frame = sevens(alloc, view)?;
-    add_seen(alloc, view, contents, &part, &mut frame)?;
-    Some(frame)
-}
-
-/// The bytes of a view's frame, composed over the frame of the view before where the two differ.
-pub fn again(alloc: Global, before: &View, view: &View, contents: &[Painted]) -> Option<Vec<u8>> {
-    let mut frame = whole(alloc, before, contents)?;
-    let part = dirty(alloc, before, view).ok()?;
-    add_seen(alloc, view, contents, &part, &mut frame)?;
-    Some(frame)
-}
-
-fn print_run(rt: &impl Print, count: u32, pixel: Option<[u8; 4]>) -> io::Result<()> {
-    let Some(pixel) = pixel else {
-        return Ok(());
-    };
-    let [r, g, b, a] = pixel;
-    println!(rt; "  {count} x {r} {g} {b} {a}")
-}
-
-/// Prints a frame as runs of equal pixels, row after row.
-pub fn print(rt: &impl Print, bytes: &[u8]) -> io::Result<()> {
-    let mut count = 0u32;
-    let mut last = None;
-    let mut rest = bytes;
-    while let [r, g, b, a, after @ ..] = rest {
-        let pixel = Some([*r, *g, *b, *a]);
-        if pixel != last {
-            print_run(rt, count, last)?;
-            count = 0;
-            last = pixel;
+        Work::Seen => {
+            let Ok(shown) = visible(alloc, view) else {
+                return None;
+            };
+            compose_seen(alloc, view, contents, &sources, &shown, part, frame).ok()
         }
-        count = count.saturating_add(1);
-        rest = after;
     }
-    print_run(rt, count, last)
 }

@@ -3,14 +3,12 @@ ghost use Rattle.sf_layer.specs.Ranges.{IsOperation};
 ghost use Rattle.sf_txn.specs.Transactions.{shows_of};
 
 use crate::show;
-use case_words::{any_layer, number32, number64};
 use page_lease::Page;
-use sf_base::{Fence, LayerId, NoMemory, QueueId, Rect, TokenId};
+use sf_base::{Fence, LayerId, NoMemory, QueueId, Rect};
 use sf_layer::{Op, Shown};
 use sf_txn::{BufferOp, Transaction};
 use std::alloc::Global;
 use std::io;
-use std::str::SplitWhitespace;
 
 /// Whether a transaction may be given the operation without a lease.
 fn is_settable(layer: LayerId, op: &Op) -> bool
@@ -60,59 +58,25 @@ fn frame(alloc: Global, layer: LayerId, number: u32) -> Result<BufferOp<Page>, N
     })
 }
 
-/// Shows a frame on a layer, and prints the frame whose place it takes.
-fn set_buffer(
+/// Shows the frame of a number on a layer, and prints the frame whose place it takes.
+pub fn set_buffer(
     rt: &impl Print,
+    alloc: Global,
     txn: &mut Transaction<Page>,
-    buffer: BufferOp<Page>,
+    layer: LayerId,
+    number: u32,
 ) -> io::Result<()> {
-    if buffer.layer.0 == 0 {
+    if layer.0 == 0 {
         return println!(rt; "buffer: not in range");
     }
+    let Ok(buffer) = frame(alloc, layer, number) else {
+        return println!(rt; "buffer: no memory");
+    };
     match txn.set_buffer(buffer) {
         Ok(None) => println!(rt; "buffer: replaces none"),
         Ok(Some(old)) => println!(rt; "buffer: replaces {}", old.lease.number()),
         Err(_) => println!(rt; "buffer: no memory"),
     }
-}
-
-/// The frame that a line names.
-fn frame_named(alloc: Global, words: &mut SplitWhitespace<'_>) -> Option<BufferOp<Page>> {
-    let layer = any_layer(words)?;
-    frame(alloc, layer, number32(words)?).ok()
-}
-
-fn add_barrier(txn: &mut Transaction<Page>, words: &mut SplitWhitespace<'_>) -> Option<()> {
-    let layer = any_layer(words)?;
-    txn.add_barrier(layer, number64(words)?).ok()
-}
-
-/// Does what a line says of a transaction. Answers whether it says something.
-pub fn fill(
-    rt: &impl Print,
-    alloc: Global,
-    txn: &mut Transaction<Page>,
-    name: &str,
-    words: &mut SplitWhitespace<'_>,
-) -> io::Result<bool> {
-    match name {
-        "buffer" => match frame_named(alloc, words) {
-            Some(buffer) => set_buffer(rt, txn, buffer)?,
-            None => return Ok(false),
-        },
-        "barrier" => return Ok(add_barrier(txn, words).is_some()),
-        "token" => match number32(words) {
-            Some(token) => txn.address(TokenId(token)),
-            None => return Ok(false),
-        },
-        "desire" => match number64(words) {
-            Some(time) => txn.desire(time),
-            None => return Ok(false),
-        },
-        "show" => show_all(rt, txn)?,
-        _ => return Ok(false),
-    }
-    Ok(true)
 }
 
 fn buffers(rt: &impl Print, buffers: &[BufferOp<Page>]) -> io::Result<()> {
@@ -127,7 +91,7 @@ fn buffers(rt: &impl Print, buffers: &[BufferOp<Page>]) -> io::Result<()> {
 }
 
 /// Prints a transaction: its token and time, its operations, its buffers and its barriers.
-fn show_all(rt: &impl Print, txn: &Transaction<Page>) -> io::Result<()> {
+pub fn show_all(rt: &impl Print, txn: &Transaction<Page>) -> io::Result<()> {
     match txn.desired() {
         Some(time) => println!(rt; "token {}, time {time}", txn.token().0)?,
         None => println!(rt; "token {}, no time", txn.token().0)?,

@@ -1,10 +1,11 @@
-//! Runs of operations on layers: it reads cases from standard input, does what they say to a layer
-//! tree and to two transactions, and prints what comes of it. Empty lines and lines that begin with
+//! Runs of operations on layers, and of calls on regions, rows of pixels, pictures and fences: it
+//! reads cases from standard input, does what they say to a layer tree, to two transactions and to
+//! stacks of regions and pictures, and prints what comes of it. Empty lines and lines that begin with
 //! `#` are skipped; a line that says nothing is told.
 //!
 //! | Line | What it says |
 //! |---|---|
-//! | `case NAME` | a case begins: a tree for 256 layers, two empty transactions, no operations |
+//! | `case NAME` | a case begins: a tree for 256 layers, two empty transactions, no operations, and nothing else |
 //! | `limit N` | the tree is a new one for at most N layers |
 //! | `LAYER OPERATION` | an operation, kept with those before it |
 //! | `many FROM TO` | `create colour root` of each number from one to another |
@@ -35,17 +36,44 @@
 //! | `commit` | the transaction's operations are applied to the tree |
 //!
 //! `kinds`, `apply` and `set` take the kept operations; none are kept after them.
+//!
+//! These lines are shown with their answers where they ask something. A colour is a number in base 16
+//! behind `#`, red in its highest byte; a RECT is a corner and a size; pixels are printed as those of
+//! a frame.
+//!
+//! | Line | What it does |
+//! |---|---|
+//! | `region rect RECT`, `region moved RECT DX DY`, `region empty` | puts a region on the stack |
+//! | `region union`, `intersect`, `subtract`, `same` | takes two, and puts a region or compares them |
+//! | `region point X Y`, `region rects` | asks the uppermost |
+//! | `row frame COLOUR ..`, `row source COLOUR ..` | two rows of pixels |
+//! | `row row ALPHA`, `row opaque ALPHA`, `row colour COLOUR ALPHA` | paints over a copy of the frame |
+//! | `row back`, `row column` | picks the source's pixels from its end back, or every fourth |
+//! | `row mul A B`, `row over UNDER SOURCE ALPHA`, `row FORMAT COLOUR` | a channel, a pixel |
+//! | `picture FORMAT NUMBER WIDTH HEIGHT`, `picture blank WIDTH HEIGHT`, `picture copy` | puts a picture on the stack |
+//! | `picture fill RECT COLOUR`, `picture pixel X Y` | adds a fill to the uppermost, asks it |
+//! | `picture same` | takes two and compares them |
+//! | `picture paint`, `picture repaint` | takes one and paints it, anew or into the pixels that were painted last |
+//! | `picture bytes`, `picture sums` | the pixels that were painted last, or the sums of their channels |
+//! | `fence new`, `fence add TIMELINE VALUE`, `fence other TIMELINE VALUE`, `fence merge` | fences |
+//! | `fence seen TIMELINE VALUE`, `fence open` | what was observed, and what waits |
+//! | `status all` | the numbers of statuses |
 #![tactic(auto)]
 
+mod answer;
 mod case;
 mod compose;
-mod damage;
+mod fences;
 mod fill;
+mod frames;
+mod made;
 mod operation;
+mod pictures;
 mod read;
+mod regions;
+mod rows;
 mod scene;
 mod show;
-mod turns;
 
 use case::Case;
 use std::io;

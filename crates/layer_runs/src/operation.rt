@@ -59,14 +59,11 @@ fn looking(name: &str, words: &mut SplitWhitespace<'_>) -> Option<Op> {
     }
 }
 
-/// The operation of a line that begins with a layer's number.
-pub fn parse(line: &str) -> Option<(LayerId, Op)> {
-    let mut words = line.split_whitespace();
-    let layer = any_layer(&mut words)?;
+/// The operation that these words say.
+pub fn parse(words: &mut SplitWhitespace<'_>) -> Option<Op> {
     let name = words.next()?;
-    let op = match moving(name, &mut words) {
-        Some(op) => op,
-        None => looking(name, &mut words)?,
-    };
-    Some((layer, op))
+    match moving(name, words) {
+        Some(op) => Some(op),
+        None => looking(name, words),
+    }
 }

@@ -77,7 +77,8 @@ fn moving(rt: &impl Print, op: &Op) -> io::Result<()> {
     }
 }
 
-fn flag_name(flag: bool) -> &'static str {
+/// The word of a flag.
+pub fn flag_name(flag: bool) -> &'static str {
     if flag { "yes" } else { "no" }
 }
 
@@ -108,4 +109,52 @@ pub fn operation(rt: &impl Print, layer: LayerId, op: &Op) -> io::Result<()> {
     moving(rt, op)?;
     looking(rt, op)?;
     println!(rt; "")
+}
+
+/// Prints rectangles, or that there are none.
+pub fn rects(rt: &impl Print, rects: &[Rect]) -> io::Result<()> {
+    if rects.is_empty() {
+        print!(rt; " nothing")?;
+    }
+    for rect in rects {
+        print!(rt; " [{} {} {} {}]", rect.x, rect.y, rect.width, rect.height)?;
+    }
+    println!(rt)
+}
+
+fn print_run(rt: &impl Print, count: u32, pixel: Option<[u8; 4]>) -> io::Result<()> {
+    let Some(pixel) = pixel else {
+        return Ok(());
+    };
+    let [r, g, b, a] = pixel;
+    println!(rt; "  {count} x {r} {g} {b} {a}")
+}
+
+/// Prints pixels as runs of equal pixels, row after row.
+pub fn pixels(rt: &impl Print, bytes: &[u8]) -> io::Result<()> {
+    let mut count = 0u32;
+    let mut last = None;
+    let mut rest = bytes;
+    while let [r, g, b, a, after @ ..] = rest {
+        let pixel = Some([*r, *g, *b, *a]);
+        if pixel != last {
+            print_run(rt, count, last)?;
+            count = 0;
+            last = pixel;
+        }
+        count = count.saturating_add(1);
+        rest = after;
+    }
+    print_run(rt, count, last)
+}
+
+/// Prints the pixels of what a line asks for, or that there are none.
+pub fn frame(rt: &impl Print, name: &str, bytes: Option<Vec<u8>>) -> io::Result<()> {
+    match bytes {
+        Some(bytes) => {
+            println!(rt; "{name}:")?;
+            pixels(rt, &bytes)
+        }
+        None => println!(rt; "{name}: nothing to show"),
+    }
 }

@@ -1,7 +1,7 @@
 use Rattle.std.proofs.Common.{arith}
 use Rattle.std.proofs.lemmas.Int.{ints}
 use Rattle.sf_rows.specs.Pixels.{picked}
-use Rattle.pixel_runs.proofs.rows.every_fourth.Goals as goal
+use Rattle.layer_runs.proofs.rows.every_fourth.Goals as goal
 
 pub pick_row-requires-clause-inside : goal.pick_row-requires-clause-inside
 unfolding picked

@@ -3,7 +3,7 @@ use Rattle.std.proofs.lemmas.Int.{ints}
 use mir.Syntax.{w32}
 use mir.Val.{SFits}
 use Rattle.sf_region.specs.Points.{moved}
-use Rattle.pixel_runs.proofs.regions.stays_in_bounds.Goals as goal
+use Rattle.layer_runs.proofs.regions.stays_in_bounds.Goals as goal
 
 pub returns-then-is_span_in_bounds : goal.returns-then-is_span_in_bounds
 unfolding moved

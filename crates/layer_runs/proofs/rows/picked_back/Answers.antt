@@ -2,7 +2,7 @@ use Rattle.std.proofs.Common.{arith, length, ℕ, zero, suc, ◌≡◌, ◌≤�
 use lib.IntN.{negsuc}
 use Rattle.std.proofs.lemmas.Int.{ints}
 use Rattle.sf_rows.specs.Pixels.{picked}
-use Rattle.pixel_runs.proofs.rows.picked_back.Goals as goal
+use Rattle.layer_runs.proofs.rows.picked_back.Goals as goal
 
 back : (n k : ℕ) → k ≤ n → pos n +ℤ (negsuc 0 *ℤ pos k) ≡ pos (n - k)
 back n zero h = omega (arith, ints)

@@ -2,56 +2,46 @@
 ghost use Rattle.std.specs.Prelude.{◌≡◌, ◌%◌, ◌<◌, length};
 
 use crate::answer::Answer;
-use crate::line::{channel, colour};
+use crate::made::Made;
+use case_words::number8;
 use sf_base::{Format, Rgba, mul, over, seen_as};
 use sf_rows::{blend_colour, blend_row, blend_row_opaque, pick_row};
 use std::alloc::{AllocError, Global};
+use std::str::SplitWhitespace;
 
-/// The rows that are painted on and from.
-#[derive(Drop)]
-pub struct Rows {
-    alloc: Global,
-    frame: Vec<u8>,
-    source: Vec<u8>,
+/// How many pixels a row has at most.
+const MOST_PIXELS: u32 = 64;
+
+/// The next word, as a colour: its channels in base 16 behind `#`, red in the highest byte.
+pub fn hex_colour(words: &mut SplitWhitespace<'_>) -> Option<Rgba> {
+    let digits = words.next()?.strip_prefix('#')?;
+    let [r, g, b, a] = u32::from_str_radix(digits, 16).ok()?.to_be_bytes();
+    Some(Rgba { r, g, b, a })
 }
 
-impl Rows {
-    pub fn new(alloc: Global) -> Rows {
-        Rows {
-            alloc,
-            frame: Vec::new(alloc),
-            source: Vec::new(alloc),
-        }
-    }
-
-    /// Does what a line says. None where it can't be done.
-    pub fn follow(&mut self, form: &str, numbers: &[i64]) -> Option<Answer> {
+impl Made {
+    /// Does what a line says of rows. None where it can't be done.
+    pub fn row(&mut self, form: &str, words: &mut SplitWhitespace<'_>) -> Option<Answer> {
         match form {
-            "frame" => {
-                self.frame = pixels(self.alloc, numbers).ok()?;
-                Some(Answer::Done)
-            }
-            "source" => {
-                self.source = pixels(self.alloc, numbers).ok()?;
-                Some(Answer::Done)
-            }
-            "row" | "opaque" | "colour" => self.paint(form, numbers),
-            "back" | "column" => self.pick(form),
-            _ => blended(form, numbers),
+            "frame" => self.frame = pixels(self.alloc, words)?,
+            "source" => self.source = pixels(self.alloc, words)?,
+            "row" | "opaque" | "colour" => return self.paint_row(form, words),
+            "back" | "column" => return self.pick(form),
+            _ => return blended(form, words),
         }
+        Some(Answer::Done)
     }
 
     // Paints over a copy of the frame's row.
-    fn paint(&self, form: &str, numbers: &[i64]) -> Option<Answer> {
+    fn paint_row(&self, form: &str, words: &mut SplitWhitespace<'_>) -> Option<Answer> {
         let mut row = Vec::from_slice(self.alloc, &self.frame).ok()?;
         if row.len() != self.source.len() || row.len() % 4 != 0 {
             return None;
         }
-        match (form, numbers) {
-            ("row", [alpha]) => blend_row(&mut row, &self.source, channel(*alpha)),
-            ("opaque", [alpha]) => blend_row_opaque(&mut row, &self.source, channel(*alpha)),
-            (_, [source, alpha]) => blend_colour(&mut row, colour(*source), channel(*alpha)),
-            _ => return None,
+        match form {
+            "row" => blend_row(&mut row, &self.source, number8(words)?),
+            "opaque" => blend_row_opaque(&mut row, &self.source, number8(words)?),
+            _ => blend_colour(&mut row, hex_colour(words)?, number8(words)?),
         }
         Some(Answer::Bytes(row))
     }
@@ -71,14 +61,16 @@ impl Rows {
     }
 }
 
-// The bytes of the pixels of these colours.
-fn pixels(alloc: Global, colours: &[i64]) -> Result<Vec<u8>, AllocError> {
+// The bytes of the pixels of the colours that a line says.
+fn pixels(alloc: Global, words: &mut SplitWhitespace<'_>) -> Option<Vec<u8>> {
     let mut bytes = Vec::new(alloc);
-    for number in colours {
-        let Rgba { r, g, b, a } = colour(*number);
-        bytes.extend_from_slice(&[r, g, b, a])?;
+    for _ in 0..MOST_PIXELS {
+        let Some(Rgba { r, g, b, a }) = hex_colour(words) else {
+            break;
+        };
+        bytes.extend_from_slice(&[r, g, b, a]).ok()?;
     }
-    Ok(bytes)
+    Some(bytes)
 }
 
 // The pixels of a row from the last to the first.
@@ -103,16 +95,14 @@ fn every_fourth(alloc: Global, source: &[u8]) -> Result<Vec<u8>, AllocError>
 }
 
 // The product of two channels, a pixel over another, or what is seen of a colour in a format.
-fn blended(form: &str, numbers: &[i64]) -> Option<Answer> {
-    match (form, numbers) {
-        ("mul", [a, b]) => Some(Answer::Channel(mul(channel(*a), channel(*b)))),
-        ("over", [under, source, alpha]) => Some(Answer::Pixel(over(
-            colour(*under),
-            colour(*source),
-            channel(*alpha),
-        ))),
-        (_, [number]) => Some(Answer::Pixel(seen_as(format_of(form)?, colour(*number)))),
-        _ => None,
+fn blended(form: &str, words: &mut SplitWhitespace<'_>) -> Option<Answer> {
+    match form {
+        "mul" => Some(Answer::Channel(mul(number8(words)?, number8(words)?))),
+        "over" => {
+            let (under, source) = (hex_colour(words)?, hex_colour(words)?);
+            Some(Answer::Pixel(over(under, source, number8(words)?)))
+        }
+        _ => Some(Answer::Pixel(seen_as(format_of(form)?, hex_colour(words)?))),
     }
 }
 
