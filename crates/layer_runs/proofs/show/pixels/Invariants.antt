@@ -1,5 +1,5 @@
 use Rattle.std.proofs.Common.{length}
-use Rattle.layer_runs.proofs.compose.print.Given as goal
+use Rattle.layer_runs.proofs.show.pixels.Given as goal
 
 abbrev pub decreases-loop-rest : goal.decreases-loop-rest
 decreases-loop-rest g l = length l.rest

@@ -1,8 +1,0 @@
-use Rattle.std.proofs.Common.{◌∙◌, ap}
-use Rattle.sf_view.specs.Views.{ViewOf}
-use Rattle.layer_runs.proofs.Reading.{readable}
-use Rattle.layer_runs.proofs.compose.add_seen.Goals as goal
-
-pub compose_seen-requires-clause-readable : goal.compose_seen-requires-clause-readable
-compose_seen-requires-clause-readable c =
-    rw c.deref.ensures.value (readable c.args.contents.now c.as_slice.result.now c.args.view.now.drawn c.in-Some.sources.items (c.as_slice.ensures ∙ ap (λ (v : ViewOf). v.drawn) c.view.view_is) c.in-Some.ensures)
