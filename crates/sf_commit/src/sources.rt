@@ -1,5 +1,5 @@
 ghost use Rattle.std.specs.List.{position};
-ghost use Rattle.std.specs.Prelude.{◌≡◌, IfOk, map};
+ghost use Rattle.std.specs.Prelude.{◌≡◌, ◌↔◌, IfOk, IsTrue, map};
 ghost use Rattle.sf_commit.specs.Handlers.{source_of};
 ghost use Rattle.sf_commit.specs.OnLayers.{IsPlaceOf, is_on};
 
@@ -17,12 +17,19 @@ fn index_of<L: Lease>(on: &[Reading<L>], layer: LayerId) -> Option<usize>
     on.iter().position(|one| one.layer.0 == layer.0)
 }
 
+fn is_shown<L: Lease>(one: &Reading<L>, shown: &Shown) -> bool
+    ensures { IsTrue result ↔ (one.now.shown ≡ shown.now) }
+{
+    one.shown == *shown
+}
+
 /// The place of just this buffer, with its picture and its crop, if a layer shows it.
 pub(crate) fn index_of_shown<L: Lease>(on: &[Reading<L>], shown: &Shown) -> Option<usize>
     ensures { IsPlaceOf shown.now on.now result }
 {
     for place in 0..on.len() {
-        if on[place].shown == *shown {
+        let one = &on[place];
+        if is_shown(one, shown) {
             return Some(place);
         }
     }

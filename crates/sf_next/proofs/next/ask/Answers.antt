@@ -5,7 +5,7 @@ use Rattle.sf_next.proofs.AskingLemmas.{answers, out_none}
 use Rattle.sf_next.proofs.NextLemmas.{found_holds}
 use Rattle.sf_next.specs.Asking.{IsAnswer}
 use Rattle.sf_next.specs.Next.{IsLookedAt}
-use Rattle.sf_commit.proofs.next.ask.Goals as goal
+use Rattle.sf_next.proofs.next.ask.Goals as goal
 
 pub first_hold-requires-clause-looked : goal.first_hold-requires-clause-looked
 first_hold-requires-clause-looked g c =

@@ -1,6 +1,6 @@
 use Rattle.std.proofs.Common.{◌∙◌, refl, sym}
 use Rattle.sf_next.proofs.AskingLemmas.{moves, moves_none, shorter}
-use Rattle.sf_commit.proofs.next.ask_again.Goals as goal
+use Rattle.sf_next.proofs.next.ask_again.Goals as goal
 
 pub loop-token-init : goal.loop-token-init
 loop-token-init c = λ token. refl

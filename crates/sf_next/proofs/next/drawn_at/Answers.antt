@@ -2,7 +2,7 @@ use Rattle.std.proofs.Common.{◌∙◌, rules}
 use Rattle.std.proofs.lemmas.List.Sorted.{answers_always}
 use Rattle.sf_token.specs.declared.looks.Looks.{Looks}
 use Rattle.sf_next.proofs.SearchLemmas.{halved_found, halved_none}
-use Rattle.sf_commit.proofs.next.drawn_at.Goals as goal
+use Rattle.sf_next.proofs.next.drawn_at.Goals as goal
 
 pub returns-in-Ok : goal.returns-in-Ok
 returns-in-Ok c =

@@ -1,5 +1,5 @@
 use Rattle.sf_next.proofs.AskingLemmas.{asked_none, asked_out, asked_stopped, finds, finds_none, shorter}
-use Rattle.sf_commit.proofs.next.first_ready.Goals as goal
+use Rattle.sf_next.proofs.next.first_ready.Goals as goal
 
 pub loop-token-init : goal.loop-token-init
 loop-token-init g c =

@@ -1,5 +1,5 @@
 use Rattle.sf_next.proofs.AskingLemmas.{among_again, enough_again}
-use Rattle.sf_commit.proofs.next.next_token.Goals as goal
+use Rattle.sf_next.proofs.next.next_token.Goals as goal
 
 pub returns-clause-next : goal.returns-clause-next
 returns-clause-next g c = c.in_ok-next.ensures.is_next
