@@ -1,22 +1,22 @@
 -- What is written of a run, by its records or by their summary, and what it means.
-use Rattle.std.proofs.Common.{◌≡◌, ℕ, Bool, true, false, List, [], Option, Some, Result, Ok, Err, OnErr, OnOk, All, refl, subst, sym}
+use Rattle.std.proofs.Common.{◌≡◌, ℕ, Bool, true, false, List, [], ◌∷◌, Option, Some, Result, Ok, Err, OnErr, OnOk, All, refl, subst, sym}
 use Rattle.std.specs.Io.KnownBytes.{Appends}
-use Rattle.sf_io.specs.Streams.{TookPrefix}
 use Rattle.sf_options.specs.Options.{is_live}
 use Rattle.sf_options.specs.declared.options.Run.{Run}
 use Rattle.sf_options.specs.declared.options.Run.TheVariants as run
 use Rattle.sf_scene.specs.Scene.{SceneValue}
 use Rattle.sf_record.specs.Fitting.{RecordFits}
-use Rattle.sf_record.specs.Records.{bytes_of, record_bytes}
+use Rattle.sf_record.specs.Records.{bytes_of}
 use Rattle.sf_record.specs.declared.encode.RunFault.{RunFault}
 use Rattle.sf_record.specs.declared.record.Record.{Record}
 use Rattle.sf_record.specs.declared.record.Record.TheVariants as rec
 use Rattle.sf_record.specs.declared.record.Summary.{Summary}
 use Rattle.sf_run.specs.Played.{Played}
 use Rattle.sf_show.specs.Runs.{CutRun, WroteRun}
+use Rattle.sf_show.specs.Writing.{Writes, WritesPart}
 use Rattle.sf_tally.specs.Summaries.{summary_of, wrapped}
-use Rattle.sf_app.specs.Shown.{ShowsPart, ShowsPlay, ShowsRun, bytes_shown}
-use Rattle.sf_app.proofs.StatusLemmas.{nothing_took}
+use Rattle.sf_app.specs.Shown.{ShowsPart, ShowsPlay, ShowsRun, bytes_shown, records_shown}
+use Rattle.sf_show.proofs.WritingLemmas.{one_record, part_none}
 
 pub ok_then : {A B : Type 0} (r : Result (Unit {0}) RunFault) → (A → B) → OnOk r A → OnOk r B
 ok_then (Ok u) f h = f h
@@ -28,7 +28,7 @@ err_then (Err e) f h = f h
 
 -- the records of a play were written
 pub run_shows : (scene : SceneValue) (a b : Option (List ℕ)) → WroteRun scene a b → ShowsPlay false scene a b
-run_shows scene a b h = record { records = h.records; is_play = h.is_play; means = h.means; fits = h.written.fits; written = h.written.bytes }
+run_shows scene a b h = record { records = h.records; is_play = h.is_play; means = h.means; written = h.written }
 
 pub run_shows_part : (scene : SceneValue) (a b : Option (List ℕ)) → CutRun scene a b → ShowsPart false scene a b
 run_shows_part scene a b h = record { records = h.records; is_play = h.is_play; written = h.written }
@@ -39,26 +39,30 @@ SumsUp summary taken = (records : List Record) → All RecordFits records → ta
 
 -- the summary of the records of a play was written
 pub sum_shows : (scene : SceneValue) (taken : List ℕ) (summary : Summary) (a b : Option (List ℕ)) → WroteRun scene (Some []) (Some taken) → SumsUp summary taken →
-    Appends a b (record_bytes (rec.Summ summary)) → ShowsPlay true scene a b
+    Writes a b (rec.Summ summary ∷ []) → ShowsPlay true scene a b
 sum_shows scene taken summary a b h sums written = record {
   records = h.records;
   is_play = h.is_play;
   means = h.means;
-  fits = h.written.fits;
-  written = subst (λ (s : Summary). Appends a b (record_bytes (rec.Summ s))) (sums h.records h.written.fits h.written.bytes) written;
+  written = subst (λ (s : Summary). Writes a b (rec.Summ s ∷ [])) (sums h.records h.written.fits h.written.bytes) written;
 }
 
 pub sum_shows_part : (scene : SceneValue) (taken : List ℕ) (summary : Summary) (a b : Option (List ℕ)) → WroteRun scene (Some []) (Some taken) → SumsUp summary taken →
-    TookPrefix a b (record_bytes (rec.Summ summary)) → ShowsPart true scene a b
+    WritesPart a b (rec.Summ summary ∷ []) → ShowsPart true scene a b
 sum_shows_part scene taken summary a b h sums written = record {
   records = h.records;
   is_play = h.is_play;
-  written = subst (λ (s : Summary). TookPrefix a b (record_bytes (rec.Summ s))) (sums h.records h.written.fits h.written.bytes) written;
+  written = subst (λ (s : Summary). WritesPart a b (rec.Summ s ∷ [])) (sums h.records h.written.fits h.written.bytes) written;
 }
 
 -- a play that was cut short shows nothing of its summary
 pub cut_shows_nothing : (scene : SceneValue) (a b c : Option (List ℕ)) → CutRun scene a b → ShowsPart true scene c c
-cut_shows_nothing scene a b c h = record { records = h.records; is_play = h.is_play; written = nothing_took c (record_bytes (rec.Summ (wrapped (summary_of h.records)))) }
+cut_shows_nothing scene a b c h = record { records = h.records; is_play = h.is_play; written = part_none c (rec.Summ (wrapped (summary_of h.records)) ∷ []) }
+
+-- the bytes of what is written of records
+shown_bytes : (summary : Bool) (records : List Record) (a b : Option (List ℕ)) → Writes a b (records_shown summary records) → Appends a b (bytes_shown summary records)
+shown_bytes true records a b h = subst (Appends a b) (sym (one_record (rec.Summ (wrapped (summary_of records))))) h.bytes
+shown_bytes false records a b h = h.bytes
 
 -- what was shown of a run shows records that mean what a played run means
 pub record ShowsMeaning (summary : Bool) (scene : SceneValue) (a b : Option (List ℕ)) : Type 0 where
@@ -67,7 +71,7 @@ pub record ShowsMeaning (summary : Bool) (scene : SceneValue) (a b : Option (Lis
   pub written : Appends a b (bytes_shown summary records)
 
 pub run_means : (r : Run) (summary : Bool) (scene : SceneValue) (a b : Option (List ℕ)) → (is_live r ≡ true → summary ≡ false) → ShowsRun r summary scene a b → ShowsMeaning summary scene a b
-run_means run.Play summary scene a b unsummed h = record { records = h.records; played = h.means; written = h.written }
-run_means run.Gen summary scene a b unsummed h = record { records = h.records; played = h.means; written = h.written }
+run_means run.Play summary scene a b unsummed h = record { records = h.records; played = h.means; written = shown_bytes summary h.records a b h.written }
+run_means run.Gen summary scene a b unsummed h = record { records = h.records; played = h.means; written = shown_bytes summary h.records a b h.written }
 run_means run.Live summary scene a b unsummed h =
     record { records = h.records; played = h.means.played; written = subst (λ (s : Bool). Appends a b (bytes_shown s h.records)) (sym (unsummed refl)) h.written.bytes }

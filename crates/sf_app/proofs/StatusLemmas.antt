@@ -1,7 +1,7 @@
 -- Which statuses are left where the words are right, the script is a scene, and nothing failed.
-use Rattle.std.proofs.Common.{◌≡◌, ℕ, ◌<◌, ◌≤◌, ◌==◌, Bool, true, false, List, [], ◌∷◌, ◌++◌, Option, None, Some, Result, Ok, Err, length, ◌⊎◌, inl, inr, refl, sym, ap, subst, ◌∙◌, arith, length-append}
+use Rattle.std.proofs.Common.{◌≡◌, ℕ, ◌<◌, ◌≤◌, ◌==◌, Bool, true, false, List, [], ◌∷◌, ◌++◌, Option, None, Some, Result, Ok, Err, length, ◌⊎◌, inl, inr, refl, sym, ap, subst, ◌∙◌, arith, length-append, OnErr, IsErrOf}
 use Rattle.std.specs.Prelude.{◌≢◌, ◌&&◌, if◌then◌else◌}
-use Rattle.std.proofs.lemmas.List.{append-nil, take_all}
+use Rattle.std.proofs.lemmas.List.{append-nil}
 use Rattle.std.proofs.lemmas.Bool.{cases_eq, lt-ltb}
 use Rattle.std.proofs.KnownBytes.{Appends-nil}
 use Rattle.std.specs.Io.KnownBytes.{Appends, Consumes, IsAtEnd}
@@ -24,33 +24,32 @@ use Rattle.sf_cast.specs.Scripts.{are_playable, are_taken, is_taken}
 use Rattle.sf_load.proofs.ReadyLemmas.{and_both, and_first, and_second}
 use Rattle.sf_load.proofs.SceneLemmas.{text_is_scene}
 use Rattle.sf_load.specs.Turning.{all_turn_none, is_still, turns_none}
-use Rattle.sf_record.specs.Records.{bytes_of, record_bytes}
+use Rattle.sf_record.specs.Fitting.{RecordFits}
+use Rattle.sf_record.specs.declared.encode.RunFault.{RunFault}
+use Rattle.sf_record.specs.declared.encode.RunFault.TheVariants as run_fault
 use Rattle.sf_record.specs.declared.record.Record.{Record}
 use Rattle.sf_record.specs.declared.record.Record.TheVariants as rec
 use Rattle.sf_run.proofs.Ending.{timed_records}
-use Rattle.sf_show.proofs.WritingLemmas.{one_record}
+use Rattle.sf_show.proofs.WritingLemmas.{cut_none, cut_part, one_part, one_written, part_none as none_of, part_whole as all_as_part, some_cut}
 use Rattle.sf_show.specs.Runs.{CutRun}
 use Rattle.sf_show.specs.Writing.{CutSome}
 use Rattle.sf_tally.specs.Summaries.{summary_of, wrapped}
 use Rattle.sf_app.proofs.HeaderLemmas.{IsPeriod, asked_timed}
 use Rattle.sf_app.specs.Scripts.{asked_of, at_no_place, is_for_a_cast, played_of}
-use Rattle.sf_app.specs.Shown.{ShowsPart, ShowsPlay, ShowsRun, ShowsRunPart, bytes_shown}
+use Rattle.sf_app.specs.Shown.{ShowsPart, ShowsPlay, ShowsRun, ShowsRunPart, records_shown}
 use Rattle.sf_app.specs.Statuses.{NoScene, PlayedScript, PrefixOf, RefusedScript, WritesPrefix, fault_bytes, misspelled, too_long}
 use Rattle.sf_app.specs.Words.{IsScript, IsScriptBy, IsTold, IsToldBy, generated, is_gen}
 
 pub nothing_took : (a : Option (List ℕ)) (bs : List ℕ) → TookPrefix a a bs
 nothing_took a bs = (0, omega arith, Appends-nil a)
 
-took_all : (a b : Option (List ℕ)) (bs : List ℕ) → Appends a b bs → TookPrefix a b bs
-took_all a b bs h = (length bs, omega arith, subst (Appends a b) (sym (take_all (length bs) bs (omega arith))) h)
-
 -- what shows a play whole is a prefix of it
 part_whole : (summary : Bool) (scene : SceneValue) (a b : Option (List ℕ)) → ShowsPlay summary scene a b → ShowsPart summary scene a b
-part_whole summary scene a b h = record { records = h.records; is_play = h.is_play; written = took_all a b (bytes_shown summary h.records) h.written }
+part_whole summary scene a b h = record { records = h.records; is_play = h.is_play; written = all_as_part a b (records_shown summary h.records) h.written }
 
 -- the records of a run in threads are whole records
 live_whole : (scene : SceneValue) (a b : Option (List ℕ)) → WroteLive scene a b → CutSome a b
-live_whole scene a b h = record { records = h.records; written = took_all a b (bytes_of h.records) h.written.bytes }
+live_whole scene a b h = cut_part a b h.records (all_as_part a b h.records h.written)
 
 pub run_part_whole : (r : Run) (summary : Bool) (scene : SceneValue) (a b : Option (List ℕ)) → ShowsRun r summary scene a b → ShowsRunPart r summary scene a b
 run_part_whole run.Live summary scene a b h = live_whole scene a b h
@@ -59,20 +58,19 @@ run_part_whole run.Gen summary scene a b h = part_whole summary scene a b h
 
 -- nothing was written, which is a prefix too
 pub cut_nothing : (a : Option (List ℕ)) → CutSome a a
-cut_nothing a = record { records = []; written = nothing_took a (bytes_of []) }
-
--- a prefix of one record
-one_cut : (r : Record) (a b : Option (List ℕ)) → TookPrefix a b (record_bytes r) → CutSome a b
-one_cut r a b h = record { records = r ∷ []; written = subst (TookPrefix a b) (one_record r) h }
+cut_nothing a = cut_none a
 
 -- a prefix of the record of a fault
-pub fault_cut : (fault : ScriptFault) (a b : Option (List ℕ)) → TookPrefix a b (fault_bytes fault) → CutSome a b
-fault_cut fault a b h = one_cut (rec.Sflt fault) a b h
+pub fault_whole : (fault : ScriptFault) (a b : Option (List ℕ)) → Appends a b (fault_bytes fault) → RecordFits (rec.Sflt fault) → CutSome a b
+fault_whole fault a b bytes fits = cut_part a b (rec.Sflt fault ∷ []) (all_as_part a b (rec.Sflt fault ∷ []) (one_written (Ok tt) a b (rec.Sflt fault) (rec.Sflt fault) refl bytes fits))
+
+pub fault_part : (r : Result (Unit {0}) RunFault) (fault : ScriptFault) (a b : Option (List ℕ)) → OnErr r (TookPrefix a b (fault_bytes fault))
+    → (IsErrOf r run_fault.WriteFault → RecordFits (rec.Sflt fault)) → (IsErrOf r run_fault.NoMemory → b ≡ a) → OnErr r (CutSome a b)
+fault_part r fault a b part begun nothing = some_cut r a b (rec.Sflt fault ∷ []) (one_part r a b (rec.Sflt fault) (rec.Sflt fault) refl part begun nothing)
 
 -- a prefix of what shows a play
 play_cut : (summary : Bool) (scene : SceneValue) (a b : Option (List ℕ)) → ShowsPart summary scene a b → CutSome a b
-play_cut true scene a b h = one_cut (rec.Summ (wrapped (summary_of h.records))) a b h.written
-play_cut false scene a b h = record { records = h.records; written = h.written }
+play_cut summary scene a b h = cut_part a b (records_shown summary h.records) h.written
 
 -- of what shows a run
 pub run_cut : (r : Run) (summary : Bool) (scene : SceneValue) (a b : Option (List ℕ)) → ShowsRunPart r summary scene a b → CutSome a b
@@ -81,11 +79,11 @@ run_cut run.Play summary scene a b h = play_cut summary scene a b h
 run_cut run.Gen summary scene a b h = play_cut summary scene a b h
 
 cut_none : (scene : SceneValue) (a : Option (List ℕ)) → IsPeriod scene.period → CutRun scene a a
-cut_none scene a period = let play = timed_records scene period.low period.high in record { records = play.0; is_play = play.1; written = nothing_took a (bytes_of play.0) }
+cut_none scene a period = let play = timed_records scene period.low period.high in record { records = play.0; is_play = play.1; written = none_of a play.0 }
 
 part_none : (summary : Bool) (scene : SceneValue) (a : Option (List ℕ)) → IsPeriod scene.period → ShowsPart summary scene a a
 part_none summary scene a period =
-    let play = timed_records scene period.low period.high in record { records = play.0; is_play = play.1; written = nothing_took a (bytes_shown summary play.0) }
+    let play = timed_records scene period.low period.high in record { records = play.0; is_play = play.1; written = none_of a (records_shown summary play.0) }
 
 run_part_none : (r : Run) (summary : Bool) (scene : SceneValue) (a : Option (List ℕ)) → IsPeriod scene.period → ShowsRunPart r summary scene a a
 run_part_none run.Live summary scene a period = cut_nothing a

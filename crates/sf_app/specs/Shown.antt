@@ -1,38 +1,39 @@
 -- What is written of a scene's run: its records, or of a play the one record that sums them up.
-use Rattle.std.specs.Prelude.{ℕ, Bool, true, false, List, All, Option}
-use Rattle.std.specs.Io.KnownBytes.{Appends}
-use Rattle.sf_io.specs.Streams.{TookPrefix}
+use Rattle.std.specs.Prelude.{ℕ, Bool, true, false, List, [], ◌∷◌, Option}
 use Rattle.sf_live.specs.Runs.{WroteLive}
 use Rattle.sf_options.specs.declared.options.Run.{Run}
 use Rattle.sf_options.specs.declared.options.Run.TheVariants as run
 use Rattle.sf_scene.specs.Scene.{SceneValue}
-use Rattle.sf_record.specs.Fitting.{RecordFits}
 use Rattle.sf_record.specs.Records.{bytes_of, record_bytes}
 use Rattle.sf_record.specs.declared.record.Record.{Record}
 use Rattle.sf_record.specs.declared.record.Record.TheVariants as rec
 use Rattle.sf_run.specs.Ends.{ArePlayRecords}
 use Rattle.sf_run.specs.Played.{Played}
-use Rattle.sf_show.specs.Writing.{CutSome}
+use Rattle.sf_show.specs.Writing.{CutSome, Writes, WritesPart}
 use Rattle.sf_tally.specs.Summaries.{summary_of, wrapped}
+
+-- what is written of records: they themselves, or under `--summary` the one record of what they come to, each number told modulo 2^64
+abbrev pub records_shown : Bool → List Record → List Record
+records_shown true records = rec.Summ (wrapped (summary_of records)) ∷ []
+records_shown false records = records
 
 -- the bytes of records, or under `--summary` those of the one record of what they come to, each number told modulo 2^64
 abbrev pub bytes_shown : Bool → List Record → List ℕ
 bytes_shown true records = record_bytes (rec.Summ (wrapped (summary_of records)))
 bytes_shown false records = bytes_of records
 
--- the play of a scene was shown whole: its records, which mean what a played run means and fit their fields, or their summary
+-- the play of a scene was shown whole: its records, which mean what a played run means, or their summary
 pub record ShowsPlay (summary : Bool) (scene : SceneValue) (old new : Option (List ℕ)) : Type 0 where
   pub records : List Record
   pub is_play : ArePlayRecords scene records
   pub means : Played scene records
-  pub fits : All RecordFits records
-  pub written : Appends old new (bytes_shown summary records)
+  pub written : Writes old new (records_shown summary records)
 
 -- a prefix was written of what shows the play of a scene
 pub record ShowsPart (summary : Bool) (scene : SceneValue) (old new : Option (List ℕ)) : Type 0 where
   pub records : List Record
   pub is_play : ArePlayRecords scene records
-  pub written : TookPrefix old new (bytes_shown summary records)
+  pub written : WritesPart old new (records_shown summary records)
 
 -- a scene's run was shown whole: the records of a run in threads, or what shows the scene's play
 abbrev pub ShowsRun : Run → Bool → SceneValue → Option (List ℕ) → Option (List ℕ) → Type 0

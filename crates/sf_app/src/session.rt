@@ -49,6 +49,7 @@ const NO_MEMORY: u8 = 5;
 fn refuse<K: Sink>(alloc: Global, sink: &mut K, fault: ScriptFault) -> u8
     ensures faulty { result ≡ 2 → Appends (K.taken sink.old) (K.taken sink.new) (fault_bytes fault) }
     ensures prefix { TookPrefix (K.taken sink.old) (K.taken sink.new) (fault_bytes fault) }
+    ensures cut { CutSome (K.taken sink.old) (K.taken sink.new) }
     ensures failed { result ≡ 4 → Rose (K.faults sink.old) (K.faults sink.new) }
     ensures range { (result ≡ 2) ⊎ ((result ≡ 4) ⊎ (result ≡ 5)) }
     ensures later { K.faults sink.old ≤ K.faults sink.new }

@@ -35,7 +35,7 @@ use Rattle.sf_play.specs.Standing.{StandsInRun}
 use Rattle.sf_show.specs.Closings.{closing_of}
 use Rattle.sf_show.specs.Writing.{CutSome, Writes, WritesPart}
 use Rattle.sf_show.proofs.ClosingLemmas.{closing_is}
-use Rattle.sf_show.proofs.WritingLemmas.{part_front, part_more, writes_more}
+use Rattle.sf_show.proofs.WritingLemmas.{cut_part, part_front, part_more, writes_more}
 use Rattle.sf_live.specs.Rounds.{HasShownAll, all_reply_records, vsyncs_alone}
 use Rattle.sf_live.specs.Runs.{WroteLive}
 use Rattle.sf_live.proofs.RoundLemmas.{records_more}
@@ -126,4 +126,4 @@ module _ {B : Type 0} where
     live_cut (Err e) rest =
         let before = opening scene ∷ events_records (vsyncs_alone has.so.events) in
         let more = all_reply_records player.play.cast.actors ++ closing_of player in
-        record { records = before ++ more; written = part_more a b c before more has.written rest }
+        cut_part a c (before ++ more) (part_more a b c before more has.written rest)

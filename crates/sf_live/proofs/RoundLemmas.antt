@@ -38,7 +38,7 @@ use Rattle.sf_play.specs.declared.turn.Turn.TheVariants as turn
 use Rattle.sf_show.specs.Turns.{is_end}
 use Rattle.sf_show.specs.Vsyncs.{IsSized, is_accepted, records_if, told_with}
 use Rattle.sf_show.specs.Writing.{CutSome, Writes, WritesPart}
-use Rattle.sf_show.proofs.WritingLemmas.{part_more, part_whole, writes_more}
+use Rattle.sf_show.proofs.WritingLemmas.{cut_part, part_more, part_whole, writes_more}
 use Rattle.sf_live.specs.Rounds.{HasShown, MayWriteTurn, ShowsOn, turn_written, vsyncs_alone}
 
 vsyncs_more : (events : List Event) (one : Event) → vsyncs_in (events ++ one ∷ []) ≡ vsyncs_in events ++ vsync_in one
@@ -169,10 +169,10 @@ module _ {B : Type 0} where
       → CutSome start a
   cut_before table scene timelines start a before old has =
       let records = opening scene ∷ events_records (vsyncs_alone has.so.events) in
-      record { records = records; written = part_whole start a records has.written }
+      cut_part start a records (part_whole start a records has.written)
 
   pub turn_cut : (table : TableId) (scene : SceneValue) (timelines : List ℕ) (start a b : Option (List ℕ)) (before : ScreenOf) (old : PlayerOf B) (more : List Record)
       → HasShown table scene timelines start a before old → WritesPart a b more → CutSome start b
   turn_cut table scene timelines start a b before old more has part =
       let records = opening scene ∷ events_records (vsyncs_alone has.so.events) in
-      record { records = records ++ more; written = part_more start a b records more has.written part }
+      cut_part start b (records ++ more) (part_more start a b records more has.written part)

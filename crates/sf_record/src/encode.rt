@@ -309,6 +309,7 @@ fn write_body<K: Sink>(sink: &mut K, tag: [u8; 4], body: &[u8]) -> Result<(), Ru
     ensures ok { OnOk result (Appends (K.taken sink.old) (K.taken sink.new) (framed tag body.now)) }
     ensures fits { OnOk result (Fits32 (length body.now)) }
     ensures err { OnErr result (TookPrefix (K.taken sink.old) (K.taken sink.new) (framed tag body.now)) }
+    ensures begun { IsErrOf result RunFault.WriteFault → Fits32 (length body.now) }
     ensures nothing { IsErrOf result RunFault.NoMemory → sink.new ≡ sink.old }
     ensures later { K.faults sink.old ≤ K.faults sink.new }
     ensures failed { IsErrOf result RunFault.WriteFault → Rose (K.faults sink.old) (K.faults sink.new) }
@@ -324,12 +325,13 @@ fn write_body<K: Sink>(sink: &mut K, tag: [u8; 4], body: &[u8]) -> Result<(), Ru
 
 /// Writes a record. After a fault the sink has a prefix of it, after want of memory none of it. A
 /// record with a list of more than 2^32 - 1 items, or with a body of more bytes, is answered as want
-/// of memory; so each number of a record that is written fits its field.
+/// of memory; so each number of a record that is written, or was begun, fits its field.
 #[tactic(auto, unfolding(crate::specs::Records::record_bytes))]
 pub fn write_record<K: Sink>(alloc: Global, sink: &mut K, shown: &Record) -> Result<(), RunFault>
     ensures ok { OnOk result (Appends (K.taken sink.old) (K.taken sink.new) (record_bytes shown.now)) }
     ensures fits { OnOk result (RecordFits shown.now) }
     ensures err { OnErr result (TookPrefix (K.taken sink.old) (K.taken sink.new) (record_bytes shown.now)) }
+    ensures begun { IsErrOf result RunFault.WriteFault → RecordFits shown.now }
     ensures nothing { IsErrOf result RunFault.NoMemory → sink.new ≡ sink.old }
     ensures later { K.faults sink.old ≤ K.faults sink.new }
     ensures failed { IsErrOf result RunFault.WriteFault → Rose (K.faults sink.old) (K.faults sink.new) }
@@ -349,6 +351,7 @@ pub fn write_frame<K: Sink>(sink: &mut K, number: u32, body: &[u8]) -> Result<()
     ensures ok { OnOk result (Appends (K.taken sink.old) (K.taken sink.new) (record_bytes (frame_in number body.now))) }
     ensures fits { OnOk result (RecordFits (frame_in number body.now)) }
     ensures err { OnErr result (TookPrefix (K.taken sink.old) (K.taken sink.new) (record_bytes (frame_in number body.now))) }
+    ensures begun { IsErrOf result RunFault.WriteFault → RecordFits (frame_in number body.now) }
     ensures nothing { IsErrOf result RunFault.NoMemory → sink.new ≡ sink.old }
     ensures later { K.faults sink.old ≤ K.faults sink.new }
     ensures failed { IsErrOf result RunFault.WriteFault → Rose (K.faults sink.old) (K.faults sink.new) }

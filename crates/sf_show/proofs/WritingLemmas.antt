@@ -1,13 +1,15 @@
 -- What was written of several records.
-use Rattle.std.proofs.Common.{◌≡◌, ℕ, ◌≤◌, ◌+◌, ◌<◌, List, [], ◌∷◌, ◌++◌, length, get_or, take, drop, map, Option, Result, Ok, Err, ap, ◌∙◌, sym, subst, arith, OnErr, OnOk}
+use Rattle.std.proofs.Common.{◌≡◌, ℕ, ◌≤◌, ◌+◌, ◌<◌, List, [], ◌∷◌, ◌++◌, length, get_or, take, drop, map, Option, Result, Ok, Err, ap, ◌∙◌, sym, subst, arith, refl, All, OnErr, OnOk, IsErrOf}
 use Rattle.std.proofs.KnownBytes.{Appends-nil, Appends-trans}
-use Rattle.std.proofs.lemmas.List.{append-nil, map-append, take-append-drop, drop_more, take_all, take_more}
+use Rattle.std.proofs.Math.Seq.{take-append-add}
+use Rattle.std.proofs.lemmas.List.{append-nil, length-append, map-append, take-append-drop, take-append-le, drop_more, take_all, take_more}
 use Rattle.std.proofs.lemmas.List.Concat.{flat_map-append}
 use Rattle.std.proofs.lemmas.List.Elements.{All-append, All-cons, All-nil}
 use Rattle.std.specs.Io.KnownBytes.{Appends}
 use Rattle.sf_io.specs.Streams.{TookPrefix}
 use Rattle.sf_io.proofs.StreamLemmas.{TookPrefix-front, TookPrefix-rest}
 use Rattle.sf_record.specs.declared.encode.RunFault.{RunFault}
+use Rattle.sf_record.specs.declared.encode.RunFault.TheVariants as fault
 use Rattle.sf_record.specs.Fitting.{RecordFits}
 use Rattle.sf_record.specs.Records.{bytes_of, record_bytes}
 use Rattle.sf_record.specs.declared.record.Record.{Record}
@@ -34,17 +36,50 @@ writes_more a b c rs ss first second = record {
 
 -- whole records, and then a part of the next ones
 pub part_more : (a b c : Option (List ℕ)) (rs ss : List Record) → Writes a b rs → WritesPart b c ss → WritesPart a c (rs ++ ss)
-part_more a b c rs ss first second = subst (TookPrefix a c) (sym (more_bytes rs ss)) (TookPrefix-rest a b c (bytes_of rs) (bytes_of ss) first.bytes second)
+part_more a b c rs ss first second = record {
+  begun = length rs + second.begun;
+  few = omega (arith, length-append rs ss, second.few);
+  fits = subst (All RecordFits) (sym begun_are) (All-append RecordFits rs (take second.begun ss) first.fits second.fits);
+  bytes = subst (λ (records : List Record). TookPrefix a c (bytes_of records)) (sym begun_are)
+      (subst (TookPrefix a c) (sym (more_bytes rs (take second.begun ss))) (TookPrefix-rest a b c (bytes_of rs) (bytes_of (take second.begun ss)) first.bytes second.bytes));
+}
+  where
+    begun_are : take (length rs + second.begun) (rs ++ ss) ≡ rs ++ take second.begun ss
+    begun_are = take-append-add rs ss second.begun
 
 -- a part of the first records
 pub part_front : (a b : Option (List ℕ)) (rs ss : List Record) → WritesPart a b rs → WritesPart a b (rs ++ ss)
-part_front a b rs ss part = subst (TookPrefix a b) (sym (more_bytes rs ss)) (TookPrefix-front a b (bytes_of rs) (bytes_of ss) part)
+part_front a b rs ss part = record {
+  begun = part.begun;
+  few = omega (arith, length-append rs ss, part.few);
+  fits = subst (All RecordFits) (sym (take-append-le part.begun rs ss part.few)) part.fits;
+  bytes = subst (λ (records : List Record). TookPrefix a b (bytes_of records)) (sym (take-append-le part.begun rs ss part.few)) part.bytes;
+}
 
 pub part_none : (a : Option (List ℕ)) (rs : List Record) → WritesPart a a rs
-part_none a rs = (0, omega arith, Appends-nil a)
+part_none a rs = record { begun = 0; few = omega arith; fits = All-nil RecordFits; bytes = (0, omega arith, Appends-nil a) }
+
+took_whole : (a b : Option (List ℕ)) (bs : List ℕ) → Appends a b bs → TookPrefix a b bs
+took_whole a b bs all = (length bs, omega arith, subst (Appends a b) (sym (take_all (length bs) bs (omega arith))) all)
 
 pub part_whole : (a b : Option (List ℕ)) (rs : List Record) → Writes a b rs → WritesPart a b rs
-part_whole a b rs all = (length (bytes_of rs), omega arith, subst (Appends a b) (sym (take_all (length (bytes_of rs)) (bytes_of rs) (omega arith))) all.bytes)
+part_whole a b rs all = record {
+  begun = length rs;
+  few = omega arith;
+  fits = subst (All RecordFits) (sym (take_all (length rs) rs (omega arith))) all.fits;
+  bytes = subst (λ (records : List Record). TookPrefix a b (bytes_of records)) (sym (take_all (length rs) rs (omega arith))) (took_whole a b (bytes_of rs) all.bytes);
+}
+
+-- it is a prefix of the bytes of all
+pub part_bytes : (a b : Option (List ℕ)) (rs : List Record) → WritesPart a b rs → TookPrefix a b (bytes_of rs)
+part_bytes a b rs part =
+    subst (λ (records : List Record). TookPrefix a b (bytes_of records)) (take-append-drop part.begun rs)
+    (subst (TookPrefix a b) (sym (more_bytes (take part.begun rs) (drop part.begun rs)))
+    (TookPrefix-front a b (bytes_of (take part.begun rs)) (bytes_of (drop part.begun rs)) part.bytes))
+
+-- a part of one record that fits its fields
+part_of_one : (a b : Option (List ℕ)) (r : Record) → RecordFits r → TookPrefix a b (record_bytes r) → WritesPart a b (r ∷ [])
+part_of_one a b r fits part = record { begun = 1; few = omega arith; fits = All-cons RecordFits r [] fits (All-nil RecordFits); bytes = subst (TookPrefix a b) (one_record r) part }
 
 -- one record was made and written
 pub one_written : (r : Result (Unit {0}) RunFault) (a b : Option (List ℕ)) (made expected : Record) → made ≡ expected → OnOk r (Appends a b (record_bytes made)) → OnOk r (RecordFits made) → OnOk r (Writes a b (expected ∷ []))
@@ -52,9 +87,12 @@ one_written (Ok u) a b made expected is bytes fits =
     subst (λ (x : Record). Writes a b (x ∷ [])) is (record { bytes = subst (Appends a b) (one_record made) bytes; fits = All-cons RecordFits made [] fits (All-nil RecordFits) })
 one_written (Err e) a b made expected is bytes fits = tt
 
-pub one_part : (r : Result (Unit {0}) RunFault) (a b : Option (List ℕ)) (made expected : Record) → made ≡ expected → OnErr r (TookPrefix a b (record_bytes made)) → OnErr r (WritesPart a b (expected ∷ []))
-one_part (Ok u) a b made expected is part = tt
-one_part (Err e) a b made expected is part = subst (λ (x : Record). WritesPart a b (x ∷ [])) is (subst (TookPrefix a b) (one_record made) part)
+-- a part of it was written, which it fits, or nothing where memory was wanting
+pub one_part : (r : Result (Unit {0}) RunFault) (a b : Option (List ℕ)) (made expected : Record) → made ≡ expected → OnErr r (TookPrefix a b (record_bytes made))
+    → (IsErrOf r fault.WriteFault → RecordFits made) → (IsErrOf r fault.NoMemory → b ≡ a) → OnErr r (WritesPart a b (expected ∷ []))
+one_part (Ok u) a b made expected is part begun nothing = tt
+one_part (Err fault.WriteFault) a b made expected is part begun nothing = subst (λ (x : Record). WritesPart a b (x ∷ [])) is (part_of_one a b made (begun refl) part)
+one_part (Err fault.NoMemory) a b made expected is part begun nothing = subst (λ (x : Option (List ℕ)). WritesPart a x (expected ∷ [])) (sym (nothing refl)) (part_none a (expected ∷ []))
 
 -- the last of several records was written, or a part of it
 pub last_written : (r : Result (Unit {0}) RunFault) (a b c : Option (List ℕ)) (rs ss : List Record) → Writes a b rs → OnOk r (Writes b c ss) → OnOk r (Writes a c (rs ++ ss))
@@ -105,21 +143,28 @@ pub some_written : (r : Result (Unit {0}) RunFault) (a b : Option (List ℕ)) (r
 some_written (Ok u) a b rs all = record { records = rs; written = all }
 some_written (Err e) a b rs all = tt
 
+pub cut_part : (a b : Option (List ℕ)) (rs : List Record) → WritesPart a b rs → CutSome a b
+cut_part a b rs part = record { records = take part.begun rs; fits = part.fits; bytes = part.bytes }
+
 pub some_cut : (r : Result (Unit {0}) RunFault) (a b : Option (List ℕ)) (rs : List Record) → OnErr r (WritesPart a b rs) → OnErr r (CutSome a b)
 some_cut (Ok u) a b rs part = tt
-some_cut (Err e) a b rs part = record { records = rs; written = part }
+some_cut (Err e) a b rs part = cut_part a b rs part
 
 pub cut_none : (a : Option (List ℕ)) → CutSome a a
-cut_none a = record { records = []; written = part_none a [] }
+cut_none a = cut_part a a [] (part_none a [])
 
 pub some_more : (a b c : Option (List ℕ)) → WritesSome a b → WritesSome b c → WritesSome a c
 some_more a b c first second = record { records = first.records ++ second.records; written = writes_more a b c first.records second.records first.written second.written }
 
 pub cut_more : (a b c : Option (List ℕ)) → WritesSome a b → CutSome b c → CutSome a c
-cut_more a b c first second = record { records = first.records ++ second.records; written = part_more a b c first.records second.records first.written second.written }
+cut_more a b c first second = record {
+  records = first.records ++ second.records;
+  fits = All-append RecordFits first.records second.records first.written.fits second.fits;
+  bytes = subst (TookPrefix a c) (sym (more_bytes first.records second.records)) (TookPrefix-rest a b c (bytes_of first.records) (bytes_of second.records) first.written.bytes second.bytes);
+}
 
 pub some_whole : (a b : Option (List ℕ)) → WritesSome a b → CutSome a b
-some_whole a b all = record { records = all.records; written = part_whole a b all.records all.written }
+some_whole a b all = cut_part a b all.records (part_whole a b all.records all.written)
 
 pub then_some : (r : Result (Unit {0}) RunFault) (a b c : Option (List ℕ)) → WritesSome a b → OnOk r (WritesSome b c) → OnOk r (WritesSome a c)
 then_some (Ok u) a b c first second = some_more a b c first second

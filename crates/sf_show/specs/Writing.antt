@@ -1,5 +1,5 @@
 -- What is written of what happens.
-use Rattle.std.specs.Prelude.{ℕ, List, All, Option}
+use Rattle.std.specs.Prelude.{ℕ, ◌≤◌, List, All, Option, length, take}
 use Rattle.std.specs.Io.KnownBytes.{Appends}
 use Rattle.sf_io.specs.Streams.{TookPrefix}
 use Rattle.sf_record.specs.Fitting.{RecordFits}
@@ -11,16 +11,20 @@ pub record Writes (old new : Option (List ℕ)) (records : List Record) : Type 0
   pub bytes : Appends old new (bytes_of records)
   pub fits : All RecordFits records
 
--- a prefix of records was written
-abbrev pub WritesPart : Option (List ℕ) → Option (List ℕ) → List Record → Type 0
-WritesPart old new records = TookPrefix old new (bytes_of records)
+-- a prefix of records was written: some whole, and then at most one that is cut; the numbers of those that were begun fit their fields
+pub record WritesPart (old new : Option (List ℕ)) (records : List Record) : Type 0 where
+  pub begun : ℕ
+  pub few : begun ≤ length records
+  pub fits : All RecordFits (take begun records)
+  pub bytes : TookPrefix old new (bytes_of (take begun records))
 
 -- some records were written, whichever they are
 pub record WritesSome (old new : Option (List ℕ)) : Type 0 where
   pub records : List Record
   pub written : Writes old new records
 
--- a prefix of some records was written: some whole, and then at most one that is cut
+-- a prefix of some records was written, whose numbers fit their fields: some whole, and then at most one that is cut
 pub record CutSome (old new : Option (List ℕ)) : Type 0 where
   pub records : List Record
-  pub written : WritesPart old new records
+  pub fits : All RecordFits records
+  pub bytes : TookPrefix old new (bytes_of records)

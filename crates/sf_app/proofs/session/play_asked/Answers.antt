@@ -1,7 +1,7 @@
 use Rattle.std.proofs.Common.{ap, Err, refl}
 use Rattle.sf_app.specs.Scripts.{at_no_place}
 use Rattle.sf_app.specs.Statuses.{too_long}
-use Rattle.sf_app.proofs.StatusLemmas.{cut_nothing, fault_cut, played_script, refusal_is_late, refusal_range, refused_script, writes_none, writes_script, writes_too_long}
+use Rattle.sf_app.proofs.StatusLemmas.{cut_nothing, played_script, refusal_is_late, refusal_range, refused_script, writes_none, writes_script, writes_too_long}
 use Rattle.sf_app.proofs.session.play_asked.Goals as goal
 
 pub returns-in-Ok-clause-played : goal.returns-in-Ok-clause-played
@@ -67,4 +67,4 @@ pub returns-in-Err-NoMemory-clause-cut : goal.returns-in-Err-NoMemory-clause-cut
 returns-in-Err-NoMemory-clause-cut g c = cut_nothing _
 
 pub returns-in-Err-TooLong-clause-cut : goal.returns-in-Err-TooLong-clause-cut
-returns-in-Err-TooLong-clause-cut g c = fault_cut _ _ _ c.refuse.ensures.prefix
+returns-in-Err-TooLong-clause-cut g c = c.refuse.ensures.cut

@@ -1,5 +1,5 @@
 use Rattle.sf_app.specs.Scripts.{asked_of}
-use Rattle.sf_app.proofs.StatusLemmas.{cut_nothing, fault_cut, prefix_none, prefix_refused, prefix_shown, refusal_is_late, refusal_range, run_cut}
+use Rattle.sf_app.proofs.StatusLemmas.{cut_nothing, prefix_none, prefix_refused, prefix_shown, refusal_is_late, refusal_range, run_cut}
 use Rattle.sf_app.proofs.session.play_script.Goals as goal
 
 pub returns-in-Ok-clause-played : goal.returns-in-Ok-clause-played
@@ -46,7 +46,7 @@ pub returns-in-Ok-clause-cut : goal.returns-in-Ok-clause-cut
 returns-in-Ok-clause-cut g c = run_cut c.args.options.run c.args.options.summary c.in-Ok.scene _ _ c.play_scene.ensures.part
 
 pub returns-in-Err-Script-clause-cut : goal.returns-in-Err-Script-clause-cut
-returns-in-Err-Script-clause-cut g c = fault_cut _ _ _ c.refuse.ensures.prefix
+returns-in-Err-Script-clause-cut g c = c.refuse.ensures.cut
 
 pub returns-in-Err-NoMemory-clause-cut : goal.returns-in-Err-NoMemory-clause-cut
 returns-in-Err-NoMemory-clause-cut g c = cut_nothing _

@@ -4,10 +4,11 @@ use Rattle.sf_scene.specs.Limits.{IsWithinLimits}
 use Rattle.sf_scene.specs.Scene.{SceneValue}
 use Rattle.sf_cast.specs.Opening.{IsSortedFrom}
 use Rattle.sf_show.proofs.TurnLemmas.{timelines_are}
+use Rattle.sf_show.proofs.WritingLemmas.{cut_part}
 use Rattle.sf_live.proofs.scene.live.Goals as goal
 
 pub returns-in-Err-clause-err : goal.returns-in-Err-clause-err
-returns-in-Err-clause-err g c = record { records = opening c.args.scene ∷ []; written = c.in-Err.ensures.err (opening c.args.scene) c.opening.ensures }
+returns-in-Err-clause-err g c = cut_part _ _ (opening c.args.scene ∷ []) (c.in-Err.ensures.err (opening c.args.scene) c.opening.ensures)
 
 pub run_scene-requires-clause-rising : goal.run_scene-requires-clause-rising
 run_scene-requires-clause-rising g c κs within =

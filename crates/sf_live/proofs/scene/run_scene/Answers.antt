@@ -1,6 +1,6 @@
 use Rattle.std.proofs.Common.{◌≤◌, [], ◌∷◌, ap, ◌∙◌, subst, sym}
 use Rattle.sf_run.specs.Played.{opening}
-use Rattle.sf_show.proofs.WritingLemmas.{part_whole}
+use Rattle.sf_show.proofs.WritingLemmas.{cut_part, part_whole}
 use Rattle.sf_commit.specs.Handlers.{new_handler}
 use Rattle.sf_scene.specs.Limits.{IsWithinLimits}
 use Rattle.sf_scene.specs.Scene.{SceneValue}
@@ -65,7 +65,9 @@ returns-clause-err g c = λ start begun.
     })
 
 pub returns-in_default-clause-err : goal.returns-in_default-clause-err
-returns-in_default-clause-err g c = λ start begun. record { records = opening c.args.scene ∷ []; written = part_whole start (g.K.Sink.taken c.args.sink.now) (opening c.args.scene ∷ []) begun }
+returns-in_default-clause-err g c = λ start begun. cut_part start (g.K.Sink.taken c.args.sink.now) (opening c.args.scene ∷ [])
+    (part_whole start (g.K.Sink.taken c.args.sink.now) (opening c.args.scene ∷ []) begun)
 
 pub returns-in_default-new-clause-err : goal.returns-in_default-new-clause-err
-returns-in_default-new-clause-err g c = λ start begun. record { records = opening c.args.scene ∷ []; written = part_whole start (g.K.Sink.taken c.args.sink.now) (opening c.args.scene ∷ []) begun }
+returns-in_default-new-clause-err g c = λ start begun. cut_part start (g.K.Sink.taken c.args.sink.now) (opening c.args.scene ∷ [])
+    (part_whole start (g.K.Sink.taken c.args.sink.now) (opening c.args.scene ∷ []) begun)

@@ -7,7 +7,7 @@ use Rattle.sf_run.specs.Commits.{commit_shown}
 use Rattle.sf_show.specs.Vsyncs.{is_accepted, shows_frame, told_with}
 use Rattle.sf_show.specs.Writing.{Writes, WritesPart}
 use Rattle.sf_show.proofs.VsyncLemmas.{all_written, frame_cut, frame_written, head_cut, head_of, head_shown, its_records, middle_cut, no_records, records_with_frame, records_without_frame}
-use Rattle.sf_show.proofs.WritingLemmas.{part_more, then_cut, then_some, writes_more, writes_none}
+use Rattle.sf_show.proofs.WritingLemmas.{cut_part, part_more, then_cut, then_some, writes_more, writes_none}
 use Rattle.sf_show.proofs.vsync.show_vsync.Goals as goal
 
 pub returns-then-not-has_commits-clause-ok : goal.returns-then-not-has_commits-clause-ok
@@ -62,12 +62,12 @@ returns-then-not-has_commits-clause-some g c = record { records = []; written = 
 
 pub returns-in-Err-clause-cut : goal.returns-in-Err-clause-cut
 returns-in-Err-clause-cut g c =
-    let head = head_shown c.args.timelines.now c.args.report in record { records = head ∷ []; written = c.in-Err.ensures.err head c.vsync_record-head.ensures }
+    let head = head_shown c.args.timelines.now c.args.report in cut_part _ _ (head ∷ []) (c.in-Err.ensures.err head c.vsync_record-head.ensures)
 
 pub returns-in-Err-write_commits-clause-cut : goal.returns-in-Err-write_commits-clause-cut
 returns-in-Err-write_commits-clause-cut g c =
     let head = head_shown c.args.timelines.now c.args.report in
-    record { records = head ∷ _; written = part_more _ _ _ (head ∷ []) _ (c.in-Ok.ensures.ok head c.vsync_record-head.ensures) c.in-Err-write_commits.ensures.err }
+    cut_part _ _ _ (part_more _ _ _ (head ∷ []) _ (c.in-Ok.ensures.ok head c.vsync_record-head.ensures) c.in-Err-write_commits.ensures.err)
 
 pub returns-then-shows_frame-clause-some : goal.returns-then-shows_frame-clause-some
 returns-then-shows_frame-clause-some g c =

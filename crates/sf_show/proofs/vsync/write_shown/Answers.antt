@@ -17,4 +17,5 @@ returns-clause-ok g c =
 pub returns-clause-err : goal.returns-clause-err
 returns-clause-err g c =
     one_part c.write_frame.result _ _ _ _
-    (framed_is c.args.number c.body.result.now c.args.screen.now.frame (c.body.ensures.same ∙ ap (λ (s : ScreenOf). s.number ++ s.frame) c.number.ensures)) c.write_frame.ensures.err
+    (framed_is c.args.number c.body.result.now c.args.screen.now.frame (c.body.ensures.same ∙ ap (λ (s : ScreenOf). s.number ++ s.frame) c.number.ensures)) c.write_frame.ensures.err c.write_frame.ensures.begun
+    (λ wanting. ap g.K.Sink.taken (c.write_frame.ensures.nothing wanting))
