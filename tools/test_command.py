@@ -1,13 +1,18 @@
 """Tests of sf_main called with words and streams of every kind; they need the program that `rt run` or `rt ci` built."""
 
 import os
+import pty
 import struct
 import subprocess
+import sys
 import unittest
 
 import run
 
 PROGRAM = run.built(run.TOP)
+NO_RECORDS = (b"sf_main: records are binary and are not written to a terminal; "
+              b"write them to a file (> RECORDS) or through a pipe, or ask for --help\n")
+WAITS = b"sf_main: waits for a script on standard input, from the terminal; Ctrl-D ends it\n"
 USAGE = b"usage: sf_main [--run play|live|gen] [--workers N] [--number N] [--summary]\n"
 
 
@@ -34,6 +39,34 @@ def panes(count):
     turns = (first + ["apply 1 token 1"], second + ["apply 1 token 1"])
     order = " v ".join(f"1*{len(steps)}" for steps in turns)
     return "\n".join(["scene 1 1024 1024 16666667", "actor 1", *turns[0], *turns[1], f"order {order} v", "end", ""]).encode()
+
+
+def with_memory(size, *words):
+    """The status of a call that gets so many bytes of memory, and what it wrote; None where it can't even begin."""
+    limit = "import os, resource, sys; resource.setrlimit(resource.RLIMIT_AS, (int(sys.argv[1]),) * 2); os.execv(sys.argv[2], sys.argv[2:])"
+    ended = subprocess.run([sys.executable, "-c", limit, str(size), PROGRAM, *words], input=b"", stdout=subprocess.PIPE, stderr=subprocess.PIPE, timeout=60)
+    began = 0 <= ended.returncode <= 5 and b"Error" not in ended.stderr
+    return (ended.returncode, ended.stdout, ended.stderr) if began else None
+
+
+class Terminal:
+    """A terminal, as a pair of ends: what a program reads and writes, and what a person does."""
+
+    def __enter__(self):
+        self.person, self.program = pty.openpty()
+        return self
+
+    def __exit__(self, *_):
+        os.close(self.person)
+        os.close(self.program)
+
+    def shown(self):
+        """What stands on it by now."""
+        os.set_blocking(self.person, False)
+        try:
+            return os.read(self.person, 1 << 16)
+        except BlockingIOError:
+            return b""
 
 
 @unittest.skipUnless(PROGRAM, "sf_main is not built")
@@ -72,6 +105,36 @@ class Command(unittest.TestCase):
             with self.subTest(words=words), open("/dev/full", "wb") as full:
                 status, _, err = called(*words, script=scene("red.sf"), stdout=full)
                 self.assertEqual((status, err), (4, b"write failed\n"))
+
+    def test_want_of_memory_is_no_wrong_word(self):
+        many = ["x" * 100_000] * 12
+        began = [ended for ended in (with_memory(size << 17, *many) for size in range(8, 128, 5)) if ended]
+        self.assertEqual(began[0], (5, b"", b"out of memory\n"))
+        self.assertEqual(began[-1], (1, b"", USAGE))
+        self.assertEqual(began, sorted(began, key=lambda ended: -ended[0]), "with more memory")
+
+    def test_records_are_not_written_to_a_terminal(self):
+        for words in ((), ("--run", "live"), ("--run", "gen"), ("--summary",)):
+            with self.subTest(words=words), Terminal() as terminal, open(os.path.join(run.TOP, "scenes", "red.sf"), "rb") as script:
+                self.assertEqual(called(*words, stdin=script, stdout=terminal.program), (1, None, NO_RECORDS))
+                self.assertEqual((terminal.shown(), os.lseek(script.fileno(), 0, os.SEEK_CUR)), (b"", 0), "nothing is read or written")
+
+    def test_text_is_written_to_a_terminal_and_wrong_words_are_told(self):
+        with Terminal() as terminal:
+            self.assertEqual(called("--version", stdout=terminal.program), (0, None, b""))
+            self.assertEqual(terminal.shown(), b"sf_main 0.1.0\r\n")
+            self.assertEqual(called("--fast", stdin=terminal.program, stdout=terminal.program), (1, None, USAGE))
+
+    def test_a_script_that_is_typed_is_waited_for(self):
+        for words in ((), ("--summary",)):
+            with self.subTest(words=words), Terminal() as terminal:
+                os.write(terminal.person, scene("red.sf") + b"\x04")
+                _, records, _ = called(*words, script=scene("red.sf"))
+                self.assertEqual(called(*words, stdin=terminal.program), (0, records, WAITS))
+
+    def test_a_generated_script_is_not_waited_for(self):
+        with Terminal() as terminal:
+            self.assertEqual(called("--run", "gen", stdin=terminal.program), called("--run", "gen"))
 
     def test_the_frames_are_the_same_for_every_number_of_workers(self):
         for name, script in (("phone", scene("phone.sf")), ("panes", panes(40))):

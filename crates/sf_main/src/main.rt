@@ -1,9 +1,21 @@
-//! The compositor as a program, run with a script.
+//! The compositor as a program: its words, a script on standard input, the records of its run on
+//! standard output, a line on standard error where it failed, and the status of the run as its own.
 #![tactic(auto)]
 
-use sf_command::command;
+mod help;
+mod status;
+mod streams;
+mod terminal;
+mod words;
+
+use status::told;
 use std::process::ExitCode;
+use streams::answer;
+use words::{status_without_words, words};
 
 fn main(rt: HostRuntime) -> ExitCode {
-    ExitCode::from(command(&rt, &rt))
+    ExitCode::from(match words(&rt) {
+        Ok(words) => answer(&rt, &rt, &words),
+        Err(error) => told(&rt, status_without_words(&error)),
+    })
 }
