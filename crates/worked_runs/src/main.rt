@@ -11,10 +11,24 @@
 //! - `NAME.counts`: of the records only how many of each kind there are is printed, and the sum of
 //!   the bytes of all frames' pixels.
 //!
-//! Last it prints how many bytes the record of a long history has.
+//! Then it prints how many bytes the record of a long history has, and last of live runs what every
+//! schedule gives, with gates that make threads meet or hold them back:
+//!
+//! - A phone's screen, in which two actors meet before each of their first ten steps, which they could
+//!   not do if one ran after the other; and two producers that wait for the compositor.
+//! - An actor that waits for a signal that nobody gives: the run ends, and the actor is stuck.
+//! - A signal that is held back until the actor that waits for it has come to its next step: it is held
+//!   back in vain, since that step may not be begun before the wait is done.
+//! - Sixteen actors that wait for one another's signals in a ring.
+//! - A sink that fails at one write after the other, while threads run and behind them: what was written
+//!   is whole records, and then at most one that is cut.
+//!
+//! The gate is passed once for each step, before its first try.
 #![tactic(auto)]
 
 mod case;
+mod gate;
+mod live;
 mod pieces;
 mod sizes;
 
@@ -100,5 +114,6 @@ fn main(rt: HostRuntime) -> io::Result<()> {
     }
     OpenGate.pass(&rt, 1, 1);
     let length = history_length(rt.alloc(), LONG_HISTORY)?;
-    println!(rt; "== a history of {LONG_HISTORY} calls: {length} bytes")
+    println!(rt; "== a history of {LONG_HISTORY} calls: {length} bytes")?;
+    live::show(&rt)
 }

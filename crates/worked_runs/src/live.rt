@@ -1,0 +1,123 @@
+use crate::gate::{MeetingGate, StepOf};
+use record_lines::{Body, Records, TAGS, push_records};
+use sf_app::run;
+use sf_io::{Gate, MemSink, MemSource, OpenGate};
+use std::alloc::Global;
+use std::rt::Files;
+use std::sync::Wait;
+use std::thread::Threads;
+use std::{fs, io};
+
+/// How many of the writes of a run fail in turn: those of the first record, of vsyncs and of replies.
+const FAILING_WRITES: u64 = 24;
+
+// Runs the script of this name live, with a gate, into a sink of which some writes fail: the status,
+// and the sink with what was written.
+fn run_live<R: Files + AllocGlobal + Threads + Wait + Sync, G: Gate + Sync>(
+    rt: &R,
+    name: &str,
+    failing_writes: Vec<u64>,
+    gate: &G,
+) -> io::Result<(u8, MemSink)> {
+    let alloc = rt.alloc();
+    let mut words = Vec::new(alloc);
+    words.push(String::from_str(alloc, "--run=live")?)?;
+    let path = format!(in alloc; "{name}.sf")?;
+    let mut source = MemSource::new(fs::read(rt, path.as_str())?, Vec::new(alloc));
+    let mut sink = MemSink::new(alloc, failing_writes);
+    let status = run(rt, alloc, &words, &mut source, &mut sink, gate);
+    Ok((status, sink))
+}
+
+// The steps that have replies, and then those at which actors are stuck.
+fn steps_in(alloc: Global, records: &[u8]) -> io::Result<Vec<StepOf>> {
+    let mut steps = Vec::new(alloc);
+    for (tag, body) in (Records { rest: records }) {
+        let mut body = Body { rest: body };
+        let count = match tag {
+            "REPL" => 1,
+            "STUK" => body.number(4)?,
+            _ => 0,
+        };
+        for _ in 0..count {
+            let actor = body.number(4)?;
+            let step = body.number(4)?;
+            steps.push((actor, step))?;
+        }
+    }
+    Ok(steps)
+}
+
+// Prints whether something holds.
+fn say<R: Print>(rt: &R, claim: &str, holds: bool) -> io::Result<()> {
+    let answer = if holds { "yes" } else { "no" };
+    println!(rt; "{claim}: {answer}")
+}
+
+// Runs a script live at whose gate actors meet, and prints what came of it: the records too, where
+// every schedule writes the same.
+fn show_meeting<R: Files + AllocGlobal + Print + Threads + Wait + Sync>(
+    rt: &R,
+    name: &str,
+    gate: MeetingGate,
+    is_fixed: bool,
+) -> io::Result<()> {
+    let (status, sink) = run_live(rt, name, Vec::new(rt.alloc()), &gate)?;
+    println!(rt; "== {name} live status {status}")?;
+    say(rt, "an actor waited in vain", gate.gave_up())?;
+    let steps = steps_in(rt.alloc(), sink.bytes())?;
+    let mut passed = gate.into_passes();
+    passed.sort()?;
+    println!(rt; "steps: {}", steps.len())?;
+    say(rt, "the gate was passed once for each", passed == steps)?;
+    let mut text = String::new(rt.alloc());
+    if is_fixed {
+        push_records(&mut text, sink.bytes())?;
+    }
+    print!(rt; "{text}")
+}
+
+// Whether these bytes could be the beginning of a record.
+fn begins_record(bytes: &[u8]) -> bool {
+    let tag = &bytes[..bytes.len().min(4)];
+    TAGS.iter().any(|known| known.as_bytes().starts_with(tag))
+}
+
+// Whether what was written is whole records, and then at most one that is cut.
+fn is_cut_once(bytes: &[u8]) -> bool {
+    let mut records = Records { rest: bytes };
+    let are_known = records.all(|(tag, _)| TAGS.contains(&tag));
+    are_known && begins_record(records.rest)
+}
+
+// Runs live two actors that each send a transaction off, into a sink that fails at one write after the
+// other, and prints the statuses.
+fn show_failing<R: Files + AllocGlobal + Print + Threads + Wait + Sync>(rt: &R) -> io::Result<()> {
+    for place in 1..=FAILING_WRITES {
+        let write = vec![in rt.alloc(); place]?;
+        let (status, sink) = run_live(rt, "two-transactions", write, &OpenGate)?;
+        println!(rt; "== two-transactions live: write {place} status {status}")?;
+        say(
+            rt,
+            "whole records and one cut at most",
+            is_cut_once(sink.bytes()),
+        )?;
+    }
+    Ok(())
+}
+
+/// Prints the live runs with gates, and those into a sink that fails.
+pub fn show<R: Files + AllocGlobal + Print + Threads + Wait + Sync>(rt: &R) -> io::Result<()> {
+    for (name, one, meetings, ahead, is_fixed) in [
+        ("phone", 1, 10, 0, false),
+        ("phone", 2, 10, 0, false),
+        ("producers-with-two-buffers", 1, 10, 0, false),
+        ("a-wait-that-never-ends", 1, 0, 0, true),
+        ("a-signal-that-is-held-back", 1, 1, 1, true),
+        ("sixteen-actors-in-a-ring", 1, 1, 0, true),
+    ] {
+        let gate = MeetingGate::new(rt.alloc(), one, meetings, ahead);
+        show_meeting(rt, name, gate, is_fixed)?;
+    }
+    show_failing(rt)
+}
