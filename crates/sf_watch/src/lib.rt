@@ -4,8 +4,6 @@
 //! it: it says when to try again, and when to stop.
 #![tactic(auto)]
 
-#[cfg(test)]
-mod tests;
 mod watch;
 
 pub use watch::{MOST_WATCHED, Watch};

@@ -1,5 +1,5 @@
-//! Runs of what threads share: timelines, the turns of buffers, an object under a lock. Standard
-//! input has runs with an empty line between them; the first line of a run says what it is of, and
+//! Runs of what threads share: timelines, the turns of buffers, an object under a lock, a watch over
+//! who is idle. Standard input has runs with an empty line between them; the first line of a run says what it is of, and
 //! each other line is a call on it. A line is written for each call: the call, and what it
 //! answered. Lines that begin with '#' say what a run shows.
 #![tactic(auto)]
@@ -15,6 +15,7 @@ mod thread_run;
 mod time_run;
 mod token;
 mod turn_run;
+mod watch_run;
 mod words;
 mod write_run;
 
@@ -37,6 +38,7 @@ fn play<R: Print + Threads + Wait + Sync>(
         "turns" => turn_run::play(rt, alloc, calls)?,
         "lock" => lock_run::play(rt, alloc, calls)?,
         "threads" => thread_run::play(rt, alloc, calls)?,
+        "watch" => watch_run::play(rt, calls)?,
         _ => {}
     }
     println!(rt; "")

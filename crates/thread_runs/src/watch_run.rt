@@ -1,9 +1,10 @@
-//! Threads that wait for each other's news, and sleep meanwhile.
-use crate::{MOST_WATCHED, Watch};
+//! Calls on a watch by one thread, and threads that wait for each other's news and sleep meanwhile.
+use crate::words::{number, words};
+use sf_watch::{MOST_WATCHED, Watch};
 use std::sync::Wait;
 use std::sync::atomic::{AtomicUsize, Ordering};
-use std::thread;
 use std::thread::Threads;
+use std::{io, thread};
 
 /// Once the count is its place, a thread raises it, and ends. Whether it did.
 fn raise_in_turn<R: Wait>(rt: &R, watch: &Watch, count: &AtomicUsize, place: usize) -> bool {
@@ -60,34 +61,6 @@ fn count_to<R: Threads + Wait + Sync>(rt: &R, places: usize, start: usize) -> us
     }
 }
 
-#[test]
-fn sixteen_threads_wait_for_one_another_and_end(rt: HostRuntime) {
-    for _ in 0..50 {
-        assert_eq!(rt; count_to(&rt, MOST_WATCHED, 0), MOST_WATCHED);
-    }
-}
-
-#[test]
-fn threads_that_nothing_lets_go_on_rest_until_they_are_stopped(rt: HostRuntime) {
-    for _ in 0..50 {
-        assert_eq!(rt; count_to(&rt, 5, 3), 5, "the last two went on");
-        assert_eq!(rt; count_to(&rt, 5, 7), 7, "none did");
-    }
-}
-
-#[test]
-fn each_place_is_turned_away_for_itself(rt: HostRuntime) {
-    let watch = Watch::new(2);
-    watch.turn_away(&rt, 3);
-    watch.turn_away(&rt, 15);
-    for place in 0..MOST_WATCHED {
-        let away = watch.is_turned_away(&rt, place);
-        assert_eq!(rt; away, place == 3 || place == 15, "place {place}");
-    }
-    assert_eq!(rt; watch.next(&rt, 0), Some(1), "the start is new");
-    assert_eq!(rt; watch.next(&rt, 1), None, "nobody is waited for");
-}
-
 /// Does something so often, and waits each time until it was looked at. Counts what was not seen
 /// before it went on.
 fn do_and_wait<R: Wait>(
@@ -141,18 +114,67 @@ fn missed_of<R: Threads + Wait + Sync>(rt: &R, often: usize) -> (usize, usize) {
     (missed.load(Ordering::SeqCst), seen.load(Ordering::SeqCst))
 }
 
-#[test]
-fn what_a_thread_waits_for_was_looked_at(rt: HostRuntime) {
-    assert_eq!(rt; missed_of(&rt, 2000), (0, 2000));
+/// The least and the greatest of what so many rounds counted to.
+fn counts_to<R: Threads + Wait + Sync>(
+    rt: &R,
+    places: usize,
+    start: usize,
+    rounds: u64,
+) -> (usize, usize) {
+    let mut least = usize::MAX;
+    let mut greatest = 0;
+    for _ in 0..rounds {
+        let count = count_to(rt, places, start);
+        least = least.min(count);
+        greatest = greatest.max(count);
+    }
+    (least, greatest)
 }
 
-#[test]
-fn nobody_waits_for_a_look_at_what_was_seen_or_once_stopped(rt: HostRuntime) {
-    let watch = Watch::new(1);
-    watch.tell_looked(&rt, 1, false);
-    assert!(rt; watch.wait_for_look(&rt), "the start was looked at");
-    watch.tell_looked(&rt, 1, true);
-    assert_eq!(rt; watch.next(&rt, 1), Some(2), "who looked did something");
-    watch.stop(&rt);
-    assert!(rt; !watch.wait_for_look(&rt), "it is to stop");
+/// Makes the call of a line, and writes what it answered.
+fn answer<R: Print + Threads + Wait + Sync>(rt: &R, watch: &Watch, line: &str) -> io::Result<()> {
+    let [word, first, second, third] = words(line);
+    let value = number(first).unwrap_or(0);
+    let place = value as usize;
+    match word {
+        "turn-away" if place < MOST_WATCHED => {
+            watch.turn_away(rt, place);
+            println!(rt; "{line}: turned away")
+        }
+        "is-turned-away" if place < MOST_WATCHED => {
+            println!(rt; "{line}: {}", watch.is_turned_away(rt, place))
+        }
+        "next" => match watch.next(rt, value) {
+            Some(news) => println!(rt; "{line}: {news}"),
+            None => println!(rt; "{line}: none"),
+        },
+        "looked" => {
+            watch.tell_looked(rt, value, second == "did");
+            println!(rt; "{line}: told")
+        }
+        "wait" => println!(rt; "{line}: {}", watch.wait_for_look(rt)),
+        "stop" => {
+            watch.stop(rt);
+            println!(rt; "{line}: told")
+        }
+        "count" => {
+            let start = number(second).unwrap_or(0) as usize;
+            let rounds = number(third).unwrap_or(0);
+            let (least, greatest) = counts_to(rt, place, start, rounds);
+            println!(rt; "{line}: {least} to {greatest}")
+        }
+        "look" => {
+            let (missed, seen) = missed_of(rt, place);
+            println!(rt; "{line}: {missed} missed, {seen} seen")
+        }
+        _ => println!(rt; "{line}: no call"),
+    }
+}
+
+pub fn play<R: Print + Threads + Wait + Sync>(rt: &R, calls: &[String]) -> io::Result<()> {
+    let watch = Watch::new(2);
+    for line in calls {
+        answer(rt, &watch, line)?;
+    }
+    Ok(())
 }
