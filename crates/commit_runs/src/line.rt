@@ -1,154 +1,76 @@
-use crate::frames::show;
-use crate::reply::Reply;
-use case_words::{layer, number32, token};
-use page_lease::{Ends, Page, Writes};
-use sf_base::{Fence, TokenId};
-use sf_calls::{Object, Outcome};
-use sf_token::{Arrivals, ArriveCall, ArriveReply, Arrived, TokenQueues};
-use sf_txn::Transaction;
+ghost use Rattle.std.specs.Prelude.{◌≡◌, true, Some, [], ◌∷◌};
+
+use page_lease::Page;
+use sf_base::ActorId;
+use sf_calls::{CallLock, Pass};
+use sf_token::{Arrivals, ArriveCall, ArriveReply};
 use std::alloc::Global;
 use std::marker::Brand;
-use std::mem;
-use std::str::SplitWhitespace;
+use std::sync::Wait;
 
-/// Transactions on their way to the compositor: those that arrived, and those that it took, behind
-/// the earlier ones of their tokens.
+// Makes a call under the lock.
+fn call<W: Wait>(
+    rt: &W,
+    lock: &CallLock<Arrivals<Page, Brand>>,
+    pass: &mut Pass<Arrivals<Page, Brand>>,
+    call: ArriveCall<Page>,
+) -> Option<ArriveReply<Page>>
+    requires own { pass.old.table ≡ lock.now }
+    requires marked { pass.old.mark ≡ Some tt }
+    ensures { pass.new ≡ record pass.old { seen = pass.new.seen; turns = pass.new.turns } }
+{
+    pass.call(lock, rt, call).ok()
+}
+
+/// A lock over what arrives, with the passes of two actors.
 #[derive(Drop)]
 pub struct Line {
-    alloc: Global,
-    arrivals: Arrivals<Page, Brand>,
-    queues: TokenQueues<Page>,
-    // The transaction that is sent next.
-    next: Transaction<Page>,
+    lock: CallLock<Arrivals<Page, Brand>>,
+    first: Pass<Arrivals<Page, Brand>>,
+    second: Pass<Arrivals<Page, Brand>>,
+    ghost own: { first.table ≡ lock },
+    ghost leads: { first.is_first ≡ true },
+    ghost gave: { first.gave ≡ 2 ∷ [] },
+    ghost marked: { first.mark ≡ Some tt },
+    ghost other: { second.table ≡ lock },
+    ghost named: { second.by ≡ 2 },
+    ghost same: { second.mark ≡ Some tt },
 }
 
 impl Line {
-    /// Nothing arrived yet.
-    pub fn new(alloc: Global) -> Option<Line> {
+    /// A lock over what arrived so far.
+    pub fn open(alloc: Global, arrivals: Arrivals<Page, Brand>) -> Option<Line> {
+        let (lock, mut first) = CallLock::open(alloc, arrivals, 1).ok()?;
+        let second = first.split(&lock, 2);
         Some(Line {
-            alloc,
-            arrivals: Arrivals::new(alloc).ok()?,
-            queues: TokenQueues::new(alloc).ok()?,
-            next: Transaction::new(alloc),
+            lock,
+            first,
+            second,
         })
     }
 
-    /// Does what a line of this form asks, and tells what came out; None where that can't be done.
-    pub fn follow(&mut self, form: &str, words: &mut SplitWhitespace<'_>) -> Option<Reply> {
-        match form {
-            "page" => self.show(words),
-            "send" => self.send(words),
-            "take" => self.take(),
-            "look" => self.look(number32(words)?),
-            "pop" => Some(self.pop(token(words)?)),
-            _ => self.tell(form, words),
-        }
-    }
-
-    // The transaction that is sent next shows frame 1 of a layer, with a page.
-    fn show(&mut self, words: &mut SplitWhitespace<'_>) -> Option<Reply> {
-        let layer = layer(words)?;
-        let page = number32(words)?;
-        show(&mut self.next, self.alloc, layer, 1, Fence::none(), page)?;
-        Some(Reply::Done)
-    }
-
-    // The next transaction arrives: of this client, at this step, for this token.
-    fn send(&mut self, words: &mut SplitWhitespace<'_>) -> Option<Reply> {
-        let actor = number32(words)?;
-        let step = number32(words)?;
-        let token = token(words)?;
-        self.arrive(actor, step, token)
-    }
-
-    fn arrive(&mut self, actor: u32, step: u32, token: TokenId) -> Option<Reply> {
-        let mut txn = mem::replace(&mut self.next, Transaction::new(self.alloc));
-        txn.address(token);
-        match self.arrivals.apply(actor, ArriveCall::Send(step, txn)) {
-            Outcome::Done(ArriveReply::Number(number)) => Some(Reply::Sent(number)),
+    /// A call of actor 1 or 2.
+    pub fn call<W: Wait>(
+        &mut self,
+        rt: &W,
+        by: ActorId,
+        of: ArriveCall<Page>,
+    ) -> Option<ArriveReply<Page>> {
+        match by {
+            ActorId(1) => call(rt, &self.lock, &mut self.first, of),
+            ActorId(2) => call(rt, &self.lock, &mut self.second, of),
             _ => None,
         }
     }
 
-    // The compositor takes what arrived into its queues.
-    fn take(&mut self) -> Option<Reply> {
-        match self.arrivals.apply(0, ArriveCall::Take) {
-            Outcome::Done(ArriveReply::Batch(batch)) => {
-                let numbers = numbers_of(self.alloc, &batch.list)?;
-                push_all(&mut self.queues, batch.list)?;
-                Some(Reply::Taken(numbers))
-            }
-            _ => None,
-        }
+    /// What arrived, out of the lock, after the first pass met the other.
+    pub fn close(self) -> Option<Arrivals<Page, Brand>> {
+        let Line {
+            lock,
+            mut first,
+            second,
+        } = self;
+        first.meet(&lock, second);
+        lock.close(first).ok()
     }
-
-    // What someone who knows that so many writes ended sees of the pages of what is pending.
-    fn look(&mut self, count: u32) -> Option<Reply> {
-        let mut eye = Writes {
-            count,
-            ends: Ends::new(),
-        };
-        Some(Reply::Looked(self.queues.look(&mut eye).ok()?))
-    }
-
-    // A token's first pending transaction goes.
-    fn pop(&mut self, token: TokenId) -> Reply {
-        let number = match self.queues.pop(token) {
-            Some(arrived) => Some(arrived.number),
-            None => None,
-        };
-        Reply::OfToken(token, number)
-    }
-
-    // A token's first pending transaction.
-    fn head(&self, token: TokenId) -> Reply {
-        let number = match self.queues.head(token) {
-            Some(arrived) => Some(arrived.number),
-            None => None,
-        };
-        Reply::OfToken(token, number)
-    }
-
-    // The token of the pending transaction of a number.
-    fn token_of(&self, number: u32) -> Reply {
-        let token = match self.queues.get(number) {
-            Some(arrived) => Some(arrived.txn.token()),
-            None => None,
-        };
-        Reply::OfNumber(number, token)
-    }
-
-    // Tells what is pending, or what arrived.
-    fn tell(&self, form: &str, words: &mut SplitWhitespace<'_>) -> Option<Reply> {
-        match form {
-            "head" => Some(self.head(token(words)?)),
-            "number" => Some(self.token_of(number32(words)?)),
-            "tokens" => Some(Reply::Tokens(self.queues.tokens().ok()?)),
-            "arrivals" => {
-                let entries = Vec::from_slice(self.alloc, self.arrivals.entries()).ok()?;
-                Some(Reply::Arrived(entries))
-            }
-            _ => None,
-        }
-    }
-}
-
-// The numbers of what was taken.
-fn numbers_of(alloc: Global, list: &[Arrived<Page>]) -> Option<Vec<u32>> {
-    let mut numbers = Vec::new(alloc);
-    for arrived in list {
-        numbers.push(arrived.number).ok()?;
-    }
-    Some(numbers)
-}
-
-// Transactions go into the queues, if their numbers rise.
-fn push_all(queues: &mut TokenQueues<Page>, list: Vec<Arrived<Page>>) -> Option<()> {
-    for arrived in list {
-        if queues.last() >= arrived.number {
-            return None;
-        }
-        queues.push(arrived).ok()?;
-    }
-    Some(())
 }
