@@ -354,10 +354,15 @@ class Parts(unittest.TestCase):
 
 
 def table_of_scripts():
-    """The scripts of script_faults, each with what is said of it there."""
-    folder = os.path.join("crates", "script_faults")
+    """The scripts that script_runs reads, each with what is said of it there."""
+    folder = os.path.join("crates", "script_runs")
     titles, scripts, base = [], [], b""
+    is_script = False
     for line in contents(folder, "stdin").split(b"\n")[:-1]:
+        if line[:1] == b"=":
+            is_script = line[:2] in (b"==", b"=+", b"=<")
+        if not is_script:
+            continue
         if line[:1] == b"=":
             base = scripts[-1] if titles and titles[-1][:2] != b"=+" else base
             titles.append(line)
@@ -367,7 +372,7 @@ def table_of_scripts():
             scripts[-1] += (text + b"\n") * int(count)
         else:
             scripts[-1] += line + b"\n"
-    said = [line.rpartition(b": ")[2] for line in contents(folder, "stdout").split(b"\n")[:-1] if not line.startswith(b"cut ")]
+    said = [line.rpartition(b": ")[2] for line in contents(folder, "stdout").split(b"\n") if line[:2] in (b"==", b"=+", b"=<")]
     return zip(scripts, said, strict=True)
 
 
