@@ -22,7 +22,9 @@ from trees import after, draw_order, with_parents
 TOP = run.TOP
 PROGRAM = run.built(TOP)
 STORED = os.path.join(TOP, "crates", "worked_runs")
-LIVE = os.path.join(TOP, "crates", "live_runs", "data")
+WORKED = os.path.join("crates", "worked_runs", "data")
+# Scripts with actors that wait for one another, of those beside the scenes.
+WAITING = ("phone.sf", "producers-with-two-buffers.sf", "sixteen-actors-in-a-ring.sf", "two-transactions.sf", "a-signal-that-is-held-back.sf")
 
 
 def contents(*path):
@@ -484,13 +486,13 @@ class Program(unittest.TestCase):
             self.fail(str(refused))
 
     def test_plays_and_live_runs_of_the_scenes_are_accepted(self):
-        for folder in (os.path.join(TOP, "scenes"), LIVE):
-            for number, name in enumerate(sorted(os.listdir(folder))):
-                script = contents(folder, name)
-                with self.subTest(name=name):
-                    self.check(script, False, "--workers", str(number % 3 + 1))
-                    for again in range(3):
-                        self.check(script, True, "--run", "live", "--workers", str((number + again) % 4 + 1))
+        paths = [("scenes", name) for name in sorted(os.listdir(os.path.join(TOP, "scenes")))] + [(WORKED, name) for name in WAITING]
+        for number, path in enumerate(paths):
+            script = contents(*path)
+            with self.subTest(name=path[-1]):
+                self.check(script, False, "--workers", str(number % 3 + 1))
+                for again in range(3):
+                    self.check(script, True, "--run", "live", "--workers", str((number + again) % 4 + 1))
 
 
 def called(*words):
