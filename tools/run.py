@@ -22,9 +22,10 @@ else every 15 seconds.
 The program that `rt run` built in crates/sf_main is used where no source is newer than it. Where there
 is none, a smaller program, which plays in turns and does nothing else, is made of the crates in a
 temporary folder, compiled as it stands and run, by `rt try`: that takes about a minute, and no proof is
-asked for. Such a run may write at most 1 MiB of records, which all come at its end. With --proved the
-program is proved and built first by `rt run`, the first time for long, later only what changed. What
-was built has no such limit.
+asked for. Such a run may write at most 1 MiB of records, which all come at its end. What it compiled is
+kept as out/unproved/play_scene, and plays other scenes at once as long as no source is newer. With
+--proved the program is proved and built first by `rt run`, the first time for long, later only what
+changed. What stands built has no such limit.
 
 status: that of the program (0 played, 2 the script is no scene), or 1 where there is no answer, 2
 where words are wrong or a file cannot be read or written, or 130 where it was interrupted.
@@ -36,7 +37,7 @@ import os
 import re
 import sys
 import tempfile
-from typing import NamedTuple
+from typing import NamedTuple, Optional
 
 import small_program
 from course import NoCourse
@@ -52,6 +53,7 @@ from wording import sentence
 
 TOP = os.path.dirname(os.path.dirname(os.path.abspath(__file__)))
 FOLDER_OF_PROGRAM = os.path.join("crates", "sf_main")
+KEPT_PROGRAM = os.path.join("out", "unproved", "play_scene")
 USUAL_SCENE = os.path.join(TOP, "scenes", "phone.sf")
 # Which statuses of the program leave whole records behind: a played scene, and a script that is none.
 WHOLE = (0, 2)
@@ -71,12 +73,17 @@ REFUSED = 1
 
 
 class Way(NamedTuple):
-    """A way to play a scene: a command and the folder that it is called in, what it does, and its stages."""
+    """A way to play a scene: a command, the folder that it is called in, what it does, its stages, and where its temporary
+    files go if not where they usually do."""
 
     command: list
     folder: str
     does: str
     stages: Stages
+    temporary: Optional[str] = None
+
+    def environment(self):
+        return {**os.environ, "TMPDIR": self.temporary} if self.temporary else None
 
 
 def complain(text):
@@ -97,20 +104,36 @@ def arguments(words):
     return proved, scene, names[1] if len(names) == 2 else usual_folder(scene)
 
 
+def is_newest(program, top, *more):
+    """Whether a program is there, and newer than each source of the crates and than these further ones."""
+    sources = [*glob.glob(os.path.join(top, "crates", "*", "src", "**", "*.rt"), recursive=True), *more]
+    try:
+        when = os.path.getmtime(program)
+        return all(os.path.getmtime(source) < when for source in sources)
+    except OSError:
+        return False
+
+
 def built(top):
     """The program that was built from the sources as they stand, or None."""
     program = os.path.join(top, FOLDER_OF_PROGRAM, "out", "sf_main")
-    sources = glob.glob(os.path.join(top, "crates", "*", "src", "**", "*.rt"), recursive=True)
-    try:
-        when = os.path.getmtime(program)
-        return program if all(os.path.getmtime(source) < when for source in sources) else None
-    except OSError:
-        return None
+    return program if is_newest(program, top) else None
+
+
+def kept(top):
+    """The program that an earlier run compiled from the sources as they stand, without any proof, or None."""
+    program = os.path.join(top, KEPT_PROGRAM)
+    return program if is_newest(program, top, os.path.join(small_program.HERE, small_program.MAIN)) else None
 
 
 def way_of_program(program, top):
     """Plays by a program that stands built."""
     return Way([program], os.path.join(top, FOLDER_OF_PROGRAM), f"{os.path.relpath(program)} plays it", Stages(("plays", (), None)))
+
+
+def way_of_kept_program(program, top):
+    """Plays by what an earlier run compiled."""
+    return Way([program], top, "plays it by what was compiled before, without any proof", Stages(("plays", (), None)))
 
 
 def way_of_proof(top):
@@ -122,7 +145,8 @@ def way_of_proof(top):
 def way_of_small_program(top, folder):
     """Compiles a smaller program as it stands."""
     does = "compiles a program that plays it as it stands, without any proof (about a minute)"
-    return Way(UNPROVED, small_program.make(top, folder), does, Stages(*TRIES))
+    os.mkdir(os.path.join(folder, "temporary"))
+    return Way(UNPROVED, small_program.make(top, folder), does, Stages(*TRIES), os.path.join(folder, "temporary"))
 
 
 def way_of_whole_program(top):
@@ -162,15 +186,34 @@ def play(way, scene, records):
     progress = Progress(sys.stderr)
     try:
         with open(scene, "rb") as script, open(records, "wb") as sink:
-            return awaited(way.command, way.folder, script, sink, progress.tell, progress.say, way.stages, progress.each)
+            return awaited(way.command, way.folder, script, sink, progress.tell, progress.say, way.stages, progress.each, way.environment())
     finally:
         progress.end()
 
 
-def play_unproved(scene, records, top):
-    """Plays a scene by the smaller program, or by the whole one where the smaller one is refused; the command and its status."""
+def play_compiled(scene, records, top):
+    """Plays a scene by the smaller program, which is compiled for it; the status. What was compiled is kept."""
     with tempfile.TemporaryDirectory(prefix="surbeldoi-") as folder:
-        status = play(way_of_small_program(top, folder), scene, records)
+        way = way_of_small_program(top, folder)
+        with small_program.Keeper(way.temporary) as keeper:
+            status = play(way, scene, records)
+        if status in WHOLE and os.path.getsize(records):
+            keeper.leave(os.path.join(top, KEPT_PROGRAM))
+    return status
+
+
+def play_unproved(scene, records, top):
+    """Plays a scene without a proof, by what there is; the command and its status."""
+    program = kept(top)
+    if program:
+        try:
+            status = play(way_of_kept_program(program, top), scene, records)
+        except OSError as fault:
+            status = fault.errno
+        if status in WHOLE:
+            return [program], status
+        complain(f"{os.path.relpath(program)} ended with status {status}, so it is compiled anew")
+    status = play_compiled(scene, records, top)
     if status == REFUSED and not os.path.getsize(records):
         complain("the smaller program is refused, since the crates are not as it needs them")
         status = play(way_of_whole_program(top), scene, records)

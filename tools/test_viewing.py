@@ -69,7 +69,7 @@ class Page(Case):
         data = stream("SCEN 1 2 1 1000000\nREPL 1 1 0\nDONE")
         text = view_page("a<b>&.sf", read(data)[0], script)
         self.assertIn("<title>a&lt;b>&amp;.sf</title>", text)
-        self.assertEqual(text.count("</script>"), 2)
+        self.assertEqual(text.count("</script>"), text.count("<script>"))
         self.assertEqual(data_of(text)["name"], "a<b>&.sf")
 
     def test_values_have_their_names(self):

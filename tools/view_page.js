@@ -1,9 +1,6 @@
 "use strict";
 // What the page shows of RUN, the data that tools/viewing.py put in. A moment is a vsync that took transactions, or the end.
 
-const STATE_COLOURS = { dequeued: "#d9a441", queued: "#5b8def", acquired: "#4aa96c" };
-// How many calls of a queue, steps of an actor and transactions of a token are shown around those of a moment.
-const CALLS_SHOWN = 70, STEPS_SHOWN = 6, CHIPS_SHOWN = 40;
 const pictures = new Pictures(RUN.pictures);
 const byId = (id) => document.getElementById(id);
 const now = { place: 0, layer: null, point: null, arrival: null };
@@ -73,9 +70,11 @@ async function showFrame() {
   const pixels = one.frame === null ? paint([], pictures, RUN.width, RUN.height) : await frameOf(one.frame);
   const check = await checkOf(place);
   if (place !== now.place) return;
-  if (pixels.length === 4 * RUN.width * RUN.height) canvas.getContext("2d").putImageData(new ImageData(pixels, RUN.width, RUN.height), 0, 0);
+  if (pixels.length === 4 * RUN.width * RUN.height)
+    canvas.getContext("2d").putImageData(new ImageData(pixels, RUN.width, RUN.height), 0, 0);
   const [className, text] = checkText(one, check);
-  fill("check", make("span", className, text), one.isNew || one.frame === null ? null : make("span", "faint", " No new frame came here: this is the last one."));
+  const old = one.isNew || one.frame === null ? null : make("span", "faint", " No new frame came here: this is the last one.");
+  fill("check", make("span", className, text), old);
   byId("check").dataset.place = place;
 }
 
@@ -126,13 +125,15 @@ function showPoint() {
   if (!now.point) return;
   const [x, y] = now.point, found = layersAt(drawnOf(moment()), pictures, x, y);
   const top = found.find((one) => one.isSeen);
-  fill("at", make("span", "", `At ${x} ${y}: `, make("strong", "", top ? `${titleOf(top.layer)} is on top` : "no layer shows, the display is black"), found.length ? ". From the top:" : "."));
+  const first = make("strong", "", top ? `${titleOf(top.layer)} is on top` : "no layer shows, the display is black");
+  fill("at", make("span", "", `At ${x} ${y}: `, first, found.length ? ". From the top:" : "."));
   let coveredBy = null;
   for (const one of found) {
     const [className, text] = shownThere(one, coveredBy);
     if (coveredBy === null && one.cover === 255) coveredBy = one.layer;
     const colour = one.source.map((channel) => channel.toString(16).padStart(2, "0")).join("");
-    byId("stack").append(pickable(one.layer, 0, make("span", "", make("strong", "", titleOf(one.layer)), " ", make("span", className, text), make("span", "faint mono", ` ${colour}`))));
+    const inside = make("span", "", make("strong", "", titleOf(one.layer)), " ", make("span", className, text), make("span", "faint mono", ` ${colour}`));
+    byId("stack").append(pickable(one.layer, 0, inside));
   }
 }
 
@@ -182,7 +183,8 @@ function showTree() {
   const drawn = new Set(drawnOf(one).map((drawn) => drawn.layer)), changed = changedHere();
   for (const layer of layersOf(one)) {
     const tags = [
-      changed.has(layer.number) && ["good", "changed"], layer.hidden && ["faint", "hidden"], layer.relative !== null && ["faint", `relative to ${layer.relative}`],
+      changed.has(layer.number) && ["good", "changed"], layer.hidden && ["faint", "hidden"],
+      layer.relative !== null && ["faint", `relative to ${layer.relative}`],
       layer.alpha < 255 && ["faint", `alpha ${layer.alpha}`], layer.kind !== "container" && !drawn.has(layer.number) && ["wait", "not shown"]];
     byId("tree").append(pickable(layer.number, layer.depth, make("span", "", make("strong", "", `layer ${layer.number}`), ` ${contentText(layer)}`, swatch(layer),
       ...tags.filter((tag) => tag).map(([className, text]) => make("span", `tag ${className}`, text)))));
@@ -228,176 +230,6 @@ function thumbnail(layer) {
   canvas.title = `picture ${layer.content.picture}, ${width} x ${height}`;
   canvas.getContext("2d").putImageData(new ImageData(new Uint8ClampedArray(pictures.pixels(layer.content.picture)), width, height), 0, 0);
   return canvas;
-}
-
-// Transactions.
-
-// Where each transaction was taken: the place of the moment, and the commit.
-const taken = new Map();
-RUN.moments.forEach((one, place) => one.commits.forEach((commit) => taken.set(commit.arrival, { place, commit })));
-
-function headOf(number) {
-  const arrival = RUN.arrivals[number];
-  if (!arrival) return `arrival ${number}`;
-  return make("span", "", make("strong", "", `arrival ${number}`), ` of token ${arrival.token}, actor ${arrival.actor} `,
-    make("span", "mono faint", `line ${arrival.step[0]}: ${arrival.step[1]}`));
-}
-
-function linesOf(number, rejectedAt) {
-  const arrival = RUN.arrivals[number];
-  if (!arrival) return [make("span", "faint", "The records do not tell its operations.")];
-  const lines = arrival.operations.map(([, line, words], place) =>
-    stepLine(line, words, place + 1 === rejectedAt ? "bad" : "", place + 1 === rejectedAt ? " ← this cannot be done" : ""));
-  for (const [line, words] of arrival.barriers) lines.push(stepLine(line, words, "faint"));
-  if (arrival.desired !== null) lines.push(stepLine("", `desired for ${milliseconds(arrival.desired)}`, "faint"));
-  return lines.length ? lines : [make("span", "faint", "It has no operations.")];
-}
-
-function card(className, number, texts, rejectedAt, isOpen) {
-  const details = make("details", `card ${className}`, make("summary", "", headOf(number)), ...linesOf(number, rejectedAt));
-  details.open = isOpen;
-  details.dataset.arrival = number;
-  details.firstChild.append(...texts);
-  return details;
-}
-
-function takenCard(commit) {
-  const text = commit.cause ? make("div", "bad", `rejected as a whole: at operation ${commit.operation}, ${commit.cause}`) : make("div", "good", "committed");
-  return card(commit.cause ? "bad-card" : "good-card", commit.arrival, [text], commit.cause ? commit.operation : 0, true);
-}
-
-function fateOf(number) {
-  const then = taken.get(number);
-  if (!then) return "It waits to the end of the run.";
-  return then.place > now.place ? `It is ${then.commit.cause ? "rejected" : "committed"} at ${nameOf(RUN.moments[then.place])}.` : "";
-}
-
-function heldCard(hold) {
-  return card("wait-card", hold.arrival, [make("div", "wait", make("span", "tag", hold.name || "waits"), ` ${hold.text}. `, make("span", "faint", fateOf(hold.arrival)))], 0, false);
-}
-
-function showTransactions() {
-  const one = moment();
-  fill("taken", ...(one.commits.length ? one.commits.map(takenCard) : [make("span", "faint", "The run has ended.")]));
-  byId("waiting-title").textContent = one.vsync === null ? "Waiting at the end" : "Waiting behind this vsync, and why";
-  const untold = RUN.isLive && one.vsync !== null;
-  fill("waiting", ...(one.held.length ? one.held.map(heldCard) : [make("span", "faint", untold ? "A live run tells only at its end what waits." : "none")]));
-  fill("timelines", one.timelines.length ? one.timelines.map(([timeline, value]) => `timeline ${timeline} at ${value}`).join(", ") : "none");
-}
-
-function chipClass(number, held) {
-  const then = taken.get(number);
-  if (then && then.place === now.place) return then.commit.cause ? "bad" : "good";
-  if (then && then.place < now.place) return then.commit.cause ? "bad done" : "done";
-  return held.has(number) ? "wait" : "to-come";
-}
-
-const TOKENS = new Map();
-for (const arrival of Object.values(RUN.arrivals)) TOKENS.set(arrival.token, [...(TOKENS.get(arrival.token) || []), arrival.number]);
-
-function showTokens() {
-  const held = new Set(moment().held.map((hold) => hold.arrival)), rows = [];
-  for (const [token, numbers] of [...TOKENS].sort((a, b) => a[0] - b[0])) {
-    const reached = numbers.findIndex((number) => !taken.has(number) || taken.get(number).place >= now.place);
-    const from = Math.max(0, Math.min((reached < 0 ? numbers.length : reached) - CHIPS_SHOWN / 2, numbers.length - CHIPS_SHOWN));
-    const chips = numbers.slice(from, from + CHIPS_SHOWN).map((number) => {
-      const chip = make("span", `chip ${chipClass(number, held)}`, String(number));
-      chip.title = { good: "committed here", bad: "rejected", wait: "waits", "to-come": "to come", done: "committed before" }[chipClass(number, held).split(" ")[0]];
-      chip.onclick = () => { now.arrival = number; showTransaction(); };
-      return chip;
-    });
-    rows.push(make("div", "chips", make("span", "faint", `token ${token}`), from > 0 ? ".." : null, ...chips, from + CHIPS_SHOWN < numbers.length ? ".." : null));
-  }
-  fill("tokens", ...(rows.length ? rows : [make("span", "faint", "none")]));
-}
-
-function showTransaction() {
-  if (now.arrival === null) return;
-  const then = taken.get(now.arrival);
-  const text = then ? `${then.commit.cause ? `rejected, ${then.commit.cause}` : "committed"}, at ${nameOf(RUN.moments[then.place])}` : "never committed";
-  fill("transaction", card("", now.arrival, [make("div", "faint", text)], then && then.commit.cause ? then.commit.operation : 0, true));
-}
-
-// Actors.
-
-function stepNote(reply) {
-  if (reply[1]) return make("span", "bad", `  refused: ${reply[1]}`);
-  return reply[2] ? make("span", "faint", `  → ${reply[2]}`) : null;
-}
-
-function actorCard(actor) {
-  const before = actor.replies.filter((reply) => reply[0] < now.place).length;
-  const done = actor.replies.filter((reply) => reply[0] <= now.place).length;
-  const waits = moment().waiting.find(([number]) => number === actor.number);
-  const from = Math.max(0, Math.max(before, done - 40) - STEPS_SHOWN / 2), to = Math.min(actor.steps.length, done + STEPS_SHOWN / 2);
-  const lines = [];
-  for (let place = from; place < to; place++) {
-    const [line, words] = actor.steps[place];
-    if (place < done) lines.push(stepLine(line, words, place >= before ? "now" : "", stepNote(actor.replies[place])));
-    else if (place === done && waits) lines.push(stepLine(line, words, "wait", make("span", "", "  ← waits" + (waits[2] ? `: ${waits[2]}` : ""))));
-    else lines.push(stepLine(line, words, "to-come"));
-  }
-  const left = done === actor.steps.length ? "all done" : waits ? "waits" : `${actor.steps.length - done} to come`;
-  return make("div", "", make("h3", "", `actor ${actor.number} `, make("span", waits ? "tag wait" : "tag faint", `${done} of ${actor.steps.length} steps, ${left}`)),
-    from > 0 ? make("span", "faint", `.. ${from} before`) : null, ...lines, to < actor.steps.length ? make("span", "faint", `.. ${actor.steps.length - to} more`) : null);
-}
-
-function showActors() {
-  const note = RUN.isLive && moment().vsync !== null ? make("div", "wait", "A live run tells its replies behind the last vsync: look at the end.") : null;
-  fill("actors", note, ...RUN.actors.map(actorCard));
-}
-
-// Queues.
-
-// Where each slot is from call to call: pieces of a slot, each with its first call, the call behind its last, its state and its frame.
-function piecesOf(queue) {
-  const open = new Map(), pieces = [];
-  for (const [call, slot, state, frame] of queue.changes) {
-    const before = open.get(slot);
-    if (before) pieces.push({ ...before, to: call });
-    open.delete(slot);
-    if (state !== "free") open.set(slot, { slot, from: call, state, frame });
-  }
-  for (const piece of open.values()) pieces.push({ ...piece, to: queue.calls.length });
-  return pieces;
-}
-
-function strip(queue) {
-  queue.pieces = queue.pieces || piecesOf(queue);
-  const before = queue.calls.filter((call) => call[0] < now.place).length, done = queue.calls.filter((call) => call[0] <= now.place).length;
-  const from = Math.max(0, Math.min(done - Math.floor(CALLS_SHOWN * .7), queue.calls.length - CALLS_SHOWN)), to = Math.min(queue.calls.length, from + CALLS_SHOWN);
-  const pieces = queue.pieces.filter((piece) => piece.to > from && piece.from < to), slots = Math.max(1, ...queue.pieces.map((piece) => piece.slot + 1));
-  const wide = 15, high = 18, left = 46, svg = drawing("svg", { width: left + (to - from) * wide + 2, height: slots * high + 14 });
-  if (done > before)
-    svg.append(drawing("rect", { x: left + (Math.max(before, from) - from) * wide, y: 0, width: Math.max(0, done - Math.max(before, from)) * wide, height: slots * high + 12, fill: "var(--mark)" }));
-  for (let slot = 0; slot < slots; slot++) svg.append(drawing("text", { x: 0, y: slot * high + 14, fill: "currentColor" }, `slot ${slot}`));
-  for (const piece of pieces) {
-    const start = Math.max(piece.from, from), end = Math.min(piece.to, to), x = left + (start - from) * wide, width = (end - start) * wide - 1;
-    const shape = drawing("rect", { x, y: piece.slot * high + 2, width, height: high - 4, rx: 3, fill: STATE_COLOURS[piece.state], opacity: start >= done ? .3 : 1 });
-    shape.append(drawing("title", {}, `slot ${piece.slot} ${piece.state}${piece.frame ? `, frame ${piece.frame}` : ""}`));
-    svg.append(shape);
-    if (piece.frame && width >= 10) svg.append(drawing("text", { x: x + 3, y: piece.slot * high + 13, fill: "#101418", "pointer-events": "none" }, String(piece.frame)));
-  }
-  for (let call = from; call < to; call++) {
-    const mark = drawing("rect", { x: left + (call - from) * wide, y: 0, width: wide, height: slots * high + 12, fill: "transparent", "data-call": call });
-    mark.append(drawing("title", {}, `${queue.calls[call][1]}${queue.calls[call][2] ? `\nrefused: ${queue.calls[call][2]}` : ""}`));
-    mark.onclick = () => go(Math.min(queue.calls[call][0], RUN.moments.length - 1));
-    svg.append(mark);
-    if (queue.calls[call][2]) svg.append(drawing("text", { x: left + (call - from) * wide + 4, y: slots * high + 10, fill: "var(--bad)", "pointer-events": "none" }, "✗"));
-  }
-  return make("div", "strip", svg);
-}
-
-function queueCard(queue) {
-  const calls = queue.calls.filter((call) => call[0] === now.place);
-  const lines = calls.slice(-12).map(([, who, went, slot]) =>
-    make("span", `step mono ${went ? "bad" : ""}`, who, make("span", "faint", slot === null ? "" : `  slot ${slot}`), went ? `  refused: ${went}` : ""));
-  return make("div", "", make("h3", "", `queue ${queue.number} `, make("span", "tag faint", `${queue.width} x ${queue.height}, ${queue.calls.length} calls`)), strip(queue),
-    calls.length > 12 ? make("span", "faint", `.. ${calls.length - 12} before`) : null, ...lines);
-}
-
-function showQueues() {
-  fill("queues", ...(RUN.queues.length ? RUN.queues.map(queueCard) : [make("span", "faint", "none")]));
 }
 
 // The moment.

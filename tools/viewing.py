@@ -14,7 +14,7 @@ from wording import NO_SLOT, REFUSALS, STATUSES, call_name, named
 
 FOLDER = os.path.dirname(os.path.abspath(__file__))
 # The page, and what stands in it in the place of which words.
-PAGE, PARTS = "view_page.html", {"PAINTER\n": "view_painter.js", "SCRIPT\n": "view_page.js"}
+PAGE, PARTS = "view_page.html", {"PAINTER\n": "view_painter.js", "LISTS\n": "view_lists.js", "SCRIPT\n": "view_page.js"}
 DATA, TITLE = "/*DATA*/null", "TITLE"
 # What the values of a reply are, by the first word of the step.
 LENT = ("slot", "buffer", "new")
