@@ -56,13 +56,14 @@ class Reply(NamedTuple):
 
 
 class Moment:
-    """What there is after a vsync, or at the end, where `number` is None. `layers` and `drawn` are None where the records do
-    not tell the tree. `frame` is the place of the frame that the display shows among all frames, None before the first."""
+    """What there is after a vsync, or at the end, where `number` is None. `outline` and `drawn` are None where the records do
+    not tell the tree. `frame` is the place of the last frame among all frames, None before the first; `is_new` tells that it came
+    with this vsync, and `is_missing` that a later one should have come, as in a stream that was cut off."""
 
     def __init__(self, number, time, timelines):
         self.number, self.time, self.timelines = number, time, timelines
         self.commits, self.held, self.next = [], [], []
-        self.frame, self.is_new, self.outline, self.drawn = None, False, None, None
+        self.frame, self.is_new, self.is_missing, self.outline, self.drawn = None, False, False, None, None
 
 
 class Queue(NamedTuple):
@@ -89,7 +90,7 @@ class Course:
         self.declarations = read_declarations(script)
         tags = [record.tag for record in self.records]
         self.is_live = "REPL" in tags and "VSYN" in tags and tags.index("VSYN") < tags.index("REPL")
-        self.replies, self.moments, self.frames, self.fault = [], [], [], None
+        self.replies, self.moments, self.frames, self.fault, self.is_missing = [], [], [], None, False
         self.reader = Reader(self.script, {number: picture[:2] for number, picture in self.declarations.pictures.items()})
         self.tree, self.shown, self.latched, self.committed = Tree(), {}, set(), set()
         self.follow()
@@ -172,6 +173,9 @@ class Course:
         """Notes what there is once a vsync has done all."""
         moment = self.moments[-1]
         moment.frame = len(self.frames) - 1 if self.frames else None
+        if any(commit.cause is None for commit in moment.commits):
+            self.is_missing = not moment.is_new
+        moment.is_missing = self.is_missing
         self.note_tree(moment)
         if not self.is_live:
             moment.held = self.held_at(moment)
@@ -250,7 +254,7 @@ class Course:
         """Adds the end of the run, and of each moment who waits."""
         last = self.moments[-1] if self.moments else None
         end = Moment(None, None, dict(self.run.reached))
-        end.frame = last.frame if last else None
+        end.frame, end.is_missing = (last.frame, last.is_missing) if last else (None, False)
         self.note_tree(end)
         end.held = [self.hold_of(arrival, tuple(hold), self.run) for arrival, *hold in self.run.held]
         end.next = [(actor, step, awaited_text(self.run, actor, step).strip(": ")) for actor, step in self.run.stuck]

@@ -157,6 +157,10 @@ class Other(unittest.TestCase):
         self.assertEqual([moment.number for moment in cut.moments], [1, 2, None])
         self.assertEqual(cut.moments[1].drawn, course(HELD, scene("held.sf")).moments[1].drawn)
 
+    def test_a_frame_that_was_cut_off_is_missing(self):
+        cut = course(HELD[:HELD.rindex(b"FRAM") + 100], scene("held.sf"))
+        self.assertEqual([(moment.frame, moment.is_new, moment.is_missing) for moment in cut.moments], [(0, True, False), (0, False, True), (0, False, True)])
+
     def test_a_live_run_tells_its_replies_behind_its_vsyncs(self):
         records, _ = read(HELD)
         replies = [record for record in records if record.tag == "REPL"]

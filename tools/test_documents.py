@@ -6,6 +6,7 @@ import re
 import unittest
 
 from grammar import CHANGES, LINES, SECOND, STEPS, form_text
+from run import LEFT
 from stream import FORMS, faults, read
 from test_scenes import of_some_form
 from wording import CALLS, HOLDS, REJECTS, STATUSES, plain
@@ -47,6 +48,14 @@ class Documents(unittest.TestCase):
                 self.assertTrue(os.path.exists(os.path.join(TOP, page)), f"{path}: {target}")
                 if anchor:
                     self.assertIn(anchor, anchors(page), f"{path}: {target}")
+
+    def test_the_first_page_is_short(self):
+        self.assertLessEqual(len(text("README.md").split()), 900)
+
+    def test_the_page_on_viewing_names_what_a_run_leaves(self):
+        page = text("docs/VIEWING.md")
+        for name in LEFT + ("frame-N.png",):
+            self.assertIn(f"| `{name}` |", page)
 
     def test_the_stream_of_the_page_is_what_its_lines_say(self):
         script, data, lines = indented("docs/RECORDS.md", "A whole stream")

@@ -194,6 +194,12 @@ class Shown(unittest.TestCase):
         self.browser.until("document.getElementById('checked').dataset.done === 'yes'")
         self.assertIn("they differ at vsync 1.", self.text("checked"))
 
+    def test_a_frame_that_was_cut_off_is_told(self):
+        self.open("cut", page("held.sf", HELD[:HELD.rindex(b"FRAM") + 100]))
+        self.scrub(1)
+        self.assertIn("is not in the records: this is the one before", self.text("check"))
+        self.assertIn("The run was cut off before its end.", self.text("notes"))
+
     def test_queues_and_actors(self):
         self.open("held", page("held.sf", HELD))
         self.assertIn("actor 1, line 17: queue s 1 fence 1 5", self.text("queues"))

@@ -49,7 +49,7 @@ const checks = new Map();
 async function checkOf(place) {
   if (!checks.has(place)) {
     const one = RUN.moments[place];
-    if (one.frame === null || one.drawn === null) checks.set(place, null);
+    if (one.frame === null || one.isMissing || one.drawn === null) checks.set(place, null);
     else {
       const painted = paint(drawnOf(one), pictures, RUN.width, RUN.height);
       checks.set(place, difference(painted, await frameOf(one.frame), RUN.width));
@@ -59,6 +59,7 @@ async function checkOf(place) {
 }
 
 function checkText(one, check) {
+  if (one.isMissing) return ["wait", "The frame of these layers is not in the records: this is the one before."];
   if (one.frame === null) return ["faint", "No frame yet: the display is black."];
   if (check === null) return ["wait", "The tree is not known here, so the frame could not be painted again."];
   if (check.count === 0) return ["good", "✓ Painted again from the layers by this page: the same to the last pixel."];
@@ -73,7 +74,7 @@ async function showFrame() {
   if (pixels.length === 4 * RUN.width * RUN.height)
     canvas.getContext("2d").putImageData(new ImageData(pixels, RUN.width, RUN.height), 0, 0);
   const [className, text] = checkText(one, check);
-  const old = one.isNew || one.frame === null ? null : make("span", "faint", " No new frame came here: this is the last one.");
+  const old = one.isNew || one.isMissing || one.frame === null ? null : make("span", "faint", " No new frame came here: this is the last one.");
   fill("check", make("span", className, text), old);
   byId("check").dataset.place = place;
 }

@@ -76,7 +76,7 @@ def arrival_of(course, arrival):
 def moment_of(moment, layers, drawn):
     return {
         "vsync": moment.number, "time": moment.time, "timelines": sorted(moment.timelines.items()),
-        "frame": moment.frame, "isNew": moment.is_new,
+        "frame": moment.frame, "isNew": moment.is_new, "isMissing": moment.is_missing,
         "commits": [commit._asdict() for commit in moment.commits],
         "held": [hold._asdict() for hold in moment.held],
         "waiting": [list(waiting) for waiting in moment.next],
