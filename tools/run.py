@@ -22,10 +22,10 @@ else every 15 seconds.
 The program that `rt run` built in crates/sf_main is used where no source is newer than it. Where there
 is none, a smaller program, which plays in turns and does nothing else, is made of the crates in a
 temporary folder, compiled as it stands and run, by `rt try`: that takes about a minute, and no proof is
-asked for. Such a run may write at most 1 MiB of records, which all come at its end. What it compiled is
-kept as out/unproved/play_scene, and plays other scenes at once as long as no source is newer. With
+asked for. What it compiled is kept as out/unproved/play_scene, and plays other scenes at once as long as
+no source is newer, and this one too where it has more records than the 1 MiB that `rt try` takes. With
 --proved the program is proved and built first by `rt run`, the first time for long, later only what
-changed. What stands built has no such limit.
+changed.
 
 status: that of the program (0 played, 2 the script is no scene), or 1 where there is no answer, 2
 where words are wrong or a file cannot be read or written, or 130 where it was interrupted.
@@ -57,7 +57,7 @@ KEPT_PROGRAM = os.path.join("out", "unproved", "play_scene")
 USUAL_SCENE = os.path.join(TOP, "scenes", "phone.sf")
 # Which statuses of the program leave whole records behind: a played scene, and a script that is none.
 WHOLE = (0, 2)
-INTERRUPTED = 130
+INTERRUPTED, NOT_RUN = 130, 126
 # What a run leaves in its folder.
 LEFT = ("records.bin", "dump.txt", "trace.json", "view.html")
 FRAME = re.compile(r"frame-[0-9]+\.png")
@@ -197,27 +197,37 @@ def play_compiled(scene, records, top):
         way = way_of_small_program(top, folder)
         with small_program.Keeper(way.temporary) as keeper:
             status = play(way, scene, records)
-        if status in WHOLE and os.path.getsize(records):
-            keeper.leave(os.path.join(top, KEPT_PROGRAM))
+        keeper.leave(os.path.join(top, KEPT_PROGRAM))
     return status
+
+
+def play_kept(program, scene, records, top):
+    """Plays a scene by what was compiled before; the status, as shells have it where the program cannot be run."""
+    try:
+        return play(way_of_kept_program(program, top), scene, records)
+    except OSError as fault:
+        complain(fault)
+        return NOT_RUN
 
 
 def play_unproved(scene, records, top):
     """Plays a scene without a proof, by what there is; the command and its status."""
     program = kept(top)
     if program:
-        try:
-            status = play(way_of_kept_program(program, top), scene, records)
-        except OSError as fault:
-            status = fault.errno
+        status = play_kept(program, scene, records, top)
         if status in WHOLE:
             return [program], status
         complain(f"{os.path.relpath(program)} ended with status {status}, so it is compiled anew")
-    status = play_compiled(scene, records, top)
-    if status == REFUSED and not os.path.getsize(records):
-        complain("the smaller program is refused, since the crates are not as it needs them")
-        status = play(way_of_whole_program(top), scene, records)
-    return UNPROVED, status
+    status, program = play_compiled(scene, records, top), kept(top)
+    if status in WHOLE and os.path.getsize(records):
+        return UNPROVED, status
+    if program:
+        # `rt try` takes no more than 1 MiB of records, and no longer than a minute.
+        return [program], play_kept(program, scene, records, top)
+    if status != REFUSED:
+        return UNPROVED, status
+    complain("the smaller program is refused, since the crates are not as it needs them")
+    return UNPROVED, play(way_of_whole_program(top), scene, records)
 
 
 def play_somehow(proved, scene, records, top):
