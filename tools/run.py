@@ -265,7 +265,7 @@ def leave_view(records, scene, folder):
         complain(f"there is no view.html: {fault}")
         return
     write_text(folder, "view.html", page)
-    print(os.path.relpath(os.path.join(folder, "view.html")))
+    print(f"{os.path.relpath(os.path.join(folder, 'view.html'))}: open it in a browser, to look into the run")
 
 
 def leave(records, scene, folder):

@@ -52,6 +52,13 @@ class Made(unittest.TestCase):
             for crate in re.findall(r"^use (sf_\w+)", text, re.M):
                 self.assertIn(crate, self.lines[small_program.NAME][1])
 
+    def test_what_it_calls_of_sf_app_takes_what_it_gives(self):
+        for module, name, wanted in (("play", "play", ["rt", "alloc", "workers", "sink", "scene"]), ("script", "scene_of", ["alloc", "bytes"]),
+                                     ("script", "at_no_place", ["cause"])):
+            text = self.contents("crates", small_program.NAME, "src", module + ".rt")
+            head = re.search(r"^pub fn %s\b.*?\((.*?)\) ->" % name, text, re.M | re.S).group(1)
+            self.assertEqual(re.findall(r"(\w+): ", head), wanted, name)
+
     def test_sources_are_copied_as_they_stand_without_proofs(self):
         for name in ("play.rt", "script.rt"):
             with open(os.path.join(run.TOP, "crates", "sf_app", "src", name), encoding="utf-8") as file:
