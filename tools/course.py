@@ -56,13 +56,14 @@ class Reply(NamedTuple):
 
 
 class Moment:
-    """What there is after a vsync, or at the end, where `number` is None. `outline` and `drawn` are None where the records do
+    """What there is after a vsync, or at the end, where `number` is None: what it took, which transactions and which actors
+    wait, and the layers. `outline` and `drawn` are None where the records do
     not tell the tree. `frame` is the place of the last frame among all frames, None before the first; `is_new` tells that it came
     with this vsync, and `is_missing` that a later one should have come, as in a stream that was cut off."""
 
     def __init__(self, number, time, timelines):
         self.number, self.time, self.timelines = number, time, timelines
-        self.commits, self.held, self.next = [], [], []
+        self.commits, self.held, self.waits = [], [], []
         self.frame, self.is_new, self.is_missing, self.outline, self.drawn = None, False, False, None, None
 
 
@@ -197,6 +198,8 @@ class Course:
 
     def held_at(self, moment):
         """Why each arrival waits that this vsync left."""
+        if len(self.committed) >= len(self.reader.arrivals):
+            return []
         waiting, first = self.pending()
         seen = Seen(moment.time, moment.timelines, self.reader.frames, len(self.moments) - 1, self.shown, self.tree.layers, self.latched, first)
         told = copy.copy(self.run)
@@ -257,7 +260,7 @@ class Course:
         end.frame, end.is_missing = (last.frame, last.is_missing) if last else (None, False)
         self.note_tree(end)
         end.held = [self.hold_of(arrival, tuple(hold), self.run) for arrival, *hold in self.run.held]
-        end.next = [(actor, step, awaited_text(self.run, actor, step).strip(": ")) for actor, step in self.run.stuck]
+        end.waits = [(actor, step, awaited_text(self.run, actor, step).strip(": ")) for actor, step in self.run.stuck]
         self.moments.append(end)
         if not self.is_live:
             Waits(self).note()

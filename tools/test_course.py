@@ -182,7 +182,7 @@ class Other(unittest.TestCase):
                   b"signal 1 3\ntx 1\napply 1 token 1\nend\n")
         data = stream("SCEN 1 2 1 1000000\nREPL 2 1 0\nREPL 2 2 0\nREPL 2 3 0 1\nVSYN 1 1000000 1=0\nCOMM 1 1 0 0\nFRAM 1 2*000000ff\nREPL 2 4 0\nREPL 2 5 0",
                       "REPL 2 6 0 2\nVSYN 2 2000000 1=3\nCOMM 1 2 0 0\nFRAM 2 2*000000ff\nARRV | 2 3 1 | 2 6 1\nHOLD\nSTUK | 1 1\nDONE")
-        waiting = [moment.next for moment in course(data, script).moments]
+        waiting = [moment.waits for moment in course(data, script).moments]
         self.assertEqual(waiting, [[(1, 1, f"timeline 1 has not reached 5, it is at {value}")] for value in (0, 3, 3)])
 
 

@@ -79,7 +79,7 @@ def moment_of(moment, layers, drawn):
         "frame": moment.frame, "isNew": moment.is_new, "isMissing": moment.is_missing,
         "commits": [commit._asdict() for commit in moment.commits],
         "held": [hold._asdict() for hold in moment.held],
-        "waiting": [list(waiting) for waiting in moment.next],
+        "waiting": [list(waiting) for waiting in moment.waits],
         "tree": None if moment.outline is None else [[layers.place(layer, layer_of(layer)), depth] for layer, depth in moment.outline],
         "drawn": None if moment.drawn is None else [drawn.place(one, drawn_of(one)) for one in moment.drawn],
     }

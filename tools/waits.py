@@ -28,7 +28,7 @@ class Waits:
                 step = self.course.script.step(actor, self.done[actor] + 1)
                 reason = self.why(actor, step.words) if step else None
                 if reason:
-                    moment.next.append((actor, self.done[actor] + 1, reason))
+                    moment.waits.append((actor, self.done[actor] + 1, reason))
 
     def follow_queues(self, place):
         for queue in self.course.queues:
