@@ -30,11 +30,13 @@ class Made(unittest.TestCase):
             self.assertTrue(os.path.isdir(os.path.join(self.folder, "crates", crate, "src")), crate)
             for used in uses:
                 self.assertTrue(used in self.lines or not used.startswith("sf_"), f"{crate}: {used}")
+            used = small_program.used_in(small_program.sources_of(self.folder, crate)) & set(self.lines) - {crate}
+            self.assertLessEqual(used, set(uses), crate)
         self.assertEqual(sorted(os.listdir(os.path.join(self.folder, "crates"))), sorted(self.lines))
 
     def test_it_is_smaller(self):
         with open(os.path.join(run.TOP, "crates.txt"), encoding="utf-8") as file:
-            whole = small_program.below(["sf_main"], small_program.listed_crates(file.read()))
+            whole = small_program.below(["sf_main"], run.TOP, small_program.listed_crates(file.read()))
         self.assertLess(len(self.lines), len(whole))
         for crate in ("sf_live", "sf_crew", "sf_options", "sf_generate"):
             self.assertNotIn(crate, self.lines)
@@ -49,8 +51,9 @@ class Made(unittest.TestCase):
             for name in re.findall(r"^use %s::(?:\{([^}]*)\}|(\w+));" % module, main, re.M):
                 for item in "".join(name).split(", "):
                     self.assertIn(f"pub fn {item}", text)
-            for crate in re.findall(r"^use (sf_\w+)", text, re.M):
-                self.assertIn(crate, self.lines[small_program.NAME][1])
+
+    def test_what_only_contracts_cite_is_left_out(self):
+        self.assertEqual(small_program.used_in(["ghost use Rattle.a::b.{\n  c};\nuse d::e; // f::g\nlet x = h::i(j);\n"]), {"d", "h"})
 
     def test_what_it_calls_of_sf_app_takes_what_it_gives(self):
         for module, name, wanted in (("play", "play", ["rt", "alloc", "workers", "sink", "scene"]), ("script", "scene_of", ["alloc", "bytes"]),

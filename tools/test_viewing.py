@@ -181,6 +181,14 @@ class Shown(unittest.TestCase):
         self.settled()
         self.assertEqual(self.browser.value("document.getElementById('scrub').value"), "0")
 
+    def test_it_plays_from_vsync_to_vsync(self):
+        self.open("held", page("held.sf", HELD))
+        self.browser.press(" ")
+        self.assertEqual(self.text("play"), "stop")
+        self.browser.until("document.getElementById('scrub').value === '2' && document.getElementById('play').textContent === 'play'")
+        self.settled()
+        self.assertEqual(self.text("where"), "the end of the run (3 of 3)")
+
     def test_a_rejected_transaction(self):
         self.open("rejected", page("whole-or-nothing.sf", REJECTED))
         self.scrub(1)
