@@ -17,9 +17,13 @@ use std::process::ExitCode;
 use std::thread::Threads;
 
 const MOST_BYTES: usize = 1_048_576;
+
 const NO_SCENE: u8 = 2;
+
 const READ_FAILED: u8 = 3;
+
 const WRITE_FAILED: u8 = 4;
+
 const NO_MEMORY: u8 = 5;
 
 fn status_of(written: Result<(), RunFault>, done: u8) -> u8 {
