@@ -5,19 +5,16 @@ replies, the arrivals, the commits with what they release, the calls on queues, 
 first part that is found not to hold refuses the records.
 """
 
-from commits import Stage
+from histories import History, check_histories_are_due
 from makers import Makers
-from painting import Painter
-from playing import Play, buffer_row
-from queues import RELEASE, WOULD_BLOCK, Queue, open_point
-from scenes import NoScene, read_scene
-from steps import Lent, frame_call
 from ordering import Ordered, Refused, early_reply
+from playing import Play
+from queues import WOULD_BLOCK, open_point
+from scenes import read_scene
 from tracing import check_fences, step_text, traces_of
-from transactions import BEHIND, hold_of, lasting_hold
-from wording import CALLS, HOLDS, NO_SLOT, STATUSES, named, sentence
-
-COMPOSITOR = 0
+from transactions import BEHIND, lasting_hold
+from vsyncs import Vsyncs, released_by
+from wording import sentence
 
 
 class NoRun(Exception):
@@ -44,116 +41,6 @@ def arrivals_of(traces, record):
     return arrivals
 
 
-class Pending:
-    """The arrivals that are not committed, by token, in order."""
-
-    def __init__(self, arrivals):
-        self.arrivals, self.of_token = arrivals, {}
-        for number, (token, _) in reversed(list(enumerate(arrivals, 1))):
-            self.of_token.setdefault(token, []).append(number)
-
-    def commit(self, record):
-        """The transaction that a record commits, which has to be the first of its token."""
-        token, arrival = record.fields["token"], record.fields["arrival"]
-        left = self.of_token.get(token)
-        if not left or left[-1] != arrival:
-            due = f"arrival {left[-1]} is" if left else "none is"
-            raise Refused("commits", record.text(), f"it commits arrival {arrival} of token {token}, of which {due} the first that is left")
-        return self.arrivals[left.pop() - 1][1]
-
-
-def released_by(arrivals, vsyncs):
-    """The frames that the vsyncs give back, by their queues: each with the vsync and whether it was read."""
-    pending, stage, released = Pending(arrivals), Stage(), {}
-    for vsync in vsyncs:
-        number = vsync.record.fields["number"]
-        stage.begin(number)
-        for record in vsync.commits:
-            result, operation, gone = stage.commit(pending.commit(record))
-            check_result(record, result, operation)
-            for frame, is_read in gone:
-                released.setdefault(frame.queue, []).append((number, frame, is_read))
-    return released
-
-
-def check_result(record, result, operation):
-    told = (record.fields["result"], record.fields["operation"])
-    if told != (result, operation):
-        raise Refused("commits", record.text(), f"it has result {told[0]} and operation {told[1]}, where the tree makes it {result} and {operation}")
-
-
-class History:
-    """The calls on a queue, as those who made them made them, in the order of the queue's record."""
-
-    def __init__(self, traces, record, released):
-        self.traces, self.record, self.number = traces, record, record.fields["queue"]
-        self.queue = Queue(traces.scene.queues[self.number])
-        self.released = [(vsync, frame_call(RELEASE, frame, {} if is_read else frame.fence)) for vsync, frame, is_read in reversed(released)]
-        self.made = {actor: list(reversed(calls)) for actor, calls in traces.calls[self.number].items()}
-        self.where = record.text()
-
-    def refused(self, why):
-        return Refused("calls", self.where, why)
-
-    def next_call(self, caller):
-        """The next call of a caller, with its step, and how a step made it."""
-        if caller == COMPOSITOR:
-            if not self.released:
-                raise self.refused("no vsync gives back a further frame")
-            return (*self.released.pop(), None)
-        if not self.made.get(caller):
-            raise self.refused(f"actor {caller} made no further call on this queue")
-        made = self.made[caller].pop()
-        return made.step, made.call, made
-
-    def check(self):
-        for place, entry in enumerate(self.record.fields["calls"], 1):
-            self.where = f"{self.record.text()} of queue {self.number}, call {place}"
-            self.check_entry(*entry)
-        self.where = f"{self.record.text()} of queue {self.number}"
-        left = [(COMPOSITOR, *call, None) for call in self.released[-1:]]
-        left += [(actor, made[-1].step, made[-1].call, made[-1]) for actor, made in self.made.items() if made]
-        for caller, step, call, _ in left:
-            raise self.refused(f"the call {named(CALLS, call.kind)} of {caller_text(caller, step)} is missing")
-
-    def check_entry(self, caller, step, kind, *told):
-        due, call, made = self.next_call(caller)
-        if (step, kind) != (due, call.kind):
-            raise self.refused(f"it is {named(CALLS, kind)} of {caller_text(caller, step)}, who makes {named(CALLS, call.kind)} next, as {caller_text(caller, due)}")
-        reply = self.queue.reply(caller, call)
-        if made and made.may_block and reply.status == WOULD_BLOCK:
-            raise Refused("traces", step_text(self.traces.scene, made.reply), "it is refused for want of a free slot, where it has to wait")
-        if told != (reply.status, reply.slot, reply.frame):
-            raise self.refused(f"it has {answer_text(*told)}, where the calls before make it {answer_text(reply.status, reply.slot, reply.frame)}")
-        if made and made.reply:
-            self.check_reply(made.reply, reply)
-        if made and made.token:
-            made.token.buffer, made.token.came_requested, made.token.frames = reply.buffer, reply.requested, reply.frames
-
-    def check_reply(self, record, reply):
-        """The step's reply says what the queue replied."""
-        told, values = record.fields["status"], [value for value, in record.fields["values"]]
-        if told != reply.status:
-            raise Refused("replies", step_text(self.traces.scene, record), f"it says {named(STATUSES, told)}, where the calls before make it {named(STATUSES, reply.status)}")
-        if values != reply.values:
-            raise Refused("replies", step_text(self.traces.scene, record), f"it has the values {values}, where the calls before make them {reply.values}")
-
-
-def caller_text(caller, step):
-    return f"actor {caller}, step {step}" if caller else f"the compositor, vsync {step}"
-
-
-def answer_text(status, slot, frame):
-    return f"{named(STATUSES, status)}, {'no slot' if slot == NO_SLOT else f'slot {slot}'}, frame {frame}"
-
-
-def check_histories_are_due(scene, histories):
-    queues = [history.fields["queue"] for history in histories]
-    if queues != sorted(scene.queues):
-        where = histories[0].text() if histories else "the stream"
-        raise Refused("calls", where, f"there are histories of the queues {queues}, and the scene has {sorted(scene.queues)}")
-
-
 def makers_of(traces, histories):
     makers = Makers(sum(len(history.fields["calls"]) for history in histories))
     for token, loose in traces.attachings:
@@ -173,88 +60,6 @@ def check_turns(traces, makers):
         for earlier, owed in of_maker.get(maker, []):
             if earlier < turn and not any(by != actor or at < step for by, at in owed.paid):
                 raise Refused("turns", step_text(traces.scene, reply), f"it draws before the draw that is owed to frame {owed.owing.frame} of queue {owed.owing.queue}")
-
-
-class Vsyncs:
-    """Checks the vsyncs of a run, one after another, with their commits and frames."""
-
-    def __init__(self, traces, arrivals):
-        self.traces, self.scene, self.pending, self.stage = traces, traces.scene, Pending(arrivals), Stage()
-        self.arrivals, self.number, self.seen = arrivals, 0, {}
-        self.painter = Painter(self.scene.pictures, self.scene.width, self.scene.height)
-
-    def check(self, vsync):
-        self.check_vsync(vsync)
-        self.stage.begin(self.number)
-        for at, record in enumerate(vsync.commits):
-            self.check_commit(record, vsync.commits[at + 1:at + 2], vsync.record.fields["expected"])
-        self.check_frame(vsync)
-
-    def check_vsync(self, vsync):
-        fields, where = vsync.record.fields, vsync.record.text()
-        if fields["number"] <= self.number:
-            raise Refused("vsyncs", where, f"its number is {fields['number']}, behind vsync {self.number}")
-        self.number = fields["number"]
-        if fields["expected"] != self.number * self.scene.period:
-            raise Refused("vsyncs", where, f"it is expected at {fields['expected']}, and vsync {self.number} at {self.number * self.scene.period}")
-        if not vsync.commits:
-            raise Refused("vsyncs", where, "it commits nothing, and has no record then")
-        if [timeline for timeline, _ in fields["timelines"]] != self.scene.timelines:
-            raise Refused("vsyncs", where, f"it saw other timelines than the scene's, {self.scene.timelines}")
-        self.check_seen(where, dict(fields["timelines"]))
-
-    def check_seen(self, where, seen):
-        for timeline, value in seen.items():
-            if value not in self.traces.signals.get(timeline, (0,)):
-                raise Refused("vsyncs", where, f"it saw timeline {timeline} at {value}, which no step signals")
-            if value < self.seen.get(timeline, 0):
-                raise Refused("vsyncs", where, f"it saw timeline {timeline} at {value}, behind a vsync that saw it at {self.seen[timeline]}")
-        self.seen = seen
-
-    def hold(self, arrival, expected):
-        return hold_of(self.arrivals[arrival - 1][1], self.traces.is_written, self.stage, self.seen, expected)
-
-    def check_commit(self, record, following, expected):
-        """A commit, and that the one behind it does not stand there though it could have come before."""
-        held = self.hold(record.fields["arrival"], expected)
-        if held:
-            raise Refused("commits", record.text(), f"arrival {record.fields['arrival']} is held there: {hold_text(held)}")
-        for later in following:
-            if later.fields["token"] < record.fields["token"] and not self.hold(later.fields["arrival"], expected):
-                raise Refused("commits", later.text(), f"nothing held token {later.fields['token']} at the place of token {record.fields['token']} before it")
-        txn = self.pending.commit(record)
-        self.check_buffers(record, txn)
-        self.stage.commit(txn)
-
-    def check_buffers(self, record, txn):
-        told, due = record.fields["buffers"], [buffer_row(*buffer) for buffer in txn.buffers()]
-        if [row[:3] for row in told] != [row[:3] for row in due]:
-            raise Refused("commits", record.text(), f"it has layers, queues and frames {[row[:3] for row in told]}, and its transaction {[row[:3] for row in due]}")
-        for row, wanted in zip(told, due):
-            if row != wanted:
-                raise Refused("buffers", record.text(), f"it shows picture {row[3]} with crop {row[4:]} as frame {row[2]} of queue {row[1]}, which was queued "
-                              f"with picture {wanted[3]} and crop {wanted[4:]}")
-
-    def check_frame(self, vsync):
-        is_due = any(record.fields["result"] == 0 for record in vsync.commits)
-        if is_due and vsync.frame is None:
-            raise Refused("frames", vsync.record.text(), "its FRAM is missing")
-        if not is_due and vsync.frame:
-            raise Refused("frames", vsync.frame.text(), "its vsync has rejected all that it committed, and shows no frame")
-        if is_due:
-            self.check_pixels(vsync.frame)
-
-    def check_pixels(self, frame):
-        told, due = frame.fields["pixels"], self.painter.image(self.stage.tree)
-        if told == due:
-            return
-        at = next(at for at in range(0, len(due), 4) if told[at:at + 4] != due[at:at + 4])
-        x, y = at // 4 % self.scene.width, at // 4 // self.scene.width
-        raise Refused("frames", frame.text(), f"the pixel at {x} {y} is {told[at:at + 4].hex()}, where the layers make it {due[at:at + 4].hex()}")
-
-
-def hold_text(hold):
-    return f"{named(HOLDS, hold[0])} {hold[1]} {hold[2]}"
 
 
 def check_held(traces, vsyncs, record):

@@ -117,7 +117,7 @@ class Queue:
         return next((at for at, slot in enumerate(self.slots[:self.usable()]) if slot.state == FREE and not slot.buffer), None)
 
     def holds(self, call, state):
-        """The slot of a call is in a state with the call's buffer."""
+        """The slot of a call is in a state with the call's buffer. The calls on frames name no buffer: the frame tells it."""
         slot = self.slots[call.slot]
         return slot.state == state and (call.buffer or slot.buffer) == slot.buffer and slot.size == call.size
 

@@ -5,7 +5,7 @@ only the records are there.
 """
 
 import queues
-from queues import BAD_VALUE, OK, WOULD_BLOCK, Call, fence_of, merged
+from queues import BAD_VALUE, OK, Call, fence_of, merged
 from transactions import SHOW, Transaction
 
 EMPTY, OCCUPIED = 15, 16

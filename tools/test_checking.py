@@ -251,6 +251,19 @@ signal 1 3
 cdetach i as b
 end
 """
+# Two actors that call two queues, each in its order.
+CROSSED = b"""scene 1 1 1 1000000
+queue 1 1 1
+queue 2 1 1
+actor 1
+maxdequeued 1 2
+maxdequeued 2 3
+actor 2
+maxdequeued 2 4
+maxdequeued 1 5
+order 1*2 2*2
+end
+"""
 # A dequeue that waits for a slot for good.
 BLOCKED = b"""scene 1 1 1 1000000
 queue 1 1 1
@@ -331,6 +344,11 @@ class Parts(unittest.TestCase):
         for change in (moved("REPL", 10, 1), moved("REPL", 16, -3), with_row("VSYN", 2, "timelines", 0, 1, 2)):
             self.assertIsNone(verdict(BUSY, change(told)))
             self.assertEqual(verdict(BUSY, change(told), is_play=True), "play")
+
+    def test_neighbours_in_a_history_are_free_where_no_reply_changes(self):
+        told = with_rows("HIST", 0, "calls", lambda rows: rows[::-1])(played(CROSSED))
+        self.assertIsNone(verdict(CROSSED, told))
+        self.assertEqual(verdict(CROSSED, told, is_play=True), "play")
 
     def test_replies_of_a_live_run_stand_behind_its_vsyncs(self):
         told = played(BUSY)

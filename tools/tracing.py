@@ -1,11 +1,12 @@
 """The traces of a run's actors, found from their script and their replies: which calls each step made, what it sent, what it
 waited for, and which frames it drew."""
 
+from typing import NamedTuple
+
 import queues
+from ordering import Refused
 from queues import BAD_VALUE, OK, QUEUE, Reply, merged
 from steps import Actor, Lent
-from ordering import Refused
-from typing import NamedTuple
 from wording import STATUSES, named
 
 # How many values an Ok reply has at least, by the call; what comes behind them are the points of a fence.
