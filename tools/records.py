@@ -33,7 +33,7 @@ status: 0 the stream is right, and for explain the script has no fault; 1 someth
 stream (what can be read is told, and what is wrong stands on standard error), or the reader of the
 output went away; 2 wrong words, or a file cannot be read or written; 3 explain has shown a fault.
 For check: 0 the records are accepted; 1 they are refused; 2 the script is no scene that is played, the
-stream has no records of a run, words are wrong, or a file cannot be read.
+stream has no records of a run, words are wrong, or a file cannot be read or the verdict not written.
 """
 
 import json
@@ -61,6 +61,7 @@ WITH_PATH = ("png", "apng", "explain")
 OPTIONS = {"summary": "--script", "view": "--script", "apng": "--slow"}
 FAULT_SHOWN = 3
 MOST_SLOW = 1000
+NOT_CHECKED = 2
 
 
 def script_fault(records):
@@ -152,18 +153,23 @@ def put(piece):
         print(piece)
 
 
-def run(command, path, option, name):
+def say(pieces):
+    """Writes lines, or bytes, to the end: what cannot be written is told here."""
     if sys.stdout is None:
         raise OSError("standard output is closed")
-    if command == "y4m" and sys.stdout.isatty():
+    for piece in pieces:
+        put(piece)
+    sys.stdout.flush()
+
+
+def run(command, path, option, name):
+    if command == "y4m" and sys.stdout is not None and sys.stdout.isatty():
         raise OSError("a raw video is nothing for a terminal: send it on, as in `records.py y4m FILE | mpv -`")
     records, of_stream = read(contents(name))
     try:
-        for piece in told(records, command, path, option):
-            put(piece)
+        say(told(records, command, path, option))
     except (NoFrames, NoCourse) as fault:
         of_stream = of_stream + [str(fault)]
-    sys.stdout.flush()
     wrong = faults(records, of_stream)
     for line in wrong:
         complain(line)
@@ -190,11 +196,11 @@ def check(script, asked, name):
         found = checked(contents(script), read(contents(name))[0], "--play" in asked, "--live" in asked)
     except (NoScene, NoRun) as fault:
         complain(fault)
-        return 2
+        return NOT_CHECKED
     except Refused as refused:
-        print(f"refused: {refused}")
+        say([f"refused: {refused}"])
         return 1
-    print(f"accepted: {found}")
+    say([f"accepted: {found}"])
     return 0
 
 
@@ -212,7 +218,7 @@ def main(words):
     except BrokenPipeError:
         # Nobody reads on; what Python still holds back for them goes nowhere.
         os.dup2(os.open(os.devnull, os.O_WRONLY), sys.stdout.fileno())
-        return 1
+        return NOT_CHECKED if is_check else 1
     except OSError as fault:
         complain(fault)
         return 2
