@@ -3,28 +3,17 @@
 import contextlib
 import io
 import os
-import random
-import re
-import subprocess
 import tempfile
 import unittest
 
 import records
-import run
 from checking import NoRun, checked
-from painting import Painter, mul
-from playing import Play
-from scenes import NoScene, Picture, read_scene
-from stream import PIXELS, Record, Rows, FORMS
 from ordering import Refused
-from trees import after, draw_order, with_parents
+from playing import Play
+from scenes import NoScene, read_scene
+from stream import Record
 
-TOP = run.TOP
-PROGRAM = run.built(TOP)
-STORED = os.path.join(TOP, "crates", "worked_runs")
-WORKED = os.path.join("crates", "worked_runs", "data")
-# Scripts with actors that wait for one another, of those beside the scenes.
-WAITING = ("phone.sf", "producers-with-two-buffers.sf", "sixteen-actors-in-a-ring.sf", "two-transactions.sf", "a-signal-that-is-held-back.sf")
+TOP = os.path.dirname(os.path.dirname(os.path.abspath(__file__)))
 
 
 def contents(*path):
@@ -48,53 +37,6 @@ def verdict(script, told, is_play=False, is_live=False):
     except Refused as refused:
         return refused.part
     return None
-
-
-def rows_of(columns, text):
-    return [tuple(map(int, re.split("[ =]", row.strip()))) for row in text.split("|") if row.strip()]
-
-
-def field_of(form, words):
-    """A field of a record, from the words of its line."""
-    if form == PIXELS:
-        runs = (word.split("*") for word in words)
-        return b"".join(bytes.fromhex(colour) * int(length) for length, colour in runs)
-    if not isinstance(form, Rows):
-        return int(words[0])
-    if "|" in words or not words:
-        return rows_of(form.columns, " ".join(words))
-    return [tuple(map(int, word.split("="))) for word in words]
-
-
-def record_of(line):
-    """The record that a line of the plain form says."""
-    tag, *words = line.split()
-    fields = {}
-    for name, form in FORMS[tag]:
-        is_one = form != PIXELS and not isinstance(form, Rows)
-        fields[name] = field_of(form, words[:1] if is_one else words)
-        words = words[1:] if is_one else []
-    return record(tag, fields)
-
-
-def script_of(title):
-    """The script of a stored run: that of its name, a line behind it, and a comment up to its length."""
-    name, _, line = title.partition(": ")
-    path = os.path.join(STORED, "data", name)
-    script = contents(path + ".sf") + (line.replace(";", "\n").encode() if os.path.exists(path + ".lines") else b"")
-    return script + b"#" * (int(contents(path + ".length")) - len(script) if os.path.exists(path + ".length") else 0)
-
-
-def stored_runs():
-    """The titles of the stored runs that came to their end, each with the lines of its records."""
-    parts = re.split(r"^== (.*) status ([0-9])\n", contents(STORED, "stdout").decode(), flags=re.M)
-    runs = zip(parts[1::3], parts[2::3], parts[3::3])
-    return [(title, lines.split("==")[0].splitlines()) for title, status, lines in runs if status == "0" and lines.startswith("SCEN")]
-
-
-def words_of_run(title):
-    path = os.path.join(STORED, "data", title.partition(": ")[0] + ".words")
-    return contents(path).split() if os.path.exists(path) else []
 
 
 def found(told, tag, at=0):
@@ -371,146 +313,6 @@ class Parts(unittest.TestCase):
         for told in ([], [record("SUMM", {})]):
             with self.assertRaises(NoRun):
                 checked(BUSY, told, False, False)
-
-
-def table_of_scripts():
-    """The scripts that script_runs reads, each with what is said of it there."""
-    folder = os.path.join("crates", "script_runs")
-    titles, scripts, base = [], [], b""
-    is_script = False
-    for line in contents(folder, "stdin").split(b"\n")[:-1]:
-        if line[:1] == b"=":
-            is_script = line[:2] in (b"==", b"=+", b"=<")
-        if not is_script:
-            continue
-        if line[:1] == b"=":
-            base = scripts[-1] if titles and titles[-1][:2] != b"=+" else base
-            titles.append(line)
-            scripts.append(base + line[3:] + b"\n" if line[:2] == b"=+" else b"")
-        elif line[:1] == b"*":
-            count, _, text = line[1:].partition(b" ")
-            scripts[-1] += (text + b"\n") * int(count)
-        else:
-            scripts[-1] += line + b"\n"
-    said = [line.rpartition(b": ")[2] for line in contents(folder, "stdout").split(b"\n") if line[:2] in (b"==", b"=+", b"=<")]
-    return zip(scripts, said, strict=True)
-
-
-def is_read(script):
-    try:
-        return read_scene(script) is not None
-    except NoScene:
-        return False
-
-
-class Scenes(unittest.TestCase):
-    def test_scripts_are_scenes_where_the_program_says_so(self):
-        count = 0
-        for script, said in table_of_scripts():
-            is_played = said == b"scene" and b"scene 2" not in script and b" orient " not in script
-            self.assertEqual(is_read(script), is_played, script[:300])
-            count += is_played
-        self.assertGreater(count, 8)
-
-
-def pixel_of(picture, x, y):
-    """The colour of the last fill that covers a pixel."""
-    colours = [colour for left, top, width, height, colour in picture.fills if left <= x < left + width and top <= y < top + height]
-    return colours[-1] if colours else bytes(4)
-
-
-def painted_at(tree, pictures, x, y):
-    """A pixel of the image of a tree, layer by layer."""
-    pixel = [0, 0, 0, 255]
-    for layer in draw_order(tree):
-        px = py = 0
-        alpha, is_inside = 255, True
-        for above in with_parents(tree, layer):
-            px, py, alpha = px + above.position[0], py + above.position[1], mul(alpha, above.alpha)
-            left, top, width, height = above.crop or (-1 << 20, -1 << 20, 1 << 22, 1 << 22)
-            is_inside = is_inside and left <= x - px < left + width and top <= y - py < top + height
-        source = layer.colour
-        if layer.kind == "buffer" and layer.shown:
-            left, top, width, height = layer.shown.crop
-            is_inside = is_inside and 0 <= x - px < width and 0 <= y - py < height
-            source = pixel_of(pictures[layer.shown.picture], x - px + left, y - py + top)
-        if is_inside and (layer.kind == "colour" or layer.kind == "buffer" and layer.shown):
-            source = source[:3] + b"\xff" if layer.opaque else source
-            pixel = [min(255, mul(s, alpha) + mul(d, 255 - mul(source[3], alpha))) for s, d in zip(source, pixel)]
-    return bytes(pixel)
-
-
-class ShownFrame:
-    def __init__(self, picture, crop):
-        self.picture, self.crop = picture, crop
-
-
-def some_tree(chance):
-    """A tree of some layers."""
-    operations = []
-    for number in range(1, chance.randrange(2, 9)):
-        parent = chance.choice([0] + list(range(1, number)))
-        kind = chance.choice(("colour", "buffer", "buffer", "container"))
-        operations += [(number, ("create", kind, parent)), (number, ("position", chance.randrange(-3, 6), chance.randrange(-3, 6))),
-                       (number, ("alpha", chance.choice((255, 128, 3)))), (number, ("z", chance.randrange(-1, 2))), (number, ("opaque", chance.randrange(2)))]
-        if chance.random() < 0.4:
-            operations.append((number, ("crop", (chance.randrange(-2, 4), chance.randrange(-2, 4), chance.randrange(8), chance.randrange(8)))))
-        if kind == "colour":
-            operations.append((number, ("colour", chance.randbytes(4))))
-        elif kind == "buffer":
-            x, y = chance.randrange(4), chance.randrange(4)
-            operations.append((number, ("show", ShownFrame(chance.randrange(1, 3), (x, y, chance.randrange(1, 6 - x), chance.randrange(1, 6 - y))))))
-        if chance.random() < 0.2 and number > 1:
-            operations.append((number, ("relative", chance.randrange(1, number), chance.randrange(-1, 2))))
-    return after({}, operations)[0]
-
-
-class Painting(unittest.TestCase):
-    def test_an_image_is_that_of_its_points(self):
-        chance = random.Random(5)
-        fills = [[(chance.randrange(5), chance.randrange(5), chance.randrange(1, 5), chance.randrange(1, 5), chance.randbytes(4)) for _ in range(6)] for _ in range(2)]
-        pictures = {number: Picture(5, 5, fill) for number, fill in enumerate(fills, 1)}
-        for _ in range(150):
-            tree, painter = some_tree(chance), Painter(pictures, 7, 5)
-            points = b"".join(painted_at(tree, pictures, x, y) for y in range(5) for x in range(7))
-            self.assertEqual(painter.image(tree), points)
-
-
-class Stored(unittest.TestCase):
-    def test_each_stored_run_is_accepted(self):
-        count = 0
-        for title, lines in stored_runs():
-            words = words_of_run(title)
-            if b"gen" in words:
-                continue
-            with self.subTest(title=title):
-                told = [record_of(line) for line in lines]
-                self.assertIsNone(verdict(script_of(title), told, is_play=b"live" not in words, is_live=b"live" in words))
-                count += 1
-        self.assertGreater(count, 100)
-
-
-def bytes_of(script, *words):
-    return subprocess.run([PROGRAM, *words], input=script, stdout=subprocess.PIPE, timeout=60, check=True).stdout
-
-
-@unittest.skipUnless(PROGRAM, "sf_main is not built")
-class Program(unittest.TestCase):
-    def check(self, script, is_live, *words):
-        told, _ = records.read(bytes_of(script, *words))
-        try:
-            checked(script, told, not is_live, is_live)
-        except Refused as refused:
-            self.fail(str(refused))
-
-    def test_plays_and_live_runs_of_the_scenes_are_accepted(self):
-        paths = [("scenes", name) for name in sorted(os.listdir(os.path.join(TOP, "scenes")))] + [(WORKED, name) for name in WAITING]
-        for number, path in enumerate(paths):
-            script = contents(*path)
-            with self.subTest(name=path[-1]):
-                self.check(script, False, "--workers", str(number % 3 + 1))
-                for again in range(3):
-                    self.check(script, True, "--run", "live", "--workers", str((number + again) % 4 + 1))
 
 
 def called(*words):

@@ -1,0 +1,46 @@
+"""Tests of scenes.py: a script is read as a scene where the program says that it is one that it plays."""
+
+import os
+import unittest
+
+from scenes import NoScene, read_scene
+from test_checking import contents
+
+
+def table_of_scripts():
+    """The scripts of script_faults, each with what is said of it there."""
+    folder = os.path.join("crates", "script_faults")
+    titles, scripts, base = [], [], b""
+    for line in contents(folder, "stdin").split(b"\n")[:-1]:
+        if line[:1] == b"=":
+            base = scripts[-1] if titles and titles[-1][:2] != b"=+" else base
+            titles.append(line)
+            scripts.append(base + line[3:] + b"\n" if line[:2] == b"=+" else b"")
+        elif line[:1] == b"*":
+            count, _, text = line[1:].partition(b" ")
+            scripts[-1] += (text + b"\n") * int(count)
+        else:
+            scripts[-1] += line + b"\n"
+    said = [line.rpartition(b": ")[2] for line in contents(folder, "stdout").split(b"\n")[:-1] if not line.startswith(b"cut ")]
+    return zip(scripts, said, strict=True)
+
+
+def is_read(script):
+    try:
+        return read_scene(script) is not None
+    except NoScene:
+        return False
+
+
+class Scenes(unittest.TestCase):
+    def test_scripts_are_scenes_where_the_program_says_so(self):
+        count = 0
+        for script, said in table_of_scripts():
+            is_played = said == b"scene" and b"scene 2" not in script and b" orient " not in script
+            self.assertEqual(is_read(script), is_played, script[:300])
+            count += is_played
+        self.assertGreater(count, 8)
+
+
+if __name__ == "__main__":
+    unittest.main()
