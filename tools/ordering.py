@@ -93,7 +93,7 @@ class Ordered:
         shown.held, shown.stuck = self.take("HOLD"), self.take("STUK")
         self.take("DONE")
         if self.at < len(self.records):
-            raise self.wrong("nothing")
+            raise Refused("order", self.records[self.at].text(), "it stands behind the end of the run")
         return shown
 
 
