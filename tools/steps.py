@@ -1,7 +1,10 @@
 """The step table: what each step of an actor does with the actor's names and transaction numbers, and which calls it makes.
 
-A desk answers what a step asks of the world: `Actor.take` is the same for a run that is played and for one of which
-only the records are there.
+A desk answers what a step asks of the world, so that `Actor.take` is the same for a run that is played and for one of
+which only the records are there: the reply to a call (`reply`), whether a dequeue blocks, a fence is waited for, a draw
+waits to enter its pixels or a detach keeps its buffer (`blocks`, `waits_for`, `waits_to_enter`, `keeps`), a queue's size
+and the number of a transaction that is sent (`size_of`, `send`). It is told what else a step does: `gave`, `attached`,
+`owes`, `drawn`, `written`, `signal`, `release_unread`.
 """
 
 import queues
@@ -90,16 +93,13 @@ class Actor:
         """The number of the step that is taken."""
         return self.done + 1
 
-    def called(self, desk, queue, call):
-        return desk.reply(self, queue, call)
-
     def gave(self, desk, name, token):
         """A call gave what a name holds from now on."""
         self.names[name] = token
         desk.gave(token)
 
     def setting(self, desk, queue, call):
-        reply = self.called(desk, queue, call)
+        reply = desk.reply(self, queue, call)
         return Answer(reply.status, reply.values, True)
 
     def do_connect(self, desk, step, queue):
@@ -130,7 +130,7 @@ class Actor:
         call = Call(queues.DEQUEUE, size=size)
         if waits and desk.blocks(self, queue, call):
             return None
-        reply = self.called(desk, queue, call)
+        reply = desk.reply(self, queue, call)
         if reply.status == OK:
             self.gave(desk, name, Lent(queue, reply, desk.size_of(queue) if size == (0, 0) else size))
         return Answer(reply.status, reply.values, True)
@@ -142,7 +142,7 @@ class Actor:
         lent = self.held(name, Lent)
         if lent is None:
             return Answer(EMPTY)
-        reply = self.called(desk, lent.queue, lent_call(queues.REQUEST, lent))
+        reply = desk.reply(self, lent.queue, lent_call(queues.REQUEST, lent))
         lent.asked = lent.asked or reply.status == OK
         return Answer(reply.status, reply.values, True)
 
@@ -182,7 +182,7 @@ class Actor:
         crop = more.get("crop", [(0, 0) + lent.size])[0]
         call = lent_call(queues.QUEUE, lent, picture=(picture, self.pictures[picture][:2]), time=more.get("time", [(None,)])[0][0], crop=crop,
                          fence=fence_of(more.get("fence", [])))
-        reply = self.called(desk, lent.queue, call)
+        reply = desk.reply(self, lent.queue, call)
         if reply.status == OK and lent.drawn is None:
             self.names[name] = Owing(lent, reply.frame, picture)
             desk.owes(self, self.names[name])
@@ -197,7 +197,7 @@ class Actor:
             return Answer(EMPTY)
         fence = fence_of(step.more.get("fence", []))
         fence = merged(fence, lent.fence) if lent.drawn is None else fence
-        reply = self.called(desk, lent.queue, lent_call(queues.CANCEL, lent, fence=fence))
+        reply = desk.reply(self, lent.queue, lent_call(queues.CANCEL, lent, fence=fence))
         if reply.status == OK:
             del self.names[name]
         return Answer(reply.status, reply.values, True)
@@ -205,7 +205,7 @@ class Actor:
     def detach(self, desk, name, to, call):
         """A buffer leaves its queue, where the call is not refused."""
         token = self.names[name]
-        reply = self.called(desk, token.queue, call)
+        reply = desk.reply(self, token.queue, call)
         if reply.status == OK:
             del self.names[name]
             self.names[to] = Loose(token)
@@ -232,7 +232,7 @@ class Actor:
         loose = self.held(name, Loose)
         if loose is None or self.is_taken(to, name):
             return Answer(EMPTY if loose is None else OCCUPIED)
-        reply = self.called(desk, queue, Call(kind, size=loose.size))
+        reply = desk.reply(self, queue, Call(kind, size=loose.size))
         if reply.status == OK:
             del self.names[name]
             self.gave(desk, to, Lent(queue, reply, loose.size) if kind == queues.ATTACH else Frame(queue, reply, 0, loose.size, 0))
@@ -248,7 +248,7 @@ class Actor:
     def do_acquire(self, desk, step, queue, name):
         if self.is_taken(name):
             return Answer(OCCUPIED)
-        reply = self.called(desk, queue, Call(queues.ACQUIRE, number=step.more.get("at", [(0,)])[0][0]))
+        reply = desk.reply(self, queue, Call(queues.ACQUIRE, number=step.more.get("at", [(0,)])[0][0]))
         if reply.status == OK:
             picture = reply.values[2]
             self.gave(desk, name, Frame(queue, reply, reply.frame, self.pictures[picture][:2], picture))
@@ -259,7 +259,7 @@ class Actor:
         if frame is None:
             return Answer(EMPTY)
         fence = merged(fence_of(step.more.get("fence", [])), frame.fence)
-        reply = self.called(desk, frame.queue, frame_call(queues.RELEASE, frame, fence))
+        reply = desk.reply(self, frame.queue, frame_call(queues.RELEASE, frame, fence))
         if reply.status == OK:
             del self.names[name]
         return Answer(reply.status, reply.values, True)
