@@ -91,7 +91,7 @@ pub fn bounded(alloc: Global, rect: Rect) -> Option<Region> {
 }
 
 // The region of a rectangle, moved.
-fn moved(alloc: Global, rect: Rect, dx: i32, dy: i32) -> Result<Region, NoMemory>
+fn translated(alloc: Global, rect: Rect, dx: i32, dy: i32) -> Result<Region, NoMemory>
     requires near { IsInBounds rect }
     requires moved { IsInBounds (moved dx dy rect) }
 {
@@ -103,7 +103,7 @@ fn moved_rect(alloc: Global, words: &mut SplitWhitespace<'_>) -> Option<Region> 
     let rect = rect(words)?;
     let (dx, dy) = (coordinate(words)?, coordinate(words)?);
     if is_in_bounds(&rect) && stays_in_bounds(&rect, dx, dy) {
-        moved(alloc, rect, dx, dy).ok()
+        translated(alloc, rect, dx, dy).ok()
     } else {
         None
     }

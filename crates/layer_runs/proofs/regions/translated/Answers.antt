@@ -2,7 +2,7 @@ use Rattle.std.proofs.Common.{arith, ◌∙◌, sym}
 use Rattle.std.proofs.lemmas.Int.{ints}
 use Rattle.sf_region.specs.Points.{moved}
 use Rattle.sf_region.proofs.MovedLemmas.{covered}
-use Rattle.layer_runs.proofs.regions.moved.Goals as goal
+use Rattle.layer_runs.proofs.regions.translated.Goals as goal
 
 pub translate-requires : goal.translate-requires
 unfolding moved
