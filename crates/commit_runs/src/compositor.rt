@@ -48,9 +48,13 @@ impl Compositor {
         if number <= self.last {
             return None;
         }
-        self.arrived.push(arrived).ok()?;
-        self.last = number;
-        Some(())
+        match self.arrived.push(arrived) {
+            Ok(()) => {
+                self.last = number;
+                Some(())
+            }
+            Err(_) => None,
+        }
     }
 
     /// A vsync, which takes what arrived.
