@@ -1,0 +1,106 @@
+ghost use Rattle.std.specs.List.{All};
+ghost use Rattle.sf_base.specs.declared.ids.LayerId.{LayerId as LayerIdValue};
+ghost use Rattle.sf_layer.specs.declared.layer.Layer.{Layer as LayerValue};
+ghost use Rattle.std.specs.Prelude.{◌≡◌, ◌<◌, IfOk, IfSome, find, map};
+ghost use Rattle.std.specs.Option.{option_copied};
+ghost use Rattle.sf_shown.specs.Copies.{copied, copy_of, is_name_of, parent_of, relative_of};
+
+use sf_base::{LayerId, NoMemory};
+use sf_layer::{Layer, Parent};
+use std::alloc::Global;
+
+/// The pair of a layer, of its number and its copy's.
+fn name_of(names: &[(LayerId, LayerId)], id: LayerId) -> Option<&(LayerId, LayerId)>
+    ensures { option_copied result ≡ find (is_name_of id) names.now }
+{
+    names.iter().find(|name| name.0.0 == id.0)
+}
+
+/// The number of a layer's copy, if it has one.
+fn copy_of(names: &[(LayerId, LayerId)], id: LayerId) -> Option<LayerId>
+    ensures value { result ≡ copy_of names.now id }
+    ensures positive { All (λ (name : LayerIdValue × LayerIdValue). 0 < name.1.0) names.now → IfSome result (λ copy. 0 < copy.0) }
+{
+    match name_of(names, id) {
+        Some(name) => Some(name.1),
+        None => None,
+    }
+}
+
+/// What a copy is relative to, where its layer is relative to this.
+fn relative_of(names: &[(LayerId, LayerId)], relative: Option<LayerId>) -> Option<LayerId>
+    ensures { result ≡ relative_of names.now relative }
+{
+    match relative {
+        Some(id) => copy_of(names, id),
+        None => None,
+    }
+}
+
+/// What a copy hangs from, where its layer hangs from this.
+fn parent_of(names: &[(LayerId, LayerId)], parent: Parent) -> Parent
+    ensures { result ≡ parent_of names.now parent }
+{
+    match parent {
+        Parent::Layer(id) => match copy_of(names, id) {
+            Some(copy) => Parent::Layer(copy),
+            None => Parent::Nothing,
+        },
+        Parent::Root | Parent::Nothing => Parent::Nothing,
+    }
+}
+
+/// The copy of a layer, if it has a number: of the layer that the mirror shows, or of one below it.
+fn copied(
+    mirror: LayerId,
+    id: LayerId,
+    names: &[(LayerId, LayerId)],
+    layer: &Layer,
+) -> Option<Layer>
+    requires { All (λ (name : LayerIdValue × LayerIdValue). 0 < name.1.0) names.now }
+    ensures value { IfSome result (λ copy. copy ≡ copied mirror id names.now layer.now) }
+    ensures numbered { IfSome result (λ copy. 0 < copy.number.0) }
+{
+    let Some(number) = copy_of(names, layer.number) else {
+        return None;
+    };
+    if layer.number.0 == id.0 {
+        Some(Layer {
+            number,
+            parent: Parent::Layer(mirror),
+            position: (0, 0),
+            z: 0,
+            relative: None,
+            ..*layer
+        })
+    } else {
+        Some(Layer {
+            number,
+            parent: parent_of(names, layer.parent),
+            relative: relative_of(names, layer.relative),
+            ..*layer
+        })
+    }
+}
+
+/// The copies of these layers, in their order. Each has a number.
+pub fn copy_all(
+    alloc: Global,
+    mirror: LayerId,
+    id: LayerId,
+    names: &[(LayerId, LayerId)],
+    layers: &[Layer],
+) -> Result<Vec<Layer>, NoMemory>
+    requires { All (λ (name : LayerIdValue × LayerIdValue). 0 < name.1.0) names.now }
+    ensures value { IfOk result (λ copies. copies.items ≡ map (copied mirror id names.now) layers.now) }
+    ensures numbered { IfOk result (λ copies. All (λ (copy : LayerValue). 0 < copy.number.0) copies.items) }
+{
+    let mut copies = Vec::new(alloc);
+    for layer in layers {
+        let Some(copy) = copied(mirror, id, names, layer) else {
+            return Err(NoMemory);
+        };
+        copies.push(copy)?;
+    }
+    Ok(copies)
+}
