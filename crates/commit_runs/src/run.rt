@@ -1,4 +1,4 @@
-ghost use Rattle.std.specs.Prelude.{◌<◌, IfSome};
+ghost use Rattle.std.specs.Prelude.{IfSome};
 ghost use Rattle.commit_runs.specs.Plain.{IsPlain};
 
 use crate::compositor::Compositor;
@@ -9,7 +9,7 @@ use crate::told::{
 };
 use case_words::{actor, layer, number32, number64, point, point_fence, token};
 use page_lease::{Ends, Page, Writes};
-use sf_base::{ActorId, Fence, LayerId, QueueId, Rect, Seen, TokenId};
+use sf_base::{ActorId, Fence, QueueId, Rect, Seen, TokenId};
 use sf_layer::{Kind, Op, Parent, Shown};
 use sf_ready::{Facts, hold_of};
 use sf_token::{Arrivals, ArriveCall, ArriveReply, Arrived, TokenQueues};
@@ -68,23 +68,37 @@ impl Run {
         let words = &mut line.split_whitespace();
         let form = words.next()?;
         match form {
-            "case" => *self = Run::new(self.alloc, words.next()?)?,
-            "page" | "behind" => self.show(form, words)?,
-            "ask" => self.ask(words, told)?,
-            "send" => self.send(rt, words, told)?,
-            "take" => self.queue(rt, actor(words)?, told)?,
-            "arrivals" => self.reopen(told)?,
-            "vsync" => self.vsync(rt, number64(words)?, told)?,
-            "lend" => self.compositor.lend()?,
-            "give" => self.give(told)?,
-            "look" => self.look(number32(words)?, told)?,
-            "tokens" => tell_tokens(told, &self.queues.tokens().ok()?).ok()?,
-            "head" | "pop" | "number" => self.find(form, number32(words)?, told)?,
-            "desire" | "seen" | "writes" | "begin-vsync" | "clear-pressed" => {
-                self.observe(form, words)?;
-            }
-            _ => self.change(form, layer(words)?, words)?,
+            "send" => self.send(rt, words, told),
+            "take" => self.queue(rt, words, told),
+            "vsync" => self.vsync(rt, words, told),
+            _ => self.follow_alone(form, words, told),
         }
+    }
+
+    // The same of a line that makes no call under the lock.
+    fn follow_alone(
+        &mut self,
+        form: &str,
+        words: &mut SplitWhitespace<'_>,
+        told: &mut String,
+    ) -> Option<()> {
+        match form {
+            "case" => self.begin(words),
+            "page" | "behind" => self.show(form, words),
+            "ask" => self.ask(words, told),
+            "arrivals" => self.reopen(told),
+            "lend" => self.compositor.lend(),
+            "give" => self.give(told),
+            "look" => self.look(words, told),
+            "tokens" => self.tokens(told),
+            "head" | "pop" | "number" => self.find(form, words, told),
+            _ => self.observe(form, words),
+        }
+    }
+
+    // A case of the next name begins.
+    fn begin(&mut self, words: &mut SplitWhitespace<'_>) -> Option<()> {
+        *self = Run::new(self.alloc, words.next()?)?;
         Some(())
     }
 
@@ -114,9 +128,8 @@ impl Run {
     }
 
     // The next transaction, or what is told to whoever decides a hold, changes for a layer.
-    fn change(&mut self, form: &str, layer: LayerId, words: &mut SplitWhitespace<'_>) -> Option<()>
-        requires { 0 < layer.0 }
-    {
+    fn change(&mut self, form: &str, words: &mut SplitWhitespace<'_>) -> Option<()> {
+        let layer = layer(words)?;
         match form {
             "barrier" => self.next.add_barrier(layer, number64(words)?).ok()?,
             "frame" => self.facts.add_frame(layer, number64(words)?).ok()?,
@@ -129,17 +142,19 @@ impl Run {
         Some(())
     }
 
-    // A time, what was observed, or what is told to whoever decides a hold, of no layer.
+    // A time, what was observed, or what is told to whoever decides a hold, of no layer; or a
+    // change for a layer.
     fn observe(&mut self, form: &str, words: &mut SplitWhitespace<'_>) -> Option<()> {
         match form {
             "desire" => self.next.desire(number64(words)?),
             "writes" => self.eye.count = number32(words)?,
             "begin-vsync" => self.facts.begin_vsync(),
             "clear-pressed" => self.facts.clear_pressed(),
-            _ => {
+            "seen" => {
                 let (timeline, value) = point(words)?;
                 self.seen.values[timeline.0 as usize - 1] = value;
             }
+            _ => return self.change(form, words),
         }
         Some(())
     }
@@ -191,8 +206,13 @@ impl Run {
     }
 
     // What arrived goes into the queues, if its numbers rise.
-    fn queue<W: Wait>(&mut self, rt: &W, actor: ActorId, told: &mut String) -> Option<()> {
-        let list = self.take(rt, actor)?;
+    fn queue<W: Wait>(
+        &mut self,
+        rt: &W,
+        words: &mut SplitWhitespace<'_>,
+        told: &mut String,
+    ) -> Option<()> {
+        let list = self.take(rt, actor(words)?)?;
         tell_taken(told, &list).ok()?;
         for arrived in list {
             if self.queues.last() >= arrived.number {
@@ -213,14 +233,25 @@ impl Run {
     }
 
     // What whoever knows of so many ended writes sees of the pages in the queues.
-    fn look(&mut self, count: u32, told: &mut String) -> Option<()> {
-        self.eye.count = count;
+    fn look(&mut self, words: &mut SplitWhitespace<'_>, told: &mut String) -> Option<()> {
+        self.eye.count = number32(words)?;
         let looks = self.queues.look(&mut self.eye).ok()?;
         tell_looks(told, &looks).ok()
     }
 
+    // The tokens with something in the queues.
+    fn tokens(&self, told: &mut String) -> Option<()> {
+        tell_tokens(told, &self.queues.tokens().ok()?).ok()
+    }
+
     // What is found in the queues.
-    fn find(&mut self, form: &str, number: u32, told: &mut String) -> Option<()> {
+    fn find(
+        &mut self,
+        form: &str,
+        words: &mut SplitWhitespace<'_>,
+        told: &mut String,
+    ) -> Option<()> {
+        let number = number32(words)?;
         let found = found(&mut self.queues, form, number);
         let (of, what) = match form {
             "number" => ("number", "token"),
@@ -233,7 +264,13 @@ impl Run {
     }
 
     // A vsync that takes what arrived, and what it did.
-    fn vsync<W: Wait>(&mut self, rt: &W, expected: u64, told: &mut String) -> Option<()> {
+    fn vsync<W: Wait>(
+        &mut self,
+        rt: &W,
+        words: &mut SplitWhitespace<'_>,
+        told: &mut String,
+    ) -> Option<()> {
+        let expected = number64(words)?;
         for arrived in self.take(rt, ActorId(1))? {
             self.compositor.send(arrived)?;
         }
