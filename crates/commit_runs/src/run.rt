@@ -283,7 +283,7 @@ impl Run {
             Some(contents) => tell_layers(told, &vsync, contents).ok()?,
             None => told.push_str("  the pixels are lent\n").ok()?,
         }
-        tell_reads(told, &mut self.eye.ends).ok()
+        tell_reads(told, self.alloc, &mut self.eye.ends).ok()
     }
 
     // The pixels are given back, and what they show then.
@@ -291,7 +291,7 @@ impl Run {
         self.compositor.give_back(&mut self.eye)?;
         told.push_str("given back\n").ok()?;
         tell_pixels(told, self.compositor.contents()?).ok()?;
-        tell_reads(told, &mut self.eye.ends).ok()
+        tell_reads(told, self.alloc, &mut self.eye.ends).ok()
     }
 }
 

@@ -4,7 +4,7 @@ use sf_commit::{Commit, Release, Vsync};
 use sf_picture::Painted;
 use sf_ready::Hold;
 use sf_token::{Arrived, ArrvEntry, Looks};
-use std::alloc::AllocError;
+use std::alloc::{AllocError, Global};
 
 /// What was taken: each transaction's number, and whose it is, of which step and for which token.
 pub fn tell_taken(told: &mut String, list: &[Arrived<Page>]) -> Result<(), AllocError> {
@@ -133,11 +133,20 @@ pub fn tell_pixels(told: &mut String, contents: &[Painted]) -> Result<(), AllocE
     Ok(())
 }
 
+// The reads that ended, in their order.
+fn reads(alloc: Global, ends: &mut Ends) -> Result<Vec<(u32, u64)>, AllocError> {
+    let mut reads = Vec::new(alloc);
+    while let Some(end) = ends.take_last() {
+        reads.push(end)?;
+    }
+    reads.reverse();
+    Ok(reads)
+}
+
 /// The reads that ended, in their order.
-pub fn tell_reads(told: &mut String, ends: &mut Ends) -> Result<(), AllocError> {
-    let Some((page, turn)) = ends.take_last() else {
-        return Ok(());
-    };
-    tell_reads(told, ends)?;
-    writeln!(told, "  read of page {page}, turn {turn}, ended")
+pub fn tell_reads(told: &mut String, alloc: Global, ends: &mut Ends) -> Result<(), AllocError> {
+    for (page, turn) in reads(alloc, ends)?.as_slice() {
+        writeln!(told, "  read of page {page}, turn {turn}, ended")?;
+    }
+    Ok(())
 }
