@@ -30,7 +30,7 @@ use Rattle.sf_record.specs.declared.encode.RunFault.TheVariants as run_fault
 use Rattle.sf_record.specs.declared.record.Record.{Record}
 use Rattle.sf_record.specs.declared.record.Record.TheVariants as rec
 use Rattle.sf_run.proofs.Ending.{timed_records}
-use Rattle.sf_show.proofs.WritingLemmas.{cut_none, cut_part, one_part, one_written, part_none as none_of, part_whole as all_as_part, some_cut}
+use Rattle.sf_show.proofs.WritingLemmas.{cut_none as none_cut, cut_part, one_part, one_written, part_none as none_of, part_whole as all_as_part, some_cut}
 use Rattle.sf_show.specs.Runs.{CutRun}
 use Rattle.sf_show.specs.Writing.{CutSome}
 use Rattle.sf_tally.specs.Summaries.{summary_of, wrapped}
@@ -58,7 +58,7 @@ run_part_whole run.Gen summary scene a b h = part_whole summary scene a b h
 
 -- nothing was written, which is a prefix too
 pub cut_nothing : (a : Option (List ℕ)) → CutSome a a
-cut_nothing a = cut_none a
+cut_nothing a = none_cut a
 
 -- a prefix of the record of a fault
 pub fault_whole : (fault : ScriptFault) (a b : Option (List ℕ)) → Appends a b (fault_bytes fault) → RecordFits (rec.Sflt fault) → CutSome a b
