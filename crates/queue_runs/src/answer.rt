@@ -1,6 +1,6 @@
 //! What a call with turns, or a use of a token, answered.
 use crate::reply::status_name;
-use sf_base::{Items, QStatus};
+use sf_base::{Items, QStatus, QueueId};
 use std::io;
 
 /// What came out of a line.
@@ -13,6 +13,10 @@ pub enum Answer {
     Plain(&'static str),
     /// The first pixel of a frame.
     Grey(u8),
+    /// How many transactions a vsync committed, and the frame that it released last.
+    Vsync(usize, Option<(QueueId, u64)>),
+    /// The one picture that a compositor shows.
+    Picture(u32),
 }
 
 /// Prints an answer.
@@ -29,5 +33,13 @@ pub fn print(rt: &impl Print, answer: &Answer) -> io::Result<()> {
         }
         Answer::Plain(text) => println!(rt; "{text}"),
         Answer::Grey(level) => println!(rt; "grey {level}"),
+        Answer::Vsync(committed, None) => println!(rt; "{committed} committed"),
+        Answer::Vsync(committed, Some((queue, frame))) => {
+            println!(rt;
+                "{committed} committed, queue {} frame {frame} released",
+                queue.0
+            )
+        }
+        Answer::Picture(number) => println!(rt; "given back, picture {number} alone"),
     }
 }

@@ -34,6 +34,12 @@ pub enum Call {
     Read,
     /// A timeline is seen at a value from now on.
     See,
+    /// A vsync of the compositor shows a frame.
+    Show,
+    /// The compositor lends its pixels.
+    Lend,
+    /// They are given back.
+    Give,
     /// Prints what is known of the queue.
     State,
 }
@@ -101,6 +107,9 @@ fn named(name: &str) -> Option<Call> {
         "draw" => Call::Draw,
         "read" => Call::Read,
         "see" => Call::See,
+        "show" => Call::Show,
+        "lend" => Call::Lend,
+        "give" => Call::Give,
         "state" => Call::State,
         _ => return None,
     })
@@ -141,20 +150,27 @@ fn parts_with_numbers(call: Call) -> Option<&'static [Part]> {
         Call::Release => &[Part::Slot, Part::Number, Part::Fence, Part::Right],
         Call::DetachRead => &[Part::Slot, Part::Number],
         Call::AttachRead => &[Part::Size],
-        Call::DequeueWait | Call::Draw | Call::Read | Call::See => return None,
+        Call::DequeueWait
+        | Call::Draw
+        | Call::Read
+        | Call::See
+        | Call::Show
+        | Call::Lend
+        | Call::Give => return None,
     })
 }
 
 /// What stands after a call's name where rights are turns.
 fn parts_with_turns(call: Call) -> Option<&'static [Part]> {
     Some(match call {
-        Call::Connect | Call::Disconnect | Call::Abandon => &[],
+        Call::Connect | Call::Disconnect | Call::Abandon | Call::Lend | Call::Give => &[],
         Call::MaxDequeued | Call::MaxAcquired | Call::Async => &[Part::Count],
         Call::Dequeue | Call::DequeueWait => &[Part::Place, Part::Size],
         Call::Request
         | Call::Detach
         | Call::Attach
         | Call::Read
+        | Call::Show
         | Call::DetachRead
         | Call::AttachRead => &[Part::Place],
         Call::Draw => &[Part::Place, Part::Picture, Part::Size],

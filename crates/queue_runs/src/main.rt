@@ -1,12 +1,14 @@
 //! Runs of calls on BufferQueues: reads cases of calls from standard input, makes them on a queue,
 //! and prints each with its answer. `stdin` says how a case is written. The rights to a queue's
 //! buffers are numbers, and what is left in its slots is printed; or they are turns of buffers that
-//! two actors draw and read through passes under a lock, and the history is printed at the end.
+//! two actors draw and read through passes under a lock, and the history is printed at the end. A
+//! compositor shows their frames, and can lend the pixels while it makes its next vsync.
 #![tactic(auto)]
 
 mod answer;
 mod bringing;
 mod call;
+mod compositor;
 mod desk;
 mod numbers;
 mod reply;

@@ -5,6 +5,7 @@ ghost use Rattle.sf_surface.specs.Marks.{PermitFits};
 use crate::answer::Answer;
 use crate::bringing::{bare, bringing, grey};
 use crate::call::{Call, Said};
+use crate::compositor::Compositor;
 use crate::desk::{Caller, Desk};
 use crate::tools::{Left, Tools};
 use sf_base::Seen;
@@ -22,6 +23,7 @@ pub struct Run<B: TableName> {
     /// The tokens that the callers hold, each in its place.
     pub tokens: Vec<Gives<B>>,
     pub tools: Tools<B>,
+    pub compositor: Compositor<B>,
     pub seen: Seen,
 }
 
@@ -97,6 +99,12 @@ impl<B: TableName> Run<B> {
                 self.tools.read(self.alloc, token)
             }
             Call::See => self.see(said),
+            Call::Show => {
+                let token = self.take(said.place);
+                self.compositor.show(token, &self.seen)
+            }
+            Call::Lend => (Gives::Nothing, self.compositor.lend()),
+            Call::Give => (Gives::Nothing, self.compositor.give_back()),
             call => match self.call_of(call, said) {
                 Ok(call) => {
                     let made = self.desk.call(rt, by, call);

@@ -1,9 +1,10 @@
 //! Calls on a queue whose rights are the turns of buffers, by two actors under a lock.
-ghost use Rattle.std.specs.Prelude.{◌≡◌, length};
+ghost use Rattle.std.specs.Prelude.{◌≡◌, length, true};
 
 use crate::answer;
 use crate::answer::Answer;
 use crate::call::{Rights, read};
+use crate::compositor::Compositor;
 use crate::desk::{Caller, Desk};
 use crate::run::Run;
 use crate::tools::Tools;
@@ -51,14 +52,19 @@ fn play_at<B: TableName, R: Print + Wait>(
     rt: &R,
     alloc: Global,
     size: BufferSize,
-    seat: TurnSeat<Painted>,
+    mut seat: TurnSeat<Painted>,
     stock: Stock<Painted>,
     lines: &[String],
 ) -> io::Result<()>
     requires own { (seat.table ≡ B.table) × (stock.table ≡ B.table) }
+    requires first { seat.is_first ≡ true }
     requires counted { length stock.buffers ≡ PERMITS }
 {
-    let (Ok(desk), Ok(tokens)) = (Desk::open(alloc, size.width, size.height), places(alloc)) else {
+    let (Ok(desk), Ok(tokens), Ok(compositor)) = (
+        Desk::open(alloc, size.width, size.height),
+        places(alloc),
+        Compositor::new(alloc, &mut seat),
+    ) else {
         return println!(rt; "out of memory");
     };
     let mut run: Run<B> = Run {
@@ -66,6 +72,7 @@ fn play_at<B: TableName, R: Print + Wait>(
         desk,
         tokens,
         tools: Tools::new(seat, stock, PERMITS),
+        compositor,
         seen: Seen { values: [0; 64] },
     };
     for line in lines {
