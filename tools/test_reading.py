@@ -7,11 +7,19 @@ from scenes import NoScene, read_scene
 from test_checking import contents
 
 
+# What begins a script of script_runs: one of its own, one put together of the last one and more lines, one that is also cut.
+SCRIPTS = (b"==", b"=+", b"=<")
+
+
 def table_of_scripts():
-    """The scripts of script_faults, each with what is said of it there."""
-    folder = os.path.join("crates", "script_faults")
-    titles, scripts, base = [], [], b""
+    """The scripts that script_runs reads, each with what is said of it there."""
+    folder = os.path.join("crates", "script_runs")
+    titles, scripts, base, is_script = [], [], b"", False
     for line in contents(folder, "stdin").split(b"\n")[:-1]:
+        if line[:1] == b"=":
+            is_script = line[:2] in SCRIPTS
+        if not is_script:
+            continue
         if line[:1] == b"=":
             base = scripts[-1] if titles and titles[-1][:2] != b"=+" else base
             titles.append(line)
@@ -21,8 +29,9 @@ def table_of_scripts():
             scripts[-1] += (text + b"\n") * int(count)
         else:
             scripts[-1] += line + b"\n"
-    said = [line.rpartition(b": ")[2] for line in contents(folder, "stdout").split(b"\n")[:-1] if not line.startswith(b"cut ")]
-    return zip(scripts, said, strict=True)
+    said = [line.rpartition(b": ")[2] for line in contents(folder, "stdout").split(b"\n") if line[:2] in SCRIPTS]
+    assert len(said) == len(scripts)
+    return zip(scripts, said)
 
 
 def is_read(script):
