@@ -21,10 +21,9 @@ else every 15 seconds.
 
 The program that `rt run` built in crates/sf_main is used where no source is newer than it. Where there
 is none, a smaller program, which plays in turns and does nothing else, is made of the crates in a
-temporary folder, compiled as it stands and run, by `rt try`: that takes about a minute, and no proof is
-asked for. What it compiled is kept as out/unproved/play_scene, and plays other scenes at once as long as
-no source is newer, and this one too where it has more records than the 1 MiB that `rt try` takes. With
---proved the program is proved and built first by `rt run`, the first time for long, later only what
+temporary folder and compiled as it stands, by `rt try`: that takes about a minute, and no proof is asked
+for. It is kept as out/unproved/play_scene, and plays other scenes at once as long as no source is newer.
+With --proved the program is proved and built first by `rt run`, the first time for long, later only what
 changed.
 
 status: that of the program (0 played, 2 the script is no scene), or 1 where there is no answer, 2
@@ -37,8 +36,10 @@ import os
 import re
 import sys
 import tempfile
+import threading
 from typing import NamedTuple, Optional
 
+import compiling
 import small_program
 from course import NoCourse
 from explaining import explained
@@ -65,7 +66,7 @@ FRAME = re.compile(r"frame-[0-9]+\.png")
 # read standard input: one step of it is enough.
 UNPROVED = ["rt", "try", "--steps", "1"]
 COMPILERS, LOADED = ("clang", "ld.lld"), ("ld-linux-x86-64", "program")
-TRIES = ("checks types and borrows, without any proof", (), 38), ("compiles", COMPILERS, 22), ("plays", LOADED, 3)
+TRIES = ("checks types and borrows, without any proof", (), 38), ("compiles", COMPILERS, 16), ("plays", LOADED, 1)
 TRIES_WHOLE = ("checks types and borrows, without any proof", (), 65), ("compiles", COMPILERS, 42), ("plays", LOADED, 3)
 NO_INTERPRETER = "interpreter: no-answer:"
 # The status of `rt try` where a crate is refused.
@@ -132,8 +133,8 @@ def way_of_program(program, top):
 
 
 def way_of_kept_program(program, top):
-    """Plays by what an earlier run compiled."""
-    return Way([program], top, "plays it by what was compiled before, without any proof", Stages(("plays", (), None)))
+    """Plays by what this run or an earlier one compiled."""
+    return Way([program], top, "plays it by what was compiled, without any proof", Stages(("plays", (), None)))
 
 
 def way_of_proof(top):
@@ -180,23 +181,27 @@ class Progress:
         self.open = False
 
 
-def play(way, scene, records):
-    """The status of a command that plays a scene; its records go into a file. What `rt` says goes on to standard error."""
+def play(way, scene, records, enough=None):
+    """The status of a command that plays a scene; its records go into a file. What `rt` says goes on to standard error. The
+    command is ended where `enough` is set."""
     print(f"{os.path.relpath(scene)}: {way.does}", file=sys.stderr, flush=True)
     progress = Progress(sys.stderr)
     try:
         with open(scene, "rb") as script, open(records, "wb") as sink:
-            return awaited(way.command, way.folder, script, sink, progress.tell, progress.say, way.stages, progress.each, way.environment())
+            return awaited(way.command, way.folder, script, sink, progress.tell, progress.say, way.stages, progress.each, way.environment(),
+                           enough)
     finally:
         progress.end()
 
 
 def play_compiled(scene, records, top):
-    """Plays a scene by the smaller program, which is compiled for it; the status. What was compiled is kept."""
+    """Compiles the smaller program, keeps it, and plays a scene by it where the compiler is not the quicker to be ended; the
+    status."""
+    enough = threading.Event()
     with tempfile.TemporaryDirectory(prefix="surbeldoi-") as folder:
         way = way_of_small_program(top, folder)
-        with small_program.Keeper(way.temporary) as keeper:
-            status = play(way, scene, records)
+        with compiling.Keeper(way.temporary, enough.set) as keeper:
+            status = play(way, scene, records, enough)
         keeper.leave(os.path.join(top, KEPT_PROGRAM))
     return status
 
@@ -222,7 +227,7 @@ def play_unproved(scene, records, top):
     if status in WHOLE and os.path.getsize(records):
         return UNPROVED, status
     if program:
-        # `rt try` takes no more than 1 MiB of records, and no longer than a minute.
+        # The program was there before `rt try` played; or that took no more than 1 MiB of records, or no longer than a minute.
         return [program], play_kept(program, scene, records, top)
     if status != REFUSED:
         return UNPROVED, status

@@ -5,6 +5,7 @@ import os
 import signal
 import subprocess
 import tempfile
+import threading
 import time
 import unittest
 
@@ -104,6 +105,13 @@ class Waiting(unittest.TestCase):
         with self.assertRaises(KeyboardInterrupt):
             awaited(["sleep", "60"], self.folder, subprocess.DEVNULL, io.BytesIO(), interrupt, print, Stages(("does", (), None)), each=0.1)
         self.assertLess(time.monotonic() - begun, 50)
+
+    def test_it_is_ended_where_there_is_enough_of_it(self):
+        enough, sink = threading.Event(), io.BytesIO()
+        threading.Timer(0.3, enough.set).start()
+        status = awaited(["sh", "-c", "cat records; exec sleep 60"], self.folder, subprocess.DEVNULL, sink, print, print,
+                         Stages(("does", (), None)), enough=enough)
+        self.assertEqual((status, sink.getvalue()), (-signal.SIGTERM, RED))
 
 
 if __name__ == "__main__":

@@ -129,14 +129,22 @@ def begun_thread(does, *of):
     return thread
 
 
-def awaited(command, folder, source, sink, tell, say, stages, each=EACH, environment=None):
+def end_when(enough, running):
+    """Ends a command as soon as this is set."""
+    enough.wait()
+    running.terminate()
+
+
+def awaited(command, folder, source, sink, tell, say, stages, each=EACH, environment=None, enough=None):
     """The status of a command that reads the file `source`; what it writes goes into the file `sink` as it comes.
     `tell` is given a line in each so many seconds: what came so far, or else the stage; `say` each line of its standard error.
-    Where this is interrupted, the command is ended too."""
+    Where this is interrupted, or `enough` is set, the command is ended too."""
     begun = time.monotonic()
     with subprocess.Popen(command, cwd=folder, env=environment, stdin=source, stdout=subprocess.PIPE, stderr=subprocess.PIPE) as running:
         output = Output(running.stdout, sink)
         taking, saying = begun_thread(output.take), begun_thread(forward, running.stderr, say)
+        if enough:
+            begun_thread(end_when, enough, running)
         try:
             while taking.is_alive():
                 taking.join(each)
