@@ -27,8 +27,9 @@ fn described(head: &'static [Width], tail: Tail) -> Option<Layout> {
 }
 
 /// The tags of the records of a run that is no summary, in the order of their first records.
-pub const TAGS: [&str; 11] = [
-    "SCEN", "REPL", "VSYN", "COMM", "FRAM", "ARRV", "HIST", "HOLD", "STUK", "DONE", "SFLT",
+pub const TAGS: [&str; 14] = [
+    "SCEN", "REPL", "VSYN", "COMM", "FRAM", "FRAD", "CAPT", "HITS", "ARRV", "HIST", "HOLD", "STUK",
+    "DONE", "SFLT",
 ];
 
 /// The layout of the records with this tag.
@@ -39,6 +40,8 @@ pub fn layout_of(tag: &str) -> Option<Layout> {
         "VSYN" => described(&[4, 8], Tail::Timelines),
         "COMM" => described(&[4, 4, 4, 4], Tail::Entries(&[4, 4, 8, 4, 4, 4, 4, 4])),
         "FRAM" => described(&[4], Tail::Pixels),
+        "FRAD" | "CAPT" => described(&[4, 4], Tail::Pixels),
+        "HITS" => described(&[4, 4, 4], Tail::Nothing),
         "ARRV" => described(&[], Tail::Entries(&[4, 4, 4])),
         "HIST" => described(&[4], Tail::Entries(&[4, 4, 4, 4, 4, 8])),
         "HOLD" => described(&[], Tail::Entries(&[4, 4, 8, 8])),

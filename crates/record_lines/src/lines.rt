@@ -104,12 +104,21 @@ fn count(bytes: &[u8], tag: &str) -> u64 {
     count
 }
 
+// How many bytes of a record with this tag stand before the pixels of a frame, if it has one.
+fn bytes_before_frame(tag: &str) -> Option<usize> {
+    match tag {
+        "FRAM" => Some(4),
+        "FRAD" => Some(8),
+        _ => None,
+    }
+}
+
 // The sum of the bytes of all frames' pixels.
 fn pixel_sum(bytes: &[u8]) -> u64 {
     let mut sum = 0u64;
     for (tag, body) in (Records { rest: bytes }) {
-        if tag == "FRAM" {
-            for byte in body.iter().skip(4) {
+        if let Some(before) = bytes_before_frame(tag) {
+            for byte in body.iter().skip(before) {
                 sum = sum.wrapping_add(u64::from(*byte));
             }
         }
@@ -118,7 +127,7 @@ fn pixel_sum(bytes: &[u8]) -> u64 {
 }
 
 /// Appends the records as lines: the tag and the numbers of each; behind a bar each entry of a list;
-/// of a timeline its value behind `=`; of a frame's pixels the runs of equal ones, as `2*ff0000ff`.
+/// of a timeline its value behind `=`; of an image's pixels the runs of equal ones, as `2*ff0000ff`.
 /// What is left of a cut record is `CUT` and its bytes.
 pub fn push_records(text: &mut String, bytes: &[u8]) -> io::Result<()> {
     let mut rest = bytes;

@@ -12,6 +12,8 @@ use Rattle.sf_record.specs.declared.record.Commit.{Commit}
 use Rattle.sf_record.specs.declared.record.CommittedBuffer.{CommittedBuffer}
 use Rattle.sf_record.specs.declared.record.HeldEntry.{HeldEntry}
 use Rattle.sf_record.specs.declared.record.HistoryEntry.{HistoryEntry}
+use Rattle.sf_record.specs.declared.record.Hit.{Hit}
+use Rattle.sf_record.specs.declared.record.NumberedFrame.{NumberedFrame}
 use Rattle.sf_record.specs.declared.record.QueueHistory.{QueueHistory}
 use Rattle.sf_record.specs.declared.record.Record.{Record}
 use Rattle.sf_record.specs.declared.record.Record.TheVariants as rec
@@ -21,9 +23,9 @@ use Rattle.sf_record.specs.declared.record.StuckEntry.{StuckEntry}
 use Rattle.sf_record.specs.declared.record.Summary.{Summary}
 use Rattle.sf_record.specs.declared.record.TimelineValue.{TimelineValue}
 use Rattle.sf_record.specs.declared.record.VsyncHeader.{VsyncHeader}
-use Rattle.sf_record.specs.Fitting.{ArrivalFits, BufferFits, CallFits, CommitFits, FaultFits, Fits32, Fits64, HeldFits, HistoryFits, ListFits, RecordFits, ReplyFits, SceneFits, StuckFits, SummaryFits, TimelineFits, VsyncFits}
-use Rattle.sf_record.specs.Reading.{AreDetermined, AreReadBack, Reader, list_of, read_arrival, read_body, read_buffer, read_call, read_commit, read_fault, read_held, read_history, read_items, read_number, read_record, read_reply, read_scene, read_stuck, read_summary, read_timeline, read_up_to, read_vsync, records_in, so_many, u32, u64, ◌and◌, ◌of◌}
-use Rattle.sf_record.specs.Records.{arrival_bytes, body_of, buffer_bytes, bytes_of, held_bytes, history_entry_bytes, list_bytes, record_bytes, stuck_bytes, summary_bytes, tag_of, timeline_bytes, u32_bytes, u64_bytes}
+use Rattle.sf_record.specs.Fitting.{ArrivalFits, BufferFits, CallFits, CommitFits, FaultFits, Fits32, Fits64, HeldFits, HistoryFits, HitFits, ListFits, NumberedFits, RecordFits, ReplyFits, SceneFits, StuckFits, SummaryFits, TimelineFits, VsyncFits}
+use Rattle.sf_record.specs.Reading.{AreDetermined, AreReadBack, Reader, list_of, read_arrival, read_body, read_buffer, read_call, read_commit, read_fault, read_held, read_history, read_hit, read_items, read_number, read_numbered, read_record, read_reply, read_scene, read_stuck, read_summary, read_timeline, read_up_to, read_vsync, records_in, so_many, u32, u64, ◌and◌, ◌of◌}
+use Rattle.sf_record.specs.Records.{arrival_bytes, body_of, buffer_bytes, bytes_of, held_bytes, history_entry_bytes, hit_bytes, list_bytes, numbered_bytes, record_bytes, stuck_bytes, summary_bytes, tag_of, timeline_bytes, u32_bytes, u64_bytes}
 
 -- the reader reads this value from these bytes, whatever follows
 pub record Reads {A : Type 0} (reader : Reader A) (bytes : List ℕ) (value : A) : Type 0 where
@@ -147,6 +149,25 @@ pixels_left k pixels h =
     let kept : length (bytes_high_first 4 k ++ pixels) % 256 ^ 4 ≡ length (bytes_high_first 4 k ++ pixels) = mod-eq_of_lt h in
     omega (arith, kept, whole)
 
+-- the same where two numbers stand in front of them
+pixels_behind : (f : NumberedFrame) → Fits32 (length (numbered_bytes f)) → length (numbered_bytes f) % 256 ^ 4 - 8 ≡ length f.pixels
+unfolding u32_bytes
+pixels_behind f h =
+    let whole : length (numbered_bytes f) ≡ 8 + length f.pixels = length-append (bytes_high_first 4 f.place ++ bytes_high_first 4 f.number) f.pixels in
+    let kept : length (numbered_bytes f) % 256 ^ 4 ≡ length (numbered_bytes f) = mod-eq_of_lt h in
+    omega (arith, kept, whole)
+
+numbered_read : (f : NumberedFrame) → NumberedFits f → Fits32 (length (numbered_bytes f)) → Reads (read_numbered (length (numbered_bytes f) % 256 ^ 4)) (numbered_bytes f) f
+unfolding read_numbered
+numbered_read f h whole =
+    let pixels : Reads (so_many (length (numbered_bytes f) % 256 ^ 4 - 8)) f.pixels f.pixels =
+    subst (λ (n : ℕ). Reads (so_many n) f.pixels f.pixels) (sym (pixels_behind f whole)) (so_many_read f.pixels) in
+    and_read (and_read (of_read _ (u32_read h.place)) (u32_read h.number)) pixels
+
+hit_read : (x : Hit) → HitFits x → Reads read_hit (hit_bytes x) x
+unfolding read_hit
+hit_read x h = and_read (and_read (of_read _ (u32_read h.place)) (u32_read h.number)) (u32_read h.layer)
+
 body_read : (r : Record) → RecordFits r → Reads (read_body (tag_of r) (length (body_of r) % 256 ^ 4)) (body_of r) r
 unfolding read_body body_of
 body_read (rec.Scen s) h = of_read _ (scene_read s h.fields)
@@ -157,6 +178,9 @@ body_read (rec.Fram f) h =
     let pixels : Reads (so_many (length (u32_bytes f.number ++ f.pixels) % 256 ^ 4 - 4)) f.pixels f.pixels =
     subst (λ (n : ℕ). Reads (so_many n) f.pixels f.pixels) (sym (pixels_left f.number f.pixels h.body)) (so_many_read f.pixels) in
     and_read (of_read _ (u32_read h.fields)) pixels
+body_read (rec.Frad f) h = of_read _ (numbered_read f h.fields h.body)
+body_read (rec.Capt f) h = of_read _ (numbered_read f h.fields h.body)
+body_read (rec.Hits x) h = of_read _ (hit_read x h.fields)
 body_read (rec.Arrv arrivals) h = of_read _ (list_read arrival_read h.fields)
 body_read (rec.Hist history) h = of_read _ (history_read history h.fields)
 body_read (rec.Hold held) h = of_read _ (list_read held_read h.fields)
@@ -171,6 +195,9 @@ length-tag (rec.Repl r) = refl
 length-tag (rec.Vsyn v) = refl
 length-tag (rec.Comm c) = refl
 length-tag (rec.Fram f) = refl
+length-tag (rec.Frad f) = refl
+length-tag (rec.Capt f) = refl
+length-tag (rec.Hits x) = refl
 length-tag (rec.Arrv arrivals) = refl
 length-tag (rec.Hist history) = refl
 length-tag (rec.Hold held) = refl

@@ -1,6 +1,8 @@
 -- The records of what a run shows, in order.
-use Rattle.std.specs.Prelude.{ℕ, List, [], ◌∷◌, ◌++◌, map, Option, None, Some}
+use Rattle.std.specs.Prelude.{ℕ, List, [], ◌∷◌, ◌++◌, map}
 use Rattle.std.specs.List.{flat_map}
+use Rattle.sf_output.specs.declared.output.Output.{Output}
+use Rattle.sf_output.specs.declared.output.Output.TheVariants as out
 use Rattle.sf_record.specs.declared.event.Event.{Event}
 use Rattle.sf_record.specs.declared.event.Event.TheVariants as event
 use Rattle.sf_record.specs.declared.event.VsyncReport.{VsyncReport}
@@ -11,16 +13,18 @@ use Rattle.sf_record.specs.declared.record.Record.{Record}
 use Rattle.sf_record.specs.declared.record.Record.TheVariants as rec
 use Rattle.sf_record.specs.declared.record.StuckEntry.{StuckEntry}
 
--- the record of a frame, if the vsync shows one
-abbrev pub frame_records : ℕ → Option (List ℕ) → List Record
-frame_records number None = []
-frame_records number (Some pixels) = rec.Fram (record { number = number; pixels = pixels }) ∷ []
+-- the record of what a vsync of this number shows
+abbrev pub output_record : ℕ → Output (List ℕ) → Record
+output_record number (out.Frame pixels) = rec.Fram (record { number = number; pixels = pixels })
+output_record number (out.Display place pixels) = rec.Frad (record { place = place; number = number; pixels = pixels })
+output_record number (out.Capture place pixels) = rec.Capt (record { place = place; number = number; pixels = pixels })
+output_record number (out.Hit place layer) = rec.Hits (record { place = place; number = number; layer = layer })
 
--- the records of a vsync: its own, those of its commits, and that of its frame
+-- the records of a vsync: its own, those of its commits, and those of what it shows
 abbrev pub vsync_records : VsyncReport → List Record
 vsync_records v =
     rec.Vsyn (record { number = v.number; expected = v.expected; timelines = v.timelines })
-    ∷ (map rec.Comm v.commits ++ frame_records v.number v.frame)
+    ∷ (map rec.Comm v.commits ++ map (output_record v.number) v.shown)
 
 abbrev pub event_records : Event → List Record
 event_records (event.Reply reply) = rec.Repl reply ∷ []

@@ -6,6 +6,8 @@ use Rattle.sf_record.specs.declared.record.Commit.{Commit}
 use Rattle.sf_record.specs.declared.record.CommittedBuffer.{CommittedBuffer}
 use Rattle.sf_record.specs.declared.record.Frame.{Frame}
 use Rattle.sf_record.specs.declared.record.HeldEntry.{HeldEntry}
+use Rattle.sf_record.specs.declared.record.Hit.{Hit}
+use Rattle.sf_record.specs.declared.record.NumberedFrame.{NumberedFrame}
 use Rattle.sf_record.specs.declared.record.HistoryEntry.{HistoryEntry}
 use Rattle.sf_record.specs.declared.record.QueueHistory.{QueueHistory}
 use Rattle.sf_record.specs.declared.record.Record.{Record}
@@ -71,6 +73,15 @@ pub record CommitFits (c : Commit) : Type 0 where
 abbrev pub FrameFits : Frame → Type 0
 FrameFits f = Fits32 f.number
 
+pub record NumberedFits (f : NumberedFrame) : Type 0 where
+  pub place : Fits32 f.place
+  pub number : Fits32 f.number
+
+pub record HitFits (h : Hit) : Type 0 where
+  pub place : Fits32 h.place
+  pub number : Fits32 h.number
+  pub layer : Fits32 h.layer
+
 pub record ArrivalFits (a : ArrivalEntry) : Type 0 where
   pub actor : Fits32 a.actor
   pub step : Fits32 a.step
@@ -119,6 +130,9 @@ FieldsFit (rec.Repl r) = ReplyFits r
 FieldsFit (rec.Vsyn v) = VsyncFits v
 FieldsFit (rec.Comm c) = CommitFits c
 FieldsFit (rec.Fram f) = FrameFits f
+FieldsFit (rec.Frad f) = NumberedFits f
+FieldsFit (rec.Capt f) = NumberedFits f
+FieldsFit (rec.Hits h) = HitFits h
 FieldsFit (rec.Arrv arrivals) = ListFits ArrivalFits arrivals
 FieldsFit (rec.Hist history) = HistoryFits history
 FieldsFit (rec.Hold held) = ListFits HeldFits held

@@ -6,6 +6,8 @@ use Rattle.sf_record.specs.declared.record.ArrivalEntry.{ArrivalEntry}
 use Rattle.sf_record.specs.declared.record.Commit.{Commit}
 use Rattle.sf_record.specs.declared.record.CommittedBuffer.{CommittedBuffer}
 use Rattle.sf_record.specs.declared.record.HeldEntry.{HeldEntry}
+use Rattle.sf_record.specs.declared.record.Hit.{Hit}
+use Rattle.sf_record.specs.declared.record.NumberedFrame.{NumberedFrame}
 use Rattle.sf_record.specs.declared.record.HistoryEntry.{HistoryEntry}
 use Rattle.sf_record.specs.declared.record.QueueHistory.{QueueHistory}
 use Rattle.sf_record.specs.declared.record.Record.{Record}
@@ -96,6 +98,12 @@ read_held = ((((λ r h a b. record { arrival = r; hold = h; a = a; b = b }) of u
 unfoldable pub read_stuck : Reader StuckEntry
 read_stuck = ((λ a s. record { actor = a; step = s }) of u32) and u32
 
+unfoldable pub read_numbered : ℕ → Reader NumberedFrame
+read_numbered n = (((λ c k p. record { place = c; number = k; pixels = p }) of u32) and u32) and so_many (n - 8)
+
+unfoldable pub read_hit : Reader Hit
+read_hit = (((λ h k l. record { place = h; number = k; layer = l }) of u32) and u32) and u32
+
 unfoldable pub read_fault : Reader ScriptFault
 read_fault = (((λ l w c. record { line = l; word = w; cause = c }) of u32) and u32) and u32
 
@@ -113,6 +121,9 @@ read_body tag n =
     if bytes_eq tag (codes "VSYN") then rec.Vsyn of read_vsync else
     if bytes_eq tag (codes "COMM") then rec.Comm of read_commit else
     if bytes_eq tag (codes "FRAM") then ((λ k p. rec.Fram (record { number = k; pixels = p })) of u32) and so_many (n - 4) else
+    if bytes_eq tag (codes "FRAD") then rec.Frad of read_numbered n else
+    if bytes_eq tag (codes "CAPT") then rec.Capt of read_numbered n else
+    if bytes_eq tag (codes "HITS") then rec.Hits of read_hit else
     if bytes_eq tag (codes "ARRV") then rec.Arrv of list_of read_arrival else
     if bytes_eq tag (codes "HIST") then rec.Hist of read_history else
     if bytes_eq tag (codes "HOLD") then rec.Hold of list_of read_held else

@@ -1,14 +1,18 @@
 -- The bytes of records. All numbers are written with their highest byte first.
-use Rattle.std.specs.Prelude.{ℕ, ◌≤◌, List, [], ◌++◌, Option, length, codes, drop, take}
+use Rattle.std.specs.Prelude.{ℕ, ◌≡◌, ◌≤◌, List, [], ◌++◌, Option, length, codes, drop, take}
 use Rattle.std.specs.Io.KnownBytes.{Appends}
 use Rattle.std.specs.List.{flat_map}
 use Rattle.byteorder.specs.Endian.{big_bytes}
 use Rattle.sf_io.specs.Streams.{framed}
+use Rattle.sf_output.specs.declared.output.Output.{Output}
+use Rattle.sf_output.specs.declared.output.Output.TheVariants as out
 use Rattle.sf_record.specs.declared.record.ArrivalEntry.{ArrivalEntry}
 use Rattle.sf_record.specs.declared.record.Commit.{Commit}
 use Rattle.sf_record.specs.declared.record.CommittedBuffer.{CommittedBuffer}
 use Rattle.sf_record.specs.declared.record.HeldEntry.{HeldEntry}
 use Rattle.sf_record.specs.declared.record.HistoryEntry.{HistoryEntry}
+use Rattle.sf_record.specs.declared.record.Hit.{Hit}
+use Rattle.sf_record.specs.declared.record.NumberedFrame.{NumberedFrame}
 use Rattle.sf_record.specs.declared.record.Record.{Record}
 use Rattle.sf_record.specs.declared.record.Record.TheVariants as rec
 use Rattle.sf_record.specs.declared.record.Reply.{Reply}
@@ -53,6 +57,9 @@ tag_of (rec.Repl _) = codes "REPL"
 tag_of (rec.Vsyn _) = codes "VSYN"
 tag_of (rec.Comm _) = codes "COMM"
 tag_of (rec.Fram _) = codes "FRAM"
+tag_of (rec.Frad _) = codes "FRAD"
+tag_of (rec.Capt _) = codes "CAPT"
+tag_of (rec.Hits _) = codes "HITS"
 tag_of (rec.Arrv _) = codes "ARRV"
 tag_of (rec.Hist _) = codes "HIST"
 tag_of (rec.Hold _) = codes "HOLD"
@@ -75,6 +82,12 @@ abbrev pub commit_bytes : Commit → List ℕ
 commit_bytes c =
     u32_bytes c.token ++ u32_bytes c.arrival ++ u32_bytes c.result ++ u32_bytes c.operation ++ list_bytes buffer_bytes c.buffers
 
+abbrev pub numbered_bytes : NumberedFrame → List ℕ
+numbered_bytes f = u32_bytes f.place ++ u32_bytes f.number ++ f.pixels
+
+abbrev pub hit_bytes : Hit → List ℕ
+hit_bytes h = u32_bytes h.place ++ u32_bytes h.number ++ u32_bytes h.layer
+
 abbrev pub summary_bytes : Summary → List ℕ
 summary_bytes s =
     u64_bytes s.replies ++ u64_bytes s.vsyncs ++ u64_bytes s.commits ++ u64_bytes s.rejected ++ u64_bytes s.frames ++ u64_bytes s.pixel_sum ++ u64_bytes s.held ++ u64_bytes s.stuck
@@ -86,6 +99,9 @@ body_of (rec.Repl r) = reply_bytes r
 body_of (rec.Vsyn v) = vsync_bytes v
 body_of (rec.Comm c) = commit_bytes c
 body_of (rec.Fram f) = u32_bytes f.number ++ f.pixels
+body_of (rec.Frad f) = numbered_bytes f
+body_of (rec.Capt f) = numbered_bytes f
+body_of (rec.Hits h) = hit_bytes h
 body_of (rec.Arrv arrivals) = list_bytes arrival_bytes arrivals
 body_of (rec.Hist history) = u32_bytes history.queue ++ list_bytes history_entry_bytes history.entries
 body_of (rec.Hold held) = list_bytes held_bytes held
@@ -98,9 +114,19 @@ body_of (rec.Summ summary) = summary_bytes summary
 unfoldable pub record_bytes : Record → List ℕ
 record_bytes r = framed (tag_of r) (body_of r)
 
--- the record of a frame by its body, which begins with its number
-abbrev pub frame_in : ℕ → List ℕ → Record
-frame_in number body = rec.Fram (record { number = number; pixels = drop 4 body })
+-- the record of an image by its body
+abbrev pub image_in : Output (Unit {0}) → ℕ → List ℕ → Record
+image_in (out.Frame u) number body = rec.Fram (record { number = number; pixels = drop 4 body })
+image_in (out.Display place u) number body = rec.Frad (record { place = place; number = number; pixels = drop 8 body })
+image_in (out.Capture place u) number body = rec.Capt (record { place = place; number = number; pixels = drop 8 body })
+image_in (out.Hit place layer) number body = rec.Hits (record { place = place; number = number; layer = layer })
+
+-- the body of an image begins with its place, if it has one, and its number; that of a hit is whole
+abbrev pub BeginsImage : Output (Unit {0}) → ℕ → List ℕ → Type 0
+BeginsImage (out.Frame u) number body = take 4 body ≡ u32_bytes number
+BeginsImage (out.Display place u) number body = take 8 body ≡ u32_bytes place ++ u32_bytes number
+BeginsImage (out.Capture place u) number body = take 8 body ≡ u32_bytes place ++ u32_bytes number
+BeginsImage (out.Hit place layer) number body = body ≡ u32_bytes place ++ u32_bytes number ++ u32_bytes layer
 
 unfoldable pub bytes_of : List Record → List ℕ
 bytes_of records = flat_map record_bytes records

@@ -4,17 +4,19 @@ ghost use Rattle.std.specs.List.{flat_map};
 ghost use Rattle.sf_io.specs.Causes.{Rose};
 ghost use Rattle.sf_io.specs.Streams.{TookPrefix, framed};
 ghost use Rattle.sf_record.specs.Fitting.{ArrivalFits, BufferFits, CallFits, CommitFits, FaultFits, FieldsFit, Fits32, Fits64, FrameFits, HeldFits};
-ghost use Rattle.sf_record.specs.Fitting.{HistoryFits, ListFits, RecordFits, ReplyFits, SceneFits, StuckFits, SummaryFits, TimelineFits, VsyncFits};
-ghost use Rattle.sf_record.specs.Records.{AppendsFirst, arrival_bytes, body_of, buffer_bytes, bytes_of, commit_bytes, frame_in, held_bytes, history_entry_bytes, list_bytes};
-ghost use Rattle.sf_record.specs.Records.{record_bytes, reply_bytes, scene_bytes, stuck_bytes, summary_bytes, tag_of, timeline_bytes, u32_bytes, u64_bytes, vsync_bytes};
+ghost use Rattle.sf_record.specs.Fitting.{HistoryFits, HitFits, ListFits, NumberedFits, RecordFits, ReplyFits, SceneFits, StuckFits, SummaryFits, TimelineFits, VsyncFits};
+ghost use Rattle.sf_record.specs.Records.{AppendsFirst, BeginsImage, arrival_bytes, body_of, buffer_bytes, bytes_of, commit_bytes, held_bytes, history_entry_bytes, hit_bytes};
+ghost use Rattle.sf_record.specs.Records.{image_in, list_bytes, numbered_bytes, record_bytes, reply_bytes, scene_bytes, stuck_bytes, summary_bytes, tag_of, timeline_bytes};
+ghost use Rattle.sf_record.specs.Records.{u32_bytes, u64_bytes, vsync_bytes};
 
 use crate::record::{
-    ArrivalEntry, Commit, CommittedBuffer, Frame, HeldEntry, HistoryEntry, QueueHistory, Record,
-    Reply, SceneHeader, StuckEntry, Summary, TimelineValue, VsyncHeader,
+    ArrivalEntry, Commit, CommittedBuffer, Frame, HeldEntry, HistoryEntry, Hit, NumberedFrame,
+    QueueHistory, Record, Reply, SceneHeader, StuckEntry, Summary, TimelineValue, VsyncHeader,
 };
 use byteorder::{BigEndian, ByteOrder};
 use sf_base::NoMemory;
 use sf_io::{Sink, put};
+use sf_output::Output;
 use sf_script::ScriptFault;
 use std::alloc::Global;
 
@@ -180,6 +182,9 @@ fn tag(shown: &Record) -> [u8; 4]
         Record::Vsyn(_) => *b"VSYN",
         Record::Comm(_) => *b"COMM",
         Record::Fram(_) => *b"FRAM",
+        Record::Frad(_) => *b"FRAD",
+        Record::Capt(_) => *b"CAPT",
+        Record::Hits(_) => *b"HITS",
         Record::Arrv(_) => *b"ARRV",
         Record::Hist(_) => *b"HIST",
         Record::Hold(_) => *b"HOLD",
@@ -239,6 +244,25 @@ fn push_frame(out: &mut Vec<u8>, frame: &Frame) -> Result<(), NoMemory>
     Ok(())
 }
 
+fn push_numbered(out: &mut Vec<u8>, frame: &NumberedFrame) -> Result<(), NoMemory>
+    ensures ok { OnOk result (out.new.items ≡ out.old.items ++ numbered_bytes frame.now) }
+    ensures fits { OnOk result (NumberedFits frame.now) }
+{
+    push_u32(out, frame.place)?;
+    push_u32(out, frame.number)?;
+    out.extend_from_slice(frame.pixels.as_slice())?;
+    Ok(())
+}
+
+fn push_hit(out: &mut Vec<u8>, hit: &Hit) -> Result<(), NoMemory>
+    ensures ok { OnOk result (out.new.items ≡ out.old.items ++ hit_bytes hit.now) }
+    ensures fits { OnOk result (HitFits hit.now) }
+{
+    push_u32(out, hit.place)?;
+    push_u32(out, hit.number)?;
+    push_u32(out, hit.layer)
+}
+
 fn push_history(out: &mut Vec<u8>, history: &QueueHistory) -> Result<(), NoMemory>
     ensures ok { OnOk result (out.new.items ≡ out.old.items ++ (u32_bytes history.now.queue ++ list_bytes history_entry_bytes history.now.entries)) }
     ensures fits { OnOk result (HistoryFits history.now) }
@@ -283,6 +307,8 @@ fn body(alloc: Global, shown: &Record) -> Result<Vec<u8>, NoMemory>
         Record::Vsyn(vsync) => push_vsync(&mut out, vsync)?,
         Record::Comm(commit) => push_commit(&mut out, commit)?,
         Record::Fram(frame) => push_frame(&mut out, frame)?,
+        Record::Frad(frame) | Record::Capt(frame) => push_numbered(&mut out, frame)?,
+        Record::Hits(hit) => push_hit(&mut out, hit)?,
         Record::Arrv(arrivals) => push_list(&mut out, arrivals.as_slice())?,
         Record::Hist(history) => push_history(&mut out, history)?,
         Record::Hold(held) => push_list(&mut out, held.as_slice())?,
@@ -343,20 +369,39 @@ pub fn write_record<K: Sink>(alloc: Global, sink: &mut K, shown: &Record) -> Res
     write_body(sink, tag(shown), &body)
 }
 
-/// Writes the record of a frame from its body, without a copy: the number of its vsync in four bytes,
-/// highest first, and then the pixels. Else it is as [`write_record`].
+// The tag of the record of an image, whose numbers fit their fields if that of its vsync does.
+fn image_tag(of: &Output<()>) -> [u8; 4]
+    ensures tag { (number : ℕ) (body : List ℕ) → result ≡ tag_of (image_in of.now number body) }
+    ensures fits { (number : ℕ) (body : List ℕ) → Fits32 number → FieldsFit (image_in of.now number body) }
+{
+    match *of {
+        Output::Frame(()) => *b"FRAM",
+        Output::Display(_place, ()) => *b"FRAD",
+        Output::Capture(_place, ()) => *b"CAPT",
+        Output::Hit(_place, _layer) => *b"HITS",
+    }
+}
+
+/// Writes the record of an image from its body, without a copy: the number of its display or capture,
+/// if it has one, and that of its vsync, in four bytes each, highest first, and then the pixels. Else
+/// it is as [`write_record`].
 #[tactic(auto, unfolding(crate::specs::Records::record_bytes, crate::specs::Records::body_of))]
-pub fn write_frame<K: Sink>(sink: &mut K, number: u32, body: &[u8]) -> Result<(), RunFault>
-    requires begins { take 4 body.now ≡ u32_bytes number }
-    ensures ok { OnOk result (Appends (K.taken sink.old) (K.taken sink.new) (record_bytes (frame_in number body.now))) }
-    ensures fits { OnOk result (RecordFits (frame_in number body.now)) }
-    ensures err { OnErr result (TookPrefix (K.taken sink.old) (K.taken sink.new) (record_bytes (frame_in number body.now))) }
-    ensures begun { IsErrOf result RunFault.WriteFault → RecordFits (frame_in number body.now) }
+pub fn write_image<K: Sink>(
+    sink: &mut K,
+    of: &Output<()>,
+    number: u32,
+    body: &[u8],
+) -> Result<(), RunFault>
+    requires begins { BeginsImage of.now number body.now }
+    ensures ok { OnOk result (Appends (K.taken sink.old) (K.taken sink.new) (record_bytes (image_in of.now number body.now))) }
+    ensures fits { OnOk result (RecordFits (image_in of.now number body.now)) }
+    ensures err { OnErr result (TookPrefix (K.taken sink.old) (K.taken sink.new) (record_bytes (image_in of.now number body.now))) }
+    ensures begun { IsErrOf result RunFault.WriteFault → RecordFits (image_in of.now number body.now) }
     ensures nothing { IsErrOf result RunFault.NoMemory → sink.new ≡ sink.old }
     ensures later { K.faults sink.old ≤ K.faults sink.new }
     ensures failed { IsErrOf result RunFault.WriteFault → Rose (K.faults sink.old) (K.faults sink.new) }
 {
-    write_body(sink, *b"FRAM", body)
+    write_body(sink, image_tag(of), body)
 }
 
 /// Writes records in order. After a fault the sink has a prefix of their bytes, after want of memory

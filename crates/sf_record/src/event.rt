@@ -1,12 +1,13 @@
 ghost use Rattle.std.specs.Prelude.{◌≡◌, ◌++◌, IfOk, OnOk, map};
 ghost use Rattle.sf_record.specs.declared.record.Record.TheVariants as rec;
-ghost use Rattle.sf_record.specs.Events.{event_records, frame_records, vsync_records};
+ghost use Rattle.sf_record.specs.Events.{event_records, output_record, vsync_records};
 
-use crate::record::{Commit, Frame, Record, Reply, TimelineValue, VsyncHeader};
+use crate::record::{Commit, Frame, Hit, NumberedFrame, Record, Reply, TimelineValue, VsyncHeader};
 use sf_base::{Items, NoMemory};
+use sf_output::Output;
 use std::alloc::Global;
 
-/// What a vsync committed, and the frame that it shows, if it shows one.
+/// What a vsync committed, and what it shows, each image as its pixels.
 #[derive(Drop)]
 pub struct VsyncReport {
     pub number: u32,
@@ -14,7 +15,7 @@ pub struct VsyncReport {
     pub expected: u64,
     pub timelines: Items<TimelineValue>,
     pub commits: Items<Commit>,
-    pub frame: Option<Items<u8>>,
+    pub shown: Items<Output<Items<u8>>>,
 }
 
 /// What a pick shows, where it shows something.
@@ -22,6 +23,30 @@ pub struct VsyncReport {
 pub enum Event {
     Reply(Reply),
     Vsync(VsyncReport),
+}
+
+/// The record of what a vsync of this number shows.
+fn output_record(number: u32, output: Output<Items<u8>>) -> Record
+    ensures { result ≡ output_record number output }
+{
+    match output {
+        Output::Frame(pixels) => Record::Fram(Frame { number, pixels }),
+        Output::Display(place, pixels) => Record::Frad(NumberedFrame {
+            place,
+            number,
+            pixels,
+        }),
+        Output::Capture(place, pixels) => Record::Capt(NumberedFrame {
+            place,
+            number,
+            pixels,
+        }),
+        Output::Hit(place, layer) => Record::Hits(Hit {
+            place,
+            number,
+            layer,
+        }),
+    }
 }
 
 fn vsync_record_list(alloc: Global, report: VsyncReport) -> Result<Vec<Record>, NoMemory>
@@ -32,7 +57,7 @@ fn vsync_record_list(alloc: Global, report: VsyncReport) -> Result<Vec<Record>, 
         expected,
         timelines,
         commits,
-        frame,
+        shown,
     } = report;
     let mut records = Vec::new(alloc);
     records.push(Record::Vsyn(VsyncHeader {
@@ -46,8 +71,8 @@ fn vsync_record_list(alloc: Global, report: VsyncReport) -> Result<Vec<Record>, 
         .map(Record::Comm)
         .collect(alloc)?;
     records.append(&mut commit_records)?;
-    if let Some(pixels) = frame {
-        records.push(Record::Fram(Frame { number, pixels }))?;
+    for output in shown.into_vec() {
+        records.push(output_record(number, output))?;
     }
     Ok(records)
 }

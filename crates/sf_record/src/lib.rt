@@ -7,10 +7,10 @@ mod event;
 mod laws;
 mod record;
 
-pub use encode::{RunFault, write_all, write_frame, write_record};
+pub use encode::{RunFault, write_all, write_image, write_record};
 pub use event::{Event, VsyncReport, records};
 pub use laws::{bytes_determine_records, records_are_read_back};
 pub use record::{
-    ArrivalEntry, Commit, CommittedBuffer, Frame, HeldEntry, HistoryEntry, QueueHistory, Record,
-    Reply, SceneHeader, StuckEntry, Summary, TimelineValue, VsyncHeader,
+    ArrivalEntry, Commit, CommittedBuffer, Frame, HeldEntry, HistoryEntry, Hit, NumberedFrame,
+    QueueHistory, Record, Reply, SceneHeader, StuckEntry, Summary, TimelineValue, VsyncHeader,
 };

@@ -77,6 +77,23 @@ pub struct Frame {
     pub pixels: Items<u8>,
 }
 
+/// A frame of a further display, or a capture: its number, that of its vsync, and its pixels.
+#[derive(Drop)]
+pub struct NumberedFrame {
+    pub place: u32,
+    pub number: u32,
+    pub pixels: Items<u8>,
+}
+
+/// What a hit test tells in a vsync: its number, that of the vsync, and that of the layer in front, 0
+/// for none.
+#[derive(Clone, Copy)]
+pub struct Hit {
+    pub place: u32,
+    pub number: u32,
+    pub layer: u32,
+}
+
 /// What a run shows of an arrival.
 #[derive(Clone, Copy)]
 pub struct ArrivalEntry {
@@ -153,12 +170,18 @@ pub enum Record {
     Scen(SceneHeader),
     /// The reply to a step.
     Repl(Reply),
-    /// A vsync that commits something; the records of its commits and of its frame follow.
+    /// A vsync that commits something; the records of its commits and of what it shows follow.
     Vsyn(VsyncHeader),
     /// The commit of a transaction.
     Comm(Commit),
     /// A frame.
     Fram(Frame),
+    /// A frame of a further display.
+    Frad(NumberedFrame),
+    /// A capture.
+    Capt(NumberedFrame),
+    /// A hit test.
+    Hits(Hit),
     /// All arrivals, in order.
     Arrv(Items<ArrivalEntry>),
     /// The calls on a queue; one such record a queue, by rising number.

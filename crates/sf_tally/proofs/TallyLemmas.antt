@@ -99,6 +99,9 @@ added s (rec.Repl _) = record s { replies = bump s.replies 1 }
 added s (rec.Vsyn _) = record s { vsyncs = bump s.vsyncs 1 }
 added s (rec.Comm c) = record s { commits = bump s.commits 1; rejected = bump s.rejected (if c.result == 0 then 0 else 1) }
 added s (rec.Fram f) = record s { frames = bump s.frames 1; pixel_sum = added_up s.pixel_sum f.pixels }
+added s (rec.Frad f) = record s { frames = bump s.frames 1; pixel_sum = added_up s.pixel_sum f.pixels }
+added s (rec.Capt _) = s
+added s (rec.Hits _) = s
 added s (rec.Arrv _) = s
 added s (rec.Hist _) = s
 added s (rec.Hold entries) = record s { held = bump s.held (length entries) }
@@ -129,6 +132,17 @@ one_after s (rec.Fram f) h =
     ∙ ap (λ (n : ℕ). after (record (start t) { pixels = n }) f.pixels) end
     ∙ pixels_after (record (start t) { pixels = length f.pixels }) f.pixels refl (omega arith)
     ∙ ap (λ (n : ℕ). record (start (record t { pixel_sum = added_up t.pixel_sum f.pixels })) { pixels = n }) none
+one_after s (rec.Frad f) h =
+    let body = body_of (rec.Frad f) in
+    let t = record s { frames = bump s.frames 1 } in
+    let end : length body - 8 ≡ length f.pixels = omega arith in
+    let none : length f.pixels - length f.pixels ≡ 0 = omega arith in
+    head_after 70 82 65 68 (length body) s body h.body
+    ∙ ap (λ (n : ℕ). after (record (start t) { pixels = n }) f.pixels) end
+    ∙ pixels_after (record (start t) { pixels = length f.pixels }) f.pixels refl (omega arith)
+    ∙ ap (λ (n : ℕ). record (start (record t { pixel_sum = added_up t.pixel_sum f.pixels })) { pixels = n }) none
+one_after s (rec.Capt x) h = head_alone 67 65 80 84 s s (body_of (rec.Capt x)) h.body refl
+one_after s (rec.Hits x) h = head_alone 72 73 84 83 s s (body_of (rec.Hits x)) h.body refl
 one_after s (rec.Arrv x) h = head_alone 65 82 82 86 s s (body_of (rec.Arrv x)) h.body refl
 one_after s (rec.Hist x) h = head_alone 72 73 83 84 s s (body_of (rec.Hist x)) h.body refl
 one_after s (rec.Hold x) h =
@@ -204,6 +218,9 @@ added_is x (rec.Repl _) = alike _ _ (bump_mod _ _) (keeps _) (keeps _) (keeps _)
 added_is x (rec.Vsyn _) = alike _ _ (keeps _) (bump_mod _ _) (keeps _) (keeps _) (keeps _) (keeps _) (keeps _) (keeps _)
 added_is x (rec.Comm _) = alike _ _ (keeps _) (keeps _) (bump_mod _ _) (bump_mod _ _) (keeps _) (keeps _) (keeps _) (keeps _)
 added_is x (rec.Fram f) = alike _ _ (keeps _) (keeps _) (keeps _) (keeps _) (bump_mod _ _) (sum_mod _ f.pixels) (keeps _) (keeps _)
+added_is x (rec.Frad f) = alike _ _ (keeps _) (keeps _) (keeps _) (keeps _) (bump_mod _ _) (sum_mod _ f.pixels) (keeps _) (keeps _)
+added_is x (rec.Capt _) = unchanged x
+added_is x (rec.Hits _) = unchanged x
 added_is x (rec.Arrv _) = unchanged x
 added_is x (rec.Hist _) = unchanged x
 added_is x (rec.Hold _) = alike _ _ (keeps _) (keeps _) (keeps _) (keeps _) (keeps _) (keeps _) (bump_mod _ _) (keeps _)

@@ -21,15 +21,17 @@ counted tag length s =
     if tag == 1448302926 then record s { vsyncs = bump s.vsyncs 1 } else
     if tag == 1129270605 then record s { commits = bump s.commits 1 } else
     if tag == 1179795789 then record s { frames = bump s.frames 1 } else
+    if tag == 1179795780 then record s { frames = bump s.frames 1 } else
     if tag == 1213156420 then record s { held = bump s.held ((length - 4) / 24) } else
     if tag == 1398035787 then record s { stuck = bump s.stuck ((length - 4) / 8) } else s
 
--- behind the head: the result of COMM is in the bytes 8 to 11 of its body, the pixels of FRAM begin at 4
+-- behind the head: the result of COMM is in the bytes 8 to 11 of its body, the pixels of FRAM begin at 4, those of FRAD at 8
 abbrev pub begun : ℕ → ℕ → Summary → Progress
 begun tag length s =
     let counted = start (counted tag length s) in
     if tag == 1129270605 then record counted { skip = 8; result = 4; tail = length - 12 } else
-    if tag == 1179795789 then record counted { skip = 4; pixels = length - 4 } else record counted { tail = length }
+    if tag == 1179795789 then record counted { skip = 4; pixels = length - 4 } else
+    if tag == 1179795780 then record counted { skip = 8; pixels = length - 8 } else record counted { tail = length }
 
 -- a byte of the head
 abbrev pub headed : Progress → ℕ → Progress

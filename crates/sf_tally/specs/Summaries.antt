@@ -28,10 +28,12 @@ rejected _ = 0
 
 abbrev pub frames : Record → ℕ
 frames (rec.Fram _) = 1
+frames (rec.Frad _) = 1
 frames _ = 0
 
 abbrev pub pixel_sum : Record → ℕ
 pixel_sum (rec.Fram f) = sum f.pixels
+pixel_sum (rec.Frad f) = sum f.pixels
 pixel_sum _ = 0
 
 abbrev pub held : Record → ℕ

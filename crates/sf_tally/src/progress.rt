@@ -12,6 +12,8 @@ const COMM: u32 = 0x434f_4d4d;
 
 const FRAM: u32 = 0x4652_414d;
 
+const FRAD: u32 = 0x4652_4144;
+
 const HOLD: u32 = 0x484f_4c44;
 
 const STUK: u32 = 0x5354_554b;
@@ -81,7 +83,7 @@ fn with_record(tag: u32, length: u32, summary: Summary) -> Summary
             commits: sum_of(summary.commits, 1),
             ..summary
         }
-    } else if tag == FRAM {
+    } else if tag == FRAM || tag == FRAD {
         Summary {
             frames: sum_of(summary.frames, 1),
             ..summary
@@ -117,6 +119,12 @@ fn behind_head(tag: u32, length: u32, summary: Summary) -> Progress
         Progress {
             skip: 4,
             pixels: length.saturating_sub(4),
+            ..counted
+        }
+    } else if tag == FRAD {
+        Progress {
+            skip: 8,
+            pixels: length.saturating_sub(8),
             ..counted
         }
     } else {
