@@ -25,19 +25,18 @@ use Rattle.sf_steps.specs.Playable.{MayPlay}
 use Rattle.sf_steps.specs.declared.actor.Actor.{Actor}
 use Rattle.sf_cast.specs.Casts.{IsCast, KeepAs, Opens, numbers_of, scripts_of}
 use Rattle.sf_cast.specs.Opening.{OpensActors, OpensQueues, new_actors}
-use Rattle.sf_cast.specs.Scripts.{AreOfScene, are_playable, permits_of}
+use Rattle.sf_cast.specs.Scripts.{AreOfScene, permits_of}
 use Rattle.sf_cast.proofs.OpeningLemmas.{KnowsNone, news_keep, news_scripts, none_called}
 use Rattle.sf_cast.proofs.PlayingLemmas.{has_opened, may_play}
 use Rattle.sf_cast.proofs.RisingLemmas.{sorted_rises}
 use Rattle.sf_cast.proofs.SteppingLemmas.{kept_as}
 
-scene_plays : (queues : List QueueDecl) (pictures : List Picture) (scripts : List ActorScript) (home : DeskHome) → AreOfScene queues pictures scripts → are_playable scripts ≡ true
+scene_plays : (queues : List QueueDecl) (pictures : List Picture) (scripts : List ActorScript) (home : DeskHome) → AreOfScene queues pictures scripts
     → ((n : ℕ) → has_queue queues n ≡ true → has_mark home n ≡ true) → ((n : ℕ) → home.serves n ≡ true) → All (MayPlay home pictures) scripts
-scene_plays queues pictures scripts home is playable has serves =
+scene_plays queues pictures scripts home is has serves =
     subst (λ (ps : List Picture). All (MayPlay home ps) scripts) is.pictures_of
     (subst (λ (ss : List ActorScript). All (MayPlay home is.scene.pictures) ss) is.scripts_of
-    (may_play is.scene home is.limits (subst (λ (ss : List ActorScript). are_playable ss ≡ true) (sym is.scripts_of) playable)
-    (λ n known. has n (subst (λ (qs : List QueueDecl). has_queue qs n ≡ true) is.queues_of known)) serves))
+    (may_play is.scene home is.limits (λ n known. has n (subst (λ (qs : List QueueDecl). has_queue qs n ≡ true) is.queues_of known)) serves))
 
 pub enough_for : (scripts vec : List ActorScript) (stock : List ℕ) → vec ≡ scripts → stock ≡ range 0 (permits_of scripts) → permits_of vec ≤ length stock
 enough_for scripts vec stock same whole =
@@ -48,7 +47,7 @@ enough_for scripts vec stock same whole =
 
 module _ {B : Type 0} where
   module _ (table : TableId) (queues : List QueueDecl) (pictures : List Picture) (scripts : List ActorScript) (stock : List ℕ) (actors : List (Actor B)) (objects : List (ObjectOf B)) (desk : PlainOf B)
-      (scene : AreOfScene queues pictures scripts) (playable : are_playable scripts ≡ true) (whole : stock ≡ range 0 (permits_of scripts))
+      (scene : AreOfScene queues pictures scripts) (whole : stock ≡ range 0 (permits_of scripts))
       (opened : OpensActors table scripts stock actors) (queued : OpensQueues queues objects) (own : desk.queues ≡ objects) (none : desk.arrivals ≡ []) where
     has : (n : ℕ) → has_queue queues n ≡ true → has_mark (home_of desk) n ≡ true
     has n known = subst (λ (os : List (ObjectOf B)). has_mark (home_of (record desk { queues = os })) n ≡ true) (sym (own ∙ queued.opened)) (has_opened B queues queued.declared n queued.sorted.permutation known)
@@ -79,7 +78,7 @@ module _ {B : Type 0} where
           (subst (λ (ss : List ActorScript). All (λ (script : ActorScript). 1 ≤ script.number) ss) scene.scripts_of
           (All-weaker (IsActorOf (most_actors scene.scene.version)) (λ (script : ActorScript). 1 ≤ script.number) (λ script is. is.low) scene.scene.actors scene.limits.actors.each)));
       plays = subst (λ (ss : List ActorScript). All (MayPlay (home_of desk) pictures) ss) (sym same)
-          (All-permutation (MayPlay (home_of desk) pictures) scripts opened.declared opened.sorted.permutation (scene_plays queues pictures scripts (home_of desk) scene playable has (λ n. refl)));
+          (All-permutation (MayPlay (home_of desk) pictures) scripts opened.declared opened.sorted.permutation (scene_plays queues pictures scripts (home_of desk) scene has (λ n. refl)));
       kept = λ unspent. kept_as table (picture_at pictures) (home_of desk) (view_of desk) (view_of desk) actors _ keep;
     }
 

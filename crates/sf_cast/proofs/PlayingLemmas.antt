@@ -6,7 +6,6 @@ use Rattle.std.specs.List.Sorted.{IsPermutation}
 use Rattle.std.proofs.lemmas.Bool.{eqb-true, false≢true}
 use Rattle.std.proofs.lemmas.List.Elements.{All-head, All-tail}
 use Rattle.std.proofs.lemmas.List.Sorted.{list_any-IsPermutation}
-use Rattle.std.proofs.lemmas.List.Sums.{AllPass-from_list_all}
 use Rattle.sf_layer.specs.Ranges.{IsInRange}
 use Rattle.sf_scene.specs.Limits.{IsWithinLimits}
 use Rattle.sf_scene.specs.Named.{queue_named, timelines_named}
@@ -24,60 +23,59 @@ use Rattle.sf_actor.specs.Desks.{has_queue as has_mark}
 use Rattle.sf_actor.specs.Scripts.{op_of}
 use Rattle.sf_steps.specs.Playable.{IsTaken, MayPlay}
 use Rattle.sf_cast.specs.Opening.{new_queue}
-use Rattle.sf_cast.specs.Scripts.{are_playable, are_taken, is_taken}
 
 -- a change that a scene allows is one that layers take
-taken_change : (number layer : ℕ) (c : Change) → IsChange c → is_taken (step.Set number layer c) ≡ true → IsInRange (op_of c)
-taken_change number layer (change.CreateContainer above) is taken = tt
-taken_change number layer (change.CreateColour above) is taken = tt
-taken_change number layer (change.CreateBuffer above) is taken = tt
-taken_change number layer change.Destroy is taken = tt
-taken_change number layer (change.Reparent above) is taken = tt
-taken_change number layer (change.Z z) is taken = tt
-taken_change number layer (change.Relative other z) is taken = tt
-taken_change number layer (change.Position x y) is taken = (record { low = is.0.low; high = is.0.high }, record { low = is.1.low; high = is.1.high })
-taken_change number layer (change.Crop x y width height) is taken = record {
+taken_change : (c : Change) → IsChange c → IsInRange (op_of c)
+taken_change (change.CreateContainer above) is = tt
+taken_change (change.CreateColour above) is = tt
+taken_change (change.CreateBuffer above) is = tt
+taken_change change.Destroy is = tt
+taken_change (change.Reparent above) is = tt
+taken_change (change.Z z) is = tt
+taken_change (change.Relative other z) is = tt
+taken_change (change.Position x y) is = (record { low = is.0.low; high = is.0.high }, record { low = is.1.low; high = is.1.high })
+taken_change (change.Crop x y width height) is = record {
   left = record { low = is.0.low; high = is.0.high };
   top = record { low = is.1.low; high = is.1.high };
   width = is.2.high;
   height = is.3.high;
 }
-taken_change number layer change.CropNone is taken = tt
-taken_change number layer (change.Alpha alpha) is taken = tt
-taken_change number layer (change.Hidden on) is taken = tt
-taken_change number layer (change.Opaque on) is taken = tt
-taken_change number layer (change.Colour colour) is taken = tt
-taken_change number layer (change.Backpressure on) is taken = tt
-taken_change number layer (change.Orient orientation) is taken = is
+taken_change change.CropNone is = tt
+taken_change (change.Alpha alpha) is = tt
+taken_change (change.Hidden on) is = tt
+taken_change (change.Opaque on) is = tt
+taken_change (change.Colour colour) is = tt
+taken_change (change.Backpressure on) is = tt
+taken_change (change.Orient orientation) is = is
 
-taken_step : (s : Step) → IsStep s → is_taken s ≡ true → IsTaken s
-taken_step (step.Connect queue) is taken = tt
-taken_step (step.Disconnect queue) is taken = tt
-taken_step (step.MaxDequeued queue n) is taken = tt
-taken_step (step.Async queue on) is taken = tt
-taken_step (step.Dequeue queue name size) is taken = tt
-taken_step (step.DequeueWait queue name size) is taken = tt
-taken_step (step.Request name) is taken = tt
-taken_step (step.Draw name picture) is taken = tt
-taken_step (step.Queue name picture time crop points) is taken = tt
-taken_step (step.Cancel name points) is taken = tt
-taken_step (step.PDetach from to) is taken = tt
-taken_step (step.PAttach queue from to) is taken = tt
-taken_step (step.MaxAcquired queue n) is taken = tt
-taken_step (step.Abandon queue) is taken = tt
-taken_step (step.Acquire queue name at) is taken = tt
-taken_step (step.Release name points) is taken = tt
-taken_step (step.CDetach from to) is taken = tt
-taken_step (step.CAttach queue from to) is taken = tt
-taken_step (step.Signal timeline value) is taken = tt
-taken_step (step.Wait timeline value) is taken = tt
-taken_step (step.Tx number) is taken = tt
-taken_step (step.Desire number time) is taken = tt
-taken_step (step.Buffer number layer name) is taken = tt
-taken_step (step.Barrier number layer frame) is taken = tt
-taken_step (step.Merge number other) is taken = tt
-taken_step (step.Apply number token) is taken = tt
-taken_step (step.Set number layer c) is taken = let low = is.1.low in (omega (arith, low), taken_change number layer c is.2 taken)
+taken_step : (s : Step) → IsStep s → IsTaken s
+taken_step (step.Connect queue) is = tt
+taken_step (step.Disconnect queue) is = tt
+taken_step (step.MaxDequeued queue n) is = tt
+taken_step (step.Async queue on) is = tt
+taken_step (step.Dequeue queue name size) is = tt
+taken_step (step.DequeueWait queue name size) is = tt
+taken_step (step.Request name) is = tt
+taken_step (step.Draw name picture) is = tt
+taken_step (step.Queue name picture time crop points) is = tt
+taken_step (step.Cancel name points) is = tt
+taken_step (step.PDetach from to) is = tt
+taken_step (step.PAttach queue from to) is = tt
+taken_step (step.MaxAcquired queue n) is = tt
+taken_step (step.Abandon queue) is = tt
+taken_step (step.Acquire queue name at) is = tt
+taken_step (step.Release name points) is = tt
+taken_step (step.CDetach from to) is = tt
+taken_step (step.CAttach queue from to) is = tt
+taken_step (step.Signal timeline value) is = tt
+taken_step (step.Wait timeline value) is = tt
+taken_step (step.Tx number) is = tt
+taken_step (step.Desire number time) is = tt
+taken_step (step.Buffer number layer name) is = tt
+taken_step (step.Barrier number layer frame) is = tt
+taken_step (step.Merge number other) is = tt
+taken_step (step.Apply number token) is = tt
+taken_step (step.Set number layer c) is = let low = is.1.low in (omega (arith, low), taken_change c is.2)
 
 -- a declared timeline has a right number
 timeline_is : (timelines : List ℕ) (number : ℕ) → All IsTimeline timelines → has_timeline timelines number ≡ true → (1 ≤ number) × (number ≤ 64)
@@ -93,18 +91,17 @@ if_some None P Q more is = tt
 if_some (Some n) P Q more is = more n is
 
 -- the scripts of a scene may play over a desk that has its queues and serves everybody
-pub may_play : (scene : SceneValue) (home : DeskHome) → IsWithinLimits scene → are_playable scene.actors ≡ true → ((n : ℕ) → has_queue scene.queues n ≡ true → has_mark home n ≡ true)
+pub may_play : (scene : SceneValue) (home : DeskHome) → IsWithinLimits scene → ((n : ℕ) → has_queue scene.queues n ≡ true → has_mark home n ≡ true)
     → ((n : ℕ) → home.serves n ≡ true) → All (MayPlay home scene.pictures) scene.actors
-may_play scene home limits taken has serves = λ k d below.
+may_play scene home limits has serves = λ k d below.
     let script = get_or scene.actors k d in
     let is = limits.actors.each k d below in
     let few = is.few_steps in
-    let each = AllPass-from_list_all is_taken script.steps (AllPass-from_list_all are_taken scene.actors taken k d below) in
     record {
       served = serves script.number;
       playable = λ j e under. record {
         ranges = is.steps j e under;
-        taken = taken_step (get_or script.steps j e) (is.steps j e under) (each j e under);
+        taken = taken_step (get_or script.steps j e) (is.steps j e under);
         queue = if_some (queue_named (get_or script.steps j e)) (λ number. has_queue scene.queues number ≡ true) (λ number. has_mark home number ≡ true) has (limits.known_queues k d below j e under);
         timelines = λ i f down. timeline_is scene.timelines (get_or (timelines_named (get_or script.steps j e)) i f) limits.timelines.each (limits.known_timelines k d below j e under i f down);
       };

@@ -73,7 +73,7 @@ impl<B: TableName> Cast<B> {
     ghost use Rattle.sf_steps.specs.declared.actor.Actor.{Actor as ActorIn};
     ghost use Rattle.sf_cast.specs.Casts.{IsCast, IsSameCast, KeepAs, Opens, StepsAt, number_of};
     ghost use Rattle.sf_cast.specs.Compositing.{OnlyDesk, Takes};
-    ghost use Rattle.sf_cast.specs.Scripts.{AreOfScene, are_playable, permits_of};
+    ghost use Rattle.sf_cast.specs.Scripts.{AreOfScene, permits_of};
 
     /// The actors of a scene, which have done nothing, over its queues, which have no calls. It takes
     /// the seat and the whole stock of the turns, with a permit for each dequeue.
@@ -86,7 +86,6 @@ impl<B: TableName> Cast<B> {
         stock: Stock<Painted>,
     ) -> Result<Cast<B>, NoMemory>
         requires scene { AreOfScene queues.now pictures scripts }
-        requires playable { are_playable scripts ≡ true }
         requires own { (seat.table ≡ B.table) × (stock.table ≡ B.table) }
         requires first { (seat.is_first ≡ true) × (seat.out ≡ 0) }
         requires whole { stock.buffers ≡ range 0 (permits_of scripts) }

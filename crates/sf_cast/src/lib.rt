@@ -7,8 +7,6 @@ mod cast;
 mod compositing;
 mod open;
 mod permits;
-mod playable;
 
 pub use cast::Cast;
 pub use permits::permits_for;
-pub use playable::is_playable;

@@ -4,7 +4,6 @@ use Rattle.std.specs.Prelude.{codes, ◌||◌}
 use Rattle.std.specs.List.{list_any}
 use Rattle.std.specs.Fmt.{decimal}
 use Rattle.sf_words.specs.Text.{Text}
-use Rattle.sf_load.specs.Turning.{all_turn_none, turns_none}
 use Rattle.sf_words.specs.Reading.{end_at}
 use Rattle.sf_scene.specs.Scene.{has_actor, last_of, steps_so_far}
 use Rattle.sf_scene.specs.declared.step.ActorScript.{ActorScript}
@@ -21,7 +20,7 @@ use Rattle.sf_load.specs.Ready.{Between, Comes, Leads, Ready, numbers_of}
 use Rattle.sf_load.proofs.FrameLemmas.{all_frames, no_lines_pass}
 use Rattle.sf_load.proofs.PassLemmas.{both_pass, line_passes}
 use Rattle.sf_load.proofs.ReadLemmas.{number_read}
-use Rattle.sf_load.proofs.ReadyLemmas.{and_both, and_first, and_second, more}
+use Rattle.sf_load.proofs.ReadyLemmas.{more}
 use Rattle.sf_load.proofs.StepLemmas.{alpha_leads, apply_leads, async_leads, connect_leads, create_leads, maxdequeued_leads, position_leads, tx_leads, z_leads}
 use Rattle.sf_load.proofs.WordLemmas.{first, number_end, numbered_plain}
 
@@ -53,12 +52,6 @@ actor_formed d numbers a b l h fresh =
     let lacks : has_actor d.scene.actors a ≡ false = has_in d.scene.actors a ∙ ap (list_any (λ m. m == a)) b.actors ∙ fresh in
     rw (b.version, number_read 1 16 a [] l (omega arith) (omega arith), lacks) refl
 
-still_more : (actors : List ActorScript) (a : ℕ) → all_turn_none actors ≡ true → all_turn_none (actors ++ record { number = a; steps = [] } ∷ []) ≡ true
-still_more [] a e = refl
-still_more (x ∷ xs) a e =
-    and_both (turns_none x) (all_turn_none (xs ++ record { number = a; steps = [] } ∷ [])) (and_first (turns_none x) (all_turn_none xs) e)
-    (still_more xs a (and_second (turns_none x) (all_turn_none xs) e))
-
 actor_ready : (d : DraftValue) (numbers : List ℕ) (a : ℕ) → Between d numbers → Ready (draft_after d (line.Actor a)) [] 0
 actor_ready d numbers a b = record {
   version = b.version;
@@ -68,7 +61,6 @@ actor_ready d numbers a b = record {
   counted = ap steps_so_far (last_more d.scene.actors (record { number = a; steps = [] }));
   rank = refl;
   named = refl;
-  still = still_more d.scene.actors a b.still;
 }
 
 actor_passes : (d : DraftValue) (numbers : List ℕ) (a : ℕ) → Between d numbers → 1 ≤ a → a ≤ 4 → list_any (λ m. m == a) numbers ≡ false → Passes (numbered_line (codes "actor ") a [] ∷ []) d (draft_after d (line.Actor a))
@@ -115,7 +107,6 @@ producer_comes d numbers a x n b m la ha fresh =
         queues = steps.ready.queues;
         pictures = steps.ready.pictures;
         actors = steps.kept ∙ numbers_more d.scene.actors (record { number = a; steps = [] }) ∙ ap (λ ns. ns ++ a ∷ []) b.actors;
-        still = steps.ready.still;
         follows = rw (steps.ready.rank) refl;
       };
     }

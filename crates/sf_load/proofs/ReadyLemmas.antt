@@ -1,11 +1,9 @@
 -- Steps behind steps.
-use Rattle.std.proofs.Common.{◌≡◌, ℕ, ◌<◌, ◌++◌, true, false, Bool, List, [], ◌∷◌, suc, Some, Ok, refl, ap, ◌∙◌, arith}
-use Rattle.std.specs.Prelude.{◌&&◌, nat_lt, option_to_list}
-use Rattle.std.specs.List.{list_all}
+use Rattle.std.proofs.Common.{◌≡◌, ℕ, ◌<◌, ◌++◌, true, false, List, [], ◌∷◌, suc, Some, Ok, refl, ap, ◌∙◌, arith}
+use Rattle.std.specs.Prelude.{nat_lt, option_to_list}
 use Rattle.std.proofs.lemmas.Bool.Decides.{nat_tests}
 use Rattle.std.proofs.lemmas.List.{length-append}
 use Rattle.sf_words.specs.Text.{Text, words_of}
-use Rattle.sf_load.specs.Turning.{all_turn_none, is_still, turns_none}
 use Rattle.sf_scene.specs.Scene.{last_of, on_last, steps_so_far, with_step}
 use Rattle.sf_scene.specs.declared.step.ActorScript.{ActorScript}
 use Rattle.sf_scene.specs.declared.step.Step.{Step}
@@ -44,32 +42,8 @@ numbers_step [] s = refl
 numbers_step (x ∷ []) s = refl
 numbers_step (x ∷ y ∷ ys) s = ap (λ ns. x.number ∷ ns) (numbers_step (y ∷ ys) s)
 
-pub and_both : (a b : Bool) → a ≡ true → b ≡ true → (a && b) ≡ true
-and_both true b e f = f
-and_both false b e f = absurd (cc)
-
-pub and_first : (a b : Bool) → (a && b) ≡ true → a ≡ true
-and_first true b e = refl
-and_first false b e = e
-
-pub and_second : (a b : Bool) → (a && b) ≡ true → b ≡ true
-and_second true b e = e
-and_second false b e = absurd (cc)
-
-still_steps : (steps : List Step) (s : Step) → list_all is_still steps ≡ true → is_still s ≡ true → list_all is_still (steps ++ s ∷ []) ≡ true
-still_steps [] s e f = and_both (is_still s) true f refl
-still_steps (x ∷ xs) s e f =
-    and_both (is_still x) (list_all is_still (xs ++ s ∷ [])) (and_first (is_still x) (list_all is_still xs) e) (still_steps xs s (and_second (is_still x) (list_all is_still xs) e) f)
-
-still_actors : (actors : List ActorScript) (s : Step) → all_turn_none actors ≡ true → is_still s ≡ true → all_turn_none (with_step actors s) ≡ true
-still_actors [] s e f = refl
-still_actors (x ∷ []) s e f = and_both (turns_none (record x { steps = x.steps ++ s ∷ [] })) true (still_steps x.steps s (and_first (turns_none x) true e) f) refl
-still_actors (x ∷ y ∷ ys) s e f =
-    and_both (turns_none x) (all_turn_none (with_step (y ∷ ys) s)) (and_first (turns_none x) (all_turn_none (y ∷ ys)) e)
-    (still_actors (y ∷ ys) s (and_second (turns_none x) (all_turn_none (y ∷ ys)) e) f)
-
-step_ready : (d : DraftValue) (names : List Text) (k : ℕ) (named : NamedStep) → Ready d names k → is_still named.step ≡ true → Ready (draft_after d (line.Step named)) (names ++ option_to_list named.new_name) (suc k)
-step_ready d names k named r still = record {
+step_ready : (d : DraftValue) (names : List Text) (k : ℕ) (named : NamedStep) → Ready d names k → Ready (draft_after d (line.Step named)) (names ++ option_to_list named.new_name) (suc k)
+step_ready d names k named r = record {
   version = r.version;
   queues = r.queues;
   pictures = r.pictures;
@@ -77,7 +51,6 @@ step_ready d names k named r still = record {
   counted = counted_step d.scene.actors named.step r.actor ∙ ap suc r.counted;
   rank = refl;
   named = ap (λ ns. ns ++ option_to_list named.new_name) r.named;
-  still = still_actors d.scene.actors named.step r.still still;
 }
 
 room : (n k : ℕ) → n ≡ k → k < 4096 → nat_lt n 4096 ≡ true
@@ -85,9 +58,9 @@ room n k e h = grind (arith, nat_tests)
 
 -- the line of a step leads on
 pub step_leads : (d : DraftValue) (names : List Text) (k : ℕ) (t word : Text) (words : List Text) (form : StepForm) (named : NamedStep) → Ready d names k → k < 4096 → IsPlain t → words_of t ≡ word ∷ words →
-    is_skipped (word ∷ words) ≡ false → keyword_of false true word ≡ Some (key.Step form) → step_at d form words ≡ Ok named → is_still named.step ≡ true → Leads ((t ++ 10 ∷ []) ∷ []) d (names ++ option_to_list named.new_name) (suc k)
+    is_skipped (word ∷ words) ≡ false → keyword_of false true word ≡ Some (key.Step form) → step_at d form words ≡ Ok named → Leads ((t ++ 10 ∷ []) ∷ []) d (names ++ option_to_list named.new_name) (suc k)
 unfolding form_at
-step_leads d names k t word words form named r h plain cut begins known formed still = record {
+step_leads d names k t word words form named r h plain cut begins known formed = record {
   after = draft_after d (line.Step named);
   pass = line_passes d t word words (key.Step form) (line.Step named) (record {
     plain = plain;
@@ -98,7 +71,7 @@ step_leads d names k t word words form named r h plain cut begins known formed s
     fits = room (steps_so_far (last_of d.scene.actors)) k r.counted h;
     formed = rw (formed) refl;
   });
-  ready = step_ready d names k named r still;
+  ready = step_ready d names k named r;
   kept = numbers_step d.scene.actors named.step;
 }
 

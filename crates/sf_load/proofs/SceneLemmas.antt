@@ -6,7 +6,6 @@ use Rattle.std.specs.Fmt.{decimal}
 use Rattle.std.proofs.lemmas.Bool.Decides.{nat_tests}
 use Rattle.std.proofs.lemmas.List.{append-nil}
 use Rattle.sf_words.specs.Text.{Text, lines_of as cut_lines}
-use Rattle.sf_load.specs.Turning.{all_turn_none}
 use Rattle.sf_words.specs.Numbers.{decimal_of, digits_after}
 use Rattle.sf_words.specs.Reading.{end_at, number_at, word_at}
 use Rattle.sf_scene.specs.Scene.{SceneValue, has_queue}
@@ -159,7 +158,6 @@ between_painted d k b = record {
   queues = b.queues;
   pictures = λ p l h. has_in d.scene.pictures p ∙ ap (list_any (λ m. m == p)) b.pictures ∙ eight p l h;
   actors = rw (b.actors) refl;
-  still = rw (b.actors) refl;
   follows = actor_follows d.rank b.follows;
 }
 
@@ -196,7 +194,6 @@ record Spelled (text : Text) : Type 0 where
   scene : SceneValue
   spelled : script_of text ≡ Ok scene
   version : scene.version ≡ 1
-  still : all_turn_none scene.actors ≡ true
 
 -- the lines of a number's text spell some scene
 spelled_lines : (number : ℕ) → Spelled (concat (lines_of number))
@@ -213,7 +210,6 @@ spelled_lines number =
     record {
       scene = come.after.scene;
       version = come.between.version;
-      still = come.between.still;
       spelled = ap (λ t. lines_at 1 no_lines (cut_lines t)) (sym (append-nil (concat (((first_lines ++ pictures_from number) ++ producers_from (after_draws number 72) (frames_of number)) ++ plain_line (codes "end") ∷ []))))
           ∙ all.on 1 [] ∙ ended (1 + length (((first_lines ++ pictures_from number) ++ producers_from (after_draws number 72) (frames_of number)) ++ plain_line (codes "end") ∷ [])) come.after;
     }
@@ -229,4 +225,4 @@ parsed_lines text scene h e = if_not (nat_lt 1048576 (length text)) (Err too_lon
 pub text_is_scene : (number : ℕ) → IsScene (concat (lines_of number))
 text_is_scene number =
     let lines = spelled_lines number in
-    record { scene = lines.scene; parsed = parsed_lines (concat (lines_of number)) lines.scene (text_within number) lines.spelled; version = lines.version; still = lines.still }
+    record { scene = lines.scene; parsed = parsed_lines (concat (lines_of number)) lines.scene (text_within number) lines.spelled; version = lines.version }

@@ -4,4 +4,3 @@ pub mod Plain
 pub mod Ready
 pub mod Scenes
 pub mod Sizes
-pub mod Turning

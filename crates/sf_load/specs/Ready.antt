@@ -1,7 +1,6 @@
 -- A draft behind which steps may stand.
 use Rattle.std.specs.Prelude.{◌≡◌, ℕ, ◌≤◌, true, List, Some, map}
 use Rattle.sf_words.specs.Text.{Text}
-use Rattle.sf_load.specs.Turning.{all_turn_none}
 use Rattle.sf_scene.specs.Scene.{has_picture, has_queue, last_of, steps_so_far}
 use Rattle.sf_scene.specs.declared.step.ActorScript.{ActorScript}
 use Rattle.sf_script.specs.Draft.{DraftValue, is_any, may_follow_rank}
@@ -17,7 +16,6 @@ pub record Ready (d : DraftValue) (names : List Text) (steps : ℕ) : Type 0 whe
   pub counted : steps_so_far (last_of d.scene.actors) ≡ steps
   pub rank : d.rank ≡ Some 4
   pub named : d.names ≡ names
-  pub still : all_turn_none d.scene.actors ≡ true
 
 -- the numbers of actors
 abbrev pub numbers_of : List ActorScript → List ℕ
@@ -36,7 +34,6 @@ pub record Between (d : DraftValue) (numbers : List ℕ) : Type 0 where
   pub queues : (q : ℕ) → 1 ≤ q → q ≤ 4 → has_queue d.scene.queues q ≡ true
   pub pictures : (p : ℕ) → 1 ≤ p → p ≤ 8 → has_picture d.scene.pictures p ≡ true
   pub actors : numbers_of d.scene.actors ≡ numbers
-  pub still : all_turn_none d.scene.actors ≡ true
   pub follows : may_follow_rank d.rank key.Actor ≡ true
 
 -- lines that lead from d to such a draft

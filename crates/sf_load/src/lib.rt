@@ -1,4 +1,4 @@
-//! A law of the generated load: whatever its number, its text is the script of a scene that is played.
+//! A law of the generated load: whatever its number, its text is the script of a scene.
 //! So a run of it never ends with a fault of its script.
 #![tactic(auto)]
 
@@ -6,8 +6,7 @@ ghost use Rattle.std.specs.List.{concat};
 ghost use Rattle.sf_generate.specs.Generator.{lines_of};
 ghost use Rattle.sf_load.specs.Scenes.{IsScene};
 
-/// The text of each number is a scene that is played: reading it gives one of version 1 that turns no
-/// layer, and no fault.
+/// The text of each number is a scene: reading it gives one of version 1, and no fault.
 pub fn text_is_scene(number: u64)
     ensures { IsScene (concat (lines_of number)) }
 {}

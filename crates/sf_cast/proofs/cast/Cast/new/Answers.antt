@@ -10,13 +10,13 @@ open_actors-requires-clause-enough g c = enough_for c.args.scripts _ _ c.into_ve
 
 pub invariant_of-result : goal.invariant_of-result
 invariant_of-result g c =
-    cast_is _ c.args.queues.now c.args.pictures c.args.scripts c.args.stock.buffers c.in_ok-actors.actors.items c.in_ok-queues.queues.items c.new-desk.result c.requires.scene c.requires.playable c.requires.whole
+    cast_is _ c.args.queues.now c.args.pictures c.args.scripts c.args.stock.buffers c.in_ok-actors.actors.items c.in_ok-queues.queues.items c.new-desk.result c.requires.scene c.requires.whole
     (subst (λ (scripts : List ActorScript). OpensActors {B = g.row.B.Denot} g.B.TableName.table scripts c.args.stock.buffers c.in_ok-actors.actors.items) c.into_vec.ensures c.in_ok-actors.ensures) c.in_ok-queues.ensures
     (ap (λ (desk : PlainOf g.row.B.Denot). desk.queues) c.new-desk.ensures) (ap (λ (desk : PlainOf g.row.B.Denot). desk.arrivals) c.new-desk.ensures ∙ c.in_ok-new.ensures)
 
 pub returns : goal.returns
 returns g c =
-    cast_opens _ c.args.queues.now c.args.pictures c.args.scripts c.args.stock.buffers c.in_ok-actors.actors.items c.in_ok-queues.queues.items c.new-desk.result c.requires.scene c.requires.playable c.requires.whole
+    cast_opens _ c.args.queues.now c.args.pictures c.args.scripts c.args.stock.buffers c.in_ok-actors.actors.items c.in_ok-queues.queues.items c.new-desk.result c.requires.scene c.requires.whole
     (subst (λ (scripts : List ActorScript). OpensActors {B = g.row.B.Denot} g.B.TableName.table scripts c.args.stock.buffers c.in_ok-actors.actors.items) c.into_vec.ensures c.in_ok-actors.ensures) c.in_ok-queues.ensures
     (ap (λ (desk : PlainOf g.row.B.Denot). desk.queues) c.new-desk.ensures) (ap (λ (desk : PlainOf g.row.B.Denot). desk.arrivals) c.new-desk.ensures ∙ c.in_ok-new.ensures)
     c.args.seat (ap (λ (desk : PlainOf g.row.B.Denot). desk.times.knows) c.new-desk.ensures ∙ c.in_ok-table.ensures.first) (ap (λ (desk : PlainOf g.row.B.Denot). desk.turns) c.new-desk.ensures)
