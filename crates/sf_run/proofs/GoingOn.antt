@@ -1,6 +1,6 @@
 -- A play that is not over goes on.
 use Rattle.std.proofs.Common.{◌≡◌, ℕ, zero, suc, ◌+◌, ◌*◌, ◌<◌, ◌≤◌, ◌==◌, Bool, true, false, List, [], ◌∷◌, ◌++◌, length, Option, Some, None, refl, sym, ap, ◌∙◌, subst, inl, inr, arith}
-use Rattle.std.specs.Prelude.{◌⊎◌, find, is_none}
+use Rattle.std.specs.Prelude.{◌⊎◌, is_none}
 use Rattle.std.proofs.lemmas.Bool.{cases_Bool, cases_eq, cases_lt, eqb-true, ne_eqb}
 use Rattle.sf_base.specs.declared.fences.Seen.{Seen}
 use Rattle.sf_base.specs.declared.ids.TokenId.{TokenId}
@@ -10,11 +10,10 @@ use Rattle.sf_ready.specs.Facts.{FactsOf}
 use Rattle.sf_commit.specs.Rounds.{Decided, IsNext, Round, committed, facts_of}
 use Rattle.sf_next.specs.Heads.{head_hold, ready_if, ready_of}
 use Rattle.sf_scene.specs.Scene.{SceneValue}
-use Rattle.sf_actor.specs.Names.{FrameOf}
 use Rattle.sf_run.specs.Commits.{is_written}
 use Rattle.sf_run.specs.Plays.{GoesOnTo, GoesOnWith, IsOver, Playing, TakesTurn, is_quiet, with_round}
 use Rattle.sf_run.specs.Runs.{final_values, written_in}
-use Rattle.sf_run.specs.Worlds.{DecidesNow, Turn, World, actor_turn, after_vsync, round_now}
+use Rattle.sf_run.specs.Worlds.{Turn, World, actor_turn, after_vsync, round_now}
 
 module _ {L : Type 0} where
   -- a number above all tokens of which something is pending

@@ -26,10 +26,10 @@ use Rattle.sf_actor.specs.Names.{FrameOf}
 use Rattle.sf_actor.specs.Written.{FrameNumber}
 use Rattle.sf_record.specs.declared.event.VsyncReport.{VsyncReport}
 use Rattle.sf_run.specs.Commits.{is_written}
-use Rattle.sf_run.specs.Frames.{ShowImages, ShowsImage}
+use Rattle.sf_run.specs.Frames.{ShowImages, ShowsImage, shown_after}
 use Rattle.sf_run.specs.Framing.{framed_arrival, framed_on}
 use Rattle.sf_run.specs.Histories.{released_at, released_in}
-use Rattle.sf_run.specs.Progress.{GivesBack, GoesOnBy, ShowsWhatIsWritten, WroteWhatShows, frame_after, released_by}
+use Rattle.sf_run.specs.Progress.{GivesBack, GoesOnBy, ShowsWhatIsWritten, WroteWhatShows, released_by}
 use Rattle.sf_run.specs.Stages.{VsyncAt}
 
 module _ {L E R C : Type 0} (lease : Ghosts L E R C) (P : L → Type 0) (stays : (old new : L) → IsLooked lease old new → P old → P new) where
@@ -112,14 +112,14 @@ releases_go_on told later vsync tree gone goes =
     ∙ (λ i. flat_map released_at told ++ released_by (goes.report i) (goes.goes i))))
 
 pub images_go_on : (scene : SceneValue) (told later : List VsyncAt) (vsync : VsyncReport) (tree : TreeOf) (gone : List (OnLayer FrameOf)) → GoesOnBy told later vsync tree gone
-    → ShowImages scene told → vsync.frame ≡ frame_after scene vsync.commits tree → ShowImages scene later
+    → ShowImages scene told → vsync.shown ≡ shown_after scene vsync.commits tree → ShowImages scene later
 images_go_on scene told later vsync tree gone goes images shows =
     subst (All (ShowsImage scene)) (sym goes.joined) (All-append (ShowsImage scene) told (goes.at ∷ []) images (All-cons (ShowsImage scene) goes.at [] here (All-nil (ShowsImage scene))))
   where
     here : ShowsImage scene goes.at
     here =
-        ap (λ (v : VsyncReport). v.frame) goes.report
-        ∙ (shows ∙ (λ i. frame_after scene (sym goes.report i).commits (sym goes.leaves i)))
+        ap (λ (v : VsyncReport). v.shown) goes.report
+        ∙ (shows ∙ (λ i. shown_after scene (sym goes.report i).commits (sym goes.leaves i)))
 
 pub plain_frame : (a b : ReadLeaseOf) → plain_lease a ≡ plain_lease b → frame_of a ≡ frame_of b
 plain_frame a b same =

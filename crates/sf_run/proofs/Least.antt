@@ -15,7 +15,9 @@ use Rattle.sf_tree.specs.DrawOrder.{draw_order}
 use Rattle.sf_tree.specs.Showing.{shows}
 use Rattle.sf_txn.specs.Transactions.{Contents}
 use Rattle.sf_view.specs.Ancestry.{ancestry}
-use Rattle.sf_view.specs.Image.{drawn_in, image, image_in}
+use Rattle.sf_view.specs.Image.{drawn_in, image_in}
+use Rattle.sf_shown.specs.Copies.{written}
+use Rattle.sf_shown.specs.Displays.{stack_on}
 use Rattle.sf_compose.specs.Frames.{frame_bytes, row_bytes}
 use Rattle.sf_ready.specs.Holds.{hold_of}
 use Rattle.sf_token.specs.Pending.{Arrival}
@@ -47,7 +49,7 @@ use Rattle.sf_record.specs.Records.{body_of, list_bytes, u32_bytes, u64_bytes}
 use Rattle.sf_run.specs.Arrivals.{ArriveInOrder, number_of}
 use Rattle.sf_run.specs.Buffers.{IsAsQueued}
 use Rattle.sf_run.specs.Commits.{CommitInOrder, CommitsReady, IsPrefix, SaysResults, WasReady, arrival_of, arrived_of, committed_of}
-use Rattle.sf_run.specs.Frames.{ShowImages, ShowsImage, frame_due, frame_of_layers}
+use Rattle.sf_run.specs.Frames.{ShowImages, ShowsImage, frame_of, plan_of, shown_after, shown_due}
 use Rattle.sf_run.specs.Histories.{AreHistories, IsHistory, Released, released_in, rising_queues}
 use Rattle.sf_run.specs.Holds.{AreHeld, EndOf, uncommitted}
 use Rattle.sf_run.specs.Least.{least_commit, least_events, least_records, least_scene, least_script, least_shows, least_vsync}
@@ -266,8 +268,8 @@ no_histories : (released : List Released) → AreHistories least_scene run relea
 unfolding rising_queues
 no_histories released = record { shown = refl; of_each = All-nil (IsHistory least_scene run released) }
 
-frame_shown : least_vsync.frame ≡ frame_due least_scene told_one
-unfolding frame_of_layers frame_bytes row_bytes image image_in drawn_in ancestry draw_order shows painted blended product
+frame_shown : least_vsync.shown ≡ shown_after least_scene told_one.vsync.commits told_one.round.stage.tree
+unfolding shown_due plan_of written frame_of frame_bytes row_bytes image_in drawn_in stack_on ancestry draw_order shows painted blended product
 frame_shown = refl
 
 not_stuck : AreStuck least_scene run []

@@ -9,6 +9,7 @@ pub mod Desking
 pub mod EndLemmas
 pub mod Ending
 pub mod Fitting
+pub mod FrameLemmas
 pub mod FramingLemmas
 pub mod Freedom
 pub mod Going
@@ -18,6 +19,7 @@ pub mod Keeping
 pub mod KeepingLemmas
 pub mod LeaseLemmas
 pub mod Least
+pub mod LimitLemmas
 pub mod Members
 pub mod NextStep
 pub mod OrderLemmas

@@ -1,8 +1,8 @@
 -- A step that an actor does over an exact desk is one step more of the run that is told.
-use Rattle.std.proofs.Common.{◌≡◌, ◌≢◌, ℕ, zero, suc, ◌+◌, ◌<◌, ◌≤◌, ◌==◌, Bool, true, false, ◌||◌, List, [], ◌∷◌, ◌++◌, length, set, map, filter, Option, Some, None, refl, sym, ap, ◌∙◌, subst, true≢false, inl, inr, arith}
+use Rattle.std.proofs.Common.{◌≡◌, ◌≢◌, ℕ, zero, suc, ◌+◌, ◌≤◌, ◌==◌, Bool, true, false, ◌||◌, List, [], ◌∷◌, ◌++◌, length, set, map, Option, Some, None, refl, sym, ap, ◌∙◌, subst, true≢false, inl, inr, arith}
 use Rattle.std.specs.Prelude.{◌⊎◌, All, Contains, if◌then◌else◌, slice_get}
 use Rattle.std.specs.List.{find, list_any, range_with_len}
-use Rattle.std.specs.List.Sorted.{IsPermutation, IsStrictlyIncreasing}
+use Rattle.std.specs.List.Sorted.{IsStrictlyIncreasing}
 use Rattle.std.specs.Option.{option_map, option_map_or}
 use Rattle.std.proofs.Math.ListN.{get_or-map}
 use Rattle.std.proofs.lemmas.Bool.{cases_eq, eq-eqb, eqb-true, ne_eqb, or_parts}
@@ -40,8 +40,8 @@ use Rattle.sf_actor.specs.declared.tried.Reply.{Reply as Told}
 use Rattle.sf_actor.specs.declared.done.Answered.TheVariants as answered
 use Rattle.sf_actor.specs.declared.holding.Holding.{Holding}
 use Rattle.sf_actor.specs.declared.holding.Holding.TheVariants as holding
-use Rattle.sf_actor.specs.Desks.{DeskHome, DeskView, KnowsAll, MadeCall, known_of, mark_among}
-use Rattle.sf_actor.specs.Known.{AreAmong, GoesOn, frame_of, is_sent_by, plain_arrival}
+use Rattle.sf_actor.specs.Desks.{DeskHome, DeskView, MadeCall, known_of, mark_among}
+use Rattle.sf_actor.specs.Known.{GoesOn, frame_of, is_sent_by, plain_arrival}
 use Rattle.sf_actor.specs.Names.{FrameOf, Holdings, Lent, Token, name_in}
 use Rattle.sf_actor.specs.Parts.{drawn_picture, token_of}
 use Rattle.sf_actor.specs.Points.{detached_fence, undrawn_fence}
@@ -56,7 +56,7 @@ use Rattle.sf_record.specs.declared.event.VsyncReport.{VsyncReport}
 use Rattle.sf_run.specs.Actors.{AreActors, AreCalls, arrivals_of, mark_declared, number_of, run_of, script_of, told_on, trace_among}
 use Rattle.sf_run.specs.Arrivals.{number_of as number_shown}
 use Rattle.sf_run.specs.Histories.{Released}
-use Rattle.sf_run.specs.Runs.{IsTraced, final_values, signals_in}
+use Rattle.sf_run.specs.Runs.{IsTraced, final_values}
 use Rattle.sf_run.specs.Stepping.{CallsMore, DoesOneMore, DrawsInTime, KnowsRun, RefusesOpen, TellsFirst}
 use Rattle.sf_run.specs.Telling.{AreNumbered, place_of}
 use Rattle.sf_run.specs.Replies.{reply_shown}

@@ -1,6 +1,6 @@
 -- The play of the least scene, computed: its one actor does its four steps by the order, a vsync commits what it sent, and the
 -- second round is quiet.
-use Rattle.std.proofs.Common.{◌≡◌, ℕ, ◌<◌, true, false, List, [], ◌∷◌, ◌++◌, map, Option, Some, None, refl, ap, sym, ◌∙◌, subst, arith}
+use Rattle.std.proofs.Common.{◌≡◌, ℕ, true, false, List, [], ◌∷◌, ◌++◌, Option, Some, None, refl, ap, sym, arith}
 use Rattle.std.specs.Prelude.{◌==◌, if◌then◌else◌}
 use Rattle.std.proofs.lemmas.Bool.{ne_eqb}
 use Rattle.sf_base.specs.Blend.{blended, product}
@@ -11,30 +11,29 @@ use Rattle.sf_tree.specs.Changes.{created}
 use Rattle.sf_tree.specs.DrawOrder.{draw_order}
 use Rattle.sf_tree.specs.Showing.{shows}
 use Rattle.sf_view.specs.Ancestry.{ancestry}
-use Rattle.sf_view.specs.Image.{drawn_in, image, image_in}
+use Rattle.sf_view.specs.Image.{drawn_in, image_in}
+use Rattle.sf_shown.specs.Copies.{written}
+use Rattle.sf_shown.specs.Displays.{stack_on}
 use Rattle.sf_compose.specs.Frames.{frame_bytes, row_bytes}
 use Rattle.sf_ready.specs.Holds.{hold_of}
 use Rattle.sf_token.specs.Pending.{Arrival}
 use Rattle.sf_commit.specs.Rounds.{Round, committed, facts_of}
 use Rattle.sf_next.specs.Heads.{ready_if}
 use Rattle.sf_scene.specs.Scene.{SceneValue}
-use Rattle.sf_actor.specs.declared.done.Done.{Done}
 use Rattle.sf_actor.specs.Names.{FrameOf}
 use Rattle.sf_actor.specs.Steps.{holdings_next}
 use Rattle.sf_actor.specs.Tests.{refusal_of}
 use Rattle.sf_actor.specs.Traces.{past_from, places_from}
-use Rattle.sf_record.specs.declared.event.Event.{Event}
 use Rattle.sf_record.specs.declared.event.Event.TheVariants as event
-use Rattle.sf_record.specs.declared.event.VsyncReport.{VsyncReport}
-use Rattle.sf_run.proofs.Least.{arrivals, arrived, at_end, trace}
+use Rattle.sf_run.proofs.Least.{arrived}
 use Rattle.sf_run.specs.Commits.{is_written}
-use Rattle.sf_run.specs.Frames.{frame_of_layers}
+use Rattle.sf_run.specs.Frames.{frame_of, plan_of, shown_due}
 use Rattle.sf_run.specs.Least.{least_events, least_scene, least_vsync}
-use Rattle.sf_run.specs.Plays.{Comes, GoesOnTo, IsBegun, IsOver, IsPlay, Playing, TakesPick, first_playing, goes, is_quiet, stays, with_round}
+use Rattle.sf_run.specs.Plays.{Comes, IsPlay, Playing, first_playing, goes, is_quiet, stays, with_round}
 use Rattle.sf_run.specs.Runs.{final_values, written_in}
-use Rattle.sf_run.specs.Stages.{arrival_at, bare_round, commits_from, round_after, round_at_end, told_from}
+use Rattle.sf_run.specs.Stages.{arrival_at, commits_from, round_after, round_at_end, told_from}
 use Rattle.sf_run.specs.Vsyncs.{commits_in, rising_timelines}
-use Rattle.sf_run.specs.Worlds.{DecidesNow, Turn, VsyncTurn, World, actor_turn, after_vsync, done_now, first_world, idle, round_now, waits_now, with_calls, with_list}
+use Rattle.sf_run.specs.Worlds.{DecidesNow, Turn, World, actor_turn, after_vsync, done_now, first_world, idle, round_now, waits_now, with_calls}
 
 abbrev pub ordered_scene : SceneValue
 ordered_scene = record least_scene { order = record { actor = 1; times = 4 } ∷ [] }
@@ -62,7 +61,7 @@ end_1 = committed (round_now ordered_scene world_4) arrived
 
 vsync_1 : (after_vsync ordered_scene world_4 end_1).events ≡ (event.Vsync least_vsync ∷ [])
 unfolding actor_turn done_now waits_now with_calls refusal_of past_from places_from holdings_next round_now told_from round_at_end commits_in
-    created frame_of_layers frame_bytes row_bytes image image_in drawn_in ancestry draw_order shows painted blended product no_points rising_timelines
+    created shown_due plan_of written frame_of frame_bytes row_bytes image_in drawn_in stack_on ancestry draw_order shows painted blended product no_points rising_timelines
 vsync_1 = refl
 
 -- nothing waits on a token below it
@@ -164,7 +163,7 @@ comes =
 
 shown : begun_10.events ≡ least_events
 unfolding actor_turn done_now waits_now with_calls refusal_of past_from places_from holdings_next round_now told_from commits_from round_after arrival_at round_at_end commits_in
-    created frame_of_layers frame_bytes row_bytes image image_in drawn_in ancestry draw_order shows painted blended product no_points rising_timelines
+    created shown_due plan_of written frame_of frame_bytes row_bytes image_in drawn_in stack_on ancestry draw_order shows painted blended product no_points rising_timelines
 shown = refl
 
 pub is_play : IsPlay ordered_scene least_events world_6

@@ -1,5 +1,5 @@
 -- What a vsync that commits nothing leaves of a world, and when a round is quiet.
-use Rattle.std.proofs.Common.{◌≡◌, ℕ, ◌+◌, ◌*◌, Bool, true, false, not, ◌&&◌, List, [], ◌∷◌, ◌++◌, length, map, Option, Some, None, refl, ap, sym, ◌∙◌, subst, arith}
+use Rattle.std.proofs.Common.{◌≡◌, ℕ, ◌+◌, ◌*◌, Bool, true, false, not, ◌&&◌, List, [], ◌∷◌, ◌++◌, length, map, refl, ap, sym, ◌∙◌, arith}
 use Rattle.std.specs.Prelude.{◌==◌}
 use Rattle.std.specs.List.{list_all, list_any}
 use Rattle.std.proofs.lemmas.Bool.{eq-eqb, ne_eqb}
@@ -12,7 +12,6 @@ use Rattle.sf_commit.specs.Rounds.{Leads, Round, held}
 use Rattle.sf_commit.specs.declared.vsync.Commit.{Commit as Decided}
 use Rattle.sf_scene.specs.Scene.{SceneValue}
 use Rattle.sf_scene.specs.declared.step.ActorScript.{ActorScript}
-use Rattle.sf_actor.specs.Asking.{Asked}
 use Rattle.sf_actor.specs.Names.{FrameOf}
 use Rattle.sf_record.specs.declared.event.Event.TheVariants as event
 use Rattle.sf_record.specs.declared.event.VsyncReport.{VsyncReport}
@@ -22,7 +21,7 @@ use Rattle.sf_run.specs.Commits.{commit_shown, is_written}
 use Rattle.sf_run.specs.Plays.{is_quiet, waits_for_time}
 use Rattle.sf_run.specs.Progress.{is_time, released_by}
 use Rattle.sf_run.specs.Runs.{final_values, written_in}
-use Rattle.sf_run.specs.Worlds.{IsPlaysVsync, World, after_vsync, release_asked, report_of, reports_if, reports_of, round_now, with_calls}
+use Rattle.sf_run.specs.Worlds.{IsPlaysVsync, World, after_vsync, release_asked, report_of, reports_if, round_now, with_calls}
 
 pub begins_bare : (scene : SceneValue) (world : World) → (round_now scene world).stage.commits ≡ []
 unfolding round_now

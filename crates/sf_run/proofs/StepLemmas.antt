@@ -1,17 +1,17 @@
 -- A step of an actor is the next one of a play: its answer, its calls and its arrivals are those that the world gives.
-use Rattle.std.proofs.Common.{◌≡◌, ◌≢◌, ℕ, zero, suc, ◌+◌, Bool, true, false, cond, List, [], ◌∷◌, ◌++◌, length, map, filter, take, Option, Some, None, refl, ap, sym, ◌∙◌, subst, true≢false, inl, inr, arith}
-use Rattle.std.specs.Prelude.{◌==◌, ◌⊎◌, if◌then◌else◌, reverse, slice_get}
-use Rattle.std.specs.List.{All, AllZip, find, flat_map, list_any}
+use Rattle.std.proofs.Common.{◌≡◌, ℕ, ◌+◌, cond, List, [], ◌∷◌, ◌++◌, length, map, take, Some, refl, ap, sym, ◌∙◌, inl, inr, arith}
+use Rattle.std.specs.Prelude.{◌==◌, ◌⊎◌, slice_get}
+use Rattle.std.specs.List.{All, AllZip, find, flat_map}
 use Rattle.std.specs.Option.{option_map_or}
-use Rattle.std.proofs.lemmas.Bool.{cases_Bool, cases_eq, eq-eqb, eqb-true, ne_eqb}
-use Rattle.std.proofs.lemmas.List.{append-nil, append_assoc, append_cancel_left}
+use Rattle.std.proofs.lemmas.Bool.{cases_eq, eq-eqb, ne_eqb}
+use Rattle.std.proofs.lemmas.List.{append-nil}
 use Rattle.std.proofs.lemmas.List.Concat.{flat_map-append}
-use Rattle.std.proofs.lemmas.List.Elements.{All-append, All-cons, All-head, All-nil, All-tail, filter-append}
+use Rattle.std.proofs.lemmas.List.Elements.{All-head, All-tail}
 use Rattle.sf_slots.specs.Replies.{reply_after}
 use Rattle.sf_slots.specs.Tells.{AreReplies}
 use Rattle.sf_slots.specs.declared.calls.Entry.{Entry}
 use Rattle.sf_slots.specs.declared.calls.PlainReply.TheVariants as reply
-use Rattle.sf_scene.specs.Scene.{SceneValue, has_queue}
+use Rattle.sf_scene.specs.Scene.{SceneValue}
 use Rattle.sf_scene.specs.declared.declarations.QueueDecl.{QueueDecl}
 use Rattle.sf_scene.specs.declared.step.Step.{Step}
 use Rattle.sf_actor.specs.declared.done.Done.{Done}
@@ -19,7 +19,7 @@ use Rattle.sf_actor.specs.Asking.{Asked}
 use Rattle.sf_actor.specs.Makers.{Run}
 use Rattle.sf_actor.specs.Tales.{IsMade, made_on, step_done}
 use Rattle.sf_actor.specs.Traces.{DoneAt, MadeStep, Past, next, no_past, past_after, past_from, places_from, places_of}
-use Rattle.sf_run.specs.Worlds.{asked_by, reply_now, reply_on, with_call, with_calls, with_list}
+use Rattle.sf_run.specs.Worlds.{asked_by, reply_now, reply_on, with_call, with_calls}
 
 -- the places of a trace with one more step
 places-append : (place n : ℕ) (past : Past) (trace : List Done) (done : Done) → n ≡ place + length trace

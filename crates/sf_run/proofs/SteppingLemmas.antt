@@ -1,12 +1,12 @@
 -- An actor's step, put together: a run in which it did one step more is the world after its next turn.
-use Rattle.std.proofs.Common.{◌≡◌, ◌≢◌, ℕ, zero, suc, ◌+◌, ◌-◌, ◌<◌, ◌≤◌, Bool, true, false, cond, List, [], ◌∷◌, ◌++◌, length, map, filter, get_or, max, replicate, take, Option, Some, None, refl, ap, sym, ◌∙◌, subst, true≢false, inl, inr, arith}
-use Rattle.std.specs.Prelude.{◌==◌, ◌⊎◌, ◌&&◌, Contains, is_none, is_some, if◌then◌else◌, nat_lt, reverse, slice_get}
+use Rattle.std.proofs.Common.{◌≡◌, ℕ, zero, suc, ◌+◌, ◌-◌, ◌<◌, ◌≤◌, Bool, true, false, List, [], ◌∷◌, ◌++◌, length, map, filter, get_or, max, replicate, take, Option, Some, None, refl, ap, sym, ◌∙◌, subst, true≢false, inl, inr, arith}
+use Rattle.std.specs.Prelude.{◌==◌, ◌⊎◌, ◌&&◌, Contains, is_none, is_some, if◌then◌else◌, reverse}
 use Rattle.std.specs.List.{All, AllZip, find, flat_map, list_any, range_with_len}
 use Rattle.std.specs.Option.{option_map_or}
-use Rattle.std.proofs.lemmas.Bool.{cases_Bool, cases_eq, eq-eqb, eqb-true, le-leb, le-ltb, ltb-false, ne_eqb}
+use Rattle.std.proofs.lemmas.Bool.{cases_eq, eq-eqb, eqb-true, le-leb, le-ltb, ltb-false, ne_eqb}
 use Rattle.std.proofs.lemmas.List.{append-nil, append_cancel_left, get_or-reverse, length-reverse, length-set, map-append, reverse-append, reverse-reverse}
 use Rattle.std.proofs.lemmas.List.Concat.{flat_map-append}
-use Rattle.std.proofs.lemmas.List.Elements.{All-append, All-cons, All-contains, All-filter, All-head, All-nil, All-tail, All-weaker, filter-append}
+use Rattle.std.proofs.lemmas.List.Elements.{All-append, All-cons, All-filter, All-head, All-nil, All-tail, All-weaker, filter-append}
 use Rattle.std.proofs.lemmas.List.Folds.{list_any_none}
 use Rattle.std.proofs.lemmas.Option.{none-some}
 use Rattle.sf_base.specs.Fences.{IsSignalled, first_open_of, no_points, open_from, value_of, with_point}
@@ -20,7 +20,7 @@ use Rattle.sf_slots.specs.declared.calls.PlainReply.{PlainReply}
 use Rattle.sf_slots.specs.declared.calls.PlainReply.TheVariants as reply
 use Rattle.sf_token.specs.Pending.{Arrival}
 use Rattle.sf_txn.specs.Transactions.{Contents}
-use Rattle.sf_scene.specs.Scene.{SceneValue, has_queue}
+use Rattle.sf_scene.specs.Scene.{SceneValue}
 use Rattle.sf_scene.specs.declared.declarations.QueueDecl.{QueueDecl}
 use Rattle.sf_scene.specs.declared.step.ActorScript.{ActorScript}
 use Rattle.sf_scene.specs.declared.step.Step.{Step}
@@ -36,18 +36,18 @@ use Rattle.sf_actor.specs.Scripts.{picture_at, with_points}
 use Rattle.sf_actor.specs.Steps.{sent_by, used_by, was_done}
 use Rattle.sf_actor.specs.Tales.{IsMade, made_on, sent_as, step_done}
 use Rattle.sf_actor.specs.Tests.{bad_value, refusal_of}
-use Rattle.sf_actor.specs.Traces.{AnswersCall, AnswersTests, DoneAt, IsAnswered, IsPassed, is_blocked, MadeStep, PassesFence, SentStep, Source, made_at, made_by, overtaken, own_call, past_after, places_of, release_at, sends_of, sent_at, sent_with, source_in}
+use Rattle.sf_actor.specs.Traces.{AnswersCall, AnswersTests, DoneAt, IsAnswered, IsPassed, is_blocked, MadeStep, PassesFence, SentStep, Source, made_at, made_by, overtaken, own_call, places_of, release_at, sends_of, sent_at, sent_with, source_in}
 use Rattle.sf_actor.specs.Values.{reply_at}
 use Rattle.sf_actor.specs.Written.{signal_of, signals_of}
 use Rattle.sf_record.specs.declared.event.Event.TheVariants as event
 use Rattle.sf_run.proofs.OrderLemmas.{found_has, found_passes, kept_whole, numbers_behind}
-use Rattle.sf_run.proofs.StepLemmas.{at_end, each_with, last_has, made_all, made_so, other_calls, places_with, put_on, queue_calls, replies_front, step_is_next, zip_later, zip_none}
+use Rattle.sf_run.proofs.StepLemmas.{each_with, last_has, made_so, other_calls, places_with, put_on, queue_calls, replies_front, step_is_next, zip_later, zip_none}
 use Rattle.sf_run.specs.Arrivals.{number_of}
 use Rattle.sf_run.specs.Replies.{reply_shown}
-use Rattle.sf_run.specs.Runs.{calls_of, final_values, is_sent_by, rising_actors, signals_in}
-use Rattle.sf_run.specs.Stepping.{CallsMore, DoesOneMore, DrawsInTime, RefusesOpen}
+use Rattle.sf_run.specs.Runs.{calls_of, final_values, is_sent_by, rising_actors}
+use Rattle.sf_run.specs.Stepping.{DoesOneMore, DrawsInTime}
 use Rattle.sf_run.specs.Stuck.{IsNotReady, call_blocks, has_open_point, holdings_at_end, is_blocked_on, next_step, step_waits}
-use Rattle.sf_run.specs.Worlds.{Turn, World, actor_turn, after_step, answer_by, answer_tested, arrival_by, asked_by, at_now, done_now, idle, is_open, is_open_at, reply_now, reply_on, script_turn, step_turn, waits_now, with_call, with_calls, with_list}
+use Rattle.sf_run.specs.Worlds.{World, actor_turn, after_step, answer_by, answer_tested, arrival_by, asked_by, at_now, done_now, idle, is_open, is_open_at, reply_now, reply_on, script_turn, step_turn, waits_now, with_call, with_calls, with_list}
 
 all_reverse : {X : Type 0} (P : X → Type 0) (xs : List X) → All P xs → All P (reverse xs)
 all_reverse P xs all k d in' =

@@ -177,7 +177,7 @@ frame_commit n = record {
 }
 
 abbrev pub vsync_of : ℕ → List Commit → VsyncReport
-vsync_of number commits = record { number = number; expected = 1000000; timelines = record { timeline = 1; value = 5 } ∷ []; commits = commits; frame = None }
+vsync_of number commits = record { number = number; expected = 1000000; timelines = record { timeline = 1; value = 5 } ∷ []; commits = commits; shown = [] }
 
 abbrev pub replacing_vsyncs : List VsyncReport
 replacing_vsyncs = vsync_of 1 (frame_commit 1 ∷ frame_commit 2 ∷ []) ∷ vsync_of 2 (frame_commit 3 ∷ []) ∷ []

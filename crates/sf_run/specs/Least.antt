@@ -5,6 +5,7 @@ use Rattle.sf_scene.specs.declared.change.Change.TheVariants as change
 use Rattle.sf_scene.specs.declared.step.ActorScript.{ActorScript}
 use Rattle.sf_scene.specs.declared.step.Step.{Step}
 use Rattle.sf_scene.specs.declared.step.Step.TheVariants as step
+use Rattle.sf_output.specs.declared.output.Output.TheVariants as out
 use Rattle.sf_record.specs.declared.event.Event.{Event}
 use Rattle.sf_record.specs.declared.event.Event.TheVariants as event
 use Rattle.sf_record.specs.declared.event.VsyncReport.{VsyncReport}
@@ -38,7 +39,7 @@ least_vsync = record {
   expected = 16666667;
   timelines = [];
   commits = least_commit ∷ [];
-  frame = Some (255 ∷ 0 ∷ 0 ∷ 255 ∷ 255 ∷ 0 ∷ 0 ∷ 255 ∷ []);
+  shown = out.Frame (255 ∷ 0 ∷ 0 ∷ 255 ∷ 255 ∷ 0 ∷ 0 ∷ 255 ∷ []) ∷ [];
 }
 
 abbrev pub least_events : List Event

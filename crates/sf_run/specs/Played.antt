@@ -1,4 +1,4 @@
--- What a played run means: a relation between a scene of version 1 and the records of a run. It speaks of these alone, and of
+-- What a played run means: a relation between a scene and the records of a run. It speaks of these alone, and of
 -- no state of a program, so that it can be said of any way to play a scene. What the records do not show - the traces with
 -- their whole answers, the calls on queues with their whole replies, the transactions with their operations - is some that fits.
 use Rattle.std.specs.Prelude.{◌≡◌, List, ◌∷◌, ◌++◌, All, map}

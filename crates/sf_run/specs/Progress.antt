@@ -1,6 +1,6 @@
 -- How far a run has come whose vsyncs a handler makes: what it told is what the records say, and what it keeps is what waits.
-use Rattle.std.specs.Prelude.{◌≡◌, ℕ, Bool, true, false, if◌then◌else◌, List, [], ◌∷◌, ◌++◌, map, Option, Some, None, is_some}
-use Rattle.std.specs.List.{All, find, list_any}
+use Rattle.std.specs.Prelude.{◌≡◌, ℕ, Bool, true, false, List, [], ◌∷◌, ◌++◌, map, is_some}
+use Rattle.std.specs.List.{All, find}
 use Rattle.sf_base.specs.declared.fences.Seen.{Seen}
 use Rattle.sf_ready.specs.declared.hold.Hold.{Hold}
 use Rattle.sf_ready.specs.declared.hold.Hold.TheVariants as hold
@@ -12,13 +12,11 @@ use Rattle.sf_commit.specs.OnLayers.{OnLayer}
 use Rattle.sf_commit.specs.Releases.{ReleaseOf, VsyncOf}
 use Rattle.sf_scene.specs.Scene.{SceneValue}
 use Rattle.sf_actor.specs.Names.{FrameOf}
-use Rattle.sf_actor.specs.Scripts.{picture_at}
 use Rattle.sf_actor.specs.Written.{FrameNumber}
 use Rattle.sf_record.specs.declared.event.VsyncReport.{VsyncReport}
 use Rattle.sf_record.specs.declared.record.Commit.{Commit}
 use Rattle.sf_record.specs.declared.record.HeldEntry.{HeldEntry}
 use Rattle.sf_run.specs.Commits.{CommitsReady, SaysResults, arrived_of, commit_shown, committed_of, is_written, seen_by}
-use Rattle.sf_run.specs.Frames.{frame_of_layers, is_done}
 use Rattle.sf_run.specs.Framing.{IsKeptBy, framed_arrival}
 use Rattle.sf_run.specs.Histories.{Released}
 use Rattle.sf_run.specs.Holds.{hold_shown, uncommitted}
@@ -89,8 +87,3 @@ pub record GivesBack {L : Type 0} (frame : L → FrameOf) (on : OnLayer FrameOf)
   pub number : release.frame ≡ on.shown.frame
   pub lease : frame release.lease ≡ on.lease
   pub fence : release.fence ≡ on.fence
-
--- the frame that is due after these commits, where they leave this tree
-abbrev pub frame_after : SceneValue → List Commit → TreeOf → Option (List ℕ)
-frame_after scene commits tree =
-    if list_any is_done commits then Some (frame_of_layers (picture_at scene.pictures) tree.layers scene.width scene.height) else None

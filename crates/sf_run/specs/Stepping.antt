@@ -1,5 +1,5 @@
 -- A run in which an actor did one step more, while nobody else called or sent.
-use Rattle.std.specs.Prelude.{◌≡◌, ℕ, true, false, List, [], ◌∷◌, ◌++◌, length, map, Option, Some, None, Contains}
+use Rattle.std.specs.Prelude.{◌≡◌, ℕ, true, false, List, [], ◌∷◌, ◌++◌, length, map, Some, None, Contains}
 use Rattle.std.specs.List.{All, range_with_len}
 use Rattle.sf_base.specs.Fences.{IsSignalled}
 use Rattle.sf_base.specs.declared.fences.Fence.{Fence}

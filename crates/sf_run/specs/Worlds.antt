@@ -40,7 +40,8 @@ use Rattle.sf_record.specs.declared.record.Commit.{Commit}
 use Rattle.sf_run.specs.Commits.{commit_shown, is_written}
 use Rattle.sf_run.specs.Holds.{uncommitted}
 use Rattle.sf_run.specs.Histories.{Released, release_by}
-use Rattle.sf_run.specs.Progress.{frame_after, released_by}
+use Rattle.sf_run.specs.Frames.{shown_after}
+use Rattle.sf_run.specs.Progress.{released_by}
 use Rattle.sf_run.specs.Replies.{reply_shown}
 use Rattle.sf_run.specs.Runs.{final_values, written_in}
 use Rattle.sf_run.specs.Seeing.{value_shown}
@@ -173,7 +174,7 @@ report_of scene world end = record {
   expected = (world.vsyncs + 1) * scene.period;
   timelines = map (value_shown (final_values scene world.run)) (rising_timelines scene);
   commits = map commit_shown end.stage.commits;
-  frame = frame_after scene (map commit_shown end.stage.commits) end.stage.tree;
+  shown = shown_after scene (map commit_shown end.stage.commits) end.stage.tree;
 }
 
 abbrev pub reports_if : VsyncReport → List Commit → List VsyncReport

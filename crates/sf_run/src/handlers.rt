@@ -27,7 +27,8 @@ ghost use Rattle.sf_run.specs.Framing.{framed_arrival, framed_on};
 ghost use Rattle.sf_run.specs.Histories.{released_in};
 ghost use Rattle.sf_run.specs.Holds.{AreHeld, uncommitted};
 ghost use Rattle.sf_run.specs.Progress.{AreWrittenToo, GivesBack, GoesOnBy, HasPlayed, SaysVsync, ShowsWhatIsWritten, WroteWhatShows};
-ghost use Rattle.sf_run.specs.Progress.{frame_after, held_shown, is_time, released_by};
+ghost use Rattle.sf_run.specs.Frames.{shown_after};
+ghost use Rattle.sf_run.specs.Progress.{held_shown, is_time, released_by};
 ghost use Rattle.sf_run.specs.Seeing.{HasSeen, TellsTime, value_shown};
 ghost use Rattle.sf_run.specs.Stages.{VsyncAt, bare_round, round_at_end, told_of};
 ghost use Rattle.sf_scene.specs.Limits.{most_layers};
@@ -154,7 +155,7 @@ pub fn what_is_told_goes_on()
     ensures releases { (told later : List VsyncAt) (report : ReportValue) (tree : TreeOf) (gone : List (OnLayer FrameOf))
         → GoesOnBy told later report tree gone → released_in later ≡ released_in told ++ released_by report gone }
     ensures images { (scene : SceneValue) (told later : List VsyncAt) (report : ReportValue) (tree : TreeOf) (gone : List (OnLayer FrameOf))
-        → GoesOnBy told later report tree gone → ShowImages scene told → report.frame ≡ frame_after scene report.commits tree → ShowImages scene later }
+        → GoesOnBy told later report tree gone → ShowImages scene told → report.shown ≡ shown_after scene report.commits tree → ShowImages scene later }
 {}
 
 /// A record that shows of each declared timeline what was seen says what was seen, where nothing was

@@ -1,14 +1,18 @@
 ghost use Rattle.std.specs.Prelude.{◌≡◌, ℕ, List, [], ◌∷◌, map};
 ghost use Rattle.std.specs.List.{flat_map};
 ghost use Rattle.sf_record.specs.declared.event.Event.{Event as EventValue};
+ghost use Rattle.sf_record.specs.declared.record.Commit.{Commit as CommitValue};
+ghost use Rattle.sf_scene.specs.Limits.{IsWithinLimits};
 ghost use Rattle.sf_scene.specs.Scene.{SceneValue};
 ghost use Rattle.sf_token.specs.Pending.{Arrival};
 ghost use Rattle.sf_actor.specs.Makers.{Run};
 ghost use Rattle.sf_actor.specs.Names.{FrameOf};
 ghost use Rattle.sf_slots.specs.Tells.{AreReplies};
+ghost use Rattle.sf_tree.specs.Trees.{TreeOf};
 ghost use Rattle.sf_actor.specs.Written.{written_in};
 ghost use Rattle.sf_run.specs.Examples.{commits_due, pixel_queue, queue_calls, queue_history, queue_replies, queue_run, queue_trace, release_shown};
 ghost use Rattle.sf_run.specs.Examples.{replacing_arrivals, replacing_end, replacing_told, replacing_vsyncs};
+ghost use Rattle.sf_run.specs.Frames.{HasOneOutput, frame_after, shown_after};
 ghost use Rattle.sf_run.specs.Histories.{history_shown, released_in};
 ghost use Rattle.sf_run.specs.Holds.{AreHeld, uncommitted};
 ghost use Rattle.sf_run.specs.Least.{least_records, least_scene};
@@ -22,6 +26,15 @@ pub fn the_order_of_replies_is_free()
     ensures { (scene : SceneValue) (shows : Shows) (run : Run) (arrivals : List (Arrival FrameOf)) (events : List EventValue)
         → vsyncs_in events ≡ vsyncs_in shows.events → ((actor : ℕ) → replies_to actor events ≡ replies_to actor shows.events)
         → Fits scene shows run arrivals → Fits scene (record shows { events = events }) run arrivals }
+{}
+
+/// A vsync of a scene without further displays, captures, hit tests, stacks and mirrors shows one
+/// frame where a commit was not rejected, which is the painter's image of its tree, and nothing else.
+/// Each scene of version 1 is such a scene.
+pub fn a_scene_with_one_output_shows_its_frame()
+    ensures shown { (scene : SceneValue) (commits : List CommitValue) (tree : TreeOf) → HasOneOutput scene
+        → shown_after scene commits tree ≡ frame_after scene commits tree }
+    ensures version_1 { (scene : SceneValue) → IsWithinLimits scene → scene.version ≡ 1 → HasOneOutput scene }
 {}
 
 /// The records of the least scene, a red layer on a display of two pixels, are those of a played

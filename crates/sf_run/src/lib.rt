@@ -24,7 +24,8 @@ pub use handlers::{
     what_is_told_goes_on, what_was_played_is_in_order,
 };
 pub use laws::{
-    a_queue_is_told, replaced_frames_go_back, the_least_run_is_played, the_order_of_replies_is_free,
+    a_queue_is_told, a_scene_with_one_output_shows_its_frame, replaced_frames_go_back,
+    the_least_run_is_played, the_order_of_replies_is_free,
 };
 pub use ongoing::{
     a_play_ends, a_play_goes_on, a_play_has_records, a_scene_has_a_play, play_records_are_one,
