@@ -1,0 +1,4 @@
+mod AlikeLemmas
+mod MoreRoom
+mod RoomyPlays
+mod WideRounds
