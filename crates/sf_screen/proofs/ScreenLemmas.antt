@@ -1,5 +1,11 @@
 -- Frames of views, whole and composed again.
-use Rattle.std.proofs.Common.{◌≡◌, ℕ, ◌-◌, ◌≤◌, ℤ, Ok, Err, Result, List, [], ◌++◌, OnOk, ap, arith, drop, length, length-append, length-drop, length-take, pos, take, ◌∙◌}
+use Rattle.std.proofs.Common.{◌≡◌, ℕ, ◌-◌, ◌<◌, ◌≤◌, Option, Some, None, get_or, inl, inr, refl, subst, sym, ℤ, Ok, Err, Result, List, [], ◌++◌, OnOk, ap, arith, drop, length, length-append, length-drop, length-take, pos, take, ◌∙◌}
+use Rattle.std.specs.Prelude.{nat_lt, slice_get}
+use Rattle.std.specs.List.{position, position_or_len}
+use Rattle.std.specs.Option.{option_map_or}
+use Rattle.std.proofs.lemmas.Bool.{cases_Bool, ltb-false, ltb-true}
+use Rattle.std.proofs.lemmas.List.Folds.{find_at}
+use Rattle.std.proofs.lemmas.Option.{none-some, same_Some, slice_get_past, slice_get_read}
 use Rattle.std.proofs.lemmas.List.{append-nil, drop_all, drop_at, length-take-le, take_all, take_at}
 use borrow.Rule.Slice.PartMut.{post_of, put_mid}
 use Rattle.sf_base.specs.Geometry.{covers}
@@ -15,6 +21,9 @@ use Rattle.sf_compose.proofs.RowLemmas.{frame-from}
 use Rattle.sf_damage.specs.Damage.{Damages}
 use Rattle.sf_picture.specs.declared.picture.Picture.{Picture}
 use Rattle.sf_region.specs.Points.{has}
+use Rattle.sf_output.specs.declared.output.Output.{Output}
+use Rattle.sf_screen.specs.ScreenLists.{bare_screen, is_of, screen_of}
+use Rattle.sf_screen.specs.declared.screens.OutputScreen.{OutputScreen}
 use Rattle.sf_screen.specs.Screens.{IsSameSize, IsWhole, image_bytes}
 use Rattle.sf_view.specs.Stacks.{view_image}
 use Rattle.sf_view.specs.Views.{ViewOf}
@@ -53,30 +62,48 @@ unfolding image_bytes
 shown_bytes picture view frame whole shown =
     frame-from frame (λ x y. view_image picture view (pos x) (pos y)) view.width view.height whole shown.pixels
 
--- what is put behind the first four bytes, to the end
-pub put_behind : (xs ys : List ℕ) → 4 ≤ length xs → length ys ≡ length xs - 4 → put_mid 4 (length xs - 4) xs ys ≡ take 4 xs ++ ys
+-- what is put behind the first eight bytes, to the end
+pub put_behind : (xs ys : List ℕ) → 8 ≤ length xs → length ys ≡ length xs - 8 → put_mid 8 (length xs - 8) xs ys ≡ take 8 xs ++ ys
 put_behind xs ys room len =
-    let rest : post_of 4 (length xs - 4) xs ≡ [] = drop_all (length xs - 4) (drop 4 xs) (omega (arith, length-drop 4 xs)) in
-    ap (λ (l : List ℕ). take 4 xs ++ (ys ++ l)) rest ∙ ap (λ (l : List ℕ). take 4 xs ++ l) (append-nil ys)
+    let rest : post_of 8 (length xs - 8) xs ≡ [] = drop_all (length xs - 8) (drop 8 xs) (omega (arith, length-drop 8 xs)) in
+    ap (λ (l : List ℕ). take 8 xs ++ (ys ++ l)) rest ∙ ap (λ (l : List ℕ). take 8 xs ++ l) (append-nil ys)
 
 -- is there
-pub behind : (xs ys : List ℕ) → 4 ≤ length xs → length ys ≡ length xs - 4 → drop 4 (put_mid 4 (length xs - 4) xs ys) ≡ ys
-behind xs ys room len = ap (λ (l : List ℕ). drop 4 l) (put_behind xs ys room len) ∙ drop_at (take 4 xs) ys 4 (length-take-le 4 xs room)
+pub behind : (xs ys : List ℕ) → 8 ≤ length xs → length ys ≡ length xs - 8 → drop 8 (put_mid 8 (length xs - 8) xs ys) ≡ ys
+behind xs ys room len = ap (λ (l : List ℕ). drop 8 l) (put_behind xs ys room len) ∙ drop_at (take 8 xs) ys 8 (length-take-le 8 xs room)
 
 -- as many bytes as there were
-pub again_long : (xs ys : List ℕ) → length ys ≡ length (take (length xs - 4) (drop 4 xs)) → length ys ≡ length xs - 4
-again_long xs ys long = omega (arith, long, length-drop 4 xs, length-take (length xs - 4) (drop 4 xs))
+pub again_long : (xs ys : List ℕ) → length ys ≡ length (take (length xs - 8) (drop 8 xs)) → length ys ≡ length xs - 8
+again_long xs ys long = omega (arith, long, length-drop 8 xs, length-take (length xs - 8) (drop 8 xs))
 
 -- a part that goes to the end is all that is behind its beginning
-pub all_behind : (xs : List ℕ) → take (length xs - 4) (drop 4 xs) ≡ drop 4 xs
-all_behind xs = take_all (length xs - 4) (drop 4 xs) (omega (arith, length-drop 4 xs))
+pub all_behind : (xs : List ℕ) → take (length xs - 8) (drop 8 xs) ≡ drop 8 xs
+all_behind xs = take_all (length xs - 8) (drop 8 xs) (omega (arith, length-drop 8 xs))
 
--- what was composed behind the first four bytes of a block is there when the block is written back
-pub composed_behind : (xs ys old : List ℕ) (len : ℕ) → length xs ≡ len → 4 ≤ len → length ys ≡ len - 4
-    → drop 4 (take len (put_mid 4 (length xs - 4) xs ys ++ drop (length (put_mid 4 (length xs - 4) xs ys)) old)) ≡ ys
+-- what was composed behind the first eight bytes of a block is there when the block is written back
+pub composed_behind : (xs ys old : List ℕ) (len : ℕ) → length xs ≡ len → 8 ≤ len → length ys ≡ len - 8
+    → drop 8 (take len (put_mid 8 (length xs - 8) xs ys ++ drop (length (put_mid 8 (length xs - 8) xs ys)) old)) ≡ ys
 composed_behind xs ys old len long room part =
     let there = put_behind xs ys (omega (arith, long, room)) (omega (arith, long, part)) in
-    let put : length (put_mid 4 (length xs - 4) xs ys) ≡ len =
-    ap length there ∙ omega (arith, length-append (take 4 xs) ys, length-take-le 4 xs (omega (arith, long, room)), part, room) in
-    ap (λ (l : List ℕ). drop 4 l) (take_at (put_mid 4 (length xs - 4) xs ys) _ len put)
+    let put : length (put_mid 8 (length xs - 8) xs ys) ≡ len =
+    ap length there ∙ omega (arith, length-append (take 8 xs) ys, length-take-le 8 xs (omega (arith, long, room)), part, room) in
+    ap (λ (l : List ℕ). drop 8 l) (take_at (put_mid 8 (length xs - 8) xs ys) _ len put)
     ∙ behind xs ys (omega (arith, long, room)) (omega (arith, long, part))
+
+-- the screen of an output by its place among all, or the bare one where it has none
+pub own_at : (screens : List OutputScreen) (of : Output (Unit {0})) (place : ℕ) (one : OutputScreen) → Some place ≡ position (is_of of) screens → one ≡ get_or screens place one → one.screen ≡ screen_of screens of
+own_at screens of place one e is = elim (cases_Bool (nat_lt (position_or_len (is_of of) screens) (length screens))) [
+  | inl below ↦
+      let same : place ≡ position_or_len (is_of of) screens = same_Some place (position_or_len (is_of of) screens) (rw below at e) in
+      let there : slice_get screens place ≡ Some one = slice_get_read screens (length screens) place one refl (subst (λ (n : ℕ). n < length screens) (sym same) (ltb-true (position_or_len (is_of of) screens) (length screens) below)) is in
+      sym (ap (λ (o : Option OutputScreen). option_map_or (λ (one : OutputScreen). one.screen) o bare_screen) (find_at (is_of of) screens ∙ (ap (slice_get screens) (sym same) ∙ there)))
+  | inr none ↦ absurd (none-some place (sym (rw none at e)))
+]
+
+pub bare_at : (screens : List OutputScreen) (of : Output (Unit {0})) → None ≡ position (is_of of) screens → bare_screen ≡ screen_of screens of
+bare_at screens of e = elim (cases_Bool (nat_lt (position_or_len (is_of of) screens) (length screens))) [
+  | inl below ↦ absurd (none-some (position_or_len (is_of of) screens) (rw below at e))
+  | inr none ↦
+      sym (ap (λ (o : Option OutputScreen). option_map_or (λ (one : OutputScreen). one.screen) o bare_screen)
+      (find_at (is_of of) screens ∙ slice_get_past screens (position_or_len (is_of of) screens) (ltb-false (position_or_len (is_of of) screens) (length screens) none)))
+]

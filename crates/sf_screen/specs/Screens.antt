@@ -1,20 +1,19 @@
 -- What a display shows.
-use Rattle.std.specs.Prelude.{◌≡◌, ℕ, ◌*◌, ◌≤◌, List, length, pos, Option, IfSome}
+use Rattle.std.specs.Prelude.{◌≡◌, ℕ, ◌+◌, ◌*◌, Bool, true, false, List, ◌++◌, drop, length, pos, Option, IfSome}
+use Rattle.byteorder.specs.Endian.{big_bytes}
+use Rattle.sf_output.specs.declared.output.Output.{Output}
+use Rattle.sf_output.specs.declared.output.Output.TheVariants as out
 use Rattle.sf_picture.specs.declared.picture.Picture.{Picture}
 use Rattle.sf_view.specs.Stacks.{view_image}
 use Rattle.sf_view.specs.Views.{ViewOf}
 use Rattle.sf_compose.specs.Again.{ShowsView}
 use Rattle.sf_compose.specs.Frames.{frame_bytes}
 
--- the view that was shown last, if one was, the number in front of its frame, and the frame
+-- the view that was shown last, if one was, the numbers in front of its frame, and the frame
 pub record ScreenOf : Type 0 where
   pub view : Option ViewOf
-  pub number : List ℕ
+  pub numbers : List ℕ
   pub frame : List ℕ
-
--- what is kept of a frame has room for its number in front, once a view was shown
-abbrev pub HasRoom : Option ViewOf → List ℕ → Type 0
-HasRoom view body = IfSome view (λ _. 4 ≤ length body)
 
 -- the bytes of a view's image, for the pictures that numbers stand for
 unfoldable pub image_bytes : (ℕ → Picture) → ViewOf → List ℕ
@@ -23,6 +22,10 @@ image_bytes picture view = frame_bytes (λ x y. view_image picture view (pos x) 
 -- the frame has four bytes for each pixel
 abbrev pub IsWhole : ViewOf → List ℕ → Type 0
 IsWhole view frame = length frame ≡ 4 * (view.width * view.height)
+
+-- what is kept of a frame has room for two numbers in front, once a view was shown, and the frame whole
+abbrev pub HasRoom : Option ViewOf → List ℕ → Type 0
+HasRoom view body = IfSome view (λ view. length body ≡ 8 + 4 * (view.width * view.height))
 
 -- the frame is the image of the view
 abbrev pub IsShown : (ℕ → Picture) → ScreenOf → Type 0
@@ -34,5 +37,31 @@ pub record IsSameSize (frame : List ℕ) (new old : ViewOf) : Type 0 where
   pub high : old.height ≡ new.height
   pub whole : IsWhole new frame
 
-abbrev pub MayShow : ScreenOf → ViewOf → Type 0
-MayShow screen new = IfSome screen.view (IsSameSize screen.frame new)
+-- the output has an image
+abbrev pub is_image : Output (Unit {0}) → Bool
+is_image (out.Frame u) = true
+is_image (out.Display place u) = true
+is_image (out.Capture place u) = true
+is_image (out.Hit place layer) = false
+
+-- the number of a further display or of a capture, 0 for the frame of the scene's own display
+abbrev pub place_of : Output (Unit {0}) → ℕ
+place_of (out.Frame u) = 0
+place_of (out.Display place u) = place
+place_of (out.Capture place u) = place
+place_of (out.Hit place layer) = place
+
+-- the record's body begins at the last of the numbers for the frame of the scene's own display, and else at the first
+abbrev pub begin_of : Output (Unit {0}) → ℕ
+begin_of (out.Frame u) = 4
+begin_of (out.Display place u) = 0
+begin_of (out.Capture place u) = 0
+begin_of (out.Hit place layer) = 0
+
+-- the numbers in front of an image: of its display or capture, and of its vsync
+abbrev pub numbers_of : Output (Unit {0}) → ℕ → List ℕ
+numbers_of of number = big_bytes 4 (place_of of) ++ big_bytes 4 number
+
+-- the numbers with which the body of an image's record begins
+abbrev pub head_of : Output (Unit {0}) → ℕ → List ℕ
+head_of of number = drop (begin_of of) (numbers_of of number)

@@ -1,7 +1,9 @@
-//! What a display shows: its frame, composed over the one before it. Only where the new view differs
+//! What displays show: each frame is composed over the one before it. Only where the new view differs
 //! from the last one is anything painted, and of each layer only what shows of it.
 #![tactic(auto)]
 
 mod screen;
+mod screens;
 
 pub use screen::Screen;
+pub use screens::Screens;

@@ -1,4 +1,4 @@
-ghost use Rattle.std.specs.Prelude.{◌≡◌, ◌≤◌, ℕ, ℤ, pos, OnErr, OnOk, IfOk, drop, length, map, take};
+ghost use Rattle.std.specs.Prelude.{◌≡◌, ◌≤◌, ◌+◌, ◌*◌, ◌++◌, ℕ, ℤ, pos, true, OnErr, OnOk, IfOk, drop, length, map, take};
 ghost use Rattle.byteorder.specs.Endian.{big_bytes};
 ghost use Rattle.sf_base.specs.Geometry.{covers};
 ghost use Rattle.sf_compose.specs.Again.{ShowsView};
@@ -6,12 +6,13 @@ ghost use Rattle.sf_compose.specs.Readings.{AreReadable};
 ghost use Rattle.sf_compose.specs.Sources.{HasSources};
 ghost use Rattle.sf_picture.specs.declared.picture.Picture.{Picture};
 ghost use Rattle.sf_region.specs.Points.{has};
-ghost use Rattle.sf_screen.specs.Screens.{IsSameSize, IsWhole};
+ghost use Rattle.sf_screen.specs.Screens.{IsSameSize, begin_of, place_of};
 
 use byteorder::{BigEndian, ByteOrder};
 use sf_base::{NoMemory, Rect};
 use sf_compose::{Pixels, compose, compose_seen_by};
 use sf_damage::{dirty, visible};
+use sf_output::Output;
 use sf_region::Region;
 use sf_view::View;
 use std::alloc::Global;
@@ -23,13 +24,16 @@ use std::thread::Threads;
 pub struct Screen {
     alloc: Global,
     view: Option<View>,
-    /// The body of the frame's record: room for a number, and the frame behind it, so that the record
-    /// is written from where the frame was composed. Empty before the first view.
+    /// Room for two numbers, and the frame behind it, so that the record of the frame is written from
+    /// where the frame was composed. Empty before the first view.
     body: Vec<u8>,
 }
 
-/// How many bytes the number of a frame has in front of it.
+/// How many bytes a number has.
 const NUMBER: usize = 4;
+
+/// How many bytes the numbers have in front of a frame.
+const ROOM: usize = 8;
 
 impl Model for Screen {
     ghost use Rattle.std.specs.Prelude.{drop, take};
@@ -37,7 +41,7 @@ impl Model for Screen {
 
     ghost Value = { ScreenOf };
 
-    ghost view = { λ s. record { view = s.view; number = take 4 s.body.items; frame = drop 4 s.body.items } };
+    ghost view = { λ s. record { view = s.view; numbers = take 8 s.body.items; frame = drop 8 s.body.items } };
 
     ghost invariant = { λ s. HasRoom s.view s.body.items };
 }
@@ -55,7 +59,7 @@ fn display(alloc: Global, view: &View) -> Result<Region, NoMemory>
     Region::rect(alloc, rect)
 }
 
-/// Composes a view by so many workers, behind room for the number of its frame.
+/// Composes a view by so many workers, behind room for the numbers of its frame.
 fn compose_first<R: Threads + Sync, C: Pixels + Sync>(
     rt: &R,
     alloc: Global,
@@ -67,13 +71,12 @@ fn compose_first<R: Threads + Sync, C: Pixels + Sync>(
     requires some { 1 ≤ workers }
     requires few { workers ≤ 16 }
     requires readable { AreReadable (map C.picture contents.now) view.now.drawn sources.now }
-    ensures room { IfOk result (λ body. NUMBER ≤ length body.items) }
-    ensures whole { IfOk result (λ body. IsWhole view.now (drop 4 body.items)) }
+    ensures room { IfOk result (λ body. length body.items ≡ 8 + 4 * (view.now.width * view.now.height)) }
     ensures shows { IfOk result (λ body. (picture : ℕ → Picture) → HasSources picture view.now (map C.picture contents.now) sources.now
-        → ShowsView picture view.now (drop 4 body.items)) }
+        → ShowsView picture view.now (drop 8 body.items)) }
 {
     let size = 4 * (view.width as usize * view.height as usize);
-    let mut body = vec![in alloc; 0u8; NUMBER + size]?;
+    let mut body = vec![in alloc; 0u8; ROOM + size]?;
     let part = display(alloc, view)?;
     compose(
         rt,
@@ -82,7 +85,7 @@ fn compose_first<R: Threads + Sync, C: Pixels + Sync>(
         contents,
         sources,
         &part,
-        &mut body[NUMBER..],
+        &mut body[ROOM..],
     )?;
     Ok(body)
 }
@@ -112,7 +115,7 @@ fn compose_again<R: Threads + Sync, C: Pixels + Sync>(
     compose_seen_by(rt, workers, view, contents, sources, &shows, &part, frame)
 }
 
-/// The same behind room for the number of the frame.
+/// The same behind room for the numbers of the frame.
 fn compose_behind<R: Threads + Sync, C: Pixels + Sync>(
     rt: &R,
     alloc: Global,
@@ -125,40 +128,67 @@ fn compose_behind<R: Threads + Sync, C: Pixels + Sync>(
 ) -> Result<(), NoMemory>
     requires some { 1 ≤ workers }
     requires few { workers ≤ 16 }
-    requires room { NUMBER ≤ length body.old }
-    requires same { IsSameSize (drop 4 body.old) view.now old.now }
+    requires room { ROOM ≤ length body.old }
+    requires same { IsSameSize (drop 8 body.old) view.now old.now }
     requires readable { AreReadable (map C.picture contents.now) view.now.drawn sources.now }
     ensures size { length body.new ≡ length body.old }
     ensures shows { OnOk result ((picture : ℕ → Picture) → HasSources picture view.now (map C.picture contents.now) sources.now
-        → ShowsView picture old.now (drop 4 body.old) → ShowsView picture view.now (drop 4 body.new)) }
+        → ShowsView picture old.now (drop 8 body.old) → ShowsView picture view.now (drop 8 body.new)) }
     ensures err { OnErr result (body.new ≡ body.old) }
 {
-    let frame = &mut body[NUMBER..];
+    let frame = &mut body[ROOM..];
     compose_again(rt, alloc, workers, old, view, contents, sources, frame)
 }
 
-/// Puts a number in front of a frame.
-fn put_number(body: &mut [u8], number: u32)
-    requires room { NUMBER ≤ length body.old }
-    ensures number { take 4 body.new ≡ big_bytes 4 number }
-    ensures rest { drop 4 body.new ≡ drop 4 body.old }
+/// Puts two numbers in front of a frame.
+fn put_numbers(body: &mut [u8], place: u32, number: u32)
+    requires room { ROOM ≤ length body.old }
+    ensures numbers { take 8 body.new ≡ big_bytes 4 place ++ big_bytes 4 number }
+    ensures rest { drop 8 body.new ≡ drop 8 body.old }
     ensures long { length body.new ≡ length body.old }
 {
-    BigEndian::write_u32(&mut body[..NUMBER], number);
+    BigEndian::write_u32(&mut body[..NUMBER], place);
+    BigEndian::write_u32(&mut body[NUMBER..ROOM], number);
+}
+
+/// The number of a further display or of a capture, 0 for the frame of the scene's own display.
+fn place_of(of: &Output<()>) -> u32
+    ensures { result ≡ place_of of.now }
+{
+    match of {
+        Output::Frame(_) => 0,
+        Output::Display(place, _) | Output::Capture(place, _) | Output::Hit(place, _) => *place,
+    }
+}
+
+/// At which byte the body of the record of an image begins.
+fn begin_of(of: &Output<()>) -> usize
+    ensures { result ≡ begin_of of.now }
+{
+    match of {
+        Output::Frame(_) => NUMBER,
+        _ => 0,
+    }
+}
+
+/// Whether a view has the size of an older one.
+fn is_same_size(old: &View, view: &View) -> bool
+    ensures wide { result ≡ true → old.now.width ≡ view.now.width }
+    ensures high { result ≡ true → old.now.height ≡ view.now.height }
+{
+    old.width == view.width && old.height == view.height
 }
 
 impl Screen {
     ghost use Rattle.std.specs.Prelude.{◌≡◌, ◌++◌, ℕ, [], None, Some, OnErr, OnOk, is_some, map, true};
-    ghost use Rattle.byteorder.specs.Endian.{big_bytes};
     ghost use Rattle.sf_compose.specs.Readings.{AreReadable};
     ghost use Rattle.sf_compose.specs.Sources.{HasSources};
     ghost use Rattle.sf_picture.specs.declared.picture.Picture.{Picture};
-    ghost use Rattle.sf_screen.specs.Screens.{IsShown, IsWhole, MayShow, image_bytes};
-    ghost use Rattle.sf_view.specs.Views.{ViewOf};
+    ghost use Rattle.sf_screen.specs.Screens.{IsShown, IsWhole, head_of, numbers_of};
 
-    /// A display that showed nothing yet.
+    /// A display that showed nothing yet. It takes no memory.
     pub fn new(alloc: Global) -> Screen
-        ensures { result ≡ record { view = None; number = []; frame = [] } }
+        ensures { result ≡ record { view = None; numbers = []; frame = [] } }
     {
         Screen {
             alloc,
@@ -167,9 +197,10 @@ impl Screen {
         }
     }
 
-    /// Shows a view of the same size as the last one; so many workers, 1 to 16, compose its frame, each
-    /// some of its rows. A layer that shows a buffer finds its pixels among the contents, at the place
-    /// that stands for the layer in `sources`. After want of memory the screen is as it was.
+    /// Shows a view, over the frame of the last one where that has its size; so many workers, 1 to 16,
+    /// compose its frame, each some of its rows. A layer that shows a buffer finds its pixels among the
+    /// contents, at the place that stands for the layer in `sources`. After want of memory the screen
+    /// is as it was.
     pub fn show<R: Threads + Sync, C: Pixels + Sync>(
         &mut self,
         rt: &R,
@@ -180,7 +211,6 @@ impl Screen {
     ) -> Result<(), NoMemory>
         requires some { 1 ≤ workers }
         requires few { workers ≤ 16 }
-        requires may { MayShow self.old view }
         requires readable { AreReadable (map C.picture contents.now) view.drawn sources.now }
         ensures shown { OnOk result ((picture : ℕ → Picture) → HasSources picture view (map C.picture contents.now) sources.now
             → IsShown picture self.old → IsShown picture self.new) }
@@ -189,32 +219,33 @@ impl Screen {
         ensures err { OnErr result (self.new ≡ self.old) }
     {
         match &self.view {
-            Some(old) => {
+            Some(old) if is_same_size(old, &view) => {
                 let body = &mut self.body;
                 compose_behind(rt, self.alloc, workers, old, &view, contents, sources, body)?;
             }
-            None => self.body = compose_first(rt, self.alloc, workers, &view, contents, sources)?,
+            _ => self.body = compose_first(rt, self.alloc, workers, &view, contents, sources)?,
         }
         self.view = Some(view);
         Ok(())
     }
 
-    /// Puts a number in front of the frame of the view that was shown last.
-    pub fn number(&mut self, number: u32)
+    /// Puts the numbers of this output, in the vsync of this number, in front of the frame of the view
+    /// that was shown last.
+    pub fn number(&mut self, of: &Output<()>, number: u32)
         requires shows { is_some self.old.view ≡ true }
-        ensures { self.new ≡ record self.old { number = big_bytes 4 number } }
+        ensures { self.new ≡ record self.old { numbers = numbers_of of.now number } }
     {
-        put_number(&mut self.body, number);
+        put_numbers(&mut self.body, place_of(of), number);
     }
 
-    /// The body of the frame's record: the number in four bytes, highest first, and the frame of the
-    /// view that was shown last, row by row from the top. Empty before the first view.
-    pub fn body(&self) -> &[u8]
-        ensures same { result.now ≡ self.now.number ++ self.now.frame }
-        ensures image { (picture : ℕ → Picture) (view : ViewOf) → self.now.view ≡ Some view → IsWhole view self.now.frame → IsShown picture self.now
-            → result.now ≡ self.now.number ++ image_bytes picture view }
+    /// The body of the record of this output, of which the view that was shown last is: the numbers
+    /// that were put in front, in four bytes each, highest first, for the frame of the scene's own
+    /// display without the first of them; and the frame, row by row from the top.
+    pub fn body(&self, of: &Output<()>) -> &[u8]
+        requires shows { is_some self.now.view ≡ true }
+        ensures { (number : ℕ) → self.now.numbers ≡ numbers_of of.now number → result.now ≡ head_of of.now number ++ self.now.frame }
     {
-        &self.body
+        &self.body[begin_of(of)..]
     }
 }
 

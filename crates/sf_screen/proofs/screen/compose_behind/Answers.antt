@@ -1,4 +1,4 @@
-use Rattle.std.proofs.Common.{ℕ, List, drop, length-drop, length-take-le, sym, subst, arith}
+use Rattle.std.proofs.Common.{ℕ, List, sym, subst}
 use Rattle.sf_compose.specs.Again.{ShowsView}
 use Rattle.sf_screen.proofs.ScreenLemmas.{again_long, all_behind, behind, on_ok}
 use Rattle.sf_screen.proofs.screen.compose_behind.Goals as goal

@@ -1,0 +1,10 @@
+use sf_base::Items;
+use sf_view::View;
+
+/// A view, with the places of its buffers in the contents.
+#[derive(Drop)]
+pub struct SourcedView {
+    pub view: View,
+    /// For each drawn layer the place of its buffer in the contents, 0 for a colour.
+    pub sources: Items<u32>,
+}
