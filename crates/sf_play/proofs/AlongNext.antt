@@ -1,6 +1,6 @@
 -- The next turn of a player is that of the play of its scene.
 use Rattle.std.proofs.Common.{◌≡◌, ℕ, zero, suc, ◌+◌, ◌<◌, ◌≤◌, ◌==◌, Bool, true, false, ◌||◌, List, [], ◌∷◌, length, map, get_or, Option, Some, None, refl, sym, ap, ◌∙◌, subst, inl, inr, arith}
-use Rattle.std.specs.Prelude.{All, Contains, if◌then◌else◌, nat_lt, pos, slice_get, ◌*◌}
+use Rattle.std.specs.Prelude.{All, Contains, if◌then◌else◌, nat_lt, slice_get, ◌*◌}
 use Rattle.std.specs.List.{list_any, position, position_or_len}
 use Rattle.std.proofs.lemmas.Bool.{eq-eqb, eqb-true, ne_eqb}
 use Rattle.std.proofs.lemmas.Grind.{common_steps}
@@ -15,17 +15,9 @@ use Rattle.sf_ready.specs.declared.hold.Hold.{Hold}
 use Rattle.sf_surface.specs.Tokens.{Issued, ReadLeaseOf}
 use Rattle.sf_surface.specs.declared.mark.QueueMark.{QueueMark}
 use Rattle.sf_turns.specs.Views.{SeatView}
-use Rattle.sf_txn.specs.Buffers.{Shows}
 use Rattle.sf_txn.specs.declared.lease.Lease.{Ghosts}
-use Rattle.sf_commit.specs.Leases.{ShowsLease}
-use Rattle.sf_commit.specs.OnLayers.{OnLayer}
 use Rattle.sf_commit.specs.Releases.{VsyncOf}
 use Rattle.sf_commit.specs.declared.vsync.Commit.{Commit as Decided}
-use Rattle.sf_compose.specs.Frames.{frame_bytes}
-use Rattle.sf_compose.specs.Readings.{AreReadable}
-use Rattle.sf_compose.specs.Sources.{HasSources}
-use Rattle.sf_view.specs.Stacks.{view_image}
-use Rattle.sf_view.specs.Views.{ViewOf}
 use Rattle.sf_scene.specs.Limits.{IsPick}
 use Rattle.sf_scene.specs.Scene.{SceneValue, has_actor}
 use Rattle.sf_scene.specs.declared.declarations.Pick.{Pick}
@@ -41,7 +33,6 @@ use Rattle.sf_actor.specs.Tries.{ActorOf}
 use Rattle.sf_cast.specs.Casts.{KeepAs, StepsAt, number_of}
 use Rattle.sf_run.specs.Actors.{script_of}
 use Rattle.sf_run.specs.Ends.{held_in}
-use Rattle.sf_run.specs.Frames.{frame_of_layers}
 use Rattle.sf_run.specs.Progress.{ShowsWhatIsWritten, is_time}
 use Rattle.sf_run.specs.Runs.{rising_actors}
 use Rattle.sf_run.specs.Stepping.{TellsFirst}
@@ -53,17 +44,17 @@ use Rattle.sf_run.proofs.Members.{has_cases, has_found, has_here, has_later, has
 use Rattle.sf_play.proofs.AlongLemmas.{plays_settled}
 use Rattle.sf_play.proofs.AlongTurns.{pick_done, pick_ended, pick_waits, round_done, round_ended, round_waits}
 use Rattle.sf_play.proofs.AlongVsyncs.{all_had, holds_silent, pick_shown, pick_silent, round_shown, round_silent}
-use Rattle.sf_play.proofs.Composing.{frame_due_is, has_sources, is_high, is_wide, readable}
+use Rattle.sf_play.proofs.Composing.{are_expected, is_stage}
 use Rattle.sf_play.proofs.Lasting.{settled_has}
 use Rattle.sf_play.proofs.Leasing.{OfFrames}
 use Rattle.sf_play.proofs.Ledging.{TellsAll}
 use Rattle.sf_play.proofs.Makers.{first_told, older_told}
 use Rattle.sf_play.proofs.Together.{StandsWith, done_with, ended_with, left_with, nothing_with, shown_with, shows_written, silent_with}
 use Rattle.sf_play.specs.Alongs.{DeskKnows, PlaysSo, behind_round, world_so}
-use Rattle.sf_play.specs.Going.{TellsFrame}
+use Rattle.sf_play.specs.Going.{TellsStage}
 use Rattle.sf_play.specs.Places.{settled}
 use Rattle.sf_play.specs.Players.{PlayOf, PlayerOf, SoFar, Stands, home_in, run_so, view_in, written_so}
-use Rattle.sf_play.specs.Playing.{KeepsItself, KeepsRights, expected_by}
+use Rattle.sf_play.specs.Playing.{KeepsItself, KeepsRights}
 use Rattle.sf_play.specs.Standing.{HoldsAt}
 use Rattle.sf_report.specs.Reports.{has_commits}
 use Rattle.sf_report.specs.declared.report.VsyncReport.{VsyncReport}
@@ -122,16 +113,16 @@ module _ {B : Type 0} where
       cc (none, some)
 
 module _ {B : Type 0} where
-  abbrev pub FrameTold : SceneValue → Turn → PlayOf B → Type 0
-  FrameTold scene (turn.Vsync report) play = TellsFrame scene report play
-  FrameTold scene other play = Unit {0}
+  abbrev pub StageTold : SceneValue → Turn → PlayOf B → Type 0
+  StageTold scene (turn.Vsync report) play = TellsStage scene report play
+  StageTold scene other play = Unit {0}
 
   -- after a turn a player stands in a run of its scene, and along with the scene's play where it was so before
   pub record PlaysOn (Was : Type 0) (table : TableId) (scene : SceneValue) (marks : List QueueMark) (so : SoFar B) (came_to : Turn) (new : PlayerOf B) (place : Place) : Type 0 where
     pub kept : StandsWith table scene marks so came_to new.play
     pub along : Was → PlaysSo scene kept.later new.play place
     pub holds : Was → HoldsAt scene kept.later new place
-    pub frame : FrameTold scene came_to new.play
+    pub stage : StageTold scene came_to new.play
 
   module _ (lease : Ghosts ReadLeaseOf SeatView ReadLeaseOf Issued) (frames : OfFrames lease) (of_turns : IsOfTurns lease) (tells : TellsAll lease) (table : TableId) (scene : SceneValue) (so : SoFar B)
       (old new : PlayerOf B) (came_to : Turn) (marks : List QueueMark) (stands : Stands table scene so old.play) (rights : KeepsRights table scene so old.play) (marked : (home_in old.play).marks ≡ marks)
@@ -193,7 +184,7 @@ module _ {B : Type 0} where
                 kept = did s;
                 along = λ w. round_done table scene so old.play stands place new.play.cast t.same t.acts s keeps.desk known_cast (firsts s.old (got_has so.actors place s.old s.here)) was (plays w);
                 holds = λ w. tt;
-                frame = tt;
+                stage = tt;
               })
           by_stepped stepped.NotYet is s =
               comes turn.Idle (at.Round (place + 1) was) (at.Round (place + 1) (was || is_step came_to)) is t.rest
@@ -202,12 +193,12 @@ module _ {B : Type 0} where
                 kept = left s;
                 along = λ w. round_waits table scene so old.play stands place new.play.cast t.same t.acts s known_cast (older s) was (plays w);
                 holds = λ w. tt;
-                frame = tt;
+                stage = tt;
               })
           by_stepped stepped.Ended is s =
               comes turn.Idle (at.Round (place + 1) was) (at.Round (place + 1) (was || is_step came_to)) is t.rest
               (ap (λ (b : Bool). at.Round (place + 1) b) (sym (or_none was) ∙ ap (λ (x : Turn). was || is_step x) (sym is)))
-              (record { kept = ended s; along = λ w. round_ended table scene so old.play stands place new.play.cast t.same t.acts s was (plays w); holds = λ w. tt; frame = tt })
+              (record { kept = ended s; along = λ w. round_ended table scene so old.play stands place new.play.cast t.same t.acts s was (plays w); holds = λ w. tt; stage = tt })
 
       tried_pick : (at' done : ℕ) (pick : Pick) → (WasAlong → PlaysSo scene so old.play (at.Order at' done)) → slice_get scene.order at' ≡ Some pick → done < pick.times
           → ((of : ActorOf B) → slice_get so.actors place ≡ Some of → pick.actor ≡ of.script.number) → On (at.Order at' (done + 1))
@@ -222,7 +213,7 @@ module _ {B : Type 0} where
                 along = λ w. pick_done table scene so old.play stands place new.play.cast t.same t.acts s keeps.desk known_cast (firsts s.old (got_has so.actors place s.old s.here)) at' done pick (plays w) there less
                     (number s.old s.here);
                 holds = λ w. tt;
-                frame = tt;
+                stage = tt;
               })
           by_stepped stepped.NotYet is s =
               comes turn.Idle (at.Order at' (done + 1)) (at.Order at' (done + 1)) is t.rest refl
@@ -230,7 +221,7 @@ module _ {B : Type 0} where
                 kept = left s;
                 along = λ w. pick_waits table scene so old.play stands place new.play.cast t.same t.acts s known_cast (older s) at' done pick (plays w) there less (number s.old s.here);
                 holds = λ w. tt;
-                frame = tt;
+                stage = tt;
               })
           by_stepped stepped.Ended is s =
               comes turn.Idle (at.Order at' (done + 1)) (at.Order at' (done + 1)) is t.rest refl
@@ -238,7 +229,7 @@ module _ {B : Type 0} where
                 kept = ended s;
                 along = λ w. pick_ended table scene so old.play stands place new.play.cast t.same t.acts s at' done pick (plays w) there less (number s.old s.here);
                 holds = λ w. tt;
-                frame = tt;
+                stage = tt;
               })
 
     -- a vsync, in the order or behind a round
@@ -262,31 +253,13 @@ module _ {B : Type 0} where
       some c cs are =
           shown_with table scene marks so old.play stands rights marked keeps.desk.legal keeps.desk.knows keeps.own lease frames of_turns tells new.play report told makes v.makes.commits c cs are v.makes.number v.makes.expected
 
-      -- what is composed
-      framed : (later : SoFar B) → Stands table scene later new.play → TellsFrame scene report new.play
-      framed later now =
-          let handler = keeps_now.handler now.of_scene.decides in
-          let shown = All-weaker (ShowsLease lease) (λ (one : OnLayer ReadLeaseOf). Shows one.shown one.lease.turn.expects) tells.shows new.play.handler.on handler.crops in
-          let sources = has_sources lease table scene later new.play now keeps_now.desk.legal old.play.handler makes.took.desk.turns makes.decided.desk.turns makes.arrived report.seen ((old.play.vsyncs + 1) * old.play.period) told
-          makes.decides handler.stands shown in
-          let readable = readable lease table scene later new.play now keeps_now.desk.legal old.play.handler makes.took.desk.turns makes.decided.desk.turns makes.arrived report.seen ((old.play.vsyncs + 1) * old.play.period) told
-          makes.decides handler.stands shown in
-          let due = frame_due_is lease table scene later new.play now keeps_now.desk.legal old.play.handler makes.took.desk.turns makes.decided.desk.turns makes.arrived report.seen ((old.play.vsyncs + 1) * old.play.period) told
-          makes.decides handler.stands shown in
-          let wide = is_wide lease table scene later new.play now keeps_now.desk.legal old.play.handler makes.took.desk.turns makes.decided.desk.turns makes.arrived report.seen ((old.play.vsyncs + 1) * old.play.period) told
-          makes.decides handler.stands shown in
-          let high = is_high lease table scene later new.play now keeps_now.desk.legal old.play.handler makes.took.desk.turns makes.decided.desk.turns makes.arrived report.seen ((old.play.vsyncs + 1) * old.play.period) told
-          makes.decides handler.stands shown in
-          record {
-            sources = subst (λ (w : ViewOf). HasSources (picture_at scene.pictures) w (map expected_by new.play.handler.on) report.sources) (sym v.makes.view)
-                (subst (HasSources (picture_at scene.pictures) told.view (map expected_by new.play.handler.on)) (sym v.makes.sources) sources);
-            readable = subst (λ (w : ViewOf). AreReadable (map expected_by new.play.handler.on) w.drawn report.sources) (sym v.makes.view)
-                (subst (AreReadable (map expected_by new.play.handler.on) told.view.drawn) (sym v.makes.sources) readable);
-            frame = subst (λ (w : ViewOf). frame_of_layers (picture_at scene.pictures) new.play.handler.tree.layers scene.width scene.height
-                ≡ frame_bytes (λ x y. view_image (picture_at scene.pictures) w (pos x) (pos y)) w.width w.height) (sym v.makes.view) due;
-            wide = ap (λ (w : ViewOf). w.width) v.makes.view ∙ wide;
-            high = ap (λ (w : ViewOf). w.height) v.makes.view ∙ high;
-          }
+      -- what there is to show
+      staged : (later : SoFar B) → Stands table scene later new.play → TellsStage scene report new.play
+      staged later now = record {
+        stage = is_stage lease table scene later old.play new.play now keeps_now makes.took.desk.turns makes.decided.desk.turns makes.arrived report.seen ((old.play.vsyncs + 1) * old.play.period) told
+            makes.decides tells.shows report.view report.sources v.makes.view v.makes.sources;
+        expected = are_expected table scene later new.play now keeps_now.desk.legal;
+      }
 
       vsync_pick : (place done : ℕ) (pick : Pick) → (WasAlong → PlaysSo scene so old.play (at.Order place done)) → slice_get scene.order place ≡ Some pick → done < pick.times → pick.actor ≡ 0 → On (at.Order place (done + 1))
       vsync_pick place done pick plays there less is = subst (λ (c : Turn). PlaysOn WasAlong table scene marks so c new (at.Order place (done + 1))) (sym v.is) (by_commits told.commits refl)
@@ -296,13 +269,13 @@ module _ {B : Type 0} where
             kept = silent e;
             along = λ w. pick_silent lease frames table scene so old.play new.play report.seen told stands makes shows e place done pick (plays w) there less is;
             holds = λ w. tt;
-            frame = framed so (silent e).stands;
+            stage = staged so (silent e).stands;
           }
           by_commits (c ∷ cs) e = record {
             kept = some c cs e;
             along = λ w. pick_shown lease frames table scene so old.play new.play report.seen told stands makes shows c cs e place done pick (plays w) there less is;
             holds = λ w. tt;
-            frame = framed (some c cs e).later (some c cs e).stands;
+            stage = staged (some c cs e).later (some c cs e).stands;
           }
 
       vsync_round : (place : ℕ) (was : Bool) → (WasAlong → PlaysSo scene so old.play (at.Round place was)) → nat_lt place (length old.play.cast.actors) ≡ false → On (behind_round was report.commits new.held)
@@ -328,13 +301,13 @@ module _ {B : Type 0} where
             along = λ w. round_silent lease frames table scene so old.play new.play report.seen told stands makes shows e place was (plays w) had;
             holds = λ w. ends so (was || (has_commits told.commits || list_any (λ (h : ℕ × Hold). is_time h.1) told.held))
                 (v.makes.held ∙ sym (holds_silent lease frames table scene so old.play new.play report.seen told stands makes shows e));
-            frame = framed so (silent e).stands;
+            stage = staged so (silent e).stands;
           }
           by_commits (c ∷ cs) e = record {
             kept = some c cs e;
             along = λ w. round_shown lease frames table scene so old.play new.play report.seen told stands makes shows c cs e place was (plays w) had;
             holds = λ w. subst (λ (ds : List Decided). HoldsAt scene (some c cs e).later new (behind_round was ds told.held)) (sym e) (goes_on (some c cs e).later was);
-            frame = framed (some c cs e).later (some c cs e).stands;
+            stage = staged (some c cs e).later (some c cs e).stands;
           }
 
     -- the turn of a pick
@@ -395,7 +368,7 @@ module _ {B : Type 0} where
     turn_on at.End e turns plays =
         subst (λ (c : Turn). PlaysOn WasAlong table scene marks so c new new.place) (sym turns.0)
         (subst (λ (p : PlayerOf B). PlaysOn WasAlong table scene marks so turn.End p p.place) (sym turns.1)
-        (record { kept = nothing_with table scene marks so old.play stands rights marked keeps.desk.legal keeps.desk.knows keeps.own turn.End refl; along = λ w. w.0; holds = λ w. w.1; frame = tt }))
+        (record { kept = nothing_with table scene marks so old.play stands rights marked keeps.desk.legal keeps.desk.knows keeps.own turn.End refl; along = λ w. w.0; holds = λ w. w.1; stage = tt }))
 
     -- each turn
     pub turns_on : Turns lease table so.actors old new came_to → On new.place

@@ -44,7 +44,8 @@ use Rattle.sf_run.specs.Ends.{held_in}
 use Rattle.sf_run.specs.Framing.{framed_arrival, framed_on}
 use Rattle.sf_run.specs.Histories.{Released}
 use Rattle.sf_run.specs.Plays.{TakesTurn}
-use Rattle.sf_run.specs.Progress.{ShowsWhatIsWritten, frame_after}
+use Rattle.sf_run.specs.Frames.{shown_after}
+use Rattle.sf_run.specs.Progress.{ShowsWhatIsWritten}
 use Rattle.sf_run.specs.Runs.{final_values, rising_actors}
 use Rattle.sf_run.specs.Seeing.{value_shown}
 use Rattle.sf_run.specs.Vsyncs.{rising_timelines, vsyncs_in}
@@ -183,7 +184,7 @@ module _ {B : Type 0} where
         expected = period_now i;
         timelines = map (value_shown (final_now i)) (rising_timelines scene);
         commits = map commit_shown (next_vsync.commits_are i);
-        frame = frame_after scene (map commit_shown (next_vsync.commits_are i)) (next_vsync.leaves i);
+        shown = shown_after scene (map commit_shown (next_vsync.commits_are i)) (next_vsync.leaves i);
       }
 
       goes_pick : (place done : ℕ) (pick : Pick) (later : SoFar B) → so.events ++ turn.events ≡ later.events → turn.world ≡ world_so later new → PlaysSo scene so old (at.Order place done)

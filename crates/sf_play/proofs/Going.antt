@@ -24,7 +24,7 @@ use Rattle.sf_run.specs.Stopping.{stuck_among}
 use Rattle.sf_rights.specs.Vsyncs.{IsOfTurns}
 use Rattle.sf_report.specs.declared.report.VsyncReport.{VsyncReport}
 use Rattle.sf_play.proofs.AlongEnds.{ends_play}
-use Rattle.sf_play.proofs.AlongNext.{FrameTold, PlaysOn, WasAlong, turns_on}
+use Rattle.sf_play.proofs.AlongNext.{StageTold, PlaysOn, WasAlong, turns_on}
 use Rattle.sf_play.proofs.Happening.{ends_run, may_turn, nothing_happens}
 use Rattle.sf_play.proofs.Leasing.{OfFrames}
 use Rattle.sf_play.proofs.Ledging.{TellsAll, looks_written}
@@ -192,7 +192,7 @@ module _ {B : Type 0} (lease : Ghosts ReadLeaseOf SeatView ReadLeaseOf Issued) (
     told : (Ends : SoFar B → PlayerOf B → Type 0) → (came_to ≡ turn.End → Ends later new) → (came : Turn) → came_to ≡ came → Tells Ends scene came later new
     told Ends ends (turn.Step place) e = tt
     told Ends ends turn.Idle e = tt
-    told Ends ends (turn.Vsync report) e = subst (λ (c : Turn). FrameTold scene c new.play) e on.frame
+    told Ends ends (turn.Vsync report) e = subst (λ (c : Turn). StageTold scene c new.play) e on.stage
     told Ends ends turn.End e = ends e
 
     -- each turn goes on with a run of the scene

@@ -31,7 +31,7 @@ use Rattle.sf_run.specs.Actors.{script_of}
 use Rattle.sf_run.specs.Played.{Fits}
 use Rattle.sf_run.specs.Turns.{DrawAfterOwed}
 use Rattle.sf_play.proofs.Ending.{fits_at_end}
-use Rattle.sf_play.proofs.Lasting.{vsyncs_fit}
+use Rattle.sf_play.proofs.Lasting.{few_actors, vsyncs_fit}
 use Rattle.sf_play.proofs.Ledging.{IsLegalDesk}
 use Rattle.sf_play.proofs.Lessening.{MayTurn}
 use Rattle.sf_play.proofs.Makers.{draws_came}
@@ -93,20 +93,20 @@ module _ {B : Type 0} where
   scripts_are table pictures home view (actor ∷ actors) (of ∷ ofs) keep = λ i. sym keep.0.is.script i ∷ scripts_are table pictures home view actors ofs keep.1 i
 
   -- one that begins stands
-  pub begins_stand : (table : TableId) (scene : SceneValue) (so : SoFar B) (player : PlayerOf B) → Stands table scene so player.play → scene.version ≡ 1 → player.place ≡ at.Order 0 0 → player.play.vsyncs ≡ 0
+  pub begins_stand : (table : TableId) (scene : SceneValue) (so : SoFar B) (player : PlayerOf B) → Stands table scene so player.play → player.place ≡ at.Order 0 0 → player.play.vsyncs ≡ 0
       → player.play.handler.pending ≡ [] → player.play.cast.desk.arrivals ≡ [] → StandsAt table scene so player
-  begins_stand table scene so player stands version first none_made none_pending none_arrived =
+  begins_stand table scene so player stands first none_made none_pending none_arrived =
       let play = player.play in
       let limits = stands.of_scene.limits in
       let scripts = scripts_are table (picture_at scene.pictures) (home_in play) (view_in play) play.cast.actors so.actors stands.keep in
-      let most : most_actors scene.version ≡ 16 = ap most_actors version in
+      let most = few_actors scene.version in
       let fits : vsyncs_left play.order play (at.Order 0 0) < 4294967295 =
       vsyncs_fit play.order play
       (subst (λ (order : List Pick). length order ≤ 1048576) (sym stands.of_scene.order) limits.order.few)
       (subst (All (λ (pick : Pick). pick.times ≤ 256)) (sym stands.of_scene.order) (All-weaker (IsPick scene.actors) (λ (pick : Pick). pick.times ≤ 256) (λ pick is. is.high) scene.order limits.order.picks))
       (subst IsStrictlyIncreasing (sym (sym (map_twice (λ (actor : Actor B). actor.script) (λ (script : ActorScript). script.number) play.cast.actors) ∙ ap (map (λ (script : ActorScript). script.number)) scripts
       ∙ map_twice script_of (λ (script : ActorScript). script.number) so.actors)) stands.tell.actors.apart)
-      (of_all (λ (actor : Actor B). ((1 ≤ actor.script.number) × (actor.script.number ≤ 16)) × (length actor.script.steps ≤ 4096)) play.cast.actors (λ actor there.
+      (of_all (λ (actor : Actor B). ((1 ≤ actor.script.number) × (actor.script.number ≤ 64)) × (length actor.script.steps ≤ 4096)) play.cast.actors (λ actor there.
       let has = subst (λ (ss : List ActorScript). Contains ss actor.script) scripts (has_map (λ (a : Actor B). a.script) play.cast.actors actor there) in
       let declared = Contains-permutation (map script_of so.actors) scene.actors actor.script (IsPermutation-sym scene.actors (map script_of so.actors) stands.tell.actors.scripts) has in
       let is = All-contains (IsActor (most_actors scene.version)) scene.actors actor.script limits.actors.each declared in

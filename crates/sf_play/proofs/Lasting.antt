@@ -1,7 +1,7 @@
 -- How long a play lasts: each turn lessens its fuel, and vsyncs do not pass those that were left.
 use Rattle.std.proofs.lemmas.Option.{slice_get-get_or}
 use Rattle.std.proofs.Common.{◌≡◌, ℕ, zero, suc, ◌+◌, ◌-◌, ◌*◌, ◌<◌, ◌≤◌, Bool, true, false, List, [], ◌∷◌, get_or, length, drop, map, Option, Some, None, refl, sym, ap, ◌∙◌, subst, inl, inr, arith}
-use Rattle.std.specs.Prelude.{◌⊎◌, nat_lt, slice_get}
+use Rattle.std.specs.Prelude.{◌⊎◌, ◌==◌, nat_lt, slice_get}
 use Rattle.std.specs.List.{All}
 use Rattle.std.specs.List.Sorted.{IsStrictlyIncreasing}
 use Rattle.std.proofs.lemmas.Bool.{cases_Bool, ltb-true}
@@ -9,6 +9,7 @@ use Rattle.std.proofs.lemmas.List.{length-map}
 use Rattle.std.proofs.lemmas.List.Elements.{All-head, All-map, All-tail, All-weaker}
 use Rattle.std.proofs.lemmas.List.Sums.{sum_by-cons}
 use Rattle.std.proofs.Math.Nat.{mul-le-mul_right}
+use Rattle.sf_scene.specs.Limits.{most_actors}
 use Rattle.sf_scene.specs.declared.declarations.Pick.{Pick}
 use Rattle.sf_steps.specs.declared.actor.Actor.{Actor}
 use Rattle.sf_play.specs.Fuel.{fuel, now_in, round_fuel, rounds_left, steps_left, to_commit, turns_of, untaken, vsyncs_left, work_left}
@@ -206,6 +207,13 @@ many_below (n ∷ later) most up within =
     let high = (within (length later) 0 (omega arith)).1 in
     omega (arith, last, first, high)
 
+-- a scene has few actors
+pub few_actors : (version : ℕ) → most_actors version ≤ 64
+few_actors version = elim (cases_Bool (version == 2)) [
+  | inl met ↦ rw met (omega arith)
+  | inr unmet ↦ rw unmet (omega arith)
+]
+
 module _ {B : Type 0} where
   few_steps : (actors : List (Actor B)) → All (λ (actor : Actor B). length actor.script.steps ≤ 4096) actors → steps_left actors ≤ 4096 * length actors
   few_steps [] few = omega arith
@@ -215,20 +223,20 @@ module _ {B : Type 0} where
       let sum = sum_by-cons (λ (a : Actor B). length a.script.steps - length a.replies.items) actor later in
       omega (arith, rest, here, sum)
 
-  -- at the start of a play of at most 16 actors all its vsyncs fit 32 bits
+  -- at the start of a play of at most 64 actors all its vsyncs fit 32 bits
   pub vsyncs_fit : (order : List Pick) (play : PlayOf B) → length order ≤ 1048576 → All (λ (pick : Pick). pick.times ≤ 256) order
       → IsStrictlyIncreasing (map (λ (actor : Actor B). actor.script.number) play.cast.actors)
-      → All (λ (actor : Actor B). ((1 ≤ actor.script.number) × (actor.script.number ≤ 16)) × (length actor.script.steps ≤ 4096)) play.cast.actors
+      → All (λ (actor : Actor B). ((1 ≤ actor.script.number) × (actor.script.number ≤ 64)) × (length actor.script.steps ≤ 4096)) play.cast.actors
       → play.handler.pending ≡ [] → untaken play ≡ [] → vsyncs_left order play (at.Order 0 0) < 4294967295
   vsyncs_fit order play few times up each pending none =
       let actors = play.cast.actors in
       let numbers = map (λ (actor : Actor B). actor.script.number) actors in
-      let within = All-map (λ (n : ℕ). (1 ≤ n) × (n ≤ 16)) (λ (actor : Actor B). actor.script.number) actors
-      (All-weaker (λ (actor : Actor B). ((1 ≤ actor.script.number) × (actor.script.number ≤ 16)) × (length actor.script.steps ≤ 4096))
-      (λ (actor : Actor B). (1 ≤ actor.script.number) × (actor.script.number ≤ 16)) (λ actor is. is.0) actors each) in
-      let many = many_below numbers 16 up within in
+      let within = All-map (λ (n : ℕ). (1 ≤ n) × (n ≤ 64)) (λ (actor : Actor B). actor.script.number) actors
+      (All-weaker (λ (actor : Actor B). ((1 ≤ actor.script.number) × (actor.script.number ≤ 64)) × (length actor.script.steps ≤ 4096))
+      (λ (actor : Actor B). (1 ≤ actor.script.number) × (actor.script.number ≤ 64)) (λ actor is. is.0) actors each) in
+      let many = many_below numbers 64 up within in
       let mapped = length-map actors (λ (actor : Actor B). actor.script.number) in
-      let steps = few_steps actors (All-weaker (λ (actor : Actor B). ((1 ≤ actor.script.number) × (actor.script.number ≤ 16)) × (length actor.script.steps ≤ 4096))
+      let steps = few_steps actors (All-weaker (λ (actor : Actor B). ((1 ≤ actor.script.number) × (actor.script.number ≤ 64)) × (length actor.script.steps ≤ 4096))
       (λ (actor : Actor B). length actor.script.steps ≤ 4096) (λ actor is. is.1) actors each) in
       let turns = few_turns order 0 times in
       let waits = ap (to_commit (now_in play)) pending in

@@ -33,7 +33,7 @@ use Rattle.sf_run.specs.Framing.{framed_arrival}
 use Rattle.sf_run.specs.Holds.{is_uncommitted}
 use Rattle.sf_run.specs.Vsyncs.{commits_in, vsyncs_in}
 use Rattle.sf_play.proofs.Fueling.{few_weigh, one_sent, sent_many}
-use Rattle.sf_play.proofs.Lasting.{many_below}
+use Rattle.sf_play.proofs.Lasting.{few_actors, many_below}
 use Rattle.sf_play.specs.Fuel.{now_in, steps_left, untaken, vsyncs_left}
 use Rattle.sf_play.specs.Players.{PlayOf, SoFar, Stands, arrived_at, home_in, taken_at, view_in}
 use Rattle.sf_play.specs.declared.place.Place.TheVariants as at
@@ -125,21 +125,21 @@ module _ {B : Type 0} where
       let done = sum_by-cons (λ (o : ActorOf B). length o.trace) of ofs in
       omega (arith, rest, script, trace, here, first, mapped, taken, left, done)
 
-  module _ (table : TableId) (scene : SceneValue) (so : SoFar B) (play : PlayOf B) (stands : Stands table scene so play) (version : scene.version ≡ 1) where
+  module _ (table : TableId) (scene : SceneValue) (so : SoFar B) (play : PlayOf B) (stands : Stands table scene so play) where
     scripts_within : (of : ActorOf B) → Contains so.actors of → IsActor (most_actors scene.version) of.script
     scripts_within of there =
         All-contains (IsActor (most_actors scene.version)) scene.actors of.script stands.of_scene.limits.actors.each
         (Contains-permutation (map script_of so.actors) scene.actors of.script (IsPermutation-sym scene.actors (map script_of so.actors) stands.tell.actors.scripts) (has_map script_of so.actors of there))
 
-    few_actors : length so.actors ≤ 16
-    few_actors =
+    few_here : length so.actors ≤ 64
+    few_here =
         let mapped = length-map so.actors number_of in
-        let many = many_below (map number_of so.actors) 16 stands.tell.actors.apart (of_all (λ (n : ℕ). (1 ≤ n) × (n ≤ 16)) (map number_of so.actors) (λ n there.
+        let many = many_below (map number_of so.actors) 64 stands.tell.actors.apart (of_all (λ (n : ℕ). (1 ≤ n) × (n ≤ 64)) (map number_of so.actors) (λ n there.
         let of = map_has number_of so.actors n there in
         let is = scripts_within of.0 of.1 in
         let low = is.low in
         let high = is.high in
-        let most : most_actors scene.version ≡ 16 = ap most_actors version in
+        let most = few_actors scene.version in
         let same = of.2 in
         (omega (arith, low, same), omega (arith, high, most, same)))) in
         omega (arith, mapped, many)
@@ -161,7 +161,7 @@ module _ {B : Type 0} where
     -- the vsyncs of rounds from here on can be numbered
     pub rounds_numbered : play.vsyncs ≤ 2147483648 → play.vsyncs + vsyncs_left play.order play (at.Round 0 false) < 4294967295
     rounds_numbered made =
-        let few = few_actors in
+        let few = few_here in
         let steps = both_few table (picture_at scene.pictures) (home_in play) (view_in play) play.cast.actors so.actors stands.keep
         (of_all (λ (of : ActorOf B). length of.script.steps ≤ 4096) so.actors (λ of there. (scripts_within of there).few_steps)) in
         let counted = all_counted so.actors (view_in play).arrivals stands.tell.senders in

@@ -27,7 +27,7 @@ use Rattle.sf_cast.proofs.PlayingLemmas.{has_opened, may_play}
 use Rattle.sf_cast.proofs.RisingLemmas.{rising_differ, sorted_rises}
 use Rattle.sf_cast.specs.Casts.{CastOf, KeepAs, Opens}
 use Rattle.sf_cast.specs.Opening.{new_actors, new_queue}
-use Rattle.sf_cast.specs.Scripts.{are_playable, permits_of}
+use Rattle.sf_cast.specs.Scripts.{permits_of}
 use Rattle.sf_run.proofs.Parts.{map_twice}
 use Rattle.sf_run.proofs.Rising.{rising_queues_are}
 use Rattle.sf_run.specs.Actors.{mark_declared}
@@ -62,7 +62,7 @@ module _ {B : Type 0} (table : TableId) (scene : SceneValue) (limits : IsWithinL
   marks_opened : (home_of play.cast.desk).marks ≡ map mark_of (map (new_queue {B = B}) opens.queues_opened.declared)
   marks_opened = ap (map mark_of) opens.queues_opened.opened
 
-  module _ (fresh : seat.leaves ≡ []) (whole : stock ≡ range 0 (permits_of scene.actors)) (sized : permits_of scene.actors ≤ table.slots) (playable : are_playable scene.actors ≡ true) where
+  module _ (fresh : seat.leaves ≡ []) (whole : stock ≡ range 0 (permits_of scene.actors)) (sized : permits_of scene.actors ≤ table.slots) where
     -- nothing has happened
     begins_bare : RightsBegin table.slots (home_in play) (view_in play) (new_actors opens.declared stock) play.handler
     begins_bare = record {
@@ -92,7 +92,7 @@ module _ {B : Type 0} (table : TableId) (scene : SceneValue) (limits : IsWithinL
       draws = draws_begin scene table.slots (home_in play) (view_in play) (new_actors opens.declared stock) play.handler begins_bare;
       plays = subst (λ (ss : List ActorScript). All (MayPlay (home_in play) scene.pictures) ss)
           (sym (news_scripts table play.cast.actors opens.declared stock (opened_are (home_in play) (view_in play) (picture_at play.cast.pictures) play.cast.actors (new_actors opens.declared stock) opens.keep)))
-          (All-permutation (MayPlay (home_in play) scene.pictures) scene.actors opens.declared opens.sorted.permutation (may_play scene (home_in play) limits playable has (λ n. refl)));
+          (All-permutation (MayPlay (home_in play) scene.pictures) scene.actors opens.declared opens.sorted.permutation (may_play scene (home_in play) limits has (λ n. refl)));
     }
       where
         has : (n : ℕ) → has_declared scene.queues n ≡ true → has_queue (home_in play) n ≡ true
@@ -107,13 +107,13 @@ module _ {B : Type 0} (table : TableId) (scene : SceneValue) (limits : IsWithinL
         (sorted_rises queue_number scene.queues opens.queues_opened.declared limits.queues.differ opens.queues_opened.sorted)))
 
     -- a player that did nothing yet stands along
-    pub along_first : scene.version ≡ 1 → (place : Place) (held : List (ℕ × Hold)) → place ≡ at.Order 0 0 → StandsAlong table scene so (record { play = play; place = place; held = held; is_spent = false })
-    along_first version place held first =
+    pub along_first : (place : Place) (held : List (ℕ × Hold)) → place ≡ at.Order 0 0 → StandsAlong table scene so (record { play = play; place = place; held = held; is_spent = false })
+    along_first place held first =
         let player : PlayerOf B = record { play = play; place = place; held = held; is_spent = false } in
         let stands = stands_at_first table scene limits seat stock play opens period order handler none in
         record {
           in_run = record {
-            stands = begins_stand table scene so player stands version first none (ap (λ (h : HandlerOf ReadLeaseOf). h.pending) handler) opens.none_arrived;
+            stands = begins_stand table scene so player stands first none (ap (λ (h : HandlerOf ReadLeaseOf). h.pending) handler) opens.none_arrived;
             rights = rights_first;
             marks = marks_first;
           };
@@ -122,21 +122,19 @@ module _ {B : Type 0} (table : TableId) (scene : SceneValue) (limits : IsWithinL
         }
 
 -- a player that did nothing yet
-module _ {B : Type 0} (table : TableId) (scene : SceneValue) (limits : IsWithinLimits scene) (version : scene.version ≡ 1) (seat : SeatView) (stock : List ℕ) (cast : CastOf B) (handler : HandlerOf ReadLeaseOf)
-    (held : List (ℕ × Hold)) (queues : List QueueDecl) (same : queues ≡ scene.queues) (opens : Opens table queues scene.pictures scene.actors seat stock cast) (is_new : handler ≡ new_handler scene.width scene.height 256)
-    (none : held ≡ []) (fresh : seat.leaves ≡ []) (whole : stock ≡ range 0 (permits_of scene.actors)) (sized : permits_of scene.actors ≤ table.slots) (playable : are_playable scene.actors ≡ true) where
+module _ {B : Type 0} (table : TableId) (scene : SceneValue) (limits : IsWithinLimits scene) (seat : SeatView) (stock : List ℕ) (cast : CastOf B) (handler : HandlerOf ReadLeaseOf)
+    (held : List (ℕ × Hold)) (queues : List QueueDecl) (same : queues ≡ scene.queues) (opens : Opens table queues scene.pictures scene.actors seat stock cast) (is_new : handler ≡ new_handler scene.width scene.height (most_layers scene.version))
+    (none : held ≡ []) (fresh : seat.leaves ≡ []) (whole : stock ≡ range 0 (permits_of scene.actors)) (sized : permits_of scene.actors ≤ table.slots) where
   abbrev pub player : PlayerOf B
   player = record { play = record { period = scene.period; order = scene.order; cast = cast; handler = handler; vsyncs = 0 }; place = at.Order 0 0; held = held; is_spent = false }
 
   pub begins : Begins table scene player
   begins =
       let opened = subst (λ (qs : List QueueDecl). Opens table qs scene.pictures scene.actors seat stock cast) same opens in
-      let most : most_layers scene.version ≡ 256 = ap most_layers version in
-      let new_is : handler ≡ new_handler scene.width scene.height (most_layers scene.version) = is_new ∙ ap (λ (n : ℕ). new_handler scene.width scene.height n) (sym most) in
       record {
-        so = nothing table scene limits seat stock player.play opened refl refl new_is refl;
+        so = nothing table scene limits seat stock player.play opened refl refl is_new refl;
         nothing = refl;
-        stands = along_first table scene limits seat stock player.play opened refl refl new_is refl fresh whole sized playable version (at.Order 0 0) held refl;
+        stands = along_first table scene limits seat stock player.play opened refl refl is_new refl fresh whole sized (at.Order 0 0) held refl;
         first = refl;
         none_made = refl;
         none_held = none;

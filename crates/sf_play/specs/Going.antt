@@ -1,17 +1,14 @@
 -- What a turn of a player tells who shows it: it goes on with a run of the scene, up to its end, and along with the scene's play.
-use Rattle.std.specs.Prelude.{◌≡◌, ℕ, ◌<◌, pos, List, map, All}
+use Rattle.std.specs.Prelude.{◌≡◌, ℕ, ◌<◌, List, All}
 use Rattle.atomic_table.specs.Seated.{TableId}
-use Rattle.sf_compose.specs.Frames.{frame_bytes}
-use Rattle.sf_compose.specs.Readings.{AreReadable}
-use Rattle.sf_compose.specs.Sources.{HasSources}
-use Rattle.sf_view.specs.Stacks.{view_image}
 use Rattle.sf_scene.specs.Scene.{SceneValue}
 use Rattle.sf_actor.specs.Scripts.{picture_at}
 use Rattle.sf_record.specs.Fitting.{RecordFits}
 use Rattle.sf_record.specs.declared.record.Record.{Record}
 use Rattle.sf_run.specs.Ends.{ArePlayRecords}
-use Rattle.sf_run.specs.Frames.{frame_of_layers}
+use Rattle.sf_run.specs.Frames.{plan_of}
 use Rattle.sf_run.specs.Played.{Fits, Played, records_of}
+use Rattle.sf_report.specs.Stages.{AreExpected, IsStage}
 use Rattle.sf_report.specs.declared.report.VsyncReport.{VsyncReport}
 use Rattle.sf_play.specs.Ending.{shows_at_end}
 use Rattle.sf_play.specs.Fuel.{fuel}
@@ -24,15 +21,10 @@ use Rattle.sf_play.specs.declared.turn.Turn.{Turn}
 use Rattle.sf_play.specs.declared.turn.Turn.TheVariants as turn
 
 module _ {B : Type 0} where
-  -- What a vsync reports is what its frame is composed from: each drawn layer finds its picture among the contents, and the
-  -- frame that is due is the image of the view, which has the display's size.
-  pub record TellsFrame (scene : SceneValue) (report : VsyncReport) (play : PlayOf B) : Type 0 where
-    pub sources : HasSources (picture_at scene.pictures) report.view (map expected_by play.handler.on) report.sources
-    pub readable : AreReadable (map expected_by play.handler.on) report.view.drawn report.sources
-    pub frame : frame_of_layers (picture_at scene.pictures) play.handler.tree.layers scene.width scene.height
-        ≡ frame_bytes (λ x y. view_image (picture_at scene.pictures) report.view (pos x) (pos y)) report.view.width report.view.height
-    pub wide : report.view.width ≡ scene.width
-    pub high : report.view.height ≡ scene.height
+  -- What a vsync leaves to whoever shows it: the stage, whose buffers have the scene's pictures.
+  pub record TellsStage (scene : SceneValue) (report : VsyncReport) (play : PlayOf B) : Type 0 where
+    pub stage : IsStage expected_by (plan_of scene) play.handler report.view report.sources
+    pub expected : AreExpected expected_by (picture_at scene.pictures) play.handler
 
   -- the records of a player that has shown this much and is at its end
   abbrev pub records_so : SceneValue → SoFar B → PlayerOf B → List Record
@@ -48,9 +40,9 @@ module _ {B : Type 0} where
   abbrev pub EndsRun : SceneValue → SoFar B → PlayerOf B → Type 0
   EndsRun scene so player = Fits scene (shows_at_end scene so player) (run_so so player.play) (arrived_at player.play)
 
-  -- what a turn tells beside what happened: a vsync its frame, and the end what is then
+  -- what a turn tells beside what happened: a vsync its stage, and the end what is then
   abbrev pub Tells : (SoFar B → PlayerOf B → Type 0) → SceneValue → Turn → SoFar B → PlayerOf B → Type 0
-  Tells Ends scene (turn.Vsync report) so player = TellsFrame scene report player.play
+  Tells Ends scene (turn.Vsync report) so player = TellsStage scene report player.play
   Tells Ends scene turn.End so player = Ends so player
   Tells Ends scene other so player = Unit {0}
 

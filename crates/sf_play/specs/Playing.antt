@@ -1,5 +1,5 @@
 -- What a player is, and what its turns do.
-use Rattle.std.specs.Prelude.{◌≡◌, ◌+◌, ◌*◌, ◌<◌, false, All}
+use Rattle.std.specs.Prelude.{◌≡◌, ◌+◌, ◌*◌, ◌<◌, ◌≤◌, false, All, length}
 use Rattle.atomic_table.specs.Seated.{TableId}
 use Rattle.sf_picture.specs.declared.picture.Picture.{Picture}
 use Rattle.sf_commit.specs.Handlers.{IsHandler}
@@ -40,11 +40,13 @@ module _ {B : Type 0} where
     pub early : play.vsyncs < 4294967295
 
 module _ {B : Type 0} {R C : Type 0} (lease : Ghosts ReadLeaseOf SeatView R C) where
-  -- what the desk and the compositor of a play keep of themselves: all is known, and the seat is at the table
+  -- what the desk and the compositor of a play keep of themselves: all is known, the seat is at the table, and the tree has no
+  -- more layers than it can have
   pub record KeepsItself (table : TableId) (play : PlayOf B) : Type 0 where
     pub desk : DeskKnows play
     pub own : play.cast.desk.turns.table ≡ table
     pub handler : play.handler.is_spent ≡ false → IsHandler lease play.handler
+    pub few : length play.handler.tree.layers ≤ play.handler.tree.most
 
   -- a vsync was made, and this is its report
   pub record MakesReport (table : TableId) (old new : PlayerOf B) (report : VsyncReport) : Type 0 where

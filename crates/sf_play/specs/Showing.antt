@@ -7,7 +7,7 @@ use Rattle.sf_scene.specs.Scene.{SceneValue}
 use Rattle.sf_record.specs.declared.event.VsyncReport.{VsyncReport}
 use Rattle.sf_record.specs.declared.record.TimelineValue.{TimelineValue}
 use Rattle.sf_run.specs.Commits.{commit_shown}
-use Rattle.sf_run.specs.Progress.{frame_after}
+use Rattle.sf_run.specs.Frames.{shown_after}
 use Rattle.sf_run.specs.Seeing.{value_shown}
 use Rattle.sf_run.specs.Vsyncs.{rising_timelines}
 
@@ -22,5 +22,5 @@ vsync_shown scene number expected seen commits tree = record {
   expected = expected;
   timelines = values_shown scene seen;
   commits = map commit_shown commits;
-  frame = frame_after scene (map commit_shown commits) tree;
+  shown = shown_after scene (map commit_shown commits) tree;
 }

@@ -19,10 +19,10 @@ use sf_surface::ReadLease;
 use sf_turns::TableName;
 use sf_txn::Lease;
 
-/// The rounds behind a run of a scene of version 1 have vsyncs whose numbers fit 32 bits, where no more
-/// than 2^31 were made before.
+/// The rounds behind a run of a scene have vsyncs whose numbers fit 32 bits, where no more than 2^31
+/// were made before.
 pub fn the_vsyncs_of_rounds_can_be_numbered<B: TableName>()
-    ensures { (table : TableId) (scene : SceneValue) (so : SoFar B) (play : PlayOf B) → Stands table scene so play → scene.version ≡ 1 → play.vsyncs ≤ 2147483648
+    ensures { (table : TableId) (scene : SceneValue) (so : SoFar B) (play : PlayOf B) → Stands table scene so play → play.vsyncs ≤ 2147483648
         → play.vsyncs + vsyncs_left play.order play (at.Round 0 false) < 4294967295 }
 {}
 

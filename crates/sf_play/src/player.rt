@@ -1,8 +1,8 @@
-ghost use Rattle.std.specs.Prelude.{◌≡◌, ◌+◌, ◌<◌, ◌≤◌, true, [], All, IfOk, OnOk, map};
+ghost use Rattle.std.specs.Prelude.{◌≡◌, ◌+◌, ◌<◌, ◌≤◌, true, [], All, IfOk, None, OnOk, map};
 ghost use Rattle.sf_actor.specs.Desks.{has_queue};
 ghost use Rattle.sf_actor.specs.Plain.{home_of, taken_in, view_of};
 ghost use Rattle.sf_cast.specs.Compositing.{OnlyDesk};
-ghost use Rattle.sf_cast.specs.Scripts.{are_playable, permits_of};
+ghost use Rattle.sf_cast.specs.Scripts.{permits_of};
 ghost use Rattle.sf_commit.specs.Releases.{ReleaseOf};
 ghost use Rattle.sf_surface.specs.Tokens.{ReadLeaseOf};
 ghost use Rattle.sf_turns.specs.Counts.{range};
@@ -18,7 +18,7 @@ use sf_commit::{Handler, Release, Vsync};
 use sf_picture::Painted;
 use sf_ready::Hold;
 use sf_report::VsyncReport;
-use sf_scene::{Pick, Scene};
+use sf_scene::{Pick, Scene, most_layers};
 use sf_surface::ReadLease;
 use sf_turns::{Stock, TableName, TurnSeat};
 use sf_txn::Lease;
@@ -86,8 +86,6 @@ impl<B: TableName> Player<B> {
         seat: TurnSeat<Painted>,
         stock: Stock<Painted>,
     ) -> Result<Player<B>, NoMemory>
-        requires version { scene.version ≡ 1 }
-        requires playable { are_playable scene.actors ≡ true }
         requires own { (seat.table ≡ B.table) × (stock.table ≡ B.table) }
         requires first { (seat.is_first ≡ true) × (seat.out ≡ 0) }
         requires fresh { seat.leaves ≡ [] }
@@ -96,6 +94,7 @@ impl<B: TableName> Player<B> {
         ensures { IfOk result (λ player. Begins B.table scene player) }
     {
         let Scene {
+            version,
             width,
             height,
             period,
@@ -106,7 +105,7 @@ impl<B: TableName> Player<B> {
             ..
         } = scene;
         let cast = Cast::new(alloc, queues.as_slice(), pictures, actors, seat, stock)?;
-        let handler = Handler::new(alloc, width, height)?;
+        let handler = Handler::with_limit(alloc, width, height, most_layers(version))?;
         Ok(Player {
             period,
             order,
@@ -150,6 +149,14 @@ impl<B: TableName> Player<B> {
         ensures { result.now ≡ self.now.play.cast }
     {
         &self.cast
+    }
+
+    /// The compositor: the layers and the buffers on them as the last vsync left them. Nothing is lent.
+    pub fn handler(&self) -> &Handler<ReadLease<B>>
+        ensures handler { result.now ≡ self.now.play.handler }
+        ensures unlent { self.now.play.handler.lent ≡ None }
+    {
+        &self.handler
     }
 
     /// How many vsyncs there were.
@@ -196,6 +203,7 @@ impl<B: TableName> Player<B> {
         self.cast.legal();
         self.cast.owns();
         self.handler.contents();
+        self.handler.tree().layers();
     }
 
     /// Does a vsync.

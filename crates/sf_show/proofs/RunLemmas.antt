@@ -1,6 +1,11 @@
 -- What is written of a whole play, from its first record to the last one.
 use Rattle.std.proofs.Common.{◌≡◌, ℕ, List, [], ◌∷◌, ◌++◌, Option, Result, Ok, Err, ap, sym, ◌∙◌, subst, OnErr, OnOk}
+use Rattle.std.proofs.lemmas.List.Elements.{All-nil}
 use Rattle.atomic_table.specs.Seated.{TableId}
+use Rattle.sf_actor.specs.Scripts.{picture_at}
+use Rattle.sf_plan.specs.declared.plan.Plan.{Plan}
+use Rattle.sf_screen.specs.Screens.{IsShown}
+use Rattle.sf_screen.specs.declared.screens.OutputScreen.{OutputScreen}
 use Rattle.sf_scene.specs.Limits.{IsWithinLimits}
 use Rattle.sf_scene.specs.Scene.{SceneValue}
 use Rattle.sf_cast.specs.Opening.{IsSortedFrom}
@@ -9,6 +14,7 @@ use Rattle.sf_record.specs.declared.encode.RunFault.{RunFault}
 use Rattle.sf_record.specs.declared.event.Event.{Event}
 use Rattle.sf_record.specs.declared.record.Record.{Record}
 use Rattle.sf_run.proofs.Ending.{has_records}
+use Rattle.sf_run.specs.Frames.{plan_of}
 use Rattle.sf_run.specs.Played.{opening}
 use Rattle.sf_run.specs.Plays.{first_playing, stays}
 use Rattle.sf_play.specs.Going.{records_so}
@@ -16,7 +22,7 @@ use Rattle.sf_play.specs.Players.{PlayerOf}
 use Rattle.sf_play.specs.Standing.{Begins}
 use Rattle.sf_show.specs.Closings.{closing_of}
 use Rattle.sf_show.specs.Runs.{CutRun, WroteRun}
-use Rattle.sf_show.specs.Turns.{HasWritten, IsReady, IsWriting, bare_screen}
+use Rattle.sf_show.specs.Turns.{HasWritten, IsReady, IsWriting}
 use Rattle.sf_show.specs.Writing.{Writes, WritesPart}
 use Rattle.sf_show.proofs.ClosingLemmas.{closing_is}
 use Rattle.sf_show.proofs.TurnLemmas.{cut_so_far, timelines_are}
@@ -34,25 +40,26 @@ nothing_written scene a limits =
     record { records = begins.0; is_play = begins.1; written = part_none a begins.0 }
 
 -- a player that begins is ready, with the timelines by rising number
-pub is_ready : {B : Type 0} (table : TableId) (scene : SceneValue) (first : Record) (given sorted timelines : List ℕ) (player : PlayerOf B) → IsWithinLimits scene
-    → Begins table scene player → first ≡ opening scene → given ≡ scene.timelines → IsSortedFrom (λ timeline. timeline) given sorted → timelines ≡ sorted
-    → IsReady table scene first timelines player
-is_ready table scene first given sorted timelines player limits begins opens are is same = record {
+pub is_ready : {B : Type 0} (table : TableId) (scene : SceneValue) (plan : Plan) (first : Record) (given sorted timelines : List ℕ) (player : PlayerOf B) → IsWithinLimits scene
+    → Begins table scene player → plan ≡ plan_of scene → first ≡ opening scene → given ≡ scene.timelines → IsSortedFrom (λ timeline. timeline) given sorted → timelines ≡ sorted
+    → IsReady table scene plan first timelines player
+is_ready table scene plan first given sorted timelines player limits begins planned opens are is same = record {
   begins = begins;
+  planned = planned;
   opens = opens;
   rising = same ∙ timelines_are scene sorted limits (subst (λ (ts : List ℕ). IsSortedFrom (λ timeline. timeline) ts sorted) are is);
 }
 
-module _ {B : Type 0} (table : TableId) (scene : SceneValue) (first : Record) (timelines : List ℕ) (player : PlayerOf B) (ready : IsReady table scene first timelines player) where
+module _ {B : Type 0} (table : TableId) (scene : SceneValue) (plan : Plan) (first : Record) (timelines : List ℕ) (player : PlayerOf B) (ready : IsReady table scene plan first timelines player) where
   -- the first record was written
-  pub has_begun : (a b : Option (List ℕ)) → Writes a b (first ∷ []) → IsWriting table scene timelines a b bare_screen player
+  pub has_begun : (a b : Option (List ℕ)) → Writes a b (first ∷ []) → IsWriting table scene plan timelines a b [] player
   has_begun a b written = record {
     so = ready.begins.so;
     stands = ready.begins.stands;
+    planned = ready.planned;
     rising = ready.rising;
     written = subst (Writes a b) (first_alone scene first ready.begins.so.events ready.opens ready.begins.nothing) written;
-    shown = tt;
-    sized = tt;
+    shown = All-nil (λ (one : OutputScreen). IsShown (picture_at scene.pictures) one.screen);
   }
 
   pub first_cut : (a b : Option (List ℕ)) → WritesPart a b (first ∷ []) → CutRun scene a b

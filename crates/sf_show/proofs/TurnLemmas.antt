@@ -9,9 +9,6 @@ use Rattle.std.proofs.lemmas.Option.{slice_get_read, slice_get_within}
 use Rattle.atomic_table.specs.Seated.{TableId}
 use Rattle.sf_picture.specs.declared.picture.Picture.{Picture}
 use Rattle.sf_commit.specs.declared.vsync.Commit.{Commit as Decided}
-use Rattle.sf_compose.specs.Readings.{AreReadable}
-use Rattle.sf_compose.specs.Sources.{HasSources}
-use Rattle.sf_view.specs.Views.{ViewOf}
 use Rattle.sf_scene.specs.Limits.{IsWithinLimits}
 use Rattle.sf_scene.specs.Ranges.{IsTimeline}
 use Rattle.sf_scene.specs.Scene.{SceneValue}
@@ -26,30 +23,32 @@ use Rattle.sf_record.specs.declared.event.Event.TheVariants as event
 use Rattle.sf_record.specs.declared.event.VsyncReport.{VsyncReport as Told}
 use Rattle.sf_record.specs.declared.record.Record.{Record}
 use Rattle.sf_record.specs.declared.record.Record.TheVariants as rec
+use Rattle.sf_plan.specs.declared.plan.Plan.{Plan}
 use Rattle.sf_report.specs.Reports.{has_commits}
+use Rattle.sf_report.specs.Stages.{is_accepted}
 use Rattle.sf_report.specs.declared.report.VsyncReport.{VsyncReport}
 use Rattle.sf_run.proofs.Ending.{has_records}
 use Rattle.sf_run.proofs.Keeping.{of_all}
 use Rattle.sf_run.proofs.Members.{filter_has, joined_has}
 use Rattle.sf_run.proofs.Rising.{rising_is}
 use Rattle.sf_run.specs.Commits.{commit_shown}
-use Rattle.sf_run.specs.Frames.{is_done}
+use Rattle.sf_run.specs.Frames.{is_done, plan_of, shown_due}
 use Rattle.sf_run.specs.Played.{opening}
 use Rattle.sf_run.specs.Replies.{reply_shown}
 use Rattle.sf_run.specs.Seeing.{value_shown}
 use Rattle.sf_run.specs.Vsyncs.{rising_timelines}
-use Rattle.sf_screen.specs.Screens.{IsSameSize, IsShown, ScreenOf, image_bytes}
-use Rattle.sf_play.specs.Going.{GoesAlong, TellsFrame}
+use Rattle.sf_screen.specs.ScreenLists.{AreShown}
+use Rattle.sf_screen.specs.declared.screens.OutputScreen.{OutputScreen}
+use Rattle.sf_play.specs.Going.{GoesAlong}
 use Rattle.sf_play.specs.Happening.{VsyncHappens}
 use Rattle.sf_play.specs.Players.{PlayOf, PlayerOf, SoFar}
-use Rattle.sf_play.specs.Playing.{expected_by}
 use Rattle.sf_play.specs.Showing.{vsync_shown as play_shown}
 use Rattle.sf_play.specs.Standing.{StandsAlong}
 use Rattle.sf_play.specs.declared.turn.Turn.{Turn}
 use Rattle.sf_play.specs.declared.turn.Turn.TheVariants as turn
 use Rattle.sf_show.specs.Runs.{CutRun}
 use Rattle.sf_show.specs.Turns.{IsWriting, MayShowTurn, TurnsOn, is_end, newest_of, newest_shown, turn_shown}
-use Rattle.sf_show.specs.Vsyncs.{IsSized, IsView, MayCompose, is_accepted, records_if, told_with}
+use Rattle.sf_show.specs.Vsyncs.{records_if, told_with}
 use Rattle.sf_show.specs.Writing.{Writes, WritesPart}
 use Rattle.sf_show.proofs.WritingLemmas.{part_front, part_more, writes_more}
 
@@ -95,15 +94,6 @@ more_records : (events : List Event) (one : Event) → events_records (events ++
 unfolding events_records
 more_records events one = flat_map-append event_records events (one ∷ []) ∙ ap (λ (rs : List Record). flat_map event_records events ++ rs) (append-nil (event_records one))
 
--- its frame can be composed over the last one, which has the same size
-same_size : (width height : ℕ) (view : ViewOf) (frame : List ℕ) (last : Option ViewOf) → view.width ≡ width → view.height ≡ height → IfSome last (IsView width height frame) → IfSome last (IsSameSize frame view)
-same_size width height view frame None wide high sized = tt
-same_size width height view frame (Some last) wide high sized = record {
-  wide = sized.wide ∙ sym wide;
-  high = sized.high ∙ sym high;
-  whole = sized.whole ∙ (λ i. 4 * ((sized.wide ∙ sym wide) i * (sized.high ∙ sym high) i));
-}
-
 module _ {B : Type 0} where
   step_shown : (place : ℕ) (actors : List (Actor B)) (actor : Actor B) (earlier : List Reply) (reply : Reply) → slice_get actors place ≡ Some actor
       → actor.replies.items ≡ earlier ++ reply ∷ [] → newest_of (slice_get actors place) ≡ rec.Repl (reply_shown reply) ∷ []
@@ -114,40 +104,39 @@ module _ {B : Type 0} where
   actor_at actors place actor below is = sym (ap newest_of (slice_get_read actors (length actors) place actor refl below is))
 
   -- what is shown of a vsync that commits something
-  frame_is : (scene : SceneValue) (report : VsyncReport) (play : PlayOf B) → TellsFrame scene report play
-      → play_shown scene report.number report.expected report.seen report.commits play.handler.tree ≡ told_with (picture_at scene.pictures) (rising_timelines scene) report
-  unfolding image_bytes
-  frame_is scene report play tells = (λ i. record {
+  told_is : (scene : SceneValue) (report : VsyncReport) (play : PlayOf B)
+      → play_shown scene report.number report.expected report.seen report.commits play.handler.tree ≡ told_with (picture_at scene.pictures) (plan_of scene) (rising_timelines scene) report play.handler.tree.layers
+  told_is scene report play = (λ i. record {
     number = report.number;
     expected = report.expected;
     timelines = map (value_shown report.seen) (rising_timelines scene);
     commits = map commit_shown report.commits;
-    frame = if shown_done report.commits i then Some (tells.frame i) else None;
+    shown = if shown_done report.commits i then shown_due (picture_at scene.pictures) (plan_of scene) play.handler.tree.layers else [];
   })
 
-  vsync_is : (scene : SceneValue) (timelines : List ℕ) (report : VsyncReport) (play : PlayOf B) (so later : SoFar B) → timelines ≡ rising_timelines scene → TellsFrame scene report play
+  vsync_is : (scene : SceneValue) (plan : Plan) (timelines : List ℕ) (report : VsyncReport) (play : PlayOf B) (so later : SoFar B) → plan ≡ plan_of scene → timelines ≡ rising_timelines scene
       → (commits : List Decided) → report.commits ≡ commits → VsyncHappens scene (has_commits commits) report play so later
-      → events_records so.events ++ records_if commits (told_with (picture_at scene.pictures) timelines report) ≡ events_records later.events
-  vsync_is scene timelines report play so later rising tells [] is happens = append-nil (events_records so.events) ∙ sym (ap (λ (s : SoFar B). events_records s.events) happens)
-  vsync_is scene timelines report play so later rising tells (commit ∷ commits) is happens =
-      ap (λ (ts : List ℕ). events_records so.events ++ vsync_records (told_with (picture_at scene.pictures) ts report)) rising
-      ∙ ap (λ (v : Told). events_records so.events ++ vsync_records v) (sym (frame_is scene report play tells))
+      → events_records so.events ++ records_if commits (told_with (picture_at scene.pictures) plan timelines report play.handler.tree.layers) ≡ events_records later.events
+  vsync_is scene plan timelines report play so later planned rising [] is happens = append-nil (events_records so.events) ∙ sym (ap (λ (s : SoFar B). events_records s.events) happens)
+  vsync_is scene plan timelines report play so later planned rising (commit ∷ commits) is happens =
+      (λ i. events_records so.events ++ vsync_records (told_with (picture_at scene.pictures) (planned i) (rising i) report play.handler.tree.layers))
+      ∙ ap (λ (v : Told). events_records so.events ++ vsync_records v) (sym (told_is scene report play))
       ∙ sym (more_records so.events (event.Vsync (play_shown scene report.number report.expected report.seen report.commits play.handler.tree)))
       ∙ sym (ap (λ (s : SoFar B). events_records s.events) happens)
 
   -- the records of a turn follow those of what was shown before
-  pub turn_records : (table : TableId) (scene : SceneValue) (timelines : List ℕ) (so : SoFar B) (came_to : Turn) (player : PlayerOf B) → timelines ≡ rising_timelines scene
+  pub turn_records : (table : TableId) (scene : SceneValue) (plan : Plan) (timelines : List ℕ) (so : SoFar B) (came_to : Turn) (player : PlayerOf B) → plan ≡ plan_of scene → timelines ≡ rising_timelines scene
       → (goes : GoesAlong table scene so came_to player)
-      → events_records so.events ++ turn_shown (picture_at scene.pictures) timelines player.play.cast.actors came_to ≡ events_records goes.later.events
-  turn_records table scene timelines so (turn.Step place) player rising goes =
+      → events_records so.events ++ turn_shown (picture_at scene.pictures) plan timelines player.play came_to ≡ events_records goes.later.events
+  turn_records table scene plan timelines so (turn.Step place) player planned rising goes =
       let did = goes.happens in
       ap (λ (rs : List Record). events_records so.events ++ rs) (step_shown place player.play.cast.actors did.actor did.earlier did.reply did.there did.replies)
       ∙ sym (more_records so.events (event.Reply (reply_shown did.reply)))
       ∙ sym (ap (λ (s : SoFar B). events_records s.events) did.is)
-  turn_records table scene timelines so (turn.Vsync report) player rising goes =
-      vsync_is scene timelines report player.play so goes.later rising goes.tells report.commits refl goes.happens
-  turn_records table scene timelines so turn.Idle player rising goes = append-nil (events_records so.events) ∙ sym (ap (λ (s : SoFar B). events_records s.events) goes.happens)
-  turn_records table scene timelines so turn.End player rising goes = append-nil (events_records so.events) ∙ sym (ap (λ (s : SoFar B). events_records s.events) goes.happens)
+  turn_records table scene plan timelines so (turn.Vsync report) player planned rising goes =
+      vsync_is scene plan timelines report player.play so goes.later planned rising report.commits refl goes.happens
+  turn_records table scene plan timelines so turn.Idle player planned rising goes = append-nil (events_records so.events) ∙ sym (ap (λ (s : SoFar B). events_records s.events) goes.happens)
+  turn_records table scene plan timelines so turn.End player planned rising goes = append-nil (events_records so.events) ∙ sym (ap (λ (s : SoFar B). events_records s.events) goes.happens)
 
   pub may_show : (table : TableId) (scene : SceneValue) (so : SoFar B) (came_to : Turn) (player : PlayerOf B) → GoesAlong table scene so came_to player → MayShowTurn scene came_to player
   may_show table scene so (turn.Step place) player goes = slice_get_within player.play.cast.actors place goes.happens.actor goes.happens.there
@@ -155,46 +144,34 @@ module _ {B : Type 0} where
   may_show table scene so turn.Idle player goes = tt
   may_show table scene so turn.End player goes = tt
 
-  pub may_compose : (scene : SceneValue) (report : VsyncReport) (play : PlayOf B) (screen : ScreenOf) (contents : List Picture) → TellsFrame scene report play → IsSized scene.width scene.height screen
-      → contents ≡ map expected_by play.handler.on → MayCompose screen (map (λ (p : Picture). p) contents) report
-  may_compose scene report play screen contents tells sized are = record {
-    size = same_size scene.width scene.height report.view screen.frame screen.view tells.wide tells.high sized;
-    readable = subst (λ (cs : List Picture). AreReadable cs report.view.drawn report.sources) (sym (map-id contents ∙ are)) tells.readable;
-  }
-
-  pub has_sources : (scene : SceneValue) (report : VsyncReport) (play : PlayOf B) (contents : List Picture) → TellsFrame scene report play
-      → contents ≡ map expected_by play.handler.on → HasSources (picture_at scene.pictures) report.view (map (λ (p : Picture). p) contents) report.sources
-  has_sources scene report play contents tells are =
-      subst (λ (cs : List Picture). HasSources (picture_at scene.pictures) report.view cs report.sources) (sym (map-id contents ∙ are)) tells.sources
-
   -- a turn was written behind what was written before
-  pub goes_on : (table : TableId) (scene : SceneValue) (timelines : List ℕ) (start a b : Option (List ℕ)) (before screen : ScreenOf) (old player : PlayerOf B) (came_to : Turn)
-      (w : IsWriting table scene timelines start a before old) → GoesAlong table scene w.so came_to player
-      → Writes a b (turn_shown (picture_at scene.pictures) timelines player.play.cast.actors came_to) → IsShown (picture_at scene.pictures) screen → IsSized scene.width scene.height screen
-      → IsWriting table scene timelines start b screen player
-  goes_on table scene timelines start a b before screen old player came_to w goes now shown sized =
-      let records = turn_shown (picture_at scene.pictures) timelines player.play.cast.actors came_to in
+  pub goes_on : (table : TableId) (scene : SceneValue) (plan : Plan) (timelines : List ℕ) (start a b : Option (List ℕ)) (before screens : List OutputScreen) (old player : PlayerOf B) (came_to : Turn)
+      (w : IsWriting table scene plan timelines start a before old) → GoesAlong table scene w.so came_to player
+      → Writes a b (turn_shown (picture_at scene.pictures) plan timelines player.play came_to) → AreShown (picture_at scene.pictures) screens
+      → IsWriting table scene plan timelines start b screens player
+  goes_on table scene plan timelines start a b before screens old player came_to w goes now shown =
+      let records = turn_shown (picture_at scene.pictures) plan timelines player.play came_to in
       record {
         so = goes.later;
         stands = goes.stands;
+        planned = w.planned;
         rising = w.rising;
-        written = subst (Writes start b) (ap (λ (rs : List Record). opening scene ∷ rs) (turn_records table scene timelines w.so came_to player w.rising goes))
+        written = subst (Writes start b) (ap (λ (rs : List Record). opening scene ∷ rs) (turn_records table scene plan timelines w.so came_to player w.planned w.rising goes))
             (writes_more start a b (opening scene ∷ events_records w.so.events) records w.written now);
         shown = shown;
-        sized = sized;
       }
 
-  pub turns_on : (table : TableId) (scene : SceneValue) (timelines : List ℕ) (start a b : Option (List ℕ)) (before screen : ScreenOf) (old player : PlayerOf B) (came_to : Turn)
-      (w : IsWriting table scene timelines start a before old) → GoesAlong table scene w.so came_to player
-      → Writes a b (turn_shown (picture_at scene.pictures) timelines player.play.cast.actors came_to) → IsShown (picture_at scene.pictures) screen → IsSized scene.width scene.height screen
-      → TurnsOn (not (is_end came_to)) table scene timelines start b screen player
+  pub turns_on : (table : TableId) (scene : SceneValue) (plan : Plan) (timelines : List ℕ) (start a b : Option (List ℕ)) (before screens : List OutputScreen) (old player : PlayerOf B) (came_to : Turn)
+      (w : IsWriting table scene plan timelines start a before old) → GoesAlong table scene w.so came_to player
+      → Writes a b (turn_shown (picture_at scene.pictures) plan timelines player.play came_to) → AreShown (picture_at scene.pictures) screens
+      → TurnsOn (not (is_end came_to)) table scene plan timelines start b screens player
   unfolding goes_on
-  turns_on table scene timelines start a b before screen old player turn.End w goes now shown sized =
-      let on = goes_on table scene timelines start a b before screen old player turn.End w goes now shown sized in
+  turns_on table scene plan timelines start a b before screens old player turn.End w goes now shown =
+      let on = goes_on table scene plan timelines start a b before screens old player turn.End w goes now shown in
       record { so = goes.later; stands = goes.stands; written = on.written; ends = goes.tells }
-  turns_on table scene timelines start a b before screen old player (turn.Step place) w goes now shown sized = goes_on table scene timelines start a b before screen old player (turn.Step place) w goes now shown sized
-  turns_on table scene timelines start a b before screen old player turn.Idle w goes now shown sized = goes_on table scene timelines start a b before screen old player turn.Idle w goes now shown sized
-  turns_on table scene timelines start a b before screen old player (turn.Vsync report) w goes now shown sized = goes_on table scene timelines start a b before screen old player (turn.Vsync report) w goes now shown sized
+  turns_on table scene plan timelines start a b before screens old player (turn.Step place) w goes now shown = goes_on table scene plan timelines start a b before screens old player (turn.Step place) w goes now shown
+  turns_on table scene plan timelines start a b before screens old player turn.Idle w goes now shown = goes_on table scene plan timelines start a b before screens old player turn.Idle w goes now shown
+  turns_on table scene plan timelines start a b before screens old player (turn.Vsync report) w goes now shown = goes_on table scene plan timelines start a b before screens old player (turn.Vsync report) w goes now shown
 
   -- what was written of a turn begins the records of the play
   pub cut_so_far : (table : TableId) (scene : SceneValue) (start now : Option (List ℕ)) (so : SoFar B) (player : PlayerOf B) → StandsAlong table scene so player
@@ -209,11 +186,11 @@ module _ {B : Type 0} where
             (part_front start now (opening scene ∷ events_records along.playing.events) begins.2.rest (subst (λ (es : List Event). WritesPart start now (opening scene ∷ events_records es)) (sym along.shows) part));
       }
 
-  pub turn_cut : (table : TableId) (scene : SceneValue) (timelines : List ℕ) (start a b : Option (List ℕ)) (before : ScreenOf) (old player : PlayerOf B) (came_to : Turn)
-      (w : IsWriting table scene timelines start a before old) → GoesAlong table scene w.so came_to player
-      → WritesPart a b (turn_shown (picture_at scene.pictures) timelines player.play.cast.actors came_to) → CutRun scene start b
-  turn_cut table scene timelines start a b before old player came_to w goes part =
-      let records = turn_shown (picture_at scene.pictures) timelines player.play.cast.actors came_to in
+  pub turn_cut : (table : TableId) (scene : SceneValue) (plan : Plan) (timelines : List ℕ) (start a b : Option (List ℕ)) (before : List OutputScreen) (old player : PlayerOf B) (came_to : Turn)
+      (w : IsWriting table scene plan timelines start a before old) → GoesAlong table scene w.so came_to player
+      → WritesPart a b (turn_shown (picture_at scene.pictures) plan timelines player.play came_to) → CutRun scene start b
+  turn_cut table scene plan timelines start a b before old player came_to w goes part =
+      let records = turn_shown (picture_at scene.pictures) plan timelines player.play came_to in
       cut_so_far table scene start b goes.later player goes.stands
-      (subst (WritesPart start b) (ap (λ (rs : List Record). opening scene ∷ rs) (turn_records table scene timelines w.so came_to player w.rising goes))
+      (subst (WritesPart start b) (ap (λ (rs : List Record). opening scene ∷ rs) (turn_records table scene plan timelines w.so came_to player w.planned w.rising goes))
       (part_more start a b (opening scene ∷ events_records w.so.events) records w.written part))

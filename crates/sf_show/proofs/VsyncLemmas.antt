@@ -1,28 +1,45 @@
 -- The records of a vsync, piece by piece.
-use Rattle.std.proofs.Common.{◌≡◌, ℕ, Bool, true, false, if◌then◌else◌, List, [], ◌∷◌, ◌++◌, drop, map, take, Option, Some, None, Result, Ok, Err, refl, ap, ◌∙◌, sym, subst, OnErr, OnOk}
-use Rattle.std.specs.Prelude.{IfSome}
+use Rattle.std.proofs.Common.{◌≡◌, ℕ, Bool, true, false, if◌then◌else◌, List, [], ◌∷◌, ◌++◌, drop, map, take, Option, Some, None, Result, Ok, Err, refl, ap, ◌∙◌, sym, subst, IfOk, OnErr, OnOk}
+use Rattle.std.specs.Prelude.{IfSome, pos}
+use Rattle.std.specs.List.{AllZip}
 use Rattle.byteorder.specs.Endian.{big_bytes}
 use Rattle.std.proofs.lemmas.Bool.{false≢true}
 use Rattle.std.proofs.lemmas.List.{drop_at, take_at}
 use Rattle.sf_commit.specs.declared.vsync.Commit.{Commit as Decided}
+use Rattle.sf_compose.proofs.RowLemmas.{frame_bytes-same}
 use Rattle.sf_compose.specs.Again.{ShowsView}
+use Rattle.sf_compose.specs.Frames.{frame_bytes}
+use Rattle.sf_layer.specs.declared.layer.Layer.{Layer}
+use Rattle.sf_output.specs.Outputs.{IsOutput, map_output}
+use Rattle.sf_output.specs.declared.output.Output.{Output}
+use Rattle.sf_output.specs.declared.output.Output.TheVariants as out
 use Rattle.sf_picture.specs.declared.picture.Picture.{Picture}
-use Rattle.sf_record.specs.Events.{frame_records, vsync_records}
-use Rattle.sf_record.specs.Records.{frame_in, u32_bytes}
+use Rattle.sf_plan.specs.Due.{ImageDue, outputs_due}
+use Rattle.sf_plan.specs.declared.plan.Plan.{Plan}
+use Rattle.sf_record.specs.Events.{output_record, vsync_records}
+use Rattle.sf_record.specs.Records.{BeginsImage, u32_bytes}
+use Rattle.sf_record.specs.Records.{image_in as record_in}
 use Rattle.sf_record.specs.declared.encode.RunFault.{RunFault}
 use Rattle.sf_record.specs.declared.event.VsyncReport.{VsyncReport as Told}
 use Rattle.sf_record.specs.declared.record.Record.{Record}
 use Rattle.sf_record.specs.declared.record.Record.TheVariants as rec
-use Rattle.sf_screen.specs.Screens.{IsShown, IsWhole, ScreenOf, image_bytes}
+use Rattle.sf_report.specs.Reports.{has_commits}
+use Rattle.sf_report.specs.Stages.{shows_frame}
+use Rattle.sf_report.specs.declared.report.VsyncReport.{VsyncReport}
+use Rattle.sf_report.specs.declared.sourced.SourcedView.{SourcedView}
+use Rattle.sf_run.specs.Commits.{commit_shown}
+use Rattle.sf_run.specs.Frames.{frame_of, shown_due}
+use Rattle.sf_run.specs.Seeing.{value_shown}
+use Rattle.sf_screen.specs.Screens.{IsShown, IsWhole, ScreenOf, head_of, image_bytes, is_image}
 use Rattle.sf_screen.proofs.ScreenLemmas.{shown_bytes}
+use Rattle.sf_view.proofs.ImageLemmas.{view_image-order}
+use Rattle.sf_view.specs.Image.{image_in}
+use Rattle.sf_view.specs.Stacks.{view_image}
 use Rattle.sf_view.specs.Views.{ViewOf}
 use Rattle.sf_show.proofs.WritingLemmas.{part_front, part_more, writes_more}
-use Rattle.sf_run.specs.Commits.{commit_shown}
-use Rattle.sf_run.specs.Seeing.{value_shown}
-use Rattle.sf_report.specs.declared.report.VsyncReport.{VsyncReport}
-use Rattle.sf_show.specs.Vsyncs.{records_if, shows_frame, told_with, vsync_shown}
-use Rattle.sf_report.specs.Reports.{has_commits}
+use Rattle.sf_show.specs.Vsyncs.{AreViewsDue, IsSame, IsViewDue, image_record, pixels_of, records_by, records_if, told_by, view_record, vsync_shown}
 use Rattle.sf_show.specs.Writing.{Writes, WritesPart}
+use Rattle.sf_show.specs.declared.vsync.VsyncViews.{VsyncViews}
 
 pub with_more : (A B : Type 0) (r : Result (Unit {0}) RunFault) → OnOk r A → B → OnOk r (A × B)
 with_more A B (Ok u) a b = (a, b)
@@ -33,13 +50,32 @@ pub frame_bytes_are : (pictures : ℕ → Picture) (view : ViewOf) (screen : Scr
 frame_bytes_are pictures view screen is whole shown =
     shown_bytes pictures view screen.frame whole (subst (λ (o : Option ViewOf). IfSome o (λ v. ShowsView pictures v screen.frame)) is shown)
 
--- the record of a frame by its body
-pub framed_is : (number : ℕ) (body frame : List ℕ) → body ≡ big_bytes 4 number ++ frame → frame_in number body ≡ rec.Fram (record { number = number; pixels = frame })
-framed_is number body frame is = ap (λ (pixels : List ℕ). rec.Fram (record { number = number; pixels = pixels })) (ap (drop 4) is ∙ drop_at (big_bytes 4 number) frame 4 refl)
+-- a screen that has another number shows the same
+pub still_shown : (pictures : ℕ → Picture) (before after : ScreenOf) → after.view ≡ before.view → after.frame ≡ before.frame → IsShown pictures before → IsShown pictures after
+still_shown pictures before after view frame shown = subst (λ (s : Option ViewOf × List ℕ). IfSome s.0 (λ (v : ViewOf). ShowsView pictures v s.1)) (λ i. (sym view i, sym frame i)) shown
 
-pub frame_begins : (number : ℕ) (body frame : List ℕ) → body ≡ big_bytes 4 number ++ frame → take 4 body ≡ u32_bytes number
+-- the numbers with which the body of a record begins
+frame_head : (number : ℕ) → drop 4 (big_bytes 4 0 ++ big_bytes 4 number) ≡ big_bytes 4 number
+frame_head number = drop_at (big_bytes 4 0) (big_bytes 4 number) 4 refl
+
+pub image_begins : (of : Output (Unit {0})) (number : ℕ) (body frame : List ℕ) → is_image of ≡ true → body ≡ head_of of number ++ frame → BeginsImage of number body
 unfolding u32_bytes
-frame_begins number body frame is = ap (take 4) is ∙ take_at (big_bytes 4 number) frame 4 refl
+image_begins (out.Frame u) number body frame image is =
+    ap (take 4) (is ∙ ap (λ (head : List ℕ). head ++ frame) (frame_head number)) ∙ take_at (big_bytes 4 number) frame 4 refl
+image_begins (out.Display place u) number body frame image is = ap (take 8) is ∙ take_at (big_bytes 4 place ++ big_bytes 4 number) frame 8 refl
+image_begins (out.Capture place u) number body frame image is = ap (take 8) is ∙ take_at (big_bytes 4 place ++ big_bytes 4 number) frame 8 refl
+image_begins (out.Hit place layer) number body frame image is = absurd (false≢true image)
+
+-- the record of an image by its body
+pub image_is : (of : Output (Unit {0})) (number : ℕ) (body frame : List ℕ) → is_image of ≡ true → body ≡ head_of of number ++ frame → record_in of number body ≡ image_record of number frame
+image_is (out.Frame u) number body frame image is =
+    ap (λ (pixels : List ℕ). rec.Fram (record { number = number; pixels = pixels }))
+    (ap (drop 4) (is ∙ ap (λ (head : List ℕ). head ++ frame) (frame_head number)) ∙ drop_at (big_bytes 4 number) frame 4 refl)
+image_is (out.Display place u) number body frame image is =
+    ap (λ (pixels : List ℕ). rec.Frad (record { place = place; number = number; pixels = pixels })) (ap (drop 8) is ∙ drop_at (big_bytes 4 place ++ big_bytes 4 number) frame 8 refl)
+image_is (out.Capture place u) number body frame image is =
+    ap (λ (pixels : List ℕ). rec.Capt (record { place = place; number = number; pixels = pixels })) (ap (drop 8) is ∙ drop_at (big_bytes 4 place ++ big_bytes 4 number) frame 8 refl)
+image_is (out.Hit place layer) number body frame image is = absurd (false≢true image)
 
 -- one that commits something has its records, and one that commits nothing has none
 pub its_records : (commits : List Decided) (told : Told) → has_commits commits ≡ true → vsync_records told ≡ records_if commits told
@@ -49,15 +85,6 @@ its_records (commit ∷ commits) told is = refl
 pub no_records : (commits : List Decided) (told : Told) → has_commits commits ≡ false → [] ≡ records_if commits told
 no_records [] told is = refl
 no_records (commit ∷ commits) told is = absurd (false≢true (sym is))
-
--- its last record is that of its frame, where one was composed
-pub its_frame : (shows : Bool) (number : ℕ) (pixels : List ℕ) → shows ≡ true → rec.Fram (record { number = number; pixels = pixels }) ∷ [] ≡ frame_records number (if shows then Some pixels else None)
-its_frame true number pixels is = refl
-its_frame false number pixels is = absurd (false≢true is)
-
-pub no_frame : (shows : Bool) (number : ℕ) (pixels : List ℕ) → shows ≡ false → [] ≡ frame_records number (if shows then Some pixels else None)
-no_frame true number pixels is = absurd (false≢true (sym is))
-no_frame false number pixels is = refl
 
 -- what was written of its records, as they come
 pub head_cut : (a b : Option (List ℕ)) (head : Record) (rest all : List Record) → head ∷ rest ≡ all → WritesPart a b (head ∷ []) → WritesPart a b all
@@ -76,27 +103,59 @@ pub all_written : (a b c d : Option (List ℕ)) (head : Record) (middle tail all
 all_written a b c d head middle tail all is first second third = subst (Writes a d) is (writes_more a c d (head ∷ middle) tail (writes_more a b c (head ∷ []) middle first second) third)
 
 -- the first record of one that commits something
-abbrev pub head_shown : List ℕ → VsyncReport → Record
-head_shown timelines report = rec.Vsyn (record { number = report.number; expected = report.expected; timelines = map (value_shown report.seen) timelines })
+abbrev pub head_by : List ℕ → VsyncViews → Record
+head_by timelines vsync = rec.Vsyn (record { number = vsync.number; expected = vsync.expected; timelines = map (value_shown vsync.seen) timelines })
 
--- all records of one that commits something, by what was told of it
-abbrev pub head_of : Told → Record
-head_of told = rec.Vsyn (record { number = told.number; expected = told.expected; timelines = told.timelines })
+-- the records of what is shown, one after another
+each_record : (pictures : ℕ → Picture) (number : ℕ) (views : List (Output SourcedView)) → map (view_record pictures number) views ≡ map (output_record number) (map (map_output (pixels_of pictures)) views)
+each_record pictures number [] = refl
+each_record pictures number (view ∷ views) = ap (λ (rs : List Record). view_record pictures number view ∷ rs) (each_record pictures number views)
 
-pub records_with_frame : (pictures : ℕ → Picture) (timelines : List ℕ) (report : VsyncReport) → has_commits report.commits ≡ true → shows_frame report ≡ true
-    → head_of (told_with pictures timelines report) ∷ (map rec.Comm (map commit_shown report.commits) ++ rec.Fram (record { number = report.number; pixels = image_bytes pictures report.view }) ∷ [])
-    ≡ vsync_shown pictures timelines report
-records_with_frame pictures timelines report some shows =
-    ap (λ (t : List Record). head_of (told_with pictures timelines report) ∷ (map rec.Comm (map commit_shown report.commits) ++ t))
-    (its_frame (shows_frame report) report.number (image_bytes pictures report.view) shows)
-    ∙ its_records report.commits (told_with pictures timelines report) some
+-- all records of one that commits something
+pub all_records : (pictures : ℕ → Picture) (timelines : List ℕ) (vsync : VsyncViews) → has_commits vsync.commits ≡ true
+    → head_by timelines vsync ∷ (map rec.Comm (map commit_shown vsync.commits) ++ map (view_record pictures vsync.number) vsync.views) ≡ records_by pictures timelines vsync
+all_records pictures timelines vsync some =
+    ap (λ (rs : List Record). head_by timelines vsync ∷ (map rec.Comm (map commit_shown vsync.commits) ++ rs)) (each_record pictures vsync.number vsync.views)
+    ∙ its_records vsync.commits (told_by pictures timelines vsync) some
 
-pub records_without_frame : (pictures : ℕ → Picture) (timelines : List ℕ) (report : VsyncReport) → has_commits report.commits ≡ true → shows_frame report ≡ false
-    → head_of (told_with pictures timelines report) ∷ (map rec.Comm (map commit_shown report.commits) ++ []) ≡ vsync_shown pictures timelines report
-records_without_frame pictures timelines report some hides =
-    ap (λ (t : List Record). head_of (told_with pictures timelines report) ∷ (map rec.Comm (map commit_shown report.commits) ++ t))
-    (no_frame (shows_frame report) report.number (image_bytes pictures report.view) hides)
-    ∙ its_records report.commits (told_with pictures timelines report) some
+-- what is shown of a view that is due is what is due
+pixels_are : (pictures : ℕ → Picture) (due : ImageDue) (sourced : SourcedView) → IsViewDue due sourced → frame_of pictures due ≡ pixels_of pictures sourced
+unfolding frame_of image_bytes
+pixels_are pictures due sourced shows =
+    sym ((λ i. frame_bytes (λ x y. view_image pictures sourced.view (pos x) (pos y)) (shows.wide i) (shows.high i))
+    ∙ frame_bytes-same (λ x y. view_image pictures sourced.view (pos x) (pos y)) (λ x y. image_in pictures due.layers due.order (pos x) (pos y)) due.width due.height
+    (λ x y wide high. view_image-order pictures due.layers due.order due.width due.height sourced.view shows x y wide high))
+
+output_is : (pictures : ℕ → Picture) (due : Output ImageDue) (view : Output SourcedView) → IsOutput IsViewDue due view → map_output (frame_of pictures) due ≡ map_output (pixels_of pictures) view
+output_is pictures (out.Frame due) (out.Frame view) is = ap (λ (pixels : List ℕ). out.Frame pixels) (pixels_are pictures due view is)
+output_is pictures (out.Display n due) (out.Display m view) is = (λ i. out.Display (is.0 i) (pixels_are pictures due view is.1 i))
+output_is pictures (out.Capture n due) (out.Capture m view) is = (λ i. out.Capture (is.0 i) (pixels_are pictures due view is.1 i))
+output_is pictures (out.Hit n layer) (out.Hit m there) is = (λ i. out.Hit (is.0 i) (is.1 i))
+output_is pictures _ _ is = absurd is
+
+outputs_are : (pictures : ℕ → Picture) (dues : List (Output ImageDue)) (views : List (Output SourcedView)) → AllZip (IsOutput IsViewDue) dues views
+    → map (map_output (frame_of pictures)) dues ≡ map (map_output (pixels_of pictures)) views
+outputs_are pictures [] [] is = refl
+outputs_are pictures [] (view ∷ views) is = absurd is
+outputs_are pictures (due ∷ dues) [] is = absurd is
+outputs_are pictures (due ∷ dues) (view ∷ views) is = (λ i. output_is pictures due view is.0 i ∷ outputs_are pictures dues views is.1 i)
+
+shown_are : (pictures : ℕ → Picture) (plan : Plan) (layers : List Layer) (shows : Bool) (views : List (Output SourcedView)) → AllZip (IsOutput IsViewDue) (if shows then outputs_due plan layers else []) views
+    → map (map_output (pixels_of pictures)) views ≡ (if shows then shown_due pictures plan layers else [])
+unfolding shown_due
+shown_are pictures plan layers true views is = sym (outputs_are pictures (outputs_due plan layers) views is)
+shown_are pictures plan layers false views is = sym (outputs_are pictures [] views is)
+
+-- the records by the views are those of what is due
+pub records_are : (pictures : ℕ → Picture) (plan : Plan) (timelines : List ℕ) (report : VsyncReport) (layers : List Layer) (vsync : VsyncViews) → IsSame report vsync
+    → AreViewsDue plan layers report.commits vsync.views → records_by pictures timelines vsync ≡ vsync_shown pictures plan timelines report layers
+records_are pictures plan timelines report layers vsync same due = (λ i. records_if (same.commits i) (record {
+  number = same.number i;
+  expected = same.expected i;
+  timelines = map (value_shown (same.seen i)) timelines;
+  commits = map commit_shown (same.commits i);
+  shown = shown_are pictures plan layers (shows_frame report.commits) vsync.views due i;
+}))
 
 pub frame_written : (S : Type 0) (r : Result (Unit {0}) RunFault) (a b c d : Option (List ℕ)) (head : Record) (middle tail all : List Record) → head ∷ (middle ++ tail) ≡ all
     → Writes a b (head ∷ []) → Writes b c middle → OnOk r (Writes c d tail × S) → OnOk r (Writes a d all × S)
@@ -107,3 +166,16 @@ pub frame_cut : (r : Result (Unit {0}) RunFault) (a b c d : Option (List ℕ)) (
     → Writes a b (head ∷ []) → Writes b c middle → OnErr r (WritesPart c d tail) → OnErr r (WritesPart a d all)
 frame_cut (Ok u) a b c d head middle tail all is first second third = tt
 frame_cut (Err e) a b c d head middle tail all is first second third = tail_cut a b c d head middle tail all is first second third
+
+pub if_ok : {T E : Type 0} (P Q : T → Type 0) (r : Result T E) → ((x : T) → P x → Q x) → IfOk r P → IfOk r Q
+if_ok P Q (Ok x) f p = f x p
+if_ok P Q (Err e) f p = tt
+
+-- what is due where something was committed
+pub some_due : {A B : Type 0} (R : A → B → Type 0) (shows : Bool) (xs : List A) (ys : List B) → shows ≡ true → AllZip R xs ys → AllZip R (if shows then xs else []) ys
+some_due R true xs ys met zip = zip
+some_due R false xs ys met zip = absurd (false≢true met)
+
+pub none_due : {A B : Type 0} (R : A → B → Type 0) (shows : Bool) (xs : List A) → shows ≡ false → AllZip R (if shows then xs else []) []
+none_due R false xs unmet = tt
+none_due R true xs unmet = absurd (false≢true (sym unmet))

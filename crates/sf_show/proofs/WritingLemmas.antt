@@ -173,3 +173,25 @@ then_some (Err e) a b c first second = tt
 pub then_cut : (r : Result (Unit {0}) RunFault) (a b c : Option (List ℕ)) → WritesSome a b → OnErr r (CutSome b c) → OnErr r (CutSome a c)
 then_cut (Ok u) a b c first second = tt
 then_cut (Err e) a b c first second = cut_more a b c first second
+
+-- records of items that are handed out one after another: these are the first of all
+module _ {X : Type 0} (f : X → Record) where
+  pub shown_more : (a b c : Option (List ℕ)) (given : List X) (x : X) → Writes a b (map f given) → Writes b c (f x ∷ []) → Writes a c (map f (given ++ x ∷ []))
+  shown_more a b c given x before now = subst (Writes a c) (sym (map-append f given (x ∷ []))) (writes_more a b c (map f given) (f x ∷ []) before now)
+
+  pub shown_part : (a b c : Option (List ℕ)) (all given : List X) (x : X) → given ≡ take (length given) all → length given < length all → x ≡ get_or all (length given) x
+      → Writes a b (map f given) → WritesPart b c (f x ∷ []) → WritesPart a c (map f all)
+  shown_part a b c all given x so_far below is before now =
+      subst (WritesPart a c) joined
+      (part_more a b c (map f (take (length given) all)) (f x ∷ rest) (subst (λ (l : List X). Writes a b (map f l)) so_far before) (part_front b c (f x ∷ []) rest now))
+    where
+      rest : List Record
+      rest = map f (drop (length given + 1) all)
+
+      front : x ∷ drop (length given + 1) all ≡ drop (length given) all
+      front = ap (λ (y : X). y ∷ drop (length given + 1) all) is ∙ sym (drop_more all (length given) x below)
+
+      joined : map f (take (length given) all) ++ (f x ∷ map f (drop (length given + 1) all)) ≡ map f all
+      joined =
+          sym (map-append f (take (length given) all) (x ∷ drop (length given + 1) all))
+          ∙ ap (map f) (ap (λ (l : List X). take (length given) all ++ l) front ∙ take-append-drop (length given) all)

@@ -2,6 +2,7 @@
 use Rattle.std.specs.Prelude.{◌≡◌, ℕ, ◌<◌, Bool, true, false, List, [], ◌∷◌, length, Option, None, Some, slice_get}
 use Rattle.atomic_table.specs.Seated.{TableId}
 use Rattle.sf_picture.specs.declared.picture.Picture.{Picture}
+use Rattle.sf_plan.specs.declared.plan.Plan.{Plan}
 use Rattle.sf_scene.specs.Scene.{SceneValue}
 use Rattle.sf_actor.specs.Scripts.{picture_at}
 use Rattle.sf_actor.specs.declared.tried.Reply.{Reply}
@@ -12,13 +13,15 @@ use Rattle.sf_record.specs.declared.record.Record.TheVariants as rec
 use Rattle.sf_run.specs.Played.{opening}
 use Rattle.sf_run.specs.Replies.{reply_shown}
 use Rattle.sf_run.specs.Vsyncs.{rising_timelines}
-use Rattle.sf_screen.specs.Screens.{IsShown, ScreenOf}
-use Rattle.sf_play.specs.Going.{EndsPlay, TellsFrame}
-use Rattle.sf_play.specs.Players.{PlayerOf, SoFar}
+use Rattle.sf_run.specs.Frames.{plan_of}
+use Rattle.sf_screen.specs.ScreenLists.{AreShown}
+use Rattle.sf_screen.specs.declared.screens.OutputScreen.{OutputScreen}
+use Rattle.sf_play.specs.Going.{EndsPlay, TellsStage}
+use Rattle.sf_play.specs.Players.{PlayOf, PlayerOf, SoFar}
 use Rattle.sf_play.specs.Standing.{Begins, StandsAlong}
 use Rattle.sf_play.specs.declared.turn.Turn.{Turn}
 use Rattle.sf_play.specs.declared.turn.Turn.TheVariants as turn
-use Rattle.sf_show.specs.Vsyncs.{IsSized, vsync_shown}
+use Rattle.sf_show.specs.Vsyncs.{vsync_shown}
 use Rattle.sf_show.specs.Writing.{Writes}
 
 -- the record of the newest reply, if there is one
@@ -26,10 +29,6 @@ abbrev pub newest_shown : List Reply → List Record
 newest_shown [] = []
 newest_shown (reply ∷ []) = rec.Repl (reply_shown reply) ∷ []
 newest_shown (reply ∷ later) = newest_shown later
-
--- a screen that showed nothing yet
-abbrev pub bare_screen : ScreenOf
-bare_screen = record { view = None; number = []; frame = [] }
 
 abbrev pub is_end : Turn → Bool
 is_end turn.End = true
@@ -40,27 +39,27 @@ module _ {B : Type 0} where
   newest_of None = []
   newest_of (Some actor) = newest_shown actor.replies.items
 
-  -- the records of a turn, after which the actors are these
-  abbrev pub turn_shown : (ℕ → Picture) → List ℕ → List (Actor B) → Turn → List Record
-  turn_shown pictures timelines actors (turn.Step place) = newest_of (slice_get actors place)
-  turn_shown pictures timelines actors (turn.Vsync report) = vsync_shown pictures timelines report
-  turn_shown pictures timelines actors other = []
+  -- the records of a turn that a play of this plan comes to, after which it stands so
+  abbrev pub turn_shown : (ℕ → Picture) → Plan → List ℕ → PlayOf B → Turn → List Record
+  turn_shown pictures plan timelines play (turn.Step place) = newest_of (slice_get play.cast.actors place)
+  turn_shown pictures plan timelines play (turn.Vsync report) = vsync_shown pictures plan timelines report play.handler.tree.layers
+  turn_shown pictures plan timelines play other = []
 
-  -- a turn can be shown: its actor is there, and its frame can be composed over the last one, which has the display's size
+  -- a turn can be shown: its actor is there, and its vsync left what is to be shown
   abbrev pub MayShowTurn : SceneValue → Turn → PlayerOf B → Type 0
   MayShowTurn scene (turn.Step place) player = place < length player.play.cast.actors
-  MayShowTurn scene (turn.Vsync report) player = TellsFrame scene report player.play
+  MayShowTurn scene (turn.Vsync report) player = TellsStage scene report player.play
   MayShowTurn scene other player = Unit {0}
 
-  -- What a play has shown so far is written behind what was there: the player stands along with the play of the scene, and the
-  -- screen has the last frame.
-  pub record IsWriting (table : TableId) (scene : SceneValue) (timelines : List ℕ) (start now : Option (List ℕ)) (screen : ScreenOf) (player : PlayerOf B) : Type 0 where
+  -- What a play has shown so far is written behind what was there: the player stands along with the play of the scene, and each
+  -- screen has its last frame.
+  pub record IsWriting (table : TableId) (scene : SceneValue) (plan : Plan) (timelines : List ℕ) (start now : Option (List ℕ)) (screens : List OutputScreen) (player : PlayerOf B) : Type 0 where
     pub so : SoFar B
     pub stands : StandsAlong table scene so player
+    pub planned : plan ≡ plan_of scene
     pub rising : timelines ≡ rising_timelines scene
     pub written : Writes start now (opening scene ∷ events_records so.events)
-    pub shown : IsShown (picture_at scene.pictures) screen
-    pub sized : IsSized scene.width scene.height screen
+    pub shown : AreShown (picture_at scene.pictures) screens
 
   -- the same at the end of the play, of whose records only the last ones are to come
   pub record HasWritten (table : TableId) (scene : SceneValue) (start now : Option (List ℕ)) (player : PlayerOf B) : Type 0 where
@@ -69,13 +68,14 @@ module _ {B : Type 0} where
     pub written : Writes start now (opening scene ∷ events_records so.events)
     pub ends : EndsPlay scene so player
 
-  -- a play that is to begin, with its first record and the timelines by rising number
-  pub record IsReady (table : TableId) (scene : SceneValue) (first : Record) (timelines : List ℕ) (player : PlayerOf B) : Type 0 where
+  -- a play that is to begin, with its plan, its first record and the timelines by rising number
+  pub record IsReady (table : TableId) (scene : SceneValue) (plan : Plan) (first : Record) (timelines : List ℕ) (player : PlayerOf B) : Type 0 where
     pub begins : Begins table scene player
+    pub planned : plan ≡ plan_of scene
     pub opens : first ≡ opening scene
     pub rising : timelines ≡ rising_timelines scene
 
   -- a turn was written: there are more to come, or the play is at its end
-  abbrev pub TurnsOn : Bool → TableId → SceneValue → List ℕ → Option (List ℕ) → Option (List ℕ) → ScreenOf → PlayerOf B → Type 0
-  TurnsOn true table scene timelines start now screen player = IsWriting table scene timelines start now screen player
-  TurnsOn false table scene timelines start now screen player = HasWritten table scene start now player
+  abbrev pub TurnsOn : Bool → TableId → SceneValue → Plan → List ℕ → Option (List ℕ) → Option (List ℕ) → List OutputScreen → PlayerOf B → Type 0
+  TurnsOn true table scene plan timelines start now screens player = IsWriting table scene plan timelines start now screens player
+  TurnsOn false table scene plan timelines start now screens player = HasWritten table scene start now player

@@ -8,5 +8,5 @@ mod writing;
 
 pub use closing::write_closing;
 pub use play::{opening, rising_timelines, show_play};
-pub use vsync::show_vsync;
+pub use vsync::{VsyncViews, show_vsync, vsync_views, write_vsync};
 pub use writing::write_made;

@@ -1,15 +1,15 @@
 ghost use Rattle.std.specs.Prelude.{◌≡◌, ◌∷◌, ◌+◌, ◌<◌, ◌≤◌, [], ℕ, All, IfErr, IfOk, IsErrOf, List, OnErr, OnOk, Option, true};
 ghost use Rattle.sf_actor.specs.Scripts.{picture_at};
 ghost use Rattle.sf_cast.specs.Opening.{IsSortedFrom};
-ghost use Rattle.sf_cast.specs.Scripts.{are_playable, permits_of};
+ghost use Rattle.sf_cast.specs.Scripts.{permits_of};
 ghost use Rattle.sf_io.specs.Causes.{Rose};
 ghost use Rattle.sf_play.specs.Going.{fuel_of};
+ghost use Rattle.sf_run.specs.Frames.{plan_of};
 ghost use Rattle.sf_run.specs.Played.{opening};
 ghost use Rattle.sf_scene.specs.Scene.{SceneValue};
-ghost use Rattle.sf_screen.specs.Screens.{IsShown};
+ghost use Rattle.sf_screen.specs.ScreenLists.{AreShown};
 ghost use Rattle.sf_show.specs.Runs.{CutRun, WroteRun};
-ghost use Rattle.sf_show.specs.Turns.{HasWritten, IsReady, IsWriting, MayShowTurn, TurnsOn, bare_screen, is_end, newest_shown, turn_shown};
-ghost use Rattle.sf_show.specs.Vsyncs.{IsSized};
+ghost use Rattle.sf_show.specs.Turns.{HasWritten, IsReady, IsWriting, MayShowTurn, TurnsOn, is_end, newest_shown, turn_shown};
 ghost use Rattle.sf_show.specs.Writing.{Writes, WritesPart};
 ghost use Rattle.sf_turns.specs.Counts.{range};
 
@@ -20,11 +20,12 @@ use sf_actor::Reply;
 use sf_base::NoMemory;
 use sf_io::Sink;
 use sf_picture::Painted;
+use sf_plan::Plan;
 use sf_play::{Player, Turn};
 use sf_record::{Record, RunFault, SceneHeader};
-use sf_report::reply_record;
+use sf_report::{plan_of, reply_record};
 use sf_scene::Scene;
-use sf_screen::Screen;
+use sf_screen::Screens;
 use sf_turns::{Stock, TableName, TurnSeat};
 use std::alloc::Global;
 use std::thread::Threads;
@@ -73,28 +74,27 @@ fn is_end(turn: &Turn) -> bool
     }
 }
 
-/// Writes what a turn shows: the reply to a step, or what a vsync committed, with its frame.
+/// Writes what a turn shows: the reply to a step, or what a vsync committed, with what it shows.
 fn write_turn<R: Threads + Sync, K: Sink, B: TableName>(
     rt: &R,
     alloc: Global,
     workers: u32,
     sink: &mut K,
     timelines: &[u32],
-    screen: &mut Screen,
+    plan: &Plan,
+    screens: &mut Screens,
     player: &Player<B>,
     turn: Turn,
 ) -> Result<(), RunFault>
     requires some { 1 ≤ workers }
     requires few { workers ≤ 16 }
     requires timelines { All (λ timeline. (1 ≤ timeline) × (timeline ≤ 64)) timelines.now }
-    requires may { (scene : SceneValue) × MayShowTurn scene turn player.now × IsSized scene.width scene.height screen.old }
-    ensures ok { (scene : SceneValue) → MayShowTurn scene turn player.now → IsShown (picture_at scene.pictures) screen.old → OnOk result
-        (Writes (K.taken sink.old) (K.taken sink.new) (turn_shown (picture_at scene.pictures) timelines.now player.now.play.cast.actors turn)
-        × IsShown (picture_at scene.pictures) screen.new) }
-    ensures err { (scene : SceneValue) → MayShowTurn scene turn player.now → IsShown (picture_at scene.pictures) screen.old → OnErr result
-        (WritesPart (K.taken sink.old) (K.taken sink.new) (turn_shown (picture_at scene.pictures) timelines.now player.now.play.cast.actors turn)) }
-    ensures sized { (scene : SceneValue) → MayShowTurn scene turn player.now → IsSized scene.width scene.height screen.old
-        → OnOk result (IsSized scene.width scene.height screen.new) }
+    requires may { (scene : SceneValue) × (plan.now ≡ plan_of scene) × MayShowTurn scene turn player.now }
+    ensures ok { (scene : SceneValue) → MayShowTurn scene turn player.now → AreShown (picture_at scene.pictures) screens.old → OnOk result
+        (Writes (K.taken sink.old) (K.taken sink.new) (turn_shown (picture_at scene.pictures) plan.now timelines.now player.now.play turn)
+        × AreShown (picture_at scene.pictures) screens.new) }
+    ensures err { (scene : SceneValue) → MayShowTurn scene turn player.now → AreShown (picture_at scene.pictures) screens.old → OnErr result
+        (WritesPart (K.taken sink.old) (K.taken sink.new) (turn_shown (picture_at scene.pictures) plan.now timelines.now player.now.play turn)) }
     ensures later { K.faults sink.old ≤ K.faults sink.new }
     ensures failed { IsErrOf result RunFault.WriteFault → Rose (K.faults sink.old) (K.faults sink.new) }
 {
@@ -106,8 +106,9 @@ fn write_turn<R: Threads + Sync, K: Sink, B: TableName>(
             workers,
             sink,
             timelines,
-            screen,
-            player.contents(),
+            plan,
+            screens,
+            player.handler(),
             report,
         ),
         Turn::Idle => Ok(()),
@@ -122,15 +123,16 @@ fn show_turn<R: Threads + Sync, K: Sink, B: TableName>(
     workers: u32,
     sink: &mut K,
     timelines: &[u32],
-    screen: &mut Screen,
+    plan: &Plan,
+    screens: &mut Screens,
     player: &mut Player<B>,
 ) -> Result<bool, RunFault>
     requires some { 1 ≤ workers }
     requires few { workers ≤ 16 }
-    requires writing { (scene : SceneValue) × (start : Option (List ℕ)) × IsWriting B.table scene timelines.now start (K.taken sink.old) screen.old player.old }
-    ensures on { (scene : SceneValue) (start : Option (List ℕ)) → IsWriting B.table scene timelines.now start (K.taken sink.old) screen.old player.old
-        → IfOk result (λ goes_on. TurnsOn goes_on B.table scene timelines.now start (K.taken sink.new) screen.new player.new) }
-    ensures err { (scene : SceneValue) (start : Option (List ℕ)) → IsWriting B.table scene timelines.now start (K.taken sink.old) screen.old player.old
+    requires writing { (scene : SceneValue) × (start : Option (List ℕ)) × IsWriting B.table scene plan.now timelines.now start (K.taken sink.old) screens.old player.old }
+    ensures on { (scene : SceneValue) (start : Option (List ℕ)) → IsWriting B.table scene plan.now timelines.now start (K.taken sink.old) screens.old player.old
+        → IfOk result (λ goes_on. TurnsOn goes_on B.table scene plan.now timelines.now start (K.taken sink.new) screens.new player.new) }
+    ensures err { (scene : SceneValue) (start : Option (List ℕ)) → IsWriting B.table scene plan.now timelines.now start (K.taken sink.old) screens.old player.old
         → OnErr result (CutRun scene start (K.taken sink.new)) }
     ensures less { IfOk result (λ goes_on. goes_on ≡ true → fuel_of player.new < fuel_of player.old) }
     ensures later { K.faults sink.old ≤ K.faults sink.new }
@@ -141,7 +143,9 @@ fn show_turn<R: Threads + Sync, K: Sink, B: TableName>(
         Err(_) => return Err(RunFault::NoMemory),
     };
     let goes_on = !is_end(&turn);
-    match write_turn(rt, alloc, workers, sink, timelines, screen, player, turn) {
+    match write_turn(
+        rt, alloc, workers, sink, timelines, plan, screens, player, turn,
+    ) {
         Ok(()) => Ok(goes_on),
         Err(fault) => Err(fault),
     }
@@ -154,21 +158,31 @@ fn show_turns<R: Threads + Sync, K: Sink, B: TableName>(
     workers: u32,
     sink: &mut K,
     timelines: &[u32],
+    plan: &Plan,
     player: &mut Player<B>,
 ) -> Result<(), RunFault>
     requires some { 1 ≤ workers }
     requires few { workers ≤ 16 }
-    requires writing { (scene : SceneValue) × (start : Option (List ℕ)) × IsWriting B.table scene timelines.now start (K.taken sink.old) bare_screen player.old }
-    ensures ok { (scene : SceneValue) (start : Option (List ℕ)) → IsWriting B.table scene timelines.now start (K.taken sink.old) bare_screen player.old
+    requires writing { (scene : SceneValue) × (start : Option (List ℕ)) × IsWriting B.table scene plan.now timelines.now start (K.taken sink.old) [] player.old }
+    ensures ok { (scene : SceneValue) (start : Option (List ℕ)) → IsWriting B.table scene plan.now timelines.now start (K.taken sink.old) [] player.old
         → OnOk result (HasWritten B.table scene start (K.taken sink.new) player.new) }
-    ensures err { (scene : SceneValue) (start : Option (List ℕ)) → IsWriting B.table scene timelines.now start (K.taken sink.old) bare_screen player.old
+    ensures err { (scene : SceneValue) (start : Option (List ℕ)) → IsWriting B.table scene plan.now timelines.now start (K.taken sink.old) [] player.old
         → OnErr result (CutRun scene start (K.taken sink.new)) }
     ensures later { K.faults sink.old ≤ K.faults sink.new }
     ensures failed { IsErrOf result RunFault.WriteFault → Rose (K.faults sink.old) (K.faults sink.new) }
 {
-    let mut screen = Screen::new(alloc);
+    let mut screens = Screens::new(alloc);
     'turns: loop {
-        match show_turn(rt, alloc, workers, sink, timelines, &mut screen, player) {
+        match show_turn(
+            rt,
+            alloc,
+            workers,
+            sink,
+            timelines,
+            plan,
+            &mut screens,
+            player,
+        ) {
             Ok(true) => {}
             Ok(false) => return Ok(()),
             Err(fault) => return Err(fault),
@@ -184,13 +198,14 @@ fn write_play<R: Threads + Sync, K: Sink, B: TableName>(
     sink: &mut K,
     first: Record,
     timelines: &[u32],
+    plan: &Plan,
     player: &mut Player<B>,
 ) -> Result<(), RunFault>
     requires some { 1 ≤ workers }
     requires few { workers ≤ 16 }
-    requires ready { (scene : SceneValue) × IsReady B.table scene first timelines.now player.old }
-    ensures ok { (scene : SceneValue) → IsReady B.table scene first timelines.now player.old → OnOk result (WroteRun scene (K.taken sink.old) (K.taken sink.new)) }
-    ensures err { (scene : SceneValue) → IsReady B.table scene first timelines.now player.old → OnErr result (CutRun scene (K.taken sink.old) (K.taken sink.new)) }
+    requires ready { (scene : SceneValue) × IsReady B.table scene plan.now first timelines.now player.old }
+    ensures ok { (scene : SceneValue) → IsReady B.table scene plan.now first timelines.now player.old → OnOk result (WroteRun scene (K.taken sink.old) (K.taken sink.new)) }
+    ensures err { (scene : SceneValue) → IsReady B.table scene plan.now first timelines.now player.old → OnErr result (CutRun scene (K.taken sink.old) (K.taken sink.new)) }
     ensures later { K.faults sink.old ≤ K.faults sink.new }
     ensures failed { IsErrOf result RunFault.WriteFault → Rose (K.faults sink.old) (K.faults sink.new) }
 {
@@ -198,16 +213,16 @@ fn write_play<R: Threads + Sync, K: Sink, B: TableName>(
         Ok(()) => {}
         Err(fault) => return Err(fault),
     }
-    match show_turns(rt, alloc, workers, sink, timelines, player) {
+    match show_turns(rt, alloc, workers, sink, timelines, plan, player) {
         Ok(()) => {}
         Err(fault) => return Err(fault),
     }
     write_closing(alloc, sink, player)
 }
 
-/// Plays a scene of version 1 over buffers of the table that B names, and writes the records of its
-/// play. So many workers, 1 to 16, compose each frame; the records are those of the scene, whatever
-/// the number of workers is. It takes the seat and the whole stock of the turns, with a permit for
+/// Plays a scene over buffers of the table that B names, and writes the records of its play. So many
+/// workers, 1 to 16, compose each frame; the records are those of the scene, whatever the number of
+/// workers is. It takes the seat and the whole stock of the turns, with a permit for
 /// each dequeue. After a fault of the sink, or want of memory, the sink has a prefix of these records.
 pub fn show_play<R: Threads + Sync, K: Sink, B: TableName>(
     rt: &R,
@@ -220,8 +235,6 @@ pub fn show_play<R: Threads + Sync, K: Sink, B: TableName>(
 ) -> Result<(), RunFault>
     requires some { 1 ≤ workers }
     requires few { workers ≤ 16 }
-    requires version { scene.version ≡ 1 }
-    requires playable { are_playable scene.actors ≡ true }
     requires own { (seat.table ≡ B.table) × (stock.table ≡ B.table) }
     requires first { (seat.is_first ≡ true) × (seat.out ≡ 0) }
     requires fresh { seat.leaves ≡ [] }
@@ -236,10 +249,23 @@ pub fn show_play<R: Threads + Sync, K: Sink, B: TableName>(
         Ok(timelines) => timelines,
         Err(_) => return Err(RunFault::NoMemory),
     };
+    let plan = match plan_of(alloc, &scene) {
+        Ok(plan) => plan,
+        Err(_) => return Err(RunFault::NoMemory),
+    };
     let first = opening(&scene);
     match Player::<B>::new(alloc, scene, seat, stock) {
         Ok(mut player) => {
-            let written = write_play(rt, alloc, workers, sink, first, &timelines, &mut player);
+            let written = write_play(
+                rt,
+                alloc,
+                workers,
+                sink,
+                first,
+                &timelines,
+                &plan,
+                &mut player,
+            );
             player.finish();
             written
         }

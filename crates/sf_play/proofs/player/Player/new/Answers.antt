@@ -1,6 +1,7 @@
-use Rattle.std.proofs.Common.{◌≡◌, ◌≤◌, ◌∙◌, subst, sym, true}
+use Rattle.std.proofs.Common.{◌≡◌, ℕ, ◌≤◌, ◌∙◌, ap, subst, sym}
 use Rattle.sf_turns.specs.Counts.{range}
-use Rattle.sf_cast.specs.Scripts.{are_playable, permits_of}
+use Rattle.sf_cast.specs.Scripts.{permits_of}
+use Rattle.sf_commit.specs.Handlers.{new_handler}
 use Rattle.sf_scene.specs.Scene.{SceneValue}
 use Rattle.sf_play.proofs.Rights.{begins, begins_player}
 use Rattle.sf_play.proofs.player.Player.new.Goals as goal
@@ -23,12 +24,10 @@ invariant_of-result g c =
       hits = c.scene.inside.hits;
       mirrors = c.scene.inside.mirrors;
     } in
-    let version : c.scene.inside.version ≡ 1 = subst (λ (s : SceneValue). s.version ≡ 1) (sym c.scene.view_is) c.requires.version in
     let whole : c.args.stock.buffers ≡ range 0 (permits_of c.scene.inside.actors) = subst (λ (s : SceneValue). c.args.stock.buffers ≡ range 0 (permits_of s.actors)) (sym c.scene.view_is) c.requires.whole in
     let sized : permits_of c.scene.inside.actors ≤ g.B.TableName.table.slots = subst (λ (s : SceneValue). permits_of s.actors ≤ g.B.TableName.table.slots) (sym c.scene.view_is) c.requires.sized in
-    let playable : are_playable c.scene.inside.actors ≡ true = subst (λ (s : SceneValue). are_playable s.actors ≡ true) (sym c.scene.view_is) c.requires.playable in
-    begins_player _ scene c.scene.invariant version c.args.seat c.args.stock.buffers c.in_ok-cast.cast c.in_ok-handler.handler c.new-4.result c.as_slice.result.now c.as_slice.ensures c.in_ok-cast.ensures c.in_ok-handler.ensures
-    (c.new-4.ensures ∙ c.new-3.ensures.items) c.requires.fresh whole sized playable
+    begins_player _ scene c.scene.invariant c.args.seat c.args.stock.buffers c.in_ok-cast.cast c.in_ok-handler.handler c.new-3.result c.as_slice.result.now c.as_slice.ensures c.in_ok-cast.ensures
+    (c.in_ok-handler.ensures ∙ ap (λ (most : ℕ). new_handler c.scene.inside.width c.scene.inside.height most) c.most_layers.ensures) (c.new-3.ensures ∙ c.new-2.ensures.items) c.requires.fresh whole sized
 
 pub returns : goal.returns
 returns g c =
@@ -48,9 +47,7 @@ returns g c =
       hits = c.scene.inside.hits;
       mirrors = c.scene.inside.mirrors;
     } in
-    let version : c.scene.inside.version ≡ 1 = subst (λ (s : SceneValue). s.version ≡ 1) (sym c.scene.view_is) c.requires.version in
     let whole : c.args.stock.buffers ≡ range 0 (permits_of c.scene.inside.actors) = subst (λ (s : SceneValue). c.args.stock.buffers ≡ range 0 (permits_of s.actors)) (sym c.scene.view_is) c.requires.whole in
     let sized : permits_of c.scene.inside.actors ≤ g.B.TableName.table.slots = subst (λ (s : SceneValue). permits_of s.actors ≤ g.B.TableName.table.slots) (sym c.scene.view_is) c.requires.sized in
-    let playable : are_playable c.scene.inside.actors ≡ true = subst (λ (s : SceneValue). are_playable s.actors ≡ true) (sym c.scene.view_is) c.requires.playable in
-    rw (← c.scene.view_is) (begins _ scene c.scene.invariant version c.args.seat c.args.stock.buffers c.in_ok-cast.cast c.in_ok-handler.handler c.new-4.result c.as_slice.result.now c.as_slice.ensures c.in_ok-cast.ensures c.in_ok-handler.ensures
-    (c.new-4.ensures ∙ c.new-3.ensures.items) c.requires.fresh whole sized playable)
+    rw (← c.scene.view_is) (begins _ scene c.scene.invariant c.args.seat c.args.stock.buffers c.in_ok-cast.cast c.in_ok-handler.handler c.new-3.result c.as_slice.result.now c.as_slice.ensures c.in_ok-cast.ensures
+    (c.in_ok-handler.ensures ∙ ap (λ (most : ℕ). new_handler c.scene.inside.width c.scene.inside.height most) c.most_layers.ensures) (c.new-3.ensures ∙ c.new-2.ensures.items) c.requires.fresh whole sized)
