@@ -16,10 +16,7 @@ use std::sync::Wait;
 /// it goes on.
 fn goes_on<R: Wait>(rt: &R, watch: &Watch, seen: u64, sends: bool, stepped: Stepped) -> bool {
     match stepped {
-        Stepped::Done => {
-            watch.tell_done(rt);
-            !sends || watch.wait_for_look(rt)
-        }
+        Stepped::Done => watch.tell_done(rt) && (!sends || watch.wait_for_look(rt)),
         Stepped::NotYet => watch.idle(rt, seen),
         Stepped::Ended => {
             watch.tell_ended(rt);

@@ -20,8 +20,16 @@ struct Board {
     /// How many do no more steps.
     ended: usize,
     stop: bool,
-    /// For which places no thread could be started.
+    /// For which places no thread could be started, and whether there is such a place.
     turned_away: [bool; MOST_WATCHED],
+    has_turned_away: bool,
+}
+
+impl Board {
+    /// Whether so many threads are all idle, or have ended.
+    fn rests(&self, many: usize) -> bool {
+        self.idle.saturating_add(self.ended) >= many
+    }
 }
 
 /// A watch over some threads, each with a place from 0, and over whoever started them.
@@ -29,8 +37,12 @@ struct Board {
 pub struct Watch {
     many: usize,
     board: Mutex<Board>,
+    /// For threads that are idle: there are news.
     changed: Condvar,
+    /// For threads that wait for a look.
     looked_on: Condvar,
+    /// For whoever started them: there are news, or all rest.
+    called: Condvar,
 }
 
 impl Watch {
@@ -45,9 +57,11 @@ impl Watch {
                 ended: 0,
                 stop: false,
                 turned_away: [false; MOST_WATCHED],
+                has_turned_away: false,
             }),
             changed: Condvar::new(),
             looked_on: Condvar::new(),
+            called: Condvar::new(),
         }
     }
 
@@ -56,19 +70,24 @@ impl Watch {
         self.board.lock(rt).news
     }
 
-    /// Something was done, which may let others go on: nobody counts as idle any more.
-    pub fn tell_done<R: Wait>(&self, rt: &R) {
+    /// Something was done, which may let others go on: nobody counts as idle any more. False where all
+    /// are to stop.
+    pub fn tell_done<R: Wait>(&self, rt: &R) -> bool {
         let mut board = self.board.lock(rt);
         board.news = board.news.wrapping_add(1);
         board.idle = 0;
         self.changed.notify_all();
+        self.called.notify_all();
+        !board.stop
     }
 
     /// A thread does no more steps.
     pub fn tell_ended<R: Wait>(&self, rt: &R) {
         let mut board = self.board.lock(rt);
         board.ended = board.ended.saturating_add(1);
-        self.changed.notify_all();
+        if board.rests(self.many) {
+            self.called.notify_all();
+        }
     }
 
     /// All are to stop, whatever they wait for here.
@@ -76,6 +95,7 @@ impl Watch {
         self.board.lock(rt).stop = true;
         self.changed.notify_all();
         self.looked_on.notify_all();
+        self.called.notify_all();
     }
 
     /// A thread is idle until there are other news than it has seen. False where it is to stop.
@@ -83,7 +103,9 @@ impl Watch {
         let mut board = self.board.lock(rt);
         if board.news == seen {
             board.idle = board.idle.saturating_add(1);
-            self.changed.notify_all();
+            if board.rests(self.many) {
+                self.called.notify_all();
+            }
         }
         let board = self
             .changed
@@ -96,8 +118,8 @@ impl Watch {
     pub fn next<R: Wait>(&self, rt: &R, seen: u64) -> Option<u64> {
         let many = self.many;
         let board = self.board.lock(rt);
-        let board = self.changed.wait_while(rt, board, |board| {
-            board.news == seen && !board.stop && board.idle.saturating_add(board.ended) < many
+        let board = self.called.wait_while(rt, board, |board| {
+            board.news == seen && !board.stop && !board.rests(many)
         });
         if board.stop || board.news == seen {
             return None;
@@ -116,12 +138,13 @@ impl Watch {
     }
 
     /// A thread, which isn't idle, sleeps until whoever started it has looked at all that was done so
-    /// far. False where it is to stop.
+    /// far. Where no thread could be started for some place it doesn't: whoever tries the steps of that
+    /// place may wait meanwhile for what this thread does next. False where it is to stop.
     pub fn wait_for_look<R: Wait>(&self, rt: &R) -> bool {
         let board = self.board.lock(rt);
         let told = board.news;
         let board = self.looked_on.wait_while(rt, board, |board| {
-            board.looked.wrapping_sub(told) >= LEAST_BEHIND && !board.stop
+            board.looked.wrapping_sub(told) >= LEAST_BEHIND && !board.stop && !board.has_turned_away
         });
         !board.stop
     }
@@ -132,7 +155,9 @@ impl Watch {
     {
         let mut board = self.board.lock(rt);
         board.turned_away[place] = true;
+        board.has_turned_away = true;
         board.ended = board.ended.saturating_add(1);
+        self.looked_on.notify_all();
     }
 
     /// Whether none could be.

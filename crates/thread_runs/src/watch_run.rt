@@ -114,6 +114,23 @@ fn missed_of<R: Threads + Wait + Sync>(rt: &R, often: usize) -> (usize, usize) {
     (missed.load(Ordering::SeqCst), seen.load(Ordering::SeqCst))
 }
 
+/// Whether a thread that waits for a look goes on once none could be started for another place.
+fn goes_on_unseen<R: Threads + Wait + Sync>(rt: &R) -> bool {
+    let watch = Watch::new(2);
+    let shared = &watch;
+    thread::scope(thread::scope_env(), rt, move |scope| {
+        let started = scope.spawn(move || -> bool {
+            shared.tell_done(rt);
+            shared.wait_for_look(rt)
+        });
+        shared.turn_away(rt, 1);
+        match started {
+            Ok(waiting) => waiting.join(rt),
+            Err(_) => false,
+        }
+    })
+}
+
 /// The least and the greatest of what so many rounds counted to.
 fn counts_to<R: Threads + Wait + Sync>(
     rt: &R,
@@ -152,7 +169,9 @@ fn answer<R: Print + Threads + Wait + Sync>(rt: &R, watch: &Watch, line: &str) -
             watch.tell_looked(rt, value, second == "did");
             println!(rt; "{line}: told")
         }
+        "done" => println!(rt; "{line}: {}", watch.tell_done(rt)),
         "wait" => println!(rt; "{line}: {}", watch.wait_for_look(rt)),
+        "unseen" => println!(rt; "{line}: {}", goes_on_unseen(rt)),
         "stop" => {
             watch.stop(rt);
             println!(rt; "{line}: told")
