@@ -22,20 +22,20 @@ module _ {K B : Type 0} {naming : Naming B} where
   -- what no vsync changes: its settings, and where it writes to
   pub record IsSame (start c : Compositor K B naming) : Type 0 where
     pub workers : c.workers ≡ start.workers
+    pub plan : c.plan ≡ start.plan
     pub period : c.period ≡ start.period
     pub timelines : c.timelines ≡ start.timelines
     pub sink : c.sink.ghost_name ≡ start.sink.ghost_name
 
   module _ (taken : K → Option (List ℕ)) (faults : K → ℕ) where
-    -- From visit to visit: the display's size, and the log of its vsyncs, with what was written of it. Whatever was shown, whole records were
-    -- written, and the count of the sink's faults has not fallen.
+    -- From visit to visit: the log of its vsyncs, with what was written of it. Whatever was shown, whole records were written, and the count of
+    -- the sink's faults has not fallen.
     pub record Keeps (lease : Ghosts ReadLeaseOf SeatView ReadLeaseOf Issued) (table : TableId) (start c : Compositor K B naming) (locks : Locks B)
         (first : FirstSeats B) : Type 0 where
       pub same : IsSame start c
-      pub wide : c.decider.handler.width ≡ start.decider.handler.width
-      pub high : c.decider.handler.height ≡ start.decider.handler.height
       pub few : c.vsyncs ≤ 2147483648
-      pub log : KeepsLog lease table locks c.period c.workers c.timelines.items (taken start.sink.now) (taken c.sink.now) c.screen (sitting_of first c)
+      pub log : KeepsLog lease table locks c.period c.workers c.plan start.decider.handler.tree.most c.timelines.items (taken start.sink.now)
+          (taken c.sink.now) c.screens (sitting_of first c)
       pub some : WritesSome (taken start.sink.now) (taken c.sink.now)
       pub faults_rise : faults start.sink.now ≤ faults c.sink.now
 

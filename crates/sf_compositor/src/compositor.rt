@@ -8,8 +8,9 @@ use crate::decider::Decider;
 use crate::showing::show_next;
 use sf_crew::{Ended, Visit};
 use sf_io::Sink;
+use sf_plan::Plan;
 use sf_record::RunFault;
-use sf_screen::Screen;
+use sf_screen::Screens;
 use sf_shared::{FirstSeats, Locks};
 use sf_surface::ReadLease;
 use sf_turns::TableName;
@@ -33,7 +34,9 @@ pub struct Compositor<'a, K, B: TableName> {
     /// The declared timelines by rising number.
     pub timelines: Vec<u32>,
     pub sink: &'a mut K,
-    pub screen: Screen,
+    /// What its vsyncs show.
+    pub plan: Plan,
+    pub screens: Screens,
     pub decider: Decider<B>,
     /// How many vsyncs there were.
     pub vsyncs: u32,
@@ -65,7 +68,8 @@ impl<'a, R: Threads + Wait + Sync, K: Sink, B: TableName> Visit<R, B> for Compos
             self.workers,
             self.sink,
             &self.timelines,
-            &mut self.screen,
+            &self.plan,
+            &mut self.screens,
             locks,
             &mut first.seats,
             &mut self.decider.handler,

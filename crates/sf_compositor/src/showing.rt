@@ -1,16 +1,18 @@
-ghost use Rattle.std.specs.Prelude.{◌≡◌, ◌+◌, ◌<◌, ◌≤◌, All, IsErrOf, OnErr, OnOk};
+ghost use Rattle.std.specs.Prelude.{◌≡◌, ◌+◌, ◌<◌, ◌≤◌, false, All, IsErrOf, OnErr, OnOk, length};
 ghost use Rattle.sf_io.specs.Causes.{Rose};
 ghost use Rattle.sf_run.specs.Progress.{is_time};
 ghost use Rattle.sf_shared.specs.Seats.{AreSeats};
 ghost use Rattle.sf_show.specs.Writing.{CutSome, WritesSome};
-ghost use Rattle.sf_compositor.specs.Sitting.{MaySit, ShowsVsync};
+ghost use Rattle.sf_compositor.specs.Sitting.{MaySit, ShowsBuffers, ShowsVsync};
+ghost use Rattle.sf_plan.specs.Due.{IsPlan};
 
 use crate::vsync::make_vsync;
 use sf_commit::Handler;
 use sf_io::Sink;
+use sf_plan::Plan;
 use sf_ready::Hold;
 use sf_record::RunFault;
-use sf_screen::Screen;
+use sf_screen::Screens;
 use sf_shared::{Locks, Seats};
 use sf_show::show_vsync;
 use sf_surface::ReadLease;
@@ -30,15 +32,26 @@ fn is_time(entry: &(u32, Hold)) -> bool
     }
 }
 
-/// Makes the next vsync and writes its records; at most so many workers compose its frame. Whether another
-/// one may do more with nothing else done: it committed something, or something waits for its time.
+/// Tells of a compositor's layers that they are no more than they may be, and that each shows the one
+/// buffer that stands for it. It does nothing.
+fn tell_layers<B: TableName>(handler: &Handler<ReadLease<B>>)
+    ensures few { length handler.now.tree.layers ≤ handler.now.tree.most }
+    ensures buffers { handler.now.is_spent ≡ false → ShowsBuffers handler.now }
+{
+    let _layers = handler.tree().layers();
+}
+
+/// Makes the next vsync and writes its records; at most so many workers compose each frame of it.
+/// Whether another one may do more with nothing else done: it committed something, or something waits
+/// for its time.
 pub(crate) fn show_next<R: Threads + Wait + Sync, K: Sink, B: TableName>(
     rt: &R,
     alloc: Global,
     workers: u32,
     sink: &mut K,
     timelines: &[u32],
-    screen: &mut Screen,
+    plan: &Plan,
+    screens: &mut Screens,
     locks: &Locks<B>,
     seats: &mut Seats<B>,
     handler: &mut Handler<ReadLease<B>>,
@@ -52,10 +65,11 @@ pub(crate) fn show_next<R: Threads + Wait + Sync, K: Sink, B: TableName>(
     requires early { before < 2147483648 }
     requires own { AreSeats B.table locks.now seats.old }
     requires first { seats.old.by ≡ 0 }
-    requires may { MaySit screen.old (record { handler = handler.old; seats = seats.old; number = before }) }
-    ensures shows { OnOk result (ShowsVsync ⟦<ReadLease<B> as Lease>⟧ B.table locks.now period timelines.now (K.taken sink.old) (K.taken sink.new) screen.old screen.new
-        (record { handler = handler.old; seats = seats.old; number = before }) (record { handler = handler.new; seats = seats.new; number = before + 1 })) }
-    ensures may { OnOk result (MaySit screen.new (record { handler = handler.new; seats = seats.new; number = before + 1 })) }
+    requires plan { IsPlan plan.now }
+    requires may { MaySit plan.now (record { handler = handler.old; seats = seats.old; number = before }) }
+    ensures shows { OnOk result (ShowsVsync ⟦<ReadLease<B> as Lease>⟧ B.table locks.now period plan.now timelines.now (K.taken sink.old) (K.taken sink.new)
+        screens.old screens.new (record { handler = handler.old; seats = seats.old; number = before }) (record { handler = handler.new; seats = seats.new; number = before + 1 })) }
+    ensures may { OnOk result (MaySit plan.now (record { handler = handler.new; seats = seats.new; number = before + 1 })) }
     ensures lent { handler.new.lent ≡ handler.old.lent }
     ensures some { OnOk result (WritesSome (K.taken sink.old) (K.taken sink.new)) }
     ensures cut { OnErr result (CutSome (K.taken sink.old) (K.taken sink.new)) }
@@ -67,15 +81,9 @@ pub(crate) fn show_next<R: Threads + Wait + Sync, K: Sink, B: TableName>(
         Err(_) => return Err(RunFault::NoMemory),
     };
     let goes_on = report.has_commits() || held.as_slice().iter().any(is_time);
+    tell_layers(handler);
     match show_vsync(
-        rt,
-        alloc,
-        workers,
-        sink,
-        timelines,
-        screen,
-        handler.contents(),
-        report,
+        rt, alloc, workers, sink, timelines, plan, screens, handler, report,
     ) {
         Ok(()) => Ok(goes_on),
         Err(fault) => Err(fault),

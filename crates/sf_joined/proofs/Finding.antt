@@ -1,10 +1,9 @@
--- The frames of a compositor's vsyncs find their pictures: each buffer on a layer was acquired, and expects the scene's picture of its number.
+-- After each vsync of a compositor each buffer on a layer has the scene's picture of its number: it was acquired, and expects that picture.
 use Rattle.std.proofs.Common.{◌≡◌, ℕ, ◌==◌, true, List, [], map, ap, sym, ◌∙◌, subst}
 use Rattle.std.specs.List.{All}
 use Rattle.std.proofs.lemmas.Bool.{eqb-true}
 use Rattle.std.proofs.lemmas.List.Elements.{All-contains, All-weaker}
 use Rattle.atomic_table.specs.Seated.{TableId}
-use Rattle.sf_compose.specs.Sources.{HasSources}
 use Rattle.sf_layer.specs.declared.shown.Shown.{Shown}
 use Rattle.sf_surface.specs.declared.mark.QueueMark.{QueueMark}
 use Rattle.sf_surface.specs.Reading.{PlainLease}
@@ -19,21 +18,20 @@ use Rattle.sf_actor.specs.Scripts.{picture_at}
 use Rattle.sf_actor.specs.Tries.{ActorOf}
 use Rattle.sf_run.proofs.Taking.{shows_picture}
 use Rattle.sf_run.specs.Actors.{AreActors, AreCalls}
+use Rattle.sf_report.specs.Stages.{AreExpected}
 use Rattle.sf_shared.specs.declared.locks.Locks.{Locks}
 use Rattle.sf_crew.specs.Walks.{Moment}
-use Rattle.sf_play.proofs.Composing.{sources_found, sources_told, views_told}
 use Rattle.sf_play.proofs.Leasing.{IsArrivedLent, OfFrames}
 use Rattle.sf_play.proofs.Seeing.{one_passes}
 use Rattle.sf_play.specs.Players.{IsBufferLent}
 use Rattle.sf_play.specs.Playing.{expected_by}
-use Rattle.sf_compositor.specs.Sitting.{AllShowBuffers, ShowsBuffers}
 use Rattle.sf_joined.specs.Frames.{AllFind}
 use Rattle.sf_joined.specs.Joined.{IsJoined}
 use Rattle.sf_joined.specs.Logs.{HoldsLent, taken_of}
 use Rattle.sf_joined.proofs.Lends.{back_all, front_all, lent_after, log_lent}
 use Rattle.sf_joined.proofs.Standing.{actors, called_there, callers, came, home_marks, marks_are, marks_declared, none_on, none_pending}
 use Rattle.sf_replay.specs.Joining.{of_at}
-use Rattle.sf_compositor.specs.Vsyncs.{Begin, IsVsync, More, Sitting, Vsyncs}
+use Rattle.sf_compositor.specs.Vsyncs.{Begin, More, Sitting, Vsyncs}
 
 module _ {B : Type 0} (scene : SceneValue) (ofs : List (ActorOf B)) (home : DeskHome) (joined : DeskView B) (are : AreActors scene ofs home joined) (calls : AreCalls scene ofs home joined) where
   -- a buffer on a layer expects the scene's picture of its number
@@ -45,24 +43,19 @@ module _ {B : Type 0} (scene : SceneValue) (ofs : List (ActorOf B)) (home : Desk
       ∙ ap (λ (s : Shown). picture_at scene.pictures s.picture) (sym is.shows)
 
   module _ (lease : Ghosts ReadLeaseOf SeatView ReadLeaseOf Issued) (frames : OfFrames lease) (table : TableId) (locks : Locks B) (period : ℕ) where
-    vsync_finds : (before after : Sitting B) (v : IsVsync lease table locks period before after) → HoldsLent joined after.handler → ShowsBuffers after.handler
-        → HasSources (picture_at scene.pictures) v.told.view (map expected_by after.handler.on) v.told.sources
-    vsync_finds before after v lent shows =
-        subst (HasSources (picture_at scene.pictures) v.told.view (map expected_by after.handler.on))
-        (sym (sources_told lease before.handler after.handler v.took.turns v.turns v.arrived v.seen v.expected v.told v.decides))
-        (sources_found after.handler.tree.layers before.handler.width before.handler.height after.handler.on shows.stands shows.crops (picture_at scene.pictures)
-        (All-weaker (λ (one : OnLayer ReadLeaseOf). IsBufferLent joined one.shown one.lease) (λ (one : OnLayer ReadLeaseOf). one.lease.turn.expects ≡ picture_at scene.pictures one.shown.picture) buffer_expects after.handler.on lent.on)
-        v.told.view (views_told lease before.handler after.handler v.took.turns v.turns v.arrived v.seen v.expected v.told v.decides))
+    vsync_finds : (after : Sitting B) → HoldsLent joined after.handler → AreExpected expected_by (picture_at scene.pictures) after.handler
+    vsync_finds after lent =
+        All-weaker (λ (one : OnLayer ReadLeaseOf). IsBufferLent joined one.shown one.lease) (λ (one : OnLayer ReadLeaseOf). one.lease.turn.expects ≡ picture_at scene.pictures one.shown.picture) buffer_expects after.handler.on lent.on
 
     log_finds : (start last : Sitting B) (log : Vsyncs lease table locks period start last) → start.handler.pending ≡ [] → start.handler.on ≡ [] → All (IsArrivedLent joined) (taken_of lease table locks period log)
-        → AllShowBuffers lease table locks period log → AllFind lease table locks period (picture_at scene.pictures) log
-    log_finds start last Begin pending on brought shows = tt
-    log_finds start last (More {before} {after} log v) pending on brought shows =
+        → AllFind lease table locks period (picture_at scene.pictures) log
+    log_finds start last Begin pending on brought = tt
+    log_finds start last (More {before} {after} log v) pending on brought =
         let taken = taken_of lease table locks period log in
         let first_then = front_all (IsArrivedLent joined) taken v.arrived brought in
         let lent = log_lent lease frames table locks period joined start before log pending on first_then in (
-          log_finds start before log pending on first_then shows.0,
-          vsync_finds before after v (lent_after lease frames table locks period joined before after v lent (back_all (IsArrivedLent joined) taken v.arrived brought)) shows.1,
+          log_finds start before log pending on first_then,
+          vsync_finds after (lent_after lease frames table locks period joined before after v lent (back_all (IsArrivedLent joined) taken v.arrived brought)),
         )
 
 module _ {B : Type 0} (lease : Ghosts ReadLeaseOf SeatView ReadLeaseOf Issued) (frames : OfFrames lease) (scene : SceneValue) (table : TableId) (period most : ℕ) (locks : Locks B) (last : Sitting B) (ends : List (Moment B)) (desk : PlainOf B)
@@ -79,7 +72,7 @@ module _ {B : Type 0} (lease : Ghosts ReadLeaseOf SeatView ReadLeaseOf Issued) (
     callers = callers lease scene table period most locks last ends desk is;
   }
 
-  pub all_find : AllShowBuffers lease table locks period is.joins.log → AllFind lease table locks period (picture_at scene.pictures) is.joins.log
-  all_find shows =
+  pub all_find : AllFind lease table locks period (picture_at scene.pictures) is.joins.log
+  all_find =
       log_finds scene (map of_at ends) (plain_home desk) (plain_view desk) (actors lease scene table period most locks last ends desk is) are_calls lease frames table locks period is.joins.begins last is.joins.log
-      (none_pending lease scene table period most locks last ends desk is) (none_on lease scene table period most locks last ends desk is) (came lease scene table period most locks last ends desk is) shows
+      (none_pending lease scene table period most locks last ends desk is) (none_on lease scene table period most locks last ends desk is) (came lease scene table period most locks last ends desk is)

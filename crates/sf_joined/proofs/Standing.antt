@@ -465,12 +465,12 @@ module _ {B : Type 0} (lease : Ghosts ReadLeaseOf SeatView ReadLeaseOf Issued) (
       leases = record { pending = lent.pending; on = lent.on };
     }
 
-    module _ (version : scene.version ≡ 1) (few : last.number ≤ 2147483648) where
+    module _ (few : last.number ≤ 2147483648) where
       pub stands_at : StandsAt table scene so (player_joined scene ends desk last)
       stands_at = record {
         stands = stands;
         rests = All-nil (Rests scene (run_so so play));
-        early = rounds_numbered table scene so play stands version few;
+        early = rounds_numbered table scene so play stands few;
       }
 
       -- with the makers and the draws of the run all rights are kept

@@ -39,7 +39,7 @@ module _ {B : Type 0} (lease : Ghosts ReadLeaseOf SeatView ReadLeaseOf Issued) (
 
 module _ {B : Type 0} (lease : Ghosts ReadLeaseOf SeatView ReadLeaseOf Issued) (scene : SceneValue) (table : TableId) (period most : ℕ) (locks : Locks B) (last : Sitting B) (ends : List (Moment B)) (desk : PlainOf B)
     (is : IsJoined lease scene table period most locks last ends desk) (frames : OfFrames lease) (by_counts : KnowsByCounts lease) (of_turns : IsOfTurns lease) (tells : TellsPlaces lease)
-    (version : scene.version ≡ 1) (few : last.number ≤ 2147483648) where
+    (few : last.number ≤ 2147483648) where
   stamped : AreStamped lease table locks period is.joins.first is.joins.log
   stamped = all_stamped lease table locks period is.joins.first is.joins.begins last is.joins.log (joined_fronts lease scene table period most locks last ends desk is.joins)
 
@@ -63,7 +63,7 @@ module _ {B : Type 0} (lease : Ghosts ReadLeaseOf SeatView ReadLeaseOf Issued) (
   rights = rights_join lease scene table period most locks last ends desk is.joins of_turns tells tied
 
   pub tied_in_run : StandsInRun table scene (so_joined lease scene table period most locks last ends desk is) (player_joined scene ends desk last)
-  tied_in_run = stands_in_run lease scene table period most locks last ends desk is frames by_counts ledger version few rights.makers (draws_placed lease scene table period most locks last ends desk is frames by_counts ledger rights)
+  tied_in_run = stands_in_run lease scene table period most locks last ends desk is frames by_counts ledger few rights.makers (draws_placed lease scene table period most locks last ends desk is frames by_counts ledger rights)
 
   pub tied_standing : IsStanding table (player_joined scene ends desk last)
-  tied_standing = is_standing lease scene table period most locks last ends desk is frames by_counts ledger version few rights.makers (draws_placed lease scene table period most locks last ends desk is frames by_counts ledger rights)
+  tied_standing = is_standing lease scene table period most locks last ends desk is frames by_counts ledger few rights.makers (draws_placed lease scene table period most locks last ends desk is frames by_counts ledger rights)

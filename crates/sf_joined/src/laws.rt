@@ -38,7 +38,6 @@ ghost use Rattle.sf_play.specs.Players.{AreLent, Stands};
 ghost use Rattle.sf_play.specs.Standing.{IsStanding, StandsInRun};
 ghost use Rattle.sf_joined.specs.Calls.{AreReleasesOn, IsGivenOn};
 ghost use Rattle.sf_joined.specs.Crews.{CameOfNew, WalkedBack};
-ghost use Rattle.sf_compositor.specs.Sitting.{AllShowBuffers};
 ghost use Rattle.sf_joined.specs.Frames.{AllFind};
 ghost use Rattle.sf_joined.specs.Joined.{IsJoined, player_joined, so_joined};
 ghost use Rattle.sf_joined.specs.Logs.{HasPlayedSo, HasSeenSo, HasTaken, HoldsLent, IsBegun, IsKnown, KnowsSteps};
@@ -141,15 +140,15 @@ pub fn what_threads_did_is_played<B: TableName>()
 {}
 
 /// So a player goes on with the run from there, where the makers of buffers and the draws of the run stand,
-/// too, no more than 2^31 vsyncs were made, and the scene is of version 1.
+/// too, and no more than 2^31 vsyncs were made.
 pub fn a_player_stands_at_the_join<B: TableName>()
     ensures in_run { (scene : SceneValue) (period most : ℕ) (locks : Locks B) (last : Sitting B) (ends : List (Moment B)) (desk : PlainOf B)
-        → (is : IsJoined ⟦<ReadLease<B> as Lease>⟧ scene B.table period most locks last ends desk) → scene.version ≡ 1 → last.number ≤ 2147483648
+        → (is : IsJoined ⟦<ReadLease<B> as Lease>⟧ scene B.table period most locks last ends desk) → last.number ≤ 2147483648
         → LedgerStands B.table.slots (home_of desk) (desk_view desk) (map of_at ends) last.handler
         → MakersPlay scene (home_of desk) (desk_view desk) (map of_at ends) last.handler → DrawsStand scene (home_of desk) (desk_view desk) (map of_at ends) last.handler
         → StandsInRun B.table scene (so_joined ⟦<ReadLease<B> as Lease>⟧ scene B.table period most locks last ends desk is) (player_joined scene ends desk last) }
     ensures standing { (scene : SceneValue) (period most : ℕ) (locks : Locks B) (last : Sitting B) (ends : List (Moment B)) (desk : PlainOf B)
-        → IsJoined ⟦<ReadLease<B> as Lease>⟧ scene B.table period most locks last ends desk → scene.version ≡ 1 → last.number ≤ 2147483648
+        → IsJoined ⟦<ReadLease<B> as Lease>⟧ scene B.table period most locks last ends desk → last.number ≤ 2147483648
         → LedgerStands B.table.slots (home_of desk) (desk_view desk) (map of_at ends) last.handler
         → MakersPlay scene (home_of desk) (desk_view desk) (map of_at ends) last.handler → DrawsStand scene (home_of desk) (desk_view desk) (map of_at ends) last.handler
         → IsStanding B.table (player_joined scene ends desk last) }
@@ -162,11 +161,10 @@ pub fn crews_walked_back<B: TableName>()
         → CameOfNew scene B.table locks known (new_actors declared stock) actors sent back → WalkedBack scene B.table locks (new_actors declared stock) back }
 {}
 
-/// The frames of the vsyncs that were made while threads ran find their pictures, so what was written of
-/// them are images of the scene's pictures: where after each vsync each layer shows its buffer.
-pub fn frames_among_threads_find_their_pictures<B: TableName>()
+/// After each vsync that was made while threads ran the buffers on layers have the scene's pictures of
+/// their numbers, so what was written of it are images of these.
+pub fn buffers_among_threads_have_their_pictures<B: TableName>()
     ensures { (scene : SceneValue) (period most : ℕ) (locks : Locks B) (last : Sitting B) (ends : List (Moment B)) (desk : PlainOf B)
         → (is : IsJoined ⟦<ReadLease<B> as Lease>⟧ scene B.table period most locks last ends desk)
-        → AllShowBuffers ⟦<ReadLease<B> as Lease>⟧ B.table locks period is.joins.log
         → AllFind ⟦<ReadLease<B> as Lease>⟧ B.table locks period (picture_at scene.pictures) is.joins.log }
 {}

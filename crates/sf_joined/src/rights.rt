@@ -14,14 +14,14 @@ use sf_surface::ReadLease;
 use sf_turns::TableName;
 use sf_txn::Lease;
 
-/// A run in threads goes on from its join by the rounds of a player, with all its rights, in a scene of
-/// version 1 in which no more than 2^31 vsyncs were made.
+/// A run in threads goes on from its join by the rounds of a player, with all its rights, where no more
+/// than 2^31 vsyncs were made.
 pub fn a_run_in_threads_goes_on<B: TableName>()
     ensures in_run { (scene : SceneValue) (period most : ℕ) (locks : Locks B) (last : Sitting B) (ends : List (Moment B)) (desk : PlainOf B)
-        → (is : IsJoined ⟦<ReadLease<B> as Lease>⟧ scene B.table period most locks last ends desk) → scene.version ≡ 1 → last.number ≤ 2147483648
+        → (is : IsJoined ⟦<ReadLease<B> as Lease>⟧ scene B.table period most locks last ends desk) → last.number ≤ 2147483648
         → StandsInRun B.table scene (so_joined ⟦<ReadLease<B> as Lease>⟧ scene B.table period most locks last ends desk is) (player_joined scene ends desk last) }
     ensures standing { (scene : SceneValue) (period most : ℕ) (locks : Locks B) (last : Sitting B) (ends : List (Moment B)) (desk : PlainOf B)
-        → IsJoined ⟦<ReadLease<B> as Lease>⟧ scene B.table period most locks last ends desk → scene.version ≡ 1 → last.number ≤ 2147483648
+        → IsJoined ⟦<ReadLease<B> as Lease>⟧ scene B.table period most locks last ends desk → last.number ≤ 2147483648
         → IsStanding B.table (player_joined scene ends desk last) }
 {}
 

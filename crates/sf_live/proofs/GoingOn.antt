@@ -1,15 +1,18 @@
 -- A player that goes on with a run in threads has shown its vsyncs.
-use Rattle.std.proofs.Common.{◌≡◌, ℕ, List, [], ◌∷◌, map, Option, ap, ◌∙◌, sym, subst}
+use Rattle.std.proofs.Common.{◌≡◌, ℕ, List, [], ◌∷◌, map, Option, ◌∙◌, refl, sym, subst}
 use Rattle.atomic_table.specs.Seated.{TableId}
 use Rattle.sf_surface.specs.Tokens.{Issued, ReadLeaseOf}
 use Rattle.sf_turns.specs.Views.{SeatView}
 use Rattle.sf_txn.specs.declared.lease.Lease.{Ghosts}
 use Rattle.sf_commit.specs.Handlers.{HandlerOf}
+use Rattle.sf_plan.specs.declared.plan.Plan.{Plan}
+use Rattle.sf_scene.specs.Limits.{most_layers}
 use Rattle.sf_scene.specs.declared.declarations.Pick.{Pick}
 use Rattle.sf_actor.specs.Scripts.{picture_at}
 use Rattle.sf_record.specs.Events.{events_records}
 use Rattle.sf_record.specs.declared.event.Event.TheVariants as event
 use Rattle.sf_record.specs.declared.event.VsyncReport.{VsyncReport}
+use Rattle.sf_run.specs.Frames.{plan_of}
 use Rattle.sf_run.specs.Played.{opening}
 use Rattle.sf_run.specs.Vsyncs.{vsyncs_in}
 use Rattle.sf_play.specs.Players.{PlayerOf, before_round}
@@ -21,7 +24,7 @@ use Rattle.sf_joined.specs.Frames.{AllFind}
 use Rattle.sf_joined.specs.Joined.{player_joined, so_joined}
 use Rattle.sf_joined.specs.Logs.{reports_of}
 use Rattle.sf_live.specs.declared.threads.Joined.{Joined}
-use Rattle.sf_screen.specs.Screens.{ScreenOf}
+use Rattle.sf_screen.specs.declared.screens.OutputScreen.{OutputScreen}
 use Rattle.sf_live.specs.Resuming.{GoesFrom, HasCome}
 use Rattle.sf_live.specs.Rounds.{HasShown}
 use Rattle.sf_live.specs.Threads.{IsTogether, RunOf}
@@ -34,31 +37,30 @@ module _ {B : Type 0} (lease : Ghosts ReadLeaseOf SeatView ReadLeaseOf Issued) (
   same_player = λ i. before_round (goes.same_period i) (goes.same_order i) (t.cast i) (goes.same_handler i) (goes.same_vsyncs i)
 
   module _ (find : AllFind lease table locks run.scene.period (picture_at run.scene.pictures) t.is.joins.log) (player : PlayerOf B) (is : player ≡ before_round period order joined.cast handler vsyncs)
-      (stands : StandsInRun table run.scene (so_joined lease run.scene table run.scene.period 256 locks run.last t.ends t.desk t.is) (player_joined run.scene t.ends t.desk run.last))
-      (reports : vsyncs_in (so_joined lease run.scene table run.scene.period 256 locks run.last t.ends t.desk t.is).events ≡ reports_of lease table locks run.scene.period run.scene t.is.joins.log) where
-    pub has_shown : HasShown table run.scene run.timelines start run.now run.screen player
+      (stands : StandsInRun table run.scene (so_joined lease run.scene table run.scene.period (most_layers run.scene.version) locks run.last t.ends t.desk t.is) (player_joined run.scene t.ends t.desk run.last))
+      (reports : vsyncs_in (so_joined lease run.scene table run.scene.period (most_layers run.scene.version) locks run.last t.ends t.desk t.is).events ≡ reports_of lease table locks run.scene.period run.scene t.is.joins.log) where
+    pub has_shown : HasShown table run.scene (plan_of run.scene) run.timelines start run.now run.screens player
     has_shown =
         let begins = t.is.joins.begins in
-        let wide = ap (λ (h : HandlerOf ReadLeaseOf). h.width) t.is.joins.handler in
-        let high = ap (λ (h : HandlerOf ReadLeaseOf). h.height) t.is.joins.handler in
         let log = t.is.joins.log in
         let wrote = t.shows.written (picture_at run.scene.pictures) (all_found lease table locks run.scene.period run.scene begins run.last log find) in
-        let are = log_records_are lease table locks run.scene.period run.scene run.timelines goes.rising begins run.last log wide high in
+        let are = log_records_are lease table locks run.scene.period run.scene run.timelines goes.rising begins run.last log in
         record {
-          so = so_joined lease run.scene table run.scene.period 256 locks run.last t.ends t.desk t.is;
-          stands = subst (StandsInRun table run.scene (so_joined lease run.scene table run.scene.period 256 locks run.last t.ends t.desk t.is)) (sym (is ∙ same_player)) stands;
+          so = so_joined lease run.scene table run.scene.period (most_layers run.scene.version) locks run.last t.ends t.desk t.is;
+          stands = subst (StandsInRun table run.scene (so_joined lease run.scene table run.scene.period (most_layers run.scene.version) locks run.last t.ends t.desk t.is)) (sym (is ∙ same_player)) stands;
+          planned = refl;
           rising = goes.rising;
           written = subst (λ (vs : List VsyncReport). Writes start run.now (opening run.scene ∷ events_records (map event.Vsync vs))) (sym reports)
               (writes_more start run.before run.now (opening run.scene ∷ []) (events_records (map event.Vsync (reports_of lease table locks run.scene.period run.scene log))) goes.begun
               (subst (Writes run.before run.now) are wrote.0));
           shown = wrote.1;
-          sized = goes.sized;
         }
 
--- of the timelines, the sink and the screen as they came to the joins
-pub shown_so : {B : Type 0} (table : TableId) (run : RunOf B) (before now : Option (List ℕ)) (told timelines : List ℕ) (screen : ScreenOf) (player : PlayerOf B) → HasCome run timelines now screen → told ≡ timelines
-    → HasShown table run.scene run.timelines before run.now run.screen player → HasShown table run.scene told before now screen player
-shown_so table run before now told timelines screen player come same shown =
-    subst (λ (ts : List ℕ). HasShown table run.scene ts before now screen player) (sym (same ∙ come.same_timelines))
-    (subst (λ (a : Option (List ℕ)). HasShown table run.scene run.timelines before a screen player) (sym come.same_sink)
-    (subst (λ (s : ScreenOf). HasShown table run.scene run.timelines before run.now s player) (sym come.same_screen) shown))
+-- of the plan, the timelines, the sink and the screens as they came to the joins
+pub shown_so : {B : Type 0} (table : TableId) (run : RunOf B) (before now : Option (List ℕ)) (told timelines : List ℕ) (plan : Plan) (screens : List OutputScreen) (player : PlayerOf B) → HasCome run timelines plan now screens → told ≡ timelines
+    → HasShown table run.scene (plan_of run.scene) run.timelines before run.now run.screens player → HasShown table run.scene plan told before now screens player
+shown_so table run before now told timelines plan screens player come same shown =
+    subst (λ (p : Plan). HasShown table run.scene p told before now screens player) (sym come.planned)
+    (subst (λ (ts : List ℕ). HasShown table run.scene (plan_of run.scene) ts before now screens player) (sym (same ∙ come.same_timelines))
+    (subst (λ (a : Option (List ℕ)). HasShown table run.scene (plan_of run.scene) run.timelines before a screens player) (sym come.same_sink)
+    (subst (λ (s : List OutputScreen). HasShown table run.scene (plan_of run.scene) run.timelines before run.now s player) (sym come.same_screens) shown)))

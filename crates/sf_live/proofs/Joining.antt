@@ -7,9 +7,11 @@ use Rattle.sf_surface.specs.Tokens.{Issued, ReadLeaseOf}
 use Rattle.sf_turns.specs.Views.{SeatView}
 use Rattle.sf_txn.specs.declared.lease.Lease.{Ghosts}
 use Rattle.sf_commit.specs.Handlers.{new_handler}
+use Rattle.sf_scene.specs.Limits.{most_layers}
 use Rattle.sf_actor.specs.Plain.{PlainOf}
 use Rattle.sf_steps.specs.declared.actor.Actor.{Actor}
 use Rattle.sf_cast.specs.Opening.{new_actors}
+use Rattle.sf_run.specs.Frames.{plan_of}
 use Rattle.sf_shared.specs.declared.first.FirstSeats.{FirstSeats}
 use Rattle.sf_shared.specs.declared.locks.Locks.{Locks}
 use Rattle.sf_shared.specs.declared.seats.Seats.{Seats}
@@ -63,8 +65,7 @@ module _ {B : Type 0} where
 module _ {B V : Type 0} (lease : Ghosts ReadLeaseOf SeatView ReadLeaseOf Issued) (table : TableId) (run : RunOf B) (opened : Opened B) (opens : IsOpen run.scene table opened) (unused : KnowsNothing opened.first.seats)
     (keeps : V → Locks B → FirstSeats B → Type 0) (visitor : V) (ashore : Ashore B) (first : IsFirst table opened.locks ashore.first) (all : HasAll ashore.first)
     (returns : Returns keeps table opened.locks opened.pictures opened.first opened.actors.items visitor ashore) (at_last : returns.attended.seats ≡ run.last.seats)
-    (sits : Sits lease table opened.locks run.scene.period run.timelines run.before run.now run.screen run.last.handler.width run.last.handler.height run.last)
-    (wide : run.last.handler.width ≡ run.scene.width) (high : run.last.handler.height ≡ run.scene.height) where
+    (sits : Sits lease table opened.locks run.scene.period (plan_of run.scene) (most_layers run.scene.version) run.timelines run.before run.now run.screens run.last) where
   walked : WalkedBack run.scene table opened.locks (new_actors opens.declared opens.stock) returns.back
   walked =
       all_walked run.scene table opened.locks opened.first.seats opens.declared opens.stock opened.actors.items returns.sent returns.back opens.actors opens.newcomers returns.boards
@@ -74,7 +75,12 @@ module _ {B V : Type 0} (lease : Ghosts ReadLeaseOf SeatView ReadLeaseOf Issued)
   given : HasGiven opened.first returns.boarded
   given = has_given opened.first _ returns.boarded unused returns.gives
 
-  abbrev joined_with : (desk : PlainOf B) → AreClosedTo opened.locks ashore.first desk → Joins lease run.scene table run.scene.period 256 opened.locks run.last walked.ends desk
+  -- a plan has the size of its scene's display
+  handler_of : new_handler {L = ReadLeaseOf} (plan_of run.scene).width (plan_of run.scene).height (most_layers run.scene.version) ≡ new_handler run.scene.width run.scene.height (most_layers run.scene.version)
+  unfolding plan_of
+  handler_of = refl
+
+  abbrev joined_with : (desk : PlainOf B) → AreClosedTo opened.locks ashore.first desk → Joins lease run.scene table run.scene.period (most_layers run.scene.version) opened.locks run.last walked.ends desk
   joined_with desk closed = record {
     limits = opens.limits;
     marks = opens.marks;
@@ -88,7 +94,7 @@ module _ {B V : Type 0} (lease : Ghosts ReadLeaseOf SeatView ReadLeaseOf Issued)
     boarded = walked.boarded;
     came = walked.came;
     begins = sits.start;
-    handler = sits.fresh.handler ∙ (λ i. new_handler (wide i) (high i) 256);
+    handler = sits.fresh.handler ∙ handler_of;
     number = sits.fresh.number;
     nothing = sits.fresh.nothing;
     no_leaves = sits.fresh.no_leaves;
@@ -107,13 +113,12 @@ module _ {B V : Type 0} (lease : Ghosts ReadLeaseOf SeatView ReadLeaseOf Issued)
     nobody = closed.nobody;
   }
 
-  pub has_run : run.scene.version ≡ 1 → run.last.number ≤ 2147483648 → HasRun lease table run opened.locks opened.pictures ashore
-  has_run version few = record {
-    version = version;
+  pub has_run : run.last.number ≤ 2147483648 → HasRun lease table run opened.locks opened.pictures ashore
+  has_run few = record {
     pictured = opens.pictures;
     few = few;
     ends = walked.ends;
     actors = walked.actors ∙ sym (landed_are returns.back) ∙ ap (map landed_actor) (sym returns.landed);
     joins = joined_with;
-    shows = λ desk closed. record { buffers = sits.buffers; written = sits.written };
+    shows = λ desk closed. record { written = sits.written };
   }

@@ -1,10 +1,12 @@
 pub mod Newcomers
 pub mod Openings
 pub mod Joining
+pub mod Telling
 pub mod Frames
 pub mod Casting
 pub mod Together
 pub mod GoingOn
 pub mod RunLemmas
+pub mod Starting
 pub mod RoundLemmas
 pub mod EndLemmas

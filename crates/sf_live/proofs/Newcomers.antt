@@ -59,7 +59,7 @@ no_calls : (B : Type 0) (declared : List QueueDecl) → AllByRecursion HasNoCall
 no_calls B [] = tt
 no_calls B (queue ∷ declared) = (refl, no_calls B declared)
 
-both : (numbers : List ℕ) → All (λ (n : ℕ). 1 ≤ n) numbers → All (λ (n : ℕ). n ≤ 16) numbers → All (λ (n : ℕ). (1 ≤ n) × (n ≤ 16)) numbers
+both : (numbers : List ℕ) → All (λ (n : ℕ). 1 ≤ n) numbers → All (λ (n : ℕ). n ≤ 64) numbers → All (λ (n : ℕ). (1 ≤ n) × (n ≤ 64)) numbers
 both numbers low high = λ k d below. (low k d below, high k d below)
 
 module _ {B : Type 0} where
@@ -101,13 +101,13 @@ module _ {B : Type 0} where
   opened_bare queues objects opens = subst (AllByRecursion HasNoCalls) (sym opens.opened) (no_calls B opens.declared)
 
   numbers_low : (table : TableId) (pictures : ℕ → Picture) (home : DeskHome) (view : DeskView B) (actors : List (Actor B)) (scripts : List ActorScript) (stock : List ℕ) → KeepAs table pictures home view actors (new_actors scripts stock)
-      → All (λ (script : ActorScript). script.number ≤ 16) scripts → All (λ (n : ℕ). n ≤ 16) (map number_of actors)
-  numbers_low table pictures home view [] scripts stock keep low = All-nil (λ (n : ℕ). n ≤ 16)
+      → All (λ (script : ActorScript). script.number ≤ 64) scripts → All (λ (n : ℕ). n ≤ 64) (map number_of actors)
+  numbers_low table pictures home view [] scripts stock keep low = All-nil (λ (n : ℕ). n ≤ 64)
   numbers_low table pictures home view (actor ∷ actors) [] stock keep low = absurd keep
   numbers_low table pictures home view (actor ∷ actors) (script ∷ scripts) stock keep low =
-      All-cons (λ (n : ℕ). n ≤ 16) actor.script.number (map number_of actors)
-      (subst (λ (s : ActorScript). s.number ≤ 16) keep.0.is.script (All-head (λ (s : ActorScript). s.number ≤ 16) script scripts low))
-      (numbers_low table pictures home view actors scripts (drop (dequeues_in script.steps) stock) keep.1 (All-tail (λ (s : ActorScript). s.number ≤ 16) script scripts low))
+      All-cons (λ (n : ℕ). n ≤ 64) actor.script.number (map number_of actors)
+      (subst (λ (s : ActorScript). s.number ≤ 64) keep.0.is.script (All-head (λ (s : ActorScript). s.number ≤ 64) script scripts low))
+      (numbers_low table pictures home view actors scripts (drop (dequeues_in script.steps) stock) keep.1 (All-tail (λ (s : ActorScript). s.number ≤ 64) script scripts low))
 
   pub numbers_same : (actors : List (Actor B)) → map number_of actors ≡ map (λ (script : ActorScript). script.number) (scripts_of actors)
   numbers_same [] = refl
@@ -119,11 +119,11 @@ module _ {B : Type 0} where
       All-cons (λ (n : ℕ). 1 ≤ n) actor.script.number (map number_of actors) (All-head (λ (s : ActorScript). 1 ≤ s.number) actor.script (scripts_of actors) all)
       (positive actors (All-tail (λ (s : ActorScript). 1 ≤ s.number) actor.script (scripts_of actors) all))
 
-  -- actors with rising numbers up to 16 are no more
+  -- actors with rising numbers up to 64 are no more
   pub few_opened : (table : TableId) (pictures : ℕ → Picture) (home : DeskHome) (view : DeskView B) (actors : List (Actor B)) (scripts : List ActorScript) (stock : List ℕ) → KeepAs table pictures home view actors (new_actors scripts stock)
-      → All (λ (script : ActorScript). script.number ≤ 16) scripts → All (λ (script : ActorScript). 1 ≤ script.number) (scripts_of actors) → IsStrictlyIncreasing (map number_of actors) → length actors ≤ 16
+      → All (λ (script : ActorScript). script.number ≤ 64) scripts → All (λ (script : ActorScript). 1 ≤ script.number) (scripts_of actors) → IsStrictlyIncreasing (map number_of actors) → length actors ≤ 64
   few_opened table pictures home view actors scripts stock keep low numbered rising =
-      let many = many_below (map number_of actors) 16 rising (both (map number_of actors) (positive actors numbered) (numbers_low table pictures home view actors scripts stock keep low)) in
+      let many = many_below (map number_of actors) 64 rising (both (map number_of actors) (positive actors numbered) (numbers_low table pictures home view actors scripts stock keep low)) in
       let mapped = length-map actors (number_of {B = B}) in
       omega (arith, many, mapped)
 

@@ -1,14 +1,17 @@
 -- The vsyncs of the rounds behind a run, and how far they have been written.
-use Rattle.std.proofs.Common.{◌≡◌, ℕ, ◌||◌, ◌==◌, Bool, not, if◌then◌else◌, List, [], ◌∷◌, ◌++◌, length, map, Option, Some, None, refl, ap, ◌∙◌, sym, subst, inl, inr}
+use Rattle.std.proofs.Common.{◌≡◌, ℕ, not, List, [], ◌∷◌, ◌++◌, length, map, Option, ap, ◌∙◌, sym, subst, inl, inr}
 use Rattle.std.specs.Prelude.{◌⊎◌}
-use Rattle.std.specs.List.{flat_map, list_any}
+use Rattle.std.specs.List.{flat_map}
 use Rattle.std.proofs.lemmas.List.{append-nil, length-map, map-append}
 use Rattle.std.proofs.lemmas.List.Concat.{flat_map-append}
 use Rattle.std.proofs.lemmas.List.Sorted.{length_permutation}
 use Rattle.std.proofs.lemmas.Slice.Zip.{AllZip-long}
 use Rattle.atomic_table.specs.Seated.{TableId}
 use Rattle.sf_picture.specs.declared.picture.Picture.{Picture}
+use Rattle.sf_plan.specs.declared.plan.Plan.{Plan}
+use Rattle.sf_commit.specs.Handlers.{HandlerOf}
 use Rattle.sf_commit.specs.declared.vsync.Commit.{Commit as Decided}
+use Rattle.sf_surface.specs.Tokens.{ReadLeaseOf}
 use Rattle.sf_scene.specs.Scene.{SceneValue}
 use Rattle.sf_actor.specs.Scripts.{picture_at}
 use Rattle.sf_cast.specs.Casts.{KeepsAs}
@@ -19,27 +22,29 @@ use Rattle.sf_record.specs.declared.event.VsyncReport.{VsyncReport as Told}
 use Rattle.sf_record.specs.declared.record.Record.{Record}
 use Rattle.sf_record.specs.declared.record.Reply.{Reply}
 use Rattle.sf_report.specs.Reports.{has_commits}
+use Rattle.sf_report.specs.Stages.{AreExpected, IsStage}
 use Rattle.sf_report.specs.declared.report.VsyncReport.{VsyncReport}
 use Rattle.sf_run.specs.Actors.{script_of}
-use Rattle.sf_run.specs.Commits.{commit_shown}
-use Rattle.sf_run.specs.Frames.{is_done}
+use Rattle.sf_run.specs.Frames.{plan_of}
 use Rattle.sf_run.specs.Played.{opening}
 use Rattle.sf_run.specs.Replies.{reply_shown}
-use Rattle.sf_run.specs.Seeing.{value_shown}
 use Rattle.sf_run.specs.Vsyncs.{rising_timelines, vsync_in, vsyncs_in}
-use Rattle.sf_screen.specs.Screens.{IsShown, ScreenOf, image_bytes}
-use Rattle.sf_play.specs.Going.{GoesOn, TellsFrame}
+use Rattle.sf_screen.specs.ScreenLists.{AreShown}
+use Rattle.sf_screen.specs.declared.screens.OutputScreen.{OutputScreen}
+use Rattle.sf_play.specs.Going.{GoesOn, TellsStage}
 use Rattle.sf_play.specs.Happening.{VsyncHappens}
 use Rattle.sf_play.specs.Players.{PlayOf, PlayerOf, SoFar, home_in, view_in}
+use Rattle.sf_play.specs.Playing.{expected_by}
 use Rattle.sf_play.specs.Showing.{vsync_shown as play_shown}
 use Rattle.sf_play.specs.Standing.{StandsInRun}
 use Rattle.sf_play.specs.declared.turn.Turn.{Turn}
 use Rattle.sf_play.specs.declared.turn.Turn.TheVariants as turn
 use Rattle.sf_show.specs.Turns.{is_end}
-use Rattle.sf_show.specs.Vsyncs.{IsSized, is_accepted, records_if, told_with}
+use Rattle.sf_show.specs.Vsyncs.{records_if, told_with}
 use Rattle.sf_show.specs.Writing.{CutSome, Writes, WritesPart}
 use Rattle.sf_show.proofs.WritingLemmas.{cut_part, part_more, part_whole, writes_more}
 use Rattle.sf_live.specs.Rounds.{HasShown, MayWriteTurn, ShowsOn, turn_written, vsyncs_alone}
+use Rattle.sf_live.proofs.Telling.{told_is}
 
 vsyncs_more : (events : List Event) (one : Event) → vsyncs_in (events ++ one ∷ []) ≡ vsyncs_in events ++ vsync_in one
 unfolding vsyncs_in
@@ -66,20 +71,18 @@ vsync_records_more events told =
     ∙ sym (records_more (vsyncs_alone events) (event.Vsync told ∷ []))
     ∙ ap events_records (sym (with_vsync events told))
 
--- a frame is due where a commit was accepted
-shown_done : (commits : List Decided) → list_any is_done (map commit_shown commits) ≡ list_any is_accepted commits
-shown_done [] = refl
-shown_done (commit ∷ commits) = ap (λ (b : Bool). (commit.cause == 0) || b) (shown_done commits)
-
--- a turn that is no vsync has no records
-pub none_written : (pictures : ℕ → Picture) (timelines : List ℕ) (came_to : Turn) → ((place : ℕ) × (came_to ≡ turn.Step place)) ⊎ ((came_to ≡ turn.Idle) ⊎ (came_to ≡ turn.End))
-    → [] ≡ turn_written pictures timelines came_to
-none_written pictures timelines came_to is = elim is [
-  | inl step ↦ ap (turn_written pictures timelines) (sym step.1)
-  | inr other ↦ elim other [ inl idle ↦ ap (turn_written pictures timelines) (sym idle) | inr end ↦ ap (turn_written pictures timelines) (sym end) ]
-]
-
 module _ {B : Type 0} where
+  -- a turn that is no vsync has no records
+  pub none_written : (pictures : ℕ → Picture) (plan : Plan) (timelines : List ℕ) (player : PlayerOf B) (came_to : Turn) → ((place : ℕ) × (came_to ≡ turn.Step place)) ⊎ ((came_to ≡ turn.Idle) ⊎ (came_to ≡ turn.End))
+      → [] ≡ turn_written pictures plan timelines player came_to
+  none_written pictures plan timelines player came_to is = elim is [
+    | inl step ↦ ap (turn_written pictures plan timelines player) (sym step.1)
+    | inr other ↦ elim other [
+      | inl idle ↦ ap (turn_written pictures plan timelines player) (sym idle)
+      | inr end ↦ ap (turn_written pictures plan timelines player) (sym end)
+    ]
+  ]
+
   -- as many actors stand in a run as its scene has
   pub as_many : (table : TableId) (scene : SceneValue) (so : SoFar B) (player : PlayerOf B) → StandsInRun table scene so player → length player.play.cast.actors ≡ length scene.actors
   as_many table scene so player stands =
@@ -88,91 +91,90 @@ module _ {B : Type 0} where
       ∙ sym (length-map so.actors script_of)
       ∙ length_permutation scene.actors (map script_of so.actors) standing.tell.actors.scripts
 
-  -- what is shown of a vsync that commits something
-  frame_is : (scene : SceneValue) (report : VsyncReport) (play : PlayOf B) → TellsFrame scene report play
-      → play_shown scene report.number report.expected report.seen report.commits play.handler.tree ≡ told_with (picture_at scene.pictures) (rising_timelines scene) report
-  unfolding image_bytes
-  frame_is scene report play tells = (λ i. record {
-    number = report.number;
-    expected = report.expected;
-    timelines = map (value_shown report.seen) (rising_timelines scene);
-    commits = map commit_shown report.commits;
-    frame = if shown_done report.commits i then Some (tells.frame i) else None;
-  })
-
-  vsync_is : (scene : SceneValue) (timelines : List ℕ) (report : VsyncReport) (play : PlayOf B) (so later : SoFar B) → timelines ≡ rising_timelines scene → TellsFrame scene report play
+  vsync_is : (scene : SceneValue) (timelines : List ℕ) (report : VsyncReport) (play : PlayOf B) (so later : SoFar B) → timelines ≡ rising_timelines scene
       → (commits : List Decided) → VsyncHappens scene (has_commits commits) report play so later
-      → events_records (vsyncs_alone so.events) ++ records_if commits (told_with (picture_at scene.pictures) timelines report) ≡ events_records (vsyncs_alone later.events)
-  vsync_is scene timelines report play so later rising tells [] happens =
+      → events_records (vsyncs_alone so.events) ++ records_if commits (told_with (picture_at scene.pictures) (plan_of scene) timelines report play.handler.tree.layers) ≡ events_records (vsyncs_alone later.events)
+  vsync_is scene timelines report play so later rising [] happens =
       append-nil (events_records (vsyncs_alone so.events)) ∙ sym (ap (λ (s : SoFar B). events_records (vsyncs_alone s.events)) happens)
-  vsync_is scene timelines report play so later rising tells (commit ∷ commits) happens =
+  vsync_is scene timelines report play so later rising (commit ∷ commits) happens =
       let told = play_shown scene report.number report.expected report.seen report.commits play.handler.tree in
-      ap (λ (ts : List ℕ). events_records (vsyncs_alone so.events) ++ vsync_records (told_with (picture_at scene.pictures) ts report)) rising
-      ∙ ap (λ (v : Told). events_records (vsyncs_alone so.events) ++ vsync_records v) (sym (frame_is scene report play tells))
+      ap (λ (v : Told). events_records (vsyncs_alone so.events) ++ vsync_records v) (sym (told_is scene timelines report play.handler.tree rising))
       ∙ vsync_records_more so.events told
       ∙ sym (ap (λ (s : SoFar B). events_records (vsyncs_alone s.events)) happens)
 
   -- the records of a turn follow those of the vsyncs before
-  turn_records : (table : TableId) (scene : SceneValue) (timelines : List ℕ) (so : SoFar B) (came_to : Turn) (player : PlayerOf B) → timelines ≡ rising_timelines scene
+  turn_records : (table : TableId) (scene : SceneValue) (plan : Plan) (timelines : List ℕ) (so : SoFar B) (came_to : Turn) (player : PlayerOf B) → plan ≡ plan_of scene → timelines ≡ rising_timelines scene
       → (goes : GoesOn table scene so came_to player)
-      → events_records (vsyncs_alone so.events) ++ turn_written (picture_at scene.pictures) timelines came_to ≡ events_records (vsyncs_alone goes.later.events)
-  turn_records table scene timelines so (turn.Step place) player rising goes =
+      → events_records (vsyncs_alone so.events) ++ turn_written (picture_at scene.pictures) plan timelines player came_to ≡ events_records (vsyncs_alone goes.later.events)
+  turn_records table scene plan timelines so (turn.Step place) player planned rising goes =
       let did = goes.happens in
       append-nil (events_records (vsyncs_alone so.events))
       ∙ ap events_records (sym (with_reply so.events (reply_shown did.reply)))
       ∙ sym (ap (λ (s : SoFar B). events_records (vsyncs_alone s.events)) did.is)
-  turn_records table scene timelines so (turn.Vsync report) player rising goes =
-      vsync_is scene timelines report player.play so goes.later rising goes.tells report.commits goes.happens
-  turn_records table scene timelines so turn.Idle player rising goes =
+  turn_records table scene plan timelines so (turn.Vsync report) player planned rising goes =
+      ap (λ (p : Plan). events_records (vsyncs_alone so.events) ++ records_if report.commits (told_with (picture_at scene.pictures) p timelines report player.play.handler.tree.layers)) planned
+      ∙ vsync_is scene timelines report player.play so goes.later rising report.commits goes.happens
+  turn_records table scene plan timelines so turn.Idle player planned rising goes =
       append-nil (events_records (vsyncs_alone so.events)) ∙ sym (ap (λ (s : SoFar B). events_records (vsyncs_alone s.events)) goes.happens)
-  turn_records table scene timelines so turn.End player rising goes =
+  turn_records table scene plan timelines so turn.End player planned rising goes =
       append-nil (events_records (vsyncs_alone so.events)) ∙ sym (ap (λ (s : SoFar B). events_records (vsyncs_alone s.events)) goes.happens)
 
-  pub may_write : (table : TableId) (scene : SceneValue) (so : SoFar B) (came_to : Turn) (player : PlayerOf B) → GoesOn table scene so came_to player → MayWriteTurn scene came_to player
-  may_write table scene so (turn.Step place) player goes = tt
-  may_write table scene so (turn.Vsync report) player goes = goes.tells
-  may_write table scene so turn.Idle player goes = tt
-  may_write table scene so turn.End player goes = tt
+  pub may_write : (table : TableId) (scene : SceneValue) (plan : Plan) (so : SoFar B) (came_to : Turn) (player : PlayerOf B) → plan ≡ plan_of scene → GoesOn table scene so came_to player → MayWriteTurn scene plan came_to player
+  may_write table scene plan so (turn.Step place) player planned goes = tt
+  may_write table scene plan so (turn.Vsync report) player planned goes = (planned, goes.tells)
+  may_write table scene plan so turn.Idle player planned goes = tt
+  may_write table scene plan so turn.End player planned goes = tt
+
+  -- what there is to show after a vsync, for the handler as the player tells it
+  pub stage_told : (scene : SceneValue) (plan : Plan) (report : VsyncReport) (player : PlayerOf B) (handler : HandlerOf ReadLeaseOf) → (plan ≡ plan_of scene) × TellsStage scene report player.play → handler ≡ player.play.handler
+      → IsStage expected_by plan handler report.view report.sources
+  stage_told scene plan report player handler (planned, tells) same =
+      subst (λ (p : Plan). IsStage expected_by p handler report.view report.sources) (sym planned)
+      (subst (λ (h : HandlerOf ReadLeaseOf). IsStage expected_by (plan_of scene) h report.view report.sources) (sym same) tells.stage)
+
+  pub expected_told : (scene : SceneValue) (plan : Plan) (report : VsyncReport) (player : PlayerOf B) (handler : HandlerOf ReadLeaseOf) → (plan ≡ plan_of scene) × TellsStage scene report player.play → handler ≡ player.play.handler
+      → AreExpected expected_by (picture_at scene.pictures) handler
+  expected_told scene plan report player handler tells same = subst (AreExpected expected_by (picture_at scene.pictures)) (sym same) tells.1.expected
 
   -- a turn was written behind what was written before
-  goes_on : (table : TableId) (scene : SceneValue) (timelines : List ℕ) (start a b : Option (List ℕ)) (before screen : ScreenOf) (old player : PlayerOf B) (came_to : Turn)
-      (has : HasShown table scene timelines start a before old) → GoesOn table scene has.so came_to player
-      → Writes a b (turn_written (picture_at scene.pictures) timelines came_to) → IsShown (picture_at scene.pictures) screen → IsSized scene.width scene.height screen
-      → HasShown table scene timelines start b screen player
-  goes_on table scene timelines start a b before screen old player came_to has goes now shown sized = record {
+  goes_on : (table : TableId) (scene : SceneValue) (plan : Plan) (timelines : List ℕ) (start a b : Option (List ℕ)) (before screens : List OutputScreen) (old player : PlayerOf B) (came_to : Turn)
+      (has : HasShown table scene plan timelines start a before old) → GoesOn table scene has.so came_to player
+      → Writes a b (turn_written (picture_at scene.pictures) plan timelines player came_to) → AreShown (picture_at scene.pictures) screens
+      → HasShown table scene plan timelines start b screens player
+  goes_on table scene plan timelines start a b before screens old player came_to has goes now shown = record {
     so = goes.later;
     stands = goes.stands;
+    planned = has.planned;
     rising = has.rising;
-    written = subst (Writes start b) (ap (λ (rs : List Record). opening scene ∷ rs) (turn_records table scene timelines has.so came_to player has.rising goes))
-        (writes_more start a b (opening scene ∷ events_records (vsyncs_alone has.so.events)) (turn_written (picture_at scene.pictures) timelines came_to) has.written now);
+    written = subst (Writes start b) (ap (λ (rs : List Record). opening scene ∷ rs) (turn_records table scene plan timelines has.so came_to player has.planned has.rising goes))
+        (writes_more start a b (opening scene ∷ events_records (vsyncs_alone has.so.events)) (turn_written (picture_at scene.pictures) plan timelines player came_to) has.written now);
     shown = shown;
-    sized = sized;
   }
 
-  pub shows_on : (table : TableId) (scene : SceneValue) (timelines : List ℕ) (start a b : Option (List ℕ)) (before screen : ScreenOf) (old player : PlayerOf B) (came_to : Turn)
-      (has : HasShown table scene timelines start a before old) → GoesOn table scene has.so came_to player
-      → Writes a b (turn_written (picture_at scene.pictures) timelines came_to) → IsShown (picture_at scene.pictures) screen → IsSized scene.width scene.height screen
-      → ShowsOn (not (is_end came_to)) table scene timelines start b screen player
+  pub shows_on : (table : TableId) (scene : SceneValue) (plan : Plan) (timelines : List ℕ) (start a b : Option (List ℕ)) (before screens : List OutputScreen) (old player : PlayerOf B) (came_to : Turn)
+      (has : HasShown table scene plan timelines start a before old) → GoesOn table scene has.so came_to player
+      → Writes a b (turn_written (picture_at scene.pictures) plan timelines player came_to) → AreShown (picture_at scene.pictures) screens
+      → ShowsOn (not (is_end came_to)) table scene plan timelines start b screens player
   unfolding goes_on
-  shows_on table scene timelines start a b before screen old player turn.End has goes now shown sized =
-      let on = goes_on table scene timelines start a b before screen old player turn.End has goes now shown sized in
+  shows_on table scene plan timelines start a b before screens old player turn.End has goes now shown =
+      let on = goes_on table scene plan timelines start a b before screens old player turn.End has goes now shown in
       record { so = goes.later; stands = goes.stands; written = on.written; ends = goes.tells }
-  shows_on table scene timelines start a b before screen old player (turn.Step place) has goes now shown sized =
-      goes_on table scene timelines start a b before screen old player (turn.Step place) has goes now shown sized
-  shows_on table scene timelines start a b before screen old player turn.Idle has goes now shown sized =
-      goes_on table scene timelines start a b before screen old player turn.Idle has goes now shown sized
-  shows_on table scene timelines start a b before screen old player (turn.Vsync report) has goes now shown sized =
-      goes_on table scene timelines start a b before screen old player (turn.Vsync report) has goes now shown sized
+  shows_on table scene plan timelines start a b before screens old player (turn.Step place) has goes now shown =
+      goes_on table scene plan timelines start a b before screens old player (turn.Step place) has goes now shown
+  shows_on table scene plan timelines start a b before screens old player turn.Idle has goes now shown =
+      goes_on table scene plan timelines start a b before screens old player turn.Idle has goes now shown
+  shows_on table scene plan timelines start a b before screens old player (turn.Vsync report) has goes now shown =
+      goes_on table scene plan timelines start a b before screens old player (turn.Vsync report) has goes now shown
 
   -- nothing more was written, or a part of a turn
-  pub cut_before : (table : TableId) (scene : SceneValue) (timelines : List ℕ) (start a : Option (List ℕ)) (before : ScreenOf) (old : PlayerOf B) → HasShown table scene timelines start a before old
+  pub cut_before : (table : TableId) (scene : SceneValue) (plan : Plan) (timelines : List ℕ) (start a : Option (List ℕ)) (before : List OutputScreen) (old : PlayerOf B) → HasShown table scene plan timelines start a before old
       → CutSome start a
-  cut_before table scene timelines start a before old has =
+  cut_before table scene plan timelines start a before old has =
       let records = opening scene ∷ events_records (vsyncs_alone has.so.events) in
       cut_part start a records (part_whole start a records has.written)
 
-  pub turn_cut : (table : TableId) (scene : SceneValue) (timelines : List ℕ) (start a b : Option (List ℕ)) (before : ScreenOf) (old : PlayerOf B) (more : List Record)
-      → HasShown table scene timelines start a before old → WritesPart a b more → CutSome start b
-  turn_cut table scene timelines start a b before old more has part =
+  pub turn_cut : (table : TableId) (scene : SceneValue) (plan : Plan) (timelines : List ℕ) (start a b : Option (List ℕ)) (before : List OutputScreen) (old : PlayerOf B) (more : List Record)
+      → HasShown table scene plan timelines start a before old → WritesPart a b more → CutSome start b
+  turn_cut table scene plan timelines start a b before old more has part =
       let records = opening scene ∷ events_records (vsyncs_alone has.so.events) in
       cut_part start b (records ++ more) (part_more start a b records more has.written part)

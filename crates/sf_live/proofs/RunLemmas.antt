@@ -2,6 +2,7 @@
 use Rattle.std.proofs.Common.{◌≡◌, ℕ, ◌≤◌, List, [], map, Option, Some, None, Result, Err, inl, inr, ap, ◌∙◌, arith, refl, sym, subst}
 use Rattle.std.specs.Prelude.{IfErr, is_some}
 use Rattle.std.proofs.lemmas.Bool.{false≢true}
+use Rattle.std.proofs.lemmas.List.Elements.{All-nil}
 use Rattle.atomic_table.specs.Seated.{TableId}
 use Rattle.sf_io.specs.Causes.{Rose}
 use Rattle.sf_picture.specs.declared.picture.Picture.{Picture}
@@ -14,11 +15,17 @@ use Rattle.sf_turns.specs.declared.naming.TableName.{Ghosts as Naming}
 use Rattle.sf_txn.specs.declared.lease.Lease.{Ghosts}
 use Rattle.sf_commit.specs.Handlers.{HandlerOf, new_handler}
 use Rattle.sf_actor.specs.Plain.{taken_in}
+use Rattle.sf_scene.specs.Limits.{most_layers}
 use Rattle.sf_scene.specs.Scene.{SceneValue}
 use Rattle.sf_scene.specs.declared.declarations.Pick.{Pick}
-use Rattle.sf_screen.specs.Screens.{IsShown, ScreenOf}
-use Rattle.sf_show.specs.Turns.{bare_screen}
-use Rattle.sf_show.specs.Vsyncs.{IsSized}
+use Rattle.sf_plan.specs.Due.{IsPlan}
+use Rattle.sf_plan.specs.declared.plan.Plan.{Plan}
+use Rattle.sf_run.proofs.FrameLemmas.{is_plan}
+use Rattle.sf_run.proofs.LimitLemmas.{few_layers}
+use Rattle.sf_run.specs.Frames.{plan_of}
+use Rattle.sf_screen.specs.ScreenLists.{AreShown}
+use Rattle.sf_screen.specs.Screens.{IsShown}
+use Rattle.sf_screen.specs.declared.screens.OutputScreen.{OutputScreen}
 use Rattle.sf_show.specs.Writing.{Writes}
 use Rattle.sf_show.proofs.TurnLemmas.{timelines_within}
 use Rattle.sf_show.proofs.WritingLemmas.{cut_none, some_whole, writes_none}
@@ -46,11 +53,17 @@ use Rattle.sf_live.proofs.Joining.{has_given, has_run}
 pub of_err : {X E : Type 0} (P : E → Type 0) (rest : Result X E) (e : E) → rest ≡ Err e → IfErr rest P → P e
 of_err P rest e is p = subst (λ r. IfErr r P) is p
 
-no_writing : (pictures : ℕ → Picture) (a : Option (List ℕ)) (screen : ScreenOf) → screen ≡ bare_screen → Writes a a [] × IsShown pictures screen
-no_writing pictures a screen bare = (writes_none a, subst (IsShown pictures) (sym bare) tt)
+no_writing : (pictures : ℕ → Picture) (a : Option (List ℕ)) (screens : List OutputScreen) → screens ≡ [] → Writes a a [] × AreShown pictures screens
+no_writing pictures a screens none = (writes_none a, subst (AreShown pictures) (sym none) (All-nil (λ (one : OutputScreen). IsShown pictures one.screen)))
 
-bare_sized : (width height : ℕ) (screen : ScreenOf) → screen ≡ bare_screen → IsSized width height screen
-bare_sized width height screen bare = subst (IsSized width height) (sym bare) tt
+-- the plan of a scene has the size of its display
+plan_wide : (scene : SceneValue) → (plan_of scene).width ≡ scene.width
+unfolding plan_of
+plan_wide scene = refl
+
+plan_high : (scene : SceneValue) → (plan_of scene).height ≡ scene.height
+unfolding plan_of
+plan_high scene = refl
 
 abbrev IsWant : RunFault → Type 0
 IsWant NoMemory = Unit {0}
@@ -65,7 +78,7 @@ IsMemory stopped.Ended = ⊥
 
 module _ {K B : Type 0} {naming : Naming B} where
   pub same_self : (c : Compositor K B naming) → IsSame c c
-  same_self c = record { workers = refl; period = refl; timelines = refl; sink = refl }
+  same_self c = record { workers = refl; plan = refl; period = refl; timelines = refl; sink = refl }
 
 module _ {K B : Type 0} {naming : Naming B} (taken : K → Option (List ℕ)) (faults : K → ℕ) (lease : Ghosts ReadLeaseOf SeatView ReadLeaseOf Issued) (table : TableId) (scene : SceneValue) (opened : Opened B) (c : Compositor K B naming)
     (opens : IsOpen scene table opened) (starts : Starts scene c) (unused : KnowsNothing opened.first.seats) where
@@ -78,31 +91,33 @@ module _ {K B : Type 0} {naming : Naming B} (taken : K → Option (List ℕ)) (f
       let step = given.step in
       let opened_step = opens.step in
       let none = starts.none_made in
+      let wide : c.plan.width ≡ scene.width = ap (λ (p : Plan). p.width) starts.planned ∙ plan_wide scene in
+      let high : c.plan.height ≡ scene.height = ap (λ (p : Plan). p.height) starts.planned ∙ plan_high scene in
+      let most : c.decider.handler.tree.most ≡ most_layers scene.version = ap (λ (h : HandlerOf ReadLeaseOf). h.tree.most) handler in
+      let low = few_layers scene.version in
       record {
         same = same_self c;
-        wide = refl;
-        high = refl;
         few = omega (arith, none);
         log = record {
           set = starts.set;
           sits = record {
             start = sitting_of boarded c;
             fresh = record {
-              handler = handler
-                  ∙ (λ i. new_handler (sym (ap (λ (h : HandlerOf ReadLeaseOf). h.width) handler) i) (sym (ap (λ (h : HandlerOf ReadLeaseOf). h.height) handler) i) 256);
+              handler = handler ∙ (λ i. new_handler (sym wide i) (sym high i) (sym most i));
               nothing = given.nothing;
               no_signals = given.signals ∙ opens.no_signals;
               no_leaves = given.leaves ∙ opens.no_leaves;
               number = none;
             };
             log = Begin;
-            buffers = tt;
-            written = λ pictures found. no_writing pictures (taken c.sink.now) c.screen starts.screen;
+            written = λ pictures found. no_writing pictures (taken c.sink.now) c.screens starts.screens;
           };
           may = record {
             alive = ap (λ (h : HandlerOf ReadLeaseOf). h.is_spent) handler;
             unlent = ap (λ (h : HandlerOf ReadLeaseOf). h.lent) handler;
-            sized = bare_sized c.decider.handler.width c.decider.handler.height c.screen starts.screen;
+            wide = ap (λ (h : HandlerOf ReadLeaseOf). h.width) handler ∙ sym wide;
+            high = ap (λ (h : HandlerOf ReadLeaseOf). h.height) handler ∙ sym high;
+            few = omega (arith, most, low);
             known = (let low : 0 ≤ taken_in (unstamped boarded.seats.arrivals.seen) = omega arith in omega (arith, last, low));
             early = omega (arith, step, opened_step);
           };
@@ -116,7 +131,7 @@ module _ {K B : Type 0} {naming : Naming B} (taken : K → Option (List ℕ)) (f
     abbrev KeepsSo : Compositor K B naming → Locks B → FirstSeats B → Type 0
     KeepsSo now locks first = S × Keeps taken faults lease table c now locks first
 
-    module _ (version : scene.version ≡ 1) (now : Compositor K B naming) (ashore : Ashore B) (first : IsFirst table opened.locks ashore.first) (all : HasAll ashore.first)
+    module _ (now : Compositor K B naming) (ashore : Ashore B) (first : IsFirst table opened.locks ashore.first) (all : HasAll ashore.first)
         (pictures : List Picture) (pictured : pictures ≡ opened.pictures) (returned : Returns KeepsSo table opened.locks pictures opened.first opened.actors.items now ashore) where
       abbrev returns : Returns KeepsSo table opened.locks opened.pictures opened.first opened.actors.items now ashore
       returns = subst (λ (p : List Picture). Returns KeepsSo table opened.locks p opened.first opened.actors.items now ashore) pictured returned
@@ -124,21 +139,17 @@ module _ {K B : Type 0} {naming : Naming B} (taken : K → Option (List ℕ)) (f
       kept : Keeps taken faults lease table c now opened.locks returns.attended
       kept = returns.attends.kept.1
 
-      wide : now.decider.handler.width ≡ scene.width
-      wide = kept.wide ∙ ap (λ (h : HandlerOf ReadLeaseOf). h.width) starts.handler
-
-      high : now.decider.handler.height ≡ scene.height
-      high = kept.high ∙ ap (λ (h : HandlerOf ReadLeaseOf). h.height) starts.handler
-
       abbrev pub ran : RunOf B
       ran = run_by taken faults scene returns.attended.seats c now
 
       pub came_ashore : HasRun lease table ran opened.locks opened.pictures ashore
       came_ashore =
           has_run lease table ran opened opens unused KeepsSo now ashore first all returns refl
-          (subst (λ (p : ℕ). Sits lease table opened.locks p now.timelines.items (taken c.sink.now) (taken now.sink.now) now.screen now.decider.handler.width now.decider.handler.height (sitting_of returns.attended now))
-          (kept.same.period ∙ starts.period) kept.log.sits)
-          wide high version kept.few
+          (subst (λ (p : ℕ). Sits lease table opened.locks p (plan_of scene) (most_layers scene.version) now.timelines.items (taken c.sink.now) (taken now.sink.now) now.screens (sitting_of returns.attended now)) (kept.same.period ∙ starts.period)
+          (subst (λ (p : Plan). Sits lease table opened.locks now.period p (most_layers scene.version) now.timelines.items (taken c.sink.now) (taken now.sink.now) now.screens (sitting_of returns.attended now)) (kept.same.plan ∙ starts.planned)
+          (subst (λ (most : ℕ). Sits lease table opened.locks now.period now.plan most now.timelines.items (taken c.sink.now) (taken now.sink.now) now.screens (sitting_of returns.attended now)) (ap (λ (h : HandlerOf ReadLeaseOf). h.tree.most) starts.handler)
+          kept.log.sits)))
+          kept.few
 
       pub came_together : (joined : Joined B) → IsTogether lease table ran opened.locks joined → CameTogether taken faults lease table scene c now joined
       came_together joined together = record {
@@ -146,7 +157,6 @@ module _ {K B : Type 0} {naming : Naming B} (taken : K → Option (List ℕ)) (f
         locks = opened.locks;
         seats = returns.attended.seats;
         together = together;
-        sized = subst (λ (w : ℕ). IsSized w scene.height now.screen) wide (subst (λ (h : ℕ). IsSized now.decider.handler.width h now.screen) high kept.log.may.sized);
         some = kept.some;
         faults_rise = kept.faults_rise;
       }
@@ -186,35 +196,36 @@ module _ {K B : Type 0} {naming : Naming B} (taken : K → Option (List ℕ)) (f
   abbrev pub run_came : RunOf B
   run_came = run_by taken faults scene came.seats start now
 
-  pub goes_from : (before : Option (List ℕ)) (opened : Opened B) (period : ℕ) (order : List Pick) (handler : HandlerOf ReadLeaseOf) (vsyncs : ℕ) (first : HandlerOf ReadLeaseOf)
-      → MayRun table scene before (taken start.sink.now) start.timelines.items period order first opened → handler ≡ now.decider.handler → vsyncs ≡ now.vsyncs → GoesFrom run_came before period order handler vsyncs
-  goes_from before opened period order handler vsyncs first may same_handler same_vsyncs = record {
+  pub goes_from : (before : Option (List ℕ)) (opened : Opened B) (plan : Plan) (period : ℕ) (order : List Pick) (handler : HandlerOf ReadLeaseOf) (vsyncs : ℕ) (first : HandlerOf ReadLeaseOf)
+      → MayRun table scene before (taken start.sink.now) start.timelines.items plan period order first opened → handler ≡ now.decider.handler → vsyncs ≡ now.vsyncs → GoesFrom run_came before period order handler vsyncs
+  goes_from before opened plan period order handler vsyncs first may same_handler same_vsyncs = record {
     same_period = may.same_period;
     same_order = may.same_order;
     same_handler = same_handler;
     same_vsyncs = same_vsyncs;
     rising = ap (λ t. t.items) came.same.timelines ∙ may.rising;
-    sized = came.sized;
     begun = may.begun;
   }
 
-  pub has_come : HasCome run_came now.timelines.items (taken now.sink.now) now.screen
-  has_come = record { same_timelines = refl; same_sink = refl; same_screen = refl }
+  pub has_come : start.plan ≡ plan_of scene → HasCome run_came now.timelines.items now.plan (taken now.sink.now) now.screens
+  has_come planned = record { planned = came.same.plan ∙ planned; same_timelines = refl; same_sink = refl; same_screens = refl }
 
 -- a compositor of the scene that is opened may start
 pub starts_here : {K B : Type 0} {naming : Naming B} {table : TableId} {before after : Option (List ℕ)} {period : ℕ} {order : List Pick} {handler : HandlerOf ReadLeaseOf} {opened : Opened B} (c : Compositor K B naming) (scene : SceneValue)
-    → MayRun table scene before after c.timelines.items period order handler opened → c.decider.handler ≡ handler → c.vsyncs ≡ 0 → c.fault ≡ None → c.screen ≡ bare_screen → c.period ≡ period → 1 ≤ c.workers → c.workers ≤ 16
+    → MayRun table scene before after c.timelines.items c.plan period order handler opened → c.decider.handler ≡ handler → c.vsyncs ≡ 0 → c.fault ≡ None → c.screens ≡ [] → c.period ≡ period → 1 ≤ c.workers → c.workers ≤ 16
     → Starts scene c
-starts_here c scene may handler none fine screen period some few = record {
+starts_here c scene may handler none fine screens period some few = record {
   handler = handler ∙ may.handler_is;
   none_made = none;
   fine = fine;
-  screen = screen;
+  planned = may.planned;
+  screens = screens;
   period = period ∙ may.same_period;
   set = record {
     some = some;
     few = few;
     short = subst (λ (p : ℕ). p ≤ 1000000000) (sym (period ∙ may.same_period)) may.opens.limits.header.high_period;
+    planned = subst IsPlan (sym may.planned) (is_plan scene may.opens.limits);
     ranges = timelines_within scene c.timelines.items may.opens.limits may.rising;
   };
 }

@@ -25,19 +25,18 @@ module _ {B : Type 0} (lease : Ghosts ReadLeaseOf SeatView ReadLeaseOf Issued) (
   abbrev cast : CastOf B
   cast = record { pictures = pictures; actors = actors; desk = desk; is_spent = false }
 
-  abbrev joined_is : IsJoined lease run.scene table run.scene.period 256 locks run.last h.ends desk
-  joined_is = record { joins = h.joins desk closed; knows = knows; legal = legal; same_period = refl; same_most = sym (ap most_layers h.version) }
+  abbrev joined_is : IsJoined lease run.scene table run.scene.period (most_layers run.scene.version) locks run.last h.ends desk
+  joined_is = record { joins = h.joins desk closed; knows = knows; legal = legal; same_period = refl; same_most = refl }
 
   cast_is : cast ≡ cast_joined run.scene h.ends desk
   cast_is = λ i. record { pictures = h.pictured i; actors = (are ∙ sym h.actors) i; desk = desk; is_spent = false }
 
   -- they are a cast
   pub cast_there : IsCast table cast
-  cast_there = subst (IsCast table) (sym cast_is) (is_cast lease run.scene table run.scene.period 256 locks run.last h.ends desk joined_is)
+  cast_there = subst (IsCast table) (sym cast_is) (is_cast lease run.scene table run.scene.period (most_layers run.scene.version) locks run.last h.ends desk joined_is)
 
   pub together : (joined : Joined B) → joined.cast ≡ cast → length joined.gates.items ≡ length actors → IsTogether lease table run locks joined
   together joined is long = record {
-    version = h.version;
     few = h.few;
     ends = h.ends;
     desk = desk;

@@ -3,10 +3,11 @@ use Rattle.std.specs.Prelude.{◌≡◌, ℕ, List, [], ◌∷◌, Option}
 use Rattle.sf_surface.specs.Tokens.{ReadLeaseOf}
 use Rattle.sf_commit.specs.Handlers.{HandlerOf}
 use Rattle.sf_scene.specs.declared.declarations.Pick.{Pick}
+use Rattle.sf_plan.specs.declared.plan.Plan.{Plan}
+use Rattle.sf_run.specs.Frames.{plan_of}
 use Rattle.sf_run.specs.Played.{opening}
 use Rattle.sf_run.specs.Vsyncs.{rising_timelines}
-use Rattle.sf_screen.specs.Screens.{ScreenOf}
-use Rattle.sf_show.specs.Vsyncs.{IsSized}
+use Rattle.sf_screen.specs.declared.screens.OutputScreen.{OutputScreen}
 use Rattle.sf_show.specs.Writing.{Writes}
 use Rattle.sf_live.specs.Threads.{RunOf}
 
@@ -18,11 +19,11 @@ pub record GoesFrom {B : Type 0} (run : RunOf B) (start : Option (List ℕ)) (pe
   pub same_handler : handler ≡ run.last.handler
   pub same_vsyncs : vsyncs ≡ run.last.number
   pub rising : run.timelines ≡ rising_timelines run.scene
-  pub sized : IsSized run.scene.width run.scene.height run.screen
   pub begun : Writes start run.before (opening run.scene ∷ [])
 
--- the timelines, the sink and the screen are as they came to the joins
-pub record HasCome {B : Type 0} (run : RunOf B) (timelines : List ℕ) (now : Option (List ℕ)) (screen : ScreenOf) : Type 0 where
+-- the plan is the scene's, and the timelines, the sink and the screens are as they came to the joins
+pub record HasCome {B : Type 0} (run : RunOf B) (timelines : List ℕ) (plan : Plan) (now : Option (List ℕ)) (screens : List OutputScreen) : Type 0 where
+  pub planned : plan ≡ plan_of run.scene
   pub same_timelines : timelines ≡ run.timelines
   pub same_sink : now ≡ run.now
-  pub same_screen : screen ≡ run.screen
+  pub same_screens : screens ≡ run.screens

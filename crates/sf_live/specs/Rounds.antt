@@ -14,42 +14,46 @@ use Rattle.sf_record.specs.declared.event.Event.{Event}
 use Rattle.sf_record.specs.declared.event.Event.TheVariants as event
 use Rattle.sf_record.specs.declared.record.Record.{Record}
 use Rattle.sf_record.specs.declared.record.Record.TheVariants as rec
+use Rattle.sf_plan.specs.declared.plan.Plan.{Plan}
+use Rattle.sf_run.specs.Frames.{plan_of}
 use Rattle.sf_run.specs.Played.{opening}
 use Rattle.sf_run.specs.Replies.{reply_shown}
 use Rattle.sf_run.specs.Vsyncs.{rising_timelines, vsyncs_in}
-use Rattle.sf_screen.specs.Screens.{IsShown, ScreenOf}
-use Rattle.sf_play.specs.Going.{EndsRun, TellsFrame}
+use Rattle.sf_screen.specs.ScreenLists.{AreShown}
+use Rattle.sf_screen.specs.declared.screens.OutputScreen.{OutputScreen}
+use Rattle.sf_play.specs.Going.{EndsRun, TellsStage}
 use Rattle.sf_play.specs.Players.{PlayerOf, SoFar}
 use Rattle.sf_play.specs.Standing.{StandsInRun}
 use Rattle.sf_play.specs.declared.turn.Turn.{Turn}
 use Rattle.sf_play.specs.declared.turn.Turn.TheVariants as turn
-use Rattle.sf_show.specs.Vsyncs.{IsSized, vsync_shown}
+use Rattle.sf_show.specs.Vsyncs.{vsync_shown}
 use Rattle.sf_show.specs.Writing.{Writes}
 
 -- the vsyncs among events, alone
 abbrev pub vsyncs_alone : List Event → List Event
 vsyncs_alone events = map event.Vsync (vsyncs_in events)
 
--- the records of a turn as it is done: those of a vsync; the reply to a step is written at the end
-abbrev pub turn_written : (ℕ → Picture) → List ℕ → Turn → List Record
-turn_written pictures timelines (turn.Vsync report) = vsync_shown pictures timelines report
-turn_written pictures timelines other = []
-
 module _ {B : Type 0} where
-  -- a turn can be written: the frame of its vsync can be composed
-  abbrev pub MayWriteTurn : SceneValue → Turn → PlayerOf B → Type 0
-  MayWriteTurn scene (turn.Vsync report) player = TellsFrame scene report player.play
-  MayWriteTurn scene other player = Unit {0}
+  -- the records of a turn as it is done, which left the player so: those of a vsync; the reply to a step is written at the end
+  abbrev pub turn_written : (ℕ → Picture) → Plan → List ℕ → PlayerOf B → Turn → List Record
+  turn_written pictures plan timelines player (turn.Vsync report) = vsync_shown pictures plan timelines report player.play.handler.tree.layers
+  turn_written pictures plan timelines player other = []
 
-  -- The vsyncs of a run so far are written behind what was there before, and the screen has the last frame; the player stands in
+  -- a turn can be written by a plan, which is the scene's: what its vsync shows can be composed
+  abbrev pub MayWriteTurn : SceneValue → Plan → Turn → PlayerOf B → Type 0
+  MayWriteTurn scene plan (turn.Vsync report) player = (plan ≡ plan_of scene) × TellsStage scene report player.play
+  MayWriteTurn scene plan other player = Unit {0}
+
+  -- The vsyncs of a run so far are written behind what was there before, and the screens have the last frames; the player stands in
   -- the run.
-  pub record HasShown (table : TableId) (scene : SceneValue) (timelines : List ℕ) (start now : Option (List ℕ)) (screen : ScreenOf) (player : PlayerOf B) : Type 0 where
+  pub record HasShown (table : TableId) (scene : SceneValue) (plan : Plan) (timelines : List ℕ) (start now : Option (List ℕ)) (screens : List OutputScreen)
+      (player : PlayerOf B) : Type 0 where
     pub so : SoFar B
     pub stands : StandsInRun table scene so player
+    pub planned : plan ≡ plan_of scene
     pub rising : timelines ≡ rising_timelines scene
     pub written : Writes start now (opening scene ∷ events_records (vsyncs_alone so.events))
-    pub shown : IsShown (picture_at scene.pictures) screen
-    pub sized : IsSized scene.width scene.height screen
+    pub shown : AreShown (picture_at scene.pictures) screens
 
   -- the same at the end of the rounds, where only the replies and the closing records are to come
   pub record HasShownAll (table : TableId) (scene : SceneValue) (start now : Option (List ℕ)) (player : PlayerOf B) : Type 0 where
@@ -59,9 +63,9 @@ module _ {B : Type 0} where
     pub ends : EndsRun scene so player
 
   -- a turn was written: there are more to come, or the run is at its end
-  abbrev pub ShowsOn : Bool → TableId → SceneValue → List ℕ → Option (List ℕ) → Option (List ℕ) → ScreenOf → PlayerOf B → Type 0
-  ShowsOn true table scene timelines start now screen player = HasShown table scene timelines start now screen player
-  ShowsOn false table scene timelines start now screen player = HasShownAll table scene start now player
+  abbrev pub ShowsOn : Bool → TableId → SceneValue → Plan → List ℕ → Option (List ℕ) → Option (List ℕ) → List OutputScreen → PlayerOf B → Type 0
+  ShowsOn true table scene plan timelines start now screens player = HasShown table scene plan timelines start now screens player
+  ShowsOn false table scene plan timelines start now screens player = HasShownAll table scene start now player
 
   -- the records of the replies to the steps of an actor, and those of all actors
   abbrev pub reply_records : Actor B → List Record

@@ -9,12 +9,13 @@ use Rattle.sf_turns.specs.Views.{SeatView}
 use Rattle.sf_turns.specs.declared.naming.TableName.{Ghosts as Naming}
 use Rattle.sf_txn.specs.declared.lease.Lease.{Ghosts}
 use Rattle.sf_commit.specs.Handlers.{HandlerOf, new_handler}
+use Rattle.sf_plan.specs.declared.plan.Plan.{Plan}
+use Rattle.sf_scene.specs.Limits.{most_layers}
 use Rattle.sf_scene.specs.Scene.{SceneValue}
 use Rattle.sf_scene.specs.declared.declarations.Pick.{Pick}
+use Rattle.sf_run.specs.Frames.{plan_of}
 use Rattle.sf_run.specs.Played.{opening}
 use Rattle.sf_run.specs.Vsyncs.{rising_timelines}
-use Rattle.sf_show.specs.Turns.{bare_screen}
-use Rattle.sf_show.specs.Vsyncs.{IsSized}
 use Rattle.sf_show.specs.Writing.{CutSome, Writes, WritesSome}
 use Rattle.sf_shared.specs.declared.locks.Locks.{Locks}
 use Rattle.sf_shared.specs.declared.seats.Seats.{Seats}
@@ -26,27 +27,28 @@ use Rattle.sf_live.specs.Openings.{IsOpen}
 use Rattle.sf_live.specs.declared.threads.Joined.{Joined}
 use Rattle.sf_live.specs.Threads.{IsTogether, RunOf}
 
--- A scene of version 1 is opened, with its period, its order, its timelines by rising number and a handler for its display; and the record that begins
--- its run is written.
-pub record MayRun {B : Type 0} (table : TableId) (scene : SceneValue) (start now : Option (List ℕ)) (timelines : List ℕ) (period : ℕ)
-    (order : List Pick) (handler : HandlerOf ReadLeaseOf) (opened : Opened B) : Type 0 where
-  pub version : scene.version ≡ 1
+-- A scene is opened, with its plan, its period, its order, its timelines by rising number and a handler for its display; and the record that begins its
+-- run is written.
+pub record MayRun {B : Type 0} (table : TableId) (scene : SceneValue) (start now : Option (List ℕ)) (timelines : List ℕ) (plan : Plan)
+    (period : ℕ) (order : List Pick) (handler : HandlerOf ReadLeaseOf) (opened : Opened B) : Type 0 where
   pub opens : IsOpen scene table opened
-  pub handler_is : handler ≡ new_handler scene.width scene.height 256
+  pub handler_is : handler ≡ new_handler scene.width scene.height (most_layers scene.version)
+  pub planned : plan ≡ plan_of scene
   pub same_period : period ≡ scene.period
   pub same_order : order ≡ scene.order
   pub rising : timelines ≡ rising_timelines scene
   pub begun : Writes start now (opening scene ∷ [])
 
 module _ {K B : Type 0} {naming : Naming B} where
-  -- a compositor of a scene before its first vsync: nothing was sent to it, and its screen has shown nothing
+  -- a compositor of a scene before its first vsync: nothing was sent to it, and it has shown nothing
   pub record Starts (scene : SceneValue) (c : Compositor K B naming) : Type 0 where
-    pub handler : c.decider.handler ≡ new_handler scene.width scene.height 256
+    pub handler : c.decider.handler ≡ new_handler scene.width scene.height (most_layers scene.version)
     pub none_made : c.vsyncs ≡ 0
     pub fine : c.fault ≡ None
-    pub screen : c.screen ≡ bare_screen
+    pub planned : c.plan ≡ plan_of scene
+    pub screens : c.screens ≡ []
     pub period : c.period ≡ scene.period
-    pub set : IsSet c.workers c.period c.timelines.items
+    pub set : IsSet c.workers c.period c.plan c.timelines.items
 
   module _ (taken : K → Option (List ℕ)) (faults : K → ℕ) where
     -- what is told of a run from this compositor to that one, which came to these seats
@@ -57,7 +59,7 @@ module _ {K B : Type 0} {naming : Naming B} where
       timelines = c.timelines.items;
       before = taken start.sink.now;
       now = taken c.sink.now;
-      screen = c.screen;
+      screens = c.screens;
     }
 
     -- The run came to its joins. Whatever was shown, whole records were written.
@@ -67,7 +69,6 @@ module _ {K B : Type 0} {naming : Naming B} where
       pub locks : Locks B
       pub seats : Seats B
       pub together : IsTogether lease table (run_by scene seats start c) locks joined
-      pub sized : IsSized scene.width scene.height c.screen
       pub some : WritesSome (taken start.sink.now) (taken c.sink.now)
       pub faults_rise : faults start.sink.now ≤ faults c.sink.now
 

@@ -5,12 +5,15 @@ use Rattle.sf_picture.specs.declared.picture.Picture.{Picture}
 use Rattle.sf_surface.specs.Tokens.{Issued, ReadLeaseOf}
 use Rattle.sf_turns.specs.Views.{SeatView}
 use Rattle.sf_txn.specs.declared.lease.Lease.{Ghosts}
+use Rattle.sf_scene.specs.Limits.{most_layers}
 use Rattle.sf_scene.specs.Scene.{SceneValue}
 use Rattle.sf_actor.specs.Desks.{known_of}
 use Rattle.sf_actor.specs.Known.{GoesOn}
 use Rattle.sf_actor.specs.Plain.{PlainOf, home_of as plain_home, view_of as plain_view}
 use Rattle.sf_steps.specs.declared.actor.Actor.{Actor}
-use Rattle.sf_screen.specs.Screens.{IsShown, ScreenOf}
+use Rattle.sf_run.specs.Frames.{plan_of}
+use Rattle.sf_screen.specs.ScreenLists.{AreShown}
+use Rattle.sf_screen.specs.declared.screens.OutputScreen.{OutputScreen}
 use Rattle.sf_show.specs.Writing.{Writes}
 use Rattle.sf_shared.specs.declared.first.FirstSeats.{FirstSeats}
 use Rattle.sf_shared.specs.declared.locks.Locks.{Locks}
@@ -21,21 +24,21 @@ use Rattle.sf_shared.specs.Seats.{home_of, view_of}
 use Rattle.sf_crew.specs.declared.ashore.Ashore.{Ashore}
 use Rattle.sf_crew.specs.declared.ashore.Landed.{Landed}
 use Rattle.sf_crew.specs.Walks.{Moment}
-use Rattle.sf_compositor.specs.Sitting.{AllShowBuffers, AreFound, records_shown, showings_of}
+use Rattle.sf_compositor.specs.Sitting.{AreFound, records_shown, showings_of}
 use Rattle.sf_compositor.specs.Vsyncs.{Sitting, Vsyncs}
 use Rattle.sf_replay.specs.Joining.{Joins, actor_at}
 use Rattle.sf_joined.specs.Joined.{IsJoined, cast_joined}
 use Rattle.sf_live.specs.declared.threads.Joined.{Joined}
 
 -- a run in threads: its scene, where its compositor came to, of which timelines it tells, what the sink had taken before the first vsync and what it
--- has now, and what the screen shows
+-- has now, and what the screens show
 pub record RunOf (B : Type 0) : Type 0 where
   pub scene : SceneValue
   pub last : Sitting B
   pub timelines : List ℕ
   pub before : Option (List ℕ)
   pub now : Option (List ℕ)
-  pub screen : ScreenOf
+  pub screens : List OutputScreen
 
 module _ {B : Type 0} where
   abbrev pub landed_actor : Landed B → Actor B
@@ -53,31 +56,29 @@ module _ {B : Type 0} where
     abbrev pub LogFrom : Sitting B → Type 0
     LogFrom begins = Vsyncs lease table locks run.scene.period begins run.last
 
-    -- Each vsync of a log left each layer with the buffer that stands for it, and what the log tells was written, where each frame finds its
-    -- pictures.
+    -- what a log tells was written, where the buffers on layers have their pictures
     pub record HasWritten (begins : Sitting B) (log : LogFrom begins) : Type 0 where
-      pub buffers : AllShowBuffers lease table locks run.scene.period log
       pub written : (pictures : ℕ → Picture) → AreFound pictures (showings_of lease table locks run.scene.period log)
-          → Writes run.before run.now (records_shown pictures run.timelines (showings_of lease table locks run.scene.period log)) × IsShown pictures run.screen
+          → Writes run.before run.now (records_shown pictures (plan_of run.scene) run.timelines (showings_of lease table locks run.scene.period log))
+          × AreShown pictures run.screens
 
     -- All are ashore, after these moments; the compositor came to where it is by vsyncs, which are written; and with whatever desk the locks are
     -- closed to the run is joined.
     pub record HasRun (pictures : List Picture) (ashore : Ashore B) : Type 0 where
-      pub version : run.scene.version ≡ 1
       pub pictured : pictures ≡ run.scene.pictures
       pub few : run.last.number ≤ 2147483648
       pub ends : List (Moment B)
       pub actors : map actor_at ends ≡ map landed_actor ashore.landed.items
-      pub joins : (desk : PlainOf B) → AreClosedTo locks ashore.first desk → Joins lease run.scene table run.scene.period 256 locks run.last ends desk
+      pub joins : (desk : PlainOf B) → AreClosedTo locks ashore.first desk
+          → Joins lease run.scene table run.scene.period (most_layers run.scene.version) locks run.last ends desk
       pub shows : (desk : PlainOf B) (closed : AreClosedTo locks ashore.first desk) → HasWritten (joins desk closed).begins (joins desk closed).log
 
     -- The actors are together again, over the desk of one thread, with the gates that each passed.
     pub record IsTogether (joined : Joined B) : Type 0 where
-      pub version : run.scene.version ≡ 1
       pub few : run.last.number ≤ 2147483648
       pub ends : List (Moment B)
       pub desk : PlainOf B
-      pub is : IsJoined lease run.scene table run.scene.period 256 locks run.last ends desk
+      pub is : IsJoined lease run.scene table run.scene.period (most_layers run.scene.version) locks run.last ends desk
       pub shows : HasWritten is.joins.begins is.joins.log
       pub cast : joined.cast ≡ cast_joined run.scene ends desk
       pub gates : length joined.gates.items ≡ length joined.cast.actors

@@ -3,7 +3,7 @@ ghost use Rattle.std.specs.List.{AllByRecursion};
 ghost use Rattle.std.specs.List.Sorted.{IsStrictlyIncreasing};
 ghost use Rattle.sf_scene.specs.declared.step.ActorScript.{ActorScript as ScriptValue};
 ghost use Rattle.sf_turns.specs.Counts.{range};
-ghost use Rattle.sf_cast.specs.Scripts.{AreOfScene, are_playable, permits_of};
+ghost use Rattle.sf_cast.specs.Scripts.{AreOfScene, permits_of};
 ghost use Rattle.sf_shared.specs.Closing.{HasNoCalls, Opens};
 ghost use Rattle.sf_shared.specs.First.{IsFirst, KnowsNothing, gave_of};
 ghost use Rattle.sf_crew.specs.Boarding.{IsNewcomer, number_of};
@@ -60,8 +60,7 @@ pub fn open<B: TableName>(
     stock: Stock<Painted>,
 ) -> Result<Opened<B>, NoMemory>
     requires scene { AreOfScene queues.now pictures scripts }
-    requires playable { are_playable scripts ≡ true }
-    requires numbers { All (λ (script : ScriptValue). script.number ≤ 16) scripts }
+    requires numbers { All (λ (script : ScriptValue). script.number ≤ 64) scripts }
     requires own { (seat.table ≡ B.table) × (stock.table ≡ B.table) }
     requires first { (seat.is_first ≡ true) × (seat.out ≡ 0) }
     requires whole { stock.buffers ≡ range 0 (permits_of scripts) }
@@ -69,7 +68,7 @@ pub fn open<B: TableName>(
     ensures first { IfOk result (λ opened. IsFirst B.table opened.locks opened.first) }
     ensures none { IfOk result (λ opened. gave_of opened.first ≡ []) }
     ensures unused { IfOk result (λ opened. KnowsNothing opened.first.seats) }
-    ensures few { IfOk result (λ opened. length opened.actors.items ≤ 16) }
+    ensures few { IfOk result (λ opened. length opened.actors.items ≤ 64) }
     ensures rising { IfOk result (λ opened. IsStrictlyIncreasing (opened.first.seats.by ∷ map number_of opened.actors.items)) }
     ensures newcomers { IfOk result (λ opened. AllByRecursion (IsNewcomer B.table opened.locks opened.pictures opened.first.seats) opened.actors.items) }
 {

@@ -3,13 +3,14 @@ ghost use Rattle.sf_shared.specs.declared.locks.Locks.{Locks};
 ghost use Rattle.sf_live.specs.Resuming.{GoesFrom};
 ghost use Rattle.sf_live.specs.Rounds.{HasShown};
 ghost use Rattle.sf_live.specs.Threads.{IsTogether, RunOf};
+ghost use Rattle.sf_run.specs.Frames.{plan_of};
 
 use crate::threads::Joined;
 use sf_base::Items;
 use sf_commit::Handler;
 use sf_crew::Gates;
 use sf_joined::{
-    a_run_in_threads_goes_on, frames_among_threads_find_their_pictures, what_threads_did_is_played,
+    a_run_in_threads_goes_on, buffers_among_threads_have_their_pictures, what_threads_did_is_played,
 };
 use sf_play::Player;
 use sf_scene::Pick;
@@ -31,11 +32,11 @@ pub(crate) fn go_on<B: TableName>(
     requires goes { (run : RunOf B) × (locks : Locks B) × (start : Option (List ℕ))
         × (IsTogether ⟦<ReadLease<B> as Lease>⟧ B.table run locks joined × GoesFrom run start period order handler vsyncs) }
     ensures shown { (run : RunOf B) (locks : Locks B) (start : Option (List ℕ)) → IsTogether ⟦<ReadLease<B> as Lease>⟧ B.table run locks joined
-        → GoesFrom run start period order handler vsyncs → HasShown B.table run.scene run.timelines start run.now run.screen result.0 }
+        → GoesFrom run start period order handler vsyncs → HasShown B.table run.scene (plan_of run.scene) run.timelines start run.now run.screens result.0 }
     ensures gates { length result.1.items ≡ length result.0.play.cast.actors }
 {
     a_run_in_threads_goes_on::<B>();
-    frames_among_threads_find_their_pictures::<B>();
+    buffers_among_threads_have_their_pictures::<B>();
     what_threads_did_is_played::<B>();
     let Joined { cast, gates } = joined;
     let player = Player::resume(alloc, period, order, cast, handler, vsyncs);

@@ -8,20 +8,20 @@ ghost use Rattle.sf_play.specs.Turning.{next_tried};
 ghost use Rattle.sf_record.specs.declared.record.Record.TheVariants as rec;
 ghost use Rattle.sf_run.specs.Replies.{reply_shown};
 ghost use Rattle.sf_scene.specs.Scene.{SceneValue};
-ghost use Rattle.sf_screen.specs.Screens.{IsShown};
+ghost use Rattle.sf_screen.specs.ScreenLists.{AreShown};
 ghost use Rattle.sf_show.specs.Closings.{closing_of};
 ghost use Rattle.sf_show.specs.Turns.{is_end};
-ghost use Rattle.sf_show.specs.Vsyncs.{IsSized};
 ghost use Rattle.sf_show.specs.Writing.{CutSome, Writes, WritesPart};
 ghost use Rattle.sf_steps.specs.declared.actor.Actor.{Actor as ActorIn};
 
 use sf_actor::Reply;
 use sf_crew::Gates;
 use sf_io::{Gate, Sink};
+use sf_plan::Plan;
 use sf_play::{Player, Turn};
 use sf_record::RunFault;
 use sf_report::reply_record;
-use sf_screen::Screen;
+use sf_screen::Screens;
 use sf_show::{show_vsync, write_closing, write_made};
 use sf_steps::Actor;
 use sf_turns::TableName;
@@ -62,20 +62,20 @@ fn write_turn<R: Threads + Sync, K: Sink, B: TableName>(
     workers: u32,
     sink: &mut K,
     timelines: &[u32],
-    screen: &mut Screen,
+    plan: &Plan,
+    screens: &mut Screens,
     player: &Player<B>,
     turn: Turn,
 ) -> Result<(), RunFault>
     requires some { 1 ≤ workers }
     requires few { workers ≤ 16 }
     requires timelines { All (λ timeline. (1 ≤ timeline) × (timeline ≤ 64)) timelines.now }
-    requires may { (scene : SceneValue) × MayWriteTurn scene turn player.now × IsSized scene.width scene.height screen.old }
-    ensures ok { (scene : SceneValue) → MayWriteTurn scene turn player.now → IsShown (picture_at scene.pictures) screen.old → OnOk result
-        (Writes (K.taken sink.old) (K.taken sink.new) (turn_written (picture_at scene.pictures) timelines.now turn) × IsShown (picture_at scene.pictures) screen.new) }
-    ensures err { (scene : SceneValue) → MayWriteTurn scene turn player.now → IsShown (picture_at scene.pictures) screen.old → OnErr result
-        (WritesPart (K.taken sink.old) (K.taken sink.new) (turn_written (picture_at scene.pictures) timelines.now turn)) }
-    ensures sized { (scene : SceneValue) → MayWriteTurn scene turn player.now → IsSized scene.width scene.height screen.old
-        → OnOk result (IsSized scene.width scene.height screen.new) }
+    requires may { (scene : SceneValue) × MayWriteTurn scene plan.now turn player.now }
+    ensures ok { (scene : SceneValue) → MayWriteTurn scene plan.now turn player.now → AreShown (picture_at scene.pictures) screens.old → OnOk result
+        (Writes (K.taken sink.old) (K.taken sink.new) (turn_written (picture_at scene.pictures) plan.now timelines.now player.now turn)
+        × AreShown (picture_at scene.pictures) screens.new) }
+    ensures err { (scene : SceneValue) → MayWriteTurn scene plan.now turn player.now → AreShown (picture_at scene.pictures) screens.old → OnErr result
+        (WritesPart (K.taken sink.old) (K.taken sink.new) (turn_written (picture_at scene.pictures) plan.now timelines.now player.now turn)) }
     ensures later { K.faults sink.old ≤ K.faults sink.new }
     ensures failed { IsErrOf result RunFault.WriteFault → Rose (K.faults sink.old) (K.faults sink.new) }
 {
@@ -86,8 +86,9 @@ fn write_turn<R: Threads + Sync, K: Sink, B: TableName>(
             workers,
             sink,
             timelines,
-            screen,
-            player.contents(),
+            plan,
+            screens,
+            player.handler(),
             report,
         ),
         Turn::Step(_) | Turn::Idle | Turn::End => Ok(()),
@@ -102,7 +103,8 @@ fn show_turn<R: Threads + Wait + Sync, K: Sink, G: Gate, B: TableName>(
     workers: u32,
     sink: &mut K,
     timelines: &[u32],
-    screen: &mut Screen,
+    plan: &Plan,
+    screens: &mut Screens,
     gate: &G,
     gates: &mut [Gates],
     player: &mut Player<B>,
@@ -110,10 +112,10 @@ fn show_turn<R: Threads + Wait + Sync, K: Sink, G: Gate, B: TableName>(
     requires some { 1 ≤ workers }
     requires few { workers ≤ 16 }
     requires gates { length gates.old ≡ length player.old.play.cast.actors }
-    requires shown { (scene : SceneValue) × (start : Option (List ℕ)) × HasShown B.table scene timelines.now start (K.taken sink.old) screen.old player.old }
-    ensures on { (scene : SceneValue) (start : Option (List ℕ)) → HasShown B.table scene timelines.now start (K.taken sink.old) screen.old player.old
-        → IfOk result (λ goes_on. ShowsOn goes_on B.table scene timelines.now start (K.taken sink.new) screen.new player.new) }
-    ensures err { (scene : SceneValue) (start : Option (List ℕ)) → HasShown B.table scene timelines.now start (K.taken sink.old) screen.old player.old
+    requires shown { (scene : SceneValue) × (start : Option (List ℕ)) × HasShown B.table scene plan.now timelines.now start (K.taken sink.old) screens.old player.old }
+    ensures on { (scene : SceneValue) (start : Option (List ℕ)) → HasShown B.table scene plan.now timelines.now start (K.taken sink.old) screens.old player.old
+        → IfOk result (λ goes_on. ShowsOn goes_on B.table scene plan.now timelines.now start (K.taken sink.new) screens.new player.new) }
+    ensures err { (scene : SceneValue) (start : Option (List ℕ)) → HasShown B.table scene plan.now timelines.now start (K.taken sink.old) screens.old player.old
         → OnErr result (CutSome start (K.taken sink.new)) }
     ensures gates { IfOk result (λ _. length gates.new ≡ length player.new.play.cast.actors) }
     ensures less { IfOk result (λ goes_on. goes_on ≡ true → fuel_of player.new < fuel_of player.old) }
@@ -126,7 +128,9 @@ fn show_turn<R: Threads + Wait + Sync, K: Sink, G: Gate, B: TableName>(
         Err(_) => return Err(RunFault::NoMemory),
     };
     let goes_on = !is_end(&turn);
-    match write_turn(rt, alloc, workers, sink, timelines, screen, player, turn) {
+    match write_turn(
+        rt, alloc, workers, sink, timelines, plan, screens, player, turn,
+    ) {
         Ok(()) => Ok(goes_on),
         Err(fault) => Err(fault),
     }
@@ -139,7 +143,8 @@ fn show_rounds<R: Threads + Wait + Sync, K: Sink, G: Gate, B: TableName>(
     workers: u32,
     sink: &mut K,
     timelines: &[u32],
-    screen: &mut Screen,
+    plan: &Plan,
+    screens: &mut Screens,
     gate: &G,
     gates: &mut [Gates],
     player: &mut Player<B>,
@@ -147,17 +152,17 @@ fn show_rounds<R: Threads + Wait + Sync, K: Sink, G: Gate, B: TableName>(
     requires some { 1 ≤ workers }
     requires few { workers ≤ 16 }
     requires gates { length gates.old ≡ length player.old.play.cast.actors }
-    requires shown { (scene : SceneValue) × (start : Option (List ℕ)) × HasShown B.table scene timelines.now start (K.taken sink.old) screen.old player.old }
-    ensures ok { (scene : SceneValue) (start : Option (List ℕ)) → HasShown B.table scene timelines.now start (K.taken sink.old) screen.old player.old
+    requires shown { (scene : SceneValue) × (start : Option (List ℕ)) × HasShown B.table scene plan.now timelines.now start (K.taken sink.old) screens.old player.old }
+    ensures ok { (scene : SceneValue) (start : Option (List ℕ)) → HasShown B.table scene plan.now timelines.now start (K.taken sink.old) screens.old player.old
         → OnOk result (HasShownAll B.table scene start (K.taken sink.new) player.new) }
-    ensures err { (scene : SceneValue) (start : Option (List ℕ)) → HasShown B.table scene timelines.now start (K.taken sink.old) screen.old player.old
+    ensures err { (scene : SceneValue) (start : Option (List ℕ)) → HasShown B.table scene plan.now timelines.now start (K.taken sink.old) screens.old player.old
         → OnErr result (CutSome start (K.taken sink.new)) }
     ensures later { K.faults sink.old ≤ K.faults sink.new }
     ensures failed { IsErrOf result RunFault.WriteFault → Rose (K.faults sink.old) (K.faults sink.new) }
 {
     'turns: loop {
         match show_turn(
-            rt, alloc, workers, sink, timelines, screen, gate, gates, player,
+            rt, alloc, workers, sink, timelines, plan, screens, gate, gates, player,
         ) {
             Ok(true) => {}
             Ok(false) => return Ok(()),
@@ -231,7 +236,8 @@ pub(crate) fn write_rounds<R: Threads + Wait + Sync, K: Sink, G: Gate, B: TableN
     workers: u32,
     sink: &mut K,
     timelines: &[u32],
-    screen: &mut Screen,
+    plan: &Plan,
+    screens: &mut Screens,
     gate: &G,
     gates: &mut [Gates],
     player: &mut Player<B>,
@@ -239,16 +245,16 @@ pub(crate) fn write_rounds<R: Threads + Wait + Sync, K: Sink, G: Gate, B: TableN
     requires some { 1 ≤ workers }
     requires few { workers ≤ 16 }
     requires gates { length gates.old ≡ length player.old.play.cast.actors }
-    requires shown { (scene : SceneValue) × (start : Option (List ℕ)) × HasShown B.table scene timelines.now start (K.taken sink.old) screen.old player.old }
-    ensures ok { (scene : SceneValue) (start : Option (List ℕ)) → HasShown B.table scene timelines.now start (K.taken sink.old) screen.old player.old
+    requires shown { (scene : SceneValue) × (start : Option (List ℕ)) × HasShown B.table scene plan.now timelines.now start (K.taken sink.old) screens.old player.old }
+    ensures ok { (scene : SceneValue) (start : Option (List ℕ)) → HasShown B.table scene plan.now timelines.now start (K.taken sink.old) screens.old player.old
         → OnOk result (WroteLive scene start (K.taken sink.new)) }
-    ensures err { (scene : SceneValue) (start : Option (List ℕ)) → HasShown B.table scene timelines.now start (K.taken sink.old) screen.old player.old
+    ensures err { (scene : SceneValue) (start : Option (List ℕ)) → HasShown B.table scene plan.now timelines.now start (K.taken sink.old) screens.old player.old
         → OnErr result (CutSome start (K.taken sink.new)) }
     ensures later { K.faults sink.old ≤ K.faults sink.new }
     ensures failed { IsErrOf result RunFault.WriteFault → Rose (K.faults sink.old) (K.faults sink.new) }
 {
     match show_rounds(
-        rt, alloc, workers, sink, timelines, screen, gate, gates, player,
+        rt, alloc, workers, sink, timelines, plan, screens, gate, gates, player,
     ) {
         Ok(()) => {}
         Err(fault) => return Err(fault),

@@ -52,11 +52,11 @@ pub(crate) fn run_threads<
     requires first { IsFirst B.table opened.locks opened.first }
     requires none { gave_of opened.first ≡ [] }
     requires unused { KnowsNothing opened.first.seats }
-    requires few { length opened.actors.items ≤ 16 }
+    requires few { length opened.actors.items ≤ 64 }
     requires rising { IsStrictlyIncreasing (opened.first.seats.by ∷ map number_of opened.actors.items) }
     requires newcomers { AllByRecursion (IsNewcomer B.table opened.locks opened.pictures opened.first.seats) opened.actors.items }
-    requires starts { (scene : SceneValue) × (scene.version ≡ 1) × IsOpen scene B.table opened × Starts scene compositor }
-    ensures together { (scene : SceneValue) → scene.version ≡ 1 → IsOpen scene B.table opened → Starts scene compositor.entry
+    requires starts { (scene : SceneValue) × IsOpen scene B.table opened × Starts scene compositor }
+    ensures together { (scene : SceneValue) → IsOpen scene B.table opened → Starts scene compositor.entry
         → IfOk result.1 (CameTogether K.taken K.faults ⟦<ReadLease<B> as Lease>⟧ B.table scene compositor.entry result.0) }
     ensures cut { IfErr result.1 (WasCut K.taken K.faults compositor.entry result.0) }
 {

@@ -2,7 +2,7 @@ ghost use Rattle.std.specs.Prelude.{◌≡◌, ◌≤◌, ℕ, List, [], ◌∷�
 ghost use Rattle.std.specs.List.{AllByRecursion};
 ghost use Rattle.std.specs.List.Sorted.{IsStrictlyIncreasing};
 ghost use Rattle.sf_io.specs.Causes.{Rose};
-ghost use Rattle.sf_cast.specs.Scripts.{are_playable, permits_of};
+ghost use Rattle.sf_cast.specs.Scripts.{permits_of};
 ghost use Rattle.sf_record.specs.declared.encode.RunFault.TheVariants.{WriteFault};
 ghost use Rattle.sf_run.specs.Played.{opening};
 ghost use Rattle.sf_run.specs.Vsyncs.{rising_timelines};
@@ -27,9 +27,11 @@ use sf_commit::Handler;
 use sf_compositor::{Compositor, Decider};
 use sf_io::{Gate, Sink};
 use sf_picture::Painted;
+use sf_plan::Plan;
 use sf_record::RunFault;
-use sf_scene::{Pick, Scene};
-use sf_screen::Screen;
+use sf_report::plan_of;
+use sf_scene::{Pick, Scene, most_layers};
+use sf_screen::Screens;
 use sf_show::{opening, rising_timelines, write_made};
 use sf_surface::ReadLease;
 use sf_turns::{Stock, TableName, TurnSeat};
@@ -46,7 +48,8 @@ fn run_rounds<R: Threads + Wait + Sync, K: Sink, G: Gate, B: TableName>(
     sink: &mut K,
     gate: &G,
     timelines: Vec<u32>,
-    screen: Screen,
+    plan: Plan,
+    screens: Screens,
     period: u64,
     order: Items<Pick>,
     joined: Joined<B>,
@@ -56,16 +59,17 @@ fn run_rounds<R: Threads + Wait + Sync, K: Sink, G: Gate, B: TableName>(
     requires some { 1 ≤ workers }
     requires few { workers ≤ 16 }
     requires goes { (run : RunOf B) × (locks : Locks B) × (start : Option (List ℕ)) × (IsTogether ⟦<ReadLease<B> as Lease>⟧ B.table run locks joined
-        × GoesFrom run start period order decider.handler vsyncs × HasCome run timelines.items (K.taken sink.old) screen) }
+        × GoesFrom run start period order decider.handler vsyncs × HasCome run timelines.items plan (K.taken sink.old) screens) }
     ensures ok { (run : RunOf B) (locks : Locks B) (start : Option (List ℕ)) → IsTogether ⟦<ReadLease<B> as Lease>⟧ B.table run locks joined
-        → GoesFrom run start period order decider.handler vsyncs → HasCome run timelines.items (K.taken sink.old) screen
+        → GoesFrom run start period order decider.handler vsyncs → HasCome run timelines.items plan (K.taken sink.old) screens
         → OnOk result (WroteLive run.scene start (K.taken sink.new)) }
     ensures err { (run : RunOf B) (locks : Locks B) (start : Option (List ℕ)) → IsTogether ⟦<ReadLease<B> as Lease>⟧ B.table run locks joined
-        → GoesFrom run start period order decider.handler vsyncs → HasCome run timelines.items (K.taken sink.old) screen → OnErr result (CutSome start (K.taken sink.new)) }
+        → GoesFrom run start period order decider.handler vsyncs → HasCome run timelines.items plan (K.taken sink.old) screens
+        → OnErr result (CutSome start (K.taken sink.new)) }
     ensures later { K.faults sink.old ≤ K.faults sink.new }
     ensures failed { IsErrOf result WriteFault → Rose (K.faults sink.old) (K.faults sink.new) }
 {
-    let mut screen = screen;
+    let mut screens = screens;
     let handler = decider.into_handler();
     let (mut player, mut gates) = go_on(alloc, period, order, joined, handler, vsyncs);
     let written = write_rounds(
@@ -74,7 +78,8 @@ fn run_rounds<R: Threads + Wait + Sync, K: Sink, G: Gate, B: TableName>(
         workers,
         sink,
         &timelines,
-        &mut screen,
+        &plan,
+        &mut screens,
         gate,
         &mut gates,
         &mut player,
@@ -91,6 +96,7 @@ fn run_opened<R: Threads + Wait + Sync, K: Sink, G: Gate + Sync, B: TableName + 
     sink: &mut K,
     gate: &G,
     timelines: Vec<u32>,
+    plan: Plan,
     period: u64,
     order: Items<Pick>,
     handler: Handler<ReadLease<B>>,
@@ -101,13 +107,13 @@ fn run_opened<R: Threads + Wait + Sync, K: Sink, G: Gate + Sync, B: TableName + 
     requires first { IsFirst B.table opened.locks opened.first }
     requires none { gave_of opened.first ≡ [] }
     requires unused { KnowsNothing opened.first.seats }
-    requires few_actors { length opened.actors.items ≤ 16 }
+    requires few_actors { length opened.actors.items ≤ 64 }
     requires rising { IsStrictlyIncreasing (opened.first.seats.by ∷ map number_of opened.actors.items) }
     requires newcomers { AllByRecursion (IsNewcomer B.table opened.locks opened.pictures opened.first.seats) opened.actors.items }
-    requires starts { (scene : SceneValue) × (start : Option (List ℕ)) × MayRun B.table scene start (K.taken sink.old) timelines.items period order handler opened }
-    ensures ok { (scene : SceneValue) (start : Option (List ℕ)) → MayRun B.table scene start (K.taken sink.old) timelines.items period order handler opened
+    requires starts { (scene : SceneValue) × (start : Option (List ℕ)) × MayRun B.table scene start (K.taken sink.old) timelines.items plan period order handler opened }
+    ensures ok { (scene : SceneValue) (start : Option (List ℕ)) → MayRun B.table scene start (K.taken sink.old) timelines.items plan period order handler opened
         → OnOk result (WroteLive scene start (K.taken sink.new)) }
-    ensures err { (scene : SceneValue) (start : Option (List ℕ)) → MayRun B.table scene start (K.taken sink.old) timelines.items period order handler opened
+    ensures err { (scene : SceneValue) (start : Option (List ℕ)) → MayRun B.table scene start (K.taken sink.old) timelines.items plan period order handler opened
         → OnErr result (CutSome start (K.taken sink.new)) }
     ensures later { K.faults sink.old ≤ K.faults sink.new }
     ensures failed { IsErrOf result WriteFault → Rose (K.faults sink.old) (K.faults sink.new) }
@@ -118,7 +124,8 @@ fn run_opened<R: Threads + Wait + Sync, K: Sink, G: Gate + Sync, B: TableName + 
         period,
         timelines,
         sink,
-        screen: Screen::new(alloc),
+        plan,
+        screens: Screens::new(alloc),
         decider: Decider { handler },
         vsyncs: 0,
         fault: None,
@@ -130,15 +137,16 @@ fn run_opened<R: Threads + Wait + Sync, K: Sink, G: Gate + Sync, B: TableName + 
         period: _,
         timelines,
         sink,
-        screen,
+        plan,
+        screens,
         decider,
         vsyncs,
         fault: _,
     } = compositor;
     match joined {
         Ok(joined) => run_rounds(
-            rt, alloc, workers, sink, gate, timelines, screen, period, order, joined, decider,
-            vsyncs,
+            rt, alloc, workers, sink, gate, timelines, plan, screens, period, order, joined,
+            decider, vsyncs,
         ),
         Err(fault) => Err(fault),
     }
@@ -160,8 +168,6 @@ fn run_scene<R: Threads + Wait + Sync, K: Sink, G: Gate + Sync, B: TableName + S
     requires few { workers ≤ 16 }
     requires rising { timelines.items ≡ rising_timelines scene }
     requires begun { (start : Option (List ℕ)) × Writes start (K.taken sink.old) (opening scene ∷ []) }
-    requires version { scene.version ≡ 1 }
-    requires playable { are_playable scene.actors ≡ true }
     requires own { (seat.table ≡ B.table) × (stock.table ≡ B.table) }
     requires first { (seat.is_first ≡ true) × (seat.out ≡ 0) }
     requires fresh { seat.leaves ≡ [] }
@@ -172,7 +178,11 @@ fn run_scene<R: Threads + Wait + Sync, K: Sink, G: Gate + Sync, B: TableName + S
     ensures later { K.faults sink.old ≤ K.faults sink.new }
     ensures failed { IsErrOf result WriteFault → Rose (K.faults sink.old) (K.faults sink.new) }
 {
+    let Ok(plan) = plan_of(alloc, &scene) else {
+        return Err(RunFault::NoMemory);
+    };
     let Scene {
+        version,
         width,
         height,
         period,
@@ -185,15 +195,20 @@ fn run_scene<R: Threads + Wait + Sync, K: Sink, G: Gate + Sync, B: TableName + S
     let Ok(opened) = open::<B>(alloc, queues.as_slice(), pictures, actors, seat, stock) else {
         return Err(RunFault::NoMemory);
     };
-    let Ok(handler) = Handler::<ReadLease<B>>::new(alloc, width, height) else {
+    let Ok(handler) = Handler::<ReadLease<B>>::with_limit(
+        alloc,
+        width,
+        height,
+        most_layers(version),
+    ) else {
         return Err(RunFault::NoMemory);
     };
     run_opened(
-        rt, alloc, workers, sink, gate, timelines, period, order, handler, opened,
+        rt, alloc, workers, sink, gate, timelines, plan, period, order, handler, opened,
     )
 }
 
-/// Runs a scene of version 1 with each actor in a thread of its own, over buffers of the table that B
+/// Runs a scene with each actor in a thread of its own, over buffers of the table that B
 /// names, and writes the records of the run: those of vsyncs as they come, and behind them the
 /// replies, by actor and step. The gate is passed once for each step, before its first try. So many
 /// workers, 1 to 16, compose each frame. It takes the seat and the whole stock of the turns, with a
@@ -211,8 +226,6 @@ pub fn live<R: Threads + Wait + Sync, K: Sink, G: Gate + Sync, B: TableName + Se
 ) -> Result<(), RunFault>
     requires some { 1 ≤ workers }
     requires few { workers ≤ 16 }
-    requires version { scene.version ≡ 1 }
-    requires playable { are_playable scene.actors ≡ true }
     requires own { (seat.table ≡ B.table) × (stock.table ≡ B.table) }
     requires first { (seat.is_first ≡ true) × (seat.out ≡ 0) }
     requires fresh { seat.leaves ≡ [] }

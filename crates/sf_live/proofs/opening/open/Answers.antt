@@ -34,9 +34,9 @@ returns-clause-few g c =
     let cast = c.in_ok-cast.cast in
     let opens = c.in_ok-cast.ensures in
     let kept = c.into_parts-pictures.ensures.kept in
-    subst (λ (actors : List (Actor g.row.B.Denot)). length actors ≤ 16) (sym c.into_parts-pictures.ensures.actors)
+    subst (λ (actors : List (Actor g.row.B.Denot)). length actors ≤ 64) (sym c.into_parts-pictures.ensures.actors)
     (few_opened g.B.TableName.table (picture_at cast.pictures) (home_of cast.desk) (view_of cast.desk) cast.actors opens.declared c.args.stock.buffers opens.keep
-    (All-permutation (λ (script : ActorScript). script.number ≤ 16) c.args.scripts opens.declared opens.sorted.permutation c.requires.numbers) kept.numbered
+    (All-permutation (λ (script : ActorScript). script.number ≤ 64) c.args.scripts opens.declared opens.sorted.permutation c.requires.numbers) kept.numbered
     (subst IsStrictlyIncreasing (sym (numbers_same cast.actors)) kept.rising))
 
 pub returns-clause-rising : goal.returns-clause-rising

@@ -1,4 +1,5 @@
 use Rattle.std.proofs.Common.{subst, sym}
+use Rattle.sf_scene.specs.Limits.{most_layers}
 use Rattle.sf_play.specs.Standing.{IsStanding}
 use Rattle.sf_live.proofs.GoingOn.{has_shown, same_player}
 use Rattle.sf_live.proofs.resuming.go_on.Goals as goal
@@ -6,9 +7,9 @@ use Rattle.sf_live.proofs.resuming.go_on.Goals as goal
 pub returns-clause-shown : goal.returns-clause-shown
 returns-clause-shown g c = λ run locks start t goes.
     has_shown _ g.B.TableName.table run locks c.args.joined start c.args.period c.args.order c.args.handler c.args.vsyncs t goes
-    (c.frames_among_threads_find_their_pictures.ensures run.scene run.scene.period 256 locks run.last t.ends t.desk t.is t.shows.buffers) c.resume-player.result c.resume-player.ensures
-    (c.a_run_in_threads_goes_on.ensures.in_run run.scene run.scene.period 256 locks run.last t.ends t.desk t.is t.version t.few)
-    (c.what_threads_did_is_played.ensures.vsyncs run.scene run.scene.period 256 locks run.last t.ends t.desk t.is)
+    (c.buffers_among_threads_have_their_pictures.ensures run.scene run.scene.period (most_layers run.scene.version) locks run.last t.ends t.desk t.is) c.resume-player.result c.resume-player.ensures
+    (c.a_run_in_threads_goes_on.ensures.in_run run.scene run.scene.period (most_layers run.scene.version) locks run.last t.ends t.desk t.is t.few)
+    (c.what_threads_did_is_played.ensures.vsyncs run.scene run.scene.period (most_layers run.scene.version) locks run.last t.ends t.desk t.is)
 
 pub resume-player-requires : goal.resume-player-requires
 resume-player-requires g c =
@@ -16,4 +17,4 @@ resume-player-requires g c =
     let locks = c.requires.goes.1 in
     let t = c.requires.goes.3.0 in
     subst (IsStanding g.B.TableName.table) (sym (same_player _ g.B.TableName.table run locks c.args.joined c.requires.goes.2 c.args.period c.args.order c.args.handler c.args.vsyncs t c.requires.goes.3.1))
-    (c.a_run_in_threads_goes_on.ensures.standing run.scene run.scene.period 256 locks run.last t.ends t.desk t.is t.version t.few)
+    (c.a_run_in_threads_goes_on.ensures.standing run.scene run.scene.period (most_layers run.scene.version) locks run.last t.ends t.desk t.is t.few)

@@ -4,7 +4,7 @@ use Rattle.sf_live.proofs.rounds.show_rounds.Goals as goal
 
 pub returns-in-Ok-false-clause-ok : goal.returns-in-Ok-false-clause-ok
 returns-in-Ok-false-clause-ok g c = λ scene start has.
-    subst (λ (b : Bool). ShowsOn b g.B.TableName.table scene c.args.timelines.now start (g.K.Sink.taken c.show_turn.new.sink) c.show_turn.new.screen c.show_turn.new.player)
+    subst (λ (b : Bool). ShowsOn b g.B.TableName.table scene c.args.plan.now c.args.timelines.now start (g.K.Sink.taken c.show_turn.new.sink) c.show_turn.new.screens c.show_turn.new.player)
     c.in-Ok-false.field-0-test
     (c.in-Ok-false.ensures.on scene start (c.turns.invariant.0 scene start has))
 

@@ -8,8 +8,8 @@ use Rattle.sf_live.proofs.rounds.show_rounds.Given as goal
 abbrev pub invariant-turns : goal.invariant-turns
 invariant-turns g l =
     ((scene : SceneValue) (start : Option (List ℕ))
-    → HasShown g.B.TableName.table scene l.timelines start (g.K.Sink.taken l.initial.sink) l.initial.screen l.initial.player
-    → HasShown g.B.TableName.table scene l.timelines start (g.K.Sink.taken l.sink) l.screen l.player)
+    → HasShown g.B.TableName.table scene l.plan l.timelines start (g.K.Sink.taken l.initial.sink) l.initial.screens l.initial.player
+    → HasShown g.B.TableName.table scene l.plan l.timelines start (g.K.Sink.taken l.sink) l.screens l.player)
     × (length l.gates ≡ length l.player.play.cast.actors)
     × (g.K.Sink.faults l.initial.sink ≤ g.K.Sink.faults l.sink)
 

@@ -12,7 +12,7 @@ pass_gate-requires-clause-few g c = λ place actor below.
     few_steps g.B.TableName.table c.requires.shown.0 has.so c.args.player.now has.stands place actor below
 
 pub returns-in-Err-clause-err : goal.returns-in-Err-clause-err
-returns-in-Err-clause-err g c = λ scene start has. cut_before g.B.TableName.table scene c.args.timelines.now start _ c.args.screen.now c.args.player.now has
+returns-in-Err-clause-err g c = λ scene start has. cut_before g.B.TableName.table scene c.args.plan.now c.args.timelines.now start _ c.args.screens.now c.args.player.now has
 
 pub write_turn-requires-clause-timelines : goal.write_turn-requires-clause-timelines
 write_turn-requires-clause-timelines g c = λ lives outlives.
@@ -22,16 +22,16 @@ write_turn-requires-clause-timelines g c = λ lives outlives.
 pub write_turn-requires-clause-may : goal.write_turn-requires-clause-may
 write_turn-requires-clause-may g c = λ lives outlives.
     let has = c.requires.shown.2 in
-    (c.requires.shown.0, may_write g.B.TableName.table c.requires.shown.0 has.so c.in-Ok.turn c.next.new.self (c.in-Ok.ensures.on c.requires.shown.0 has.so has.stands), has.sized)
+    (c.requires.shown.0, may_write g.B.TableName.table c.requires.shown.0 c.args.plan.now has.so c.in-Ok.turn c.next.new.self has.planned (c.in-Ok.ensures.on c.requires.shown.0 has.so has.stands))
 
 pub returns-in-Ok-write_turn-clause-on : goal.returns-in-Ok-write_turn-clause-on
 returns-in-Ok-write_turn-clause-on g c = λ scene start has.
     let goes = c.in-Ok.ensures.on scene has.so has.stands in
-    let may = may_write g.B.TableName.table scene has.so c.in-Ok.turn c.next.new.self goes in
+    let may = may_write g.B.TableName.table scene c.args.plan.now has.so c.in-Ok.turn c.next.new.self has.planned goes in
     let now = c.in-Ok-write_turn.ensures.ok scene may has.shown in
-    subst (λ (b : Bool). ShowsOn (not b) g.B.TableName.table scene c.args.timelines.now start (g.K.Sink.taken c.write_turn.new.sink) c.write_turn.new.screen c.next.new.self) (sym c.is_end-goes_on.ensures)
-    (shows_on g.B.TableName.table scene c.args.timelines.now start (g.K.Sink.taken c.args.sink.now) (g.K.Sink.taken c.write_turn.new.sink) c.args.screen.now c.write_turn.new.screen
-    c.args.player.now c.next.new.self c.in-Ok.turn has goes now.0 now.1 (c.in-Ok-write_turn.ensures.sized scene may has.sized))
+    subst (λ (b : Bool). ShowsOn (not b) g.B.TableName.table scene c.args.plan.now c.args.timelines.now start (g.K.Sink.taken c.write_turn.new.sink) c.write_turn.new.screens c.next.new.self) (sym c.is_end-goes_on.ensures)
+    (shows_on g.B.TableName.table scene c.args.plan.now c.args.timelines.now start (g.K.Sink.taken c.args.sink.now) (g.K.Sink.taken c.write_turn.new.sink) c.args.screens.now c.write_turn.new.screens
+    c.args.player.now c.next.new.self c.in-Ok.turn has goes now.0 now.1)
 
 pub returns-in-Ok-write_turn-clause-gates : goal.returns-in-Ok-write_turn-clause-gates
 returns-in-Ok-write_turn-clause-gates g c =
@@ -44,6 +44,6 @@ returns-in-Ok-write_turn-clause-gates g c =
 pub returns-in-Err-write_turn-clause-err : goal.returns-in-Err-write_turn-clause-err
 returns-in-Err-write_turn-clause-err g c = λ scene start has.
     let goes = c.in-Ok.ensures.on scene has.so has.stands in
-    let may = may_write g.B.TableName.table scene has.so c.in-Ok.turn c.next.new.self goes in
-    turn_cut g.B.TableName.table scene c.args.timelines.now start (g.K.Sink.taken c.args.sink.now) (g.K.Sink.taken c.write_turn.new.sink) c.args.screen.now c.args.player.now
-    (turn_written (picture_at scene.pictures) c.args.timelines.now c.in-Ok.turn) has (c.in-Err-write_turn.ensures.err scene may has.shown)
+    let may = may_write g.B.TableName.table scene c.args.plan.now has.so c.in-Ok.turn c.next.new.self has.planned goes in
+    turn_cut g.B.TableName.table scene c.args.plan.now c.args.timelines.now start (g.K.Sink.taken c.args.sink.now) (g.K.Sink.taken c.write_turn.new.sink) c.args.screens.now c.args.player.now
+    (turn_written (picture_at scene.pictures) c.args.plan.now c.args.timelines.now c.next.new.self c.in-Ok.turn) has (c.in-Err-write_turn.ensures.err scene may has.shown)

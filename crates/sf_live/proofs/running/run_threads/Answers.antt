@@ -6,7 +6,7 @@ use Rattle.sf_live.proofs.running.run_threads.Goals as goal
 pub run_crews-compositor-requires-clause-kept : goal.run_crews-compositor-requires-clause-kept
 run_crews-compositor-requires-clause-kept g c κs within = λ boarded first gives. (
   record { shared = c.type_bounds.sync-R.shared },
-  kept_first g.K.Sink.taken g.K.Sink.faults _ g.B.TableName.table c.requires.starts.0 c.args.opened c.args.compositor c.requires.starts.2 c.requires.starts.3 c.requires.unused boarded gives,
+  kept_first g.K.Sink.taken g.K.Sink.faults _ g.B.TableName.table c.requires.starts.0 c.args.opened c.args.compositor c.requires.starts.1 c.requires.starts.2 c.requires.unused boarded gives,
 )
 
 pub bring_together-requires-clause-ran : goal.bring_together-requires-clause-ran
@@ -17,20 +17,20 @@ bring_together-requires-clause-ran g c =
     let first = of_ok _ c.run_crews-compositor.result.1 c.in-Ok.ashore c.in-Ok.is c.run_crews-compositor.ensures.first in
     let all = of_ok _ c.run_crews-compositor.result.1 c.in-Ok.ashore c.in-Ok.is c.run_crews-compositor.ensures.all in
     let returns = of_ok _ c.run_crews-compositor.result.1 c.in-Ok.ashore c.in-Ok.is c.run_crews-compositor.ensures.returns in (
-      ran g.K.Sink.taken g.K.Sink.faults _ g.B.TableName.table s.0 c.args.opened start s.2 s.3 c.requires.unused _ s.1 now c.in-Ok.ashore first all c.as_slice.result.now c.as_slice.ensures returns,
-      came_ashore g.K.Sink.taken g.K.Sink.faults _ g.B.TableName.table s.0 c.args.opened start s.2 s.3 c.requires.unused _ s.1 now c.in-Ok.ashore first all c.as_slice.result.now c.as_slice.ensures returns,
+      ran g.K.Sink.taken g.K.Sink.faults _ g.B.TableName.table s.0 c.args.opened start s.1 s.2 c.requires.unused _ now c.in-Ok.ashore first all c.as_slice.result.now c.as_slice.ensures returns,
+      came_ashore g.K.Sink.taken g.K.Sink.faults _ g.B.TableName.table s.0 c.args.opened start s.1 s.2 c.requires.unused _ now c.in-Ok.ashore first all c.as_slice.result.now c.as_slice.ensures returns,
     )
 
 pub returns-in-Ok-bring_together-clause-together : goal.returns-in-Ok-bring_together-clause-together
-returns-in-Ok-bring_together-clause-together g c = λ scene version opens starts.
+returns-in-Ok-bring_together-clause-together g c = λ scene opens starts.
     let start = c.args.compositor in
     let now = c.run_crews-compositor.result.0 in
     let first = of_ok _ c.run_crews-compositor.result.1 c.in-Ok.ashore c.in-Ok.is c.run_crews-compositor.ensures.first in
     let all = of_ok _ c.run_crews-compositor.result.1 c.in-Ok.ashore c.in-Ok.is c.run_crews-compositor.ensures.all in
     let returns = of_ok _ c.run_crews-compositor.result.1 c.in-Ok.ashore c.in-Ok.is c.run_crews-compositor.ensures.returns in
-    came_together g.K.Sink.taken g.K.Sink.faults _ g.B.TableName.table scene c.args.opened start opens starts c.requires.unused _ version now c.in-Ok.ashore first all c.as_slice.result.now c.as_slice.ensures returns c.in-Ok-bring_together.joined
-    (c.in-Ok-bring_together.ensures.together (ran g.K.Sink.taken g.K.Sink.faults _ g.B.TableName.table scene c.args.opened start opens starts c.requires.unused _ version now c.in-Ok.ashore first all c.as_slice.result.now c.as_slice.ensures returns)
-    (came_ashore g.K.Sink.taken g.K.Sink.faults _ g.B.TableName.table scene c.args.opened start opens starts c.requires.unused _ version now c.in-Ok.ashore first all c.as_slice.result.now c.as_slice.ensures returns))
+    came_together g.K.Sink.taken g.K.Sink.faults _ g.B.TableName.table scene c.args.opened start opens starts c.requires.unused _ now c.in-Ok.ashore first all c.as_slice.result.now c.as_slice.ensures returns c.in-Ok-bring_together.joined
+    (c.in-Ok-bring_together.ensures.together (ran g.K.Sink.taken g.K.Sink.faults _ g.B.TableName.table scene c.args.opened start opens starts c.requires.unused _ now c.in-Ok.ashore first all c.as_slice.result.now c.as_slice.ensures returns)
+    (came_ashore g.K.Sink.taken g.K.Sink.faults _ g.B.TableName.table scene c.args.opened start opens starts c.requires.unused _ now c.in-Ok.ashore first all c.as_slice.result.now c.as_slice.ensures returns))
 
 pub returns-in-Ok-clause-cut : goal.returns-in-Ok-clause-cut
 returns-in-Ok-clause-cut g c =
@@ -38,10 +38,10 @@ returns-in-Ok-clause-cut g c =
     let first = of_ok _ c.run_crews-compositor.result.1 c.in-Ok.ashore c.in-Ok.is c.run_crews-compositor.ensures.first in
     let all = of_ok _ c.run_crews-compositor.result.1 c.in-Ok.ashore c.in-Ok.is c.run_crews-compositor.ensures.all in
     let returns = of_ok _ c.run_crews-compositor.result.1 c.in-Ok.ashore c.in-Ok.is c.run_crews-compositor.ensures.returns in
-    cut_ashore g.K.Sink.taken g.K.Sink.faults _ g.B.TableName.table s.0 c.args.opened c.args.compositor s.2 s.3 c.requires.unused _ s.1 c.run_crews-compositor.result.0 c.in-Ok.ashore first all c.as_slice.result.now c.as_slice.ensures returns NoMemory no_write_fault
+    cut_ashore g.K.Sink.taken g.K.Sink.faults _ g.B.TableName.table s.0 c.args.opened c.args.compositor s.1 s.2 c.requires.unused _ c.run_crews-compositor.result.0 c.in-Ok.ashore first all c.as_slice.result.now c.as_slice.ensures returns NoMemory no_write_fault
 
 pub returns-clause-cut : goal.returns-clause-cut
 returns-clause-cut g c =
     let s = c.requires.starts in
-    cut_threads g.K.Sink.taken g.K.Sink.faults _ g.B.TableName.table s.0 c.args.opened c.args.compositor s.2 s.3 c.requires.unused _ c.args.opened.locks c.run_crews-compositor.result.0 c.in-Err.why c.fault_of-fault.result
+    cut_threads g.K.Sink.taken g.K.Sink.faults _ g.B.TableName.table s.0 c.args.opened c.args.compositor s.1 s.2 c.requires.unused _ c.args.opened.locks c.run_crews-compositor.result.0 c.in-Err.why c.fault_of-fault.result
     c.fault_of-fault.ensures (of_err _ c.run_crews-compositor.result.1 c.in-Err.why c.in-Err.is c.run_crews-compositor.ensures.left)

@@ -1,7 +1,5 @@
 use Rattle.std.proofs.Common.{◌≡◌, ℕ, ◌+◌, List, Err, ap, arith, refl, subst, ◌∙◌}
 use Rattle.sf_record.specs.declared.encode.RunFault.{RunFault}
-use Rattle.sf_commit.specs.Handlers.{HandlerOf}
-use Rattle.sf_surface.specs.Tokens.{ReadLeaseOf}
 use Rattle.sf_shared.specs.declared.first.FirstSeats.{FirstSeats}
 use Rattle.sf_shared.proofs.Staying.{stays_first}
 use Rattle.sf_show.proofs.WritingLemmas.{cut_more, some_more}
@@ -25,7 +23,6 @@ returns-in-Ok-clause-kept g c = λ start was.
     let old : Sitting g.row.B.Denot = record { handler = self.decider.handler; seats = c.args.first.now.seats; number = self.vsyncs } in
     let new : Sitting g.row.B.Denot = record { handler = c.show_next.new.handler; seats = c.show_next.new.seats; number = self.vsyncs + 1 } in
     let vsync = c.in-Ok.ensures.shows.vsync in
-    let state = vsync.decides.settled.state in
     let kept = was.1 in
     let faults = c.show_next.ensures.later in
     let rose = kept.faults_rise in (
@@ -33,19 +30,18 @@ returns-in-Ok-clause-kept g c = λ start was.
       record {
         same = record {
           workers = kept.same.workers;
+          plan = kept.same.plan;
           period = kept.same.period;
           timelines = kept.same.timelines;
           sink = kept.same.sink;
         };
-        wide = ap (λ (h : HandlerOf ReadLeaseOf). h.width) state ∙ kept.wide;
-        high = ap (λ (h : HandlerOf ReadLeaseOf). h.height) state ∙ kept.high;
         few = omega (arith, c.if-self-ge-MOST_VSYNCS.false);
         log = record {
           set = kept.log.set;
           sits =
-              sits_more _ g.B.TableName.table c.args.locks.now self.period self.timelines.items (g.K.Sink.taken start.sink.now) (g.K.Sink.taken self.sink.now) (g.K.Sink.taken c.show_next.new.sink) self.screen c.show_next.new.screen old
-              new kept.log.sits
-              (shows_by _ g.B.TableName.table c.args.locks.now self.period (g.K.Sink.taken self.sink.now) (g.K.Sink.taken c.show_next.new.sink) self.screen c.show_next.new.screen old new c.deref.result.now self.timelines.items
+              sits_more _ g.B.TableName.table c.args.locks.now self.period self.plan start.decider.handler.tree.most self.timelines.items (g.K.Sink.taken start.sink.now) (g.K.Sink.taken self.sink.now)
+              (g.K.Sink.taken c.show_next.new.sink) self.screens c.show_next.new.screens old new kept.log.sits
+              (shows_by _ g.B.TableName.table c.args.locks.now self.period self.plan (g.K.Sink.taken self.sink.now) (g.K.Sink.taken c.show_next.new.sink) self.screens c.show_next.new.screens old new c.deref.result.now self.timelines.items
               c.deref.ensures.value c.in-Ok.ensures.shows);
           may = c.in-Ok.ensures.may;
         };
@@ -61,7 +57,7 @@ returns-in-Err-clause-ended g c = λ start was.
     let faults = c.show_next.ensures.later in
     let rose = kept.faults_rise in
     record {
-      same = record { workers = kept.same.workers; period = kept.same.period; timelines = kept.same.timelines; sink = kept.same.sink };
+      same = record { workers = kept.same.workers; plan = kept.same.plan; period = kept.same.period; timelines = kept.same.timelines; sink = kept.same.sink };
       cut = cut_more (g.K.Sink.taken start.sink.now) (g.K.Sink.taken self.sink.now) (g.K.Sink.taken c.show_next.new.sink) kept.some c.in-Err.ensures.cut;
       faults_rise = omega (arith, rose, faults);
       failed = λ is. rose_since (g.K.Sink.faults start.sink.now) (g.K.Sink.faults self.sink.now) (g.K.Sink.faults c.show_next.new.sink) rose

@@ -1,0 +1,42 @@
+-- A scene that is opened may be run.
+use Rattle.std.proofs.Common.{◌≡◌, ℕ, List, [], ◌∷◌, Option, ap, ◌∙◌, sym, subst}
+use Rattle.atomic_table.specs.Seated.{TableId}
+use Rattle.sf_commit.specs.Handlers.{HandlerOf, new_handler}
+use Rattle.sf_plan.specs.declared.plan.Plan.{Plan}
+use Rattle.sf_scene.specs.Limits.{IsWithinLimits, most_layers}
+use Rattle.sf_scene.specs.Scene.{SceneValue}
+use Rattle.sf_scene.specs.declared.declarations.QueueDecl.{QueueDecl}
+use Rattle.sf_surface.specs.Tokens.{ReadLeaseOf}
+use Rattle.sf_cast.specs.Scripts.{AreOfScene}
+use Rattle.sf_run.specs.Frames.{plan_of}
+use Rattle.sf_run.specs.Played.{opening}
+use Rattle.sf_run.specs.Vsyncs.{rising_timelines}
+use Rattle.sf_show.specs.Writing.{Writes}
+use Rattle.sf_live.specs.declared.opening.Opened.{Opened}
+use Rattle.sf_live.specs.Openings.{IsOpen}
+use Rattle.sf_live.specs.Running.{MayRun}
+
+-- the parts of a scene are those of one
+abbrev pub of_scene : (scene inside : SceneValue) (queues : List QueueDecl) → inside ≡ scene → IsWithinLimits inside → queues ≡ inside.queues → AreOfScene queues inside.pictures inside.actors
+of_scene scene inside queues same limits are = record {
+  scene = scene;
+  limits = subst IsWithinLimits same limits;
+  queues_of = sym (are ∙ ap (λ (s : SceneValue). s.queues) same);
+  pictures_of = sym (ap (λ (s : SceneValue). s.pictures) same);
+  scripts_of = sym (ap (λ (s : SceneValue). s.actors) same);
+}
+
+pub may_run : {B : Type 0} (table : TableId) (scene inside : SceneValue) (before now : Option (List ℕ)) (timelines : List ℕ) (plan : Plan) (most : ℕ) (handler : HandlerOf ReadLeaseOf) (opened : Opened B) → inside ≡ scene
+    → IsOpen scene table opened → handler ≡ new_handler inside.width inside.height most → most ≡ most_layers inside.version → plan ≡ plan_of scene → timelines ≡ rising_timelines scene → Writes before now (opening scene ∷ [])
+    → MayRun table scene before now timelines plan inside.period inside.order handler opened
+may_run table scene inside before now timelines plan most handler opened same opens new limit planned rising begun = record {
+  opens = opens;
+  handler_is = new
+      ∙ ap (λ (n : ℕ). new_handler inside.width inside.height n) limit
+      ∙ (λ i. new_handler (same i).width (same i).height (most_layers (same i).version));
+  planned = planned;
+  same_period = ap (λ (s : SceneValue). s.period) same;
+  same_order = ap (λ (s : SceneValue). s.order) same;
+  rising = rising;
+  begun = begun;
+}

@@ -1,0 +1,30 @@
+-- What is told of a vsync of a scene is what is shown of its report by the scene's plan.
+use Rattle.std.proofs.Common.{◌≡◌, ℕ, ◌==◌, ◌||◌, Bool, if◌then◌else◌, List, [], ◌∷◌, map, ap, refl, sym}
+use Rattle.std.specs.List.{list_any}
+use Rattle.sf_commit.specs.declared.vsync.Commit.{Commit as Decided}
+use Rattle.sf_tree.specs.Trees.{TreeOf}
+use Rattle.sf_scene.specs.Scene.{SceneValue}
+use Rattle.sf_actor.specs.Scripts.{picture_at}
+use Rattle.sf_report.specs.Stages.{is_accepted}
+use Rattle.sf_report.specs.declared.report.VsyncReport.{VsyncReport}
+use Rattle.sf_run.specs.Commits.{commit_shown}
+use Rattle.sf_run.specs.Frames.{is_done, plan_of, shown_due}
+use Rattle.sf_run.specs.Seeing.{value_shown}
+use Rattle.sf_run.specs.Vsyncs.{rising_timelines}
+use Rattle.sf_play.specs.Showing.{vsync_shown}
+use Rattle.sf_show.specs.Vsyncs.{told_with}
+
+-- something is due where a commit was accepted
+shown_done : (commits : List Decided) → list_any is_done (map commit_shown commits) ≡ list_any is_accepted commits
+shown_done [] = refl
+shown_done (commit ∷ commits) = ap (λ (b : Bool). (commit.cause == 0) || b) (shown_done commits)
+
+pub told_is : (scene : SceneValue) (timelines : List ℕ) (report : VsyncReport) (tree : TreeOf) → timelines ≡ rising_timelines scene
+    → vsync_shown scene report.number report.expected report.seen report.commits tree ≡ told_with (picture_at scene.pictures) (plan_of scene) timelines report tree.layers
+told_is scene timelines report tree rising = (λ i. record {
+  number = report.number;
+  expected = report.expected;
+  timelines = map (value_shown report.seen) (sym rising i);
+  commits = map commit_shown report.commits;
+  shown = if shown_done report.commits i then shown_due (picture_at scene.pictures) (plan_of scene) tree.layers else [];
+})
