@@ -1,5 +1,5 @@
 ghost use Rattle.std.specs.Prelude.{◌≡◌, ◌≤◌, [], true, OnOk};
-ghost use Rattle.sf_cast.specs.Scripts.{are_playable, permits_of};
+ghost use Rattle.sf_cast.specs.Scripts.{permits_of};
 ghost use Rattle.sf_live.specs.Runs.{WroteLive};
 ghost use Rattle.sf_turns.specs.Counts.{range};
 
@@ -26,8 +26,6 @@ pub fn live_means<R: Threads + Wait + Sync, K: Sink, G: Gate + Sync, B: TableNam
 ) -> Result<(), RunFault>
     requires some { 1 ≤ workers }
     requires few { workers ≤ 16 }
-    requires version { scene.version ≡ 1 }
-    requires playable { are_playable scene.actors ≡ true }
     requires own { (seat.table ≡ B.table) × (stock.table ≡ B.table) }
     requires first { (seat.is_first ≡ true) × (seat.out ≡ 0) }
     requires fresh { seat.leaves ≡ [] }

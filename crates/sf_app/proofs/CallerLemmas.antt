@@ -1,5 +1,5 @@
 -- The histories of a played run have calls of the compositor and of the scene's actors alone.
-use Rattle.std.proofs.Common.{◌≡◌, ℕ, ◌==◌, Bool, false, if◌then◌else◌, List, [], ◌∷◌, ◌++◌, true, Option, None, Some, All, map, reverse, refl, sym, ap, subst, ◌∙◌}
+use Rattle.std.proofs.Common.{◌≡◌, ℕ, ◌==◌, Bool, false, if◌then◌else◌, List, [], ◌∷◌, ◌++◌, true, All, map, reverse, refl, sym, ap, subst, ◌∙◌}
 use mathlib.Core.List.{reverse-cons}
 use Rattle.std.proofs.lemmas.List.{append-nil}
 use Rattle.std.proofs.lemmas.List.Concat.{flat_map-append}
@@ -9,7 +9,9 @@ use Rattle.std.specs.Prelude.{filter}
 use Rattle.sf_slots.specs.declared.calls.Entry.{Entry}
 use Rattle.sf_scene.specs.Scene.{SceneValue}
 use Rattle.sf_scene.specs.declared.declarations.QueueDecl.{QueueDecl}
-use Rattle.sf_record.specs.Events.{closing, event_records, events_records, frame_records}
+use Rattle.sf_record.specs.Events.{closing, event_records, events_records, output_record}
+use Rattle.sf_output.specs.declared.output.Output.{Output}
+use Rattle.sf_output.specs.declared.output.Output.TheVariants as out
 use Rattle.sf_record.specs.declared.event.Event.{Event}
 use Rattle.sf_record.specs.declared.event.Event.TheVariants as event
 use Rattle.sf_record.specs.declared.record.Commit.{Commit}
@@ -38,21 +40,27 @@ unfolding histories_in
 all_histories [] = refl
 all_histories (h ∷ histories) = ap (λ (l : List QueueHistory). h ∷ l) (all_histories histories)
 
-none_of_frame : (number : ℕ) (frame : Option (List ℕ)) → histories_in (frame_records number frame) ≡ []
-unfolding histories_in
-none_of_frame number None = refl
-none_of_frame number (Some pixels) = refl
+none_of_output : (number : ℕ) (output : Output (List ℕ)) → history_in (output_record number output) ≡ []
+none_of_output number (out.Frame pixels) = refl
+none_of_output number (out.Display place pixels) = refl
+none_of_output number (out.Capture place pixels) = refl
+none_of_output number (out.Hit place layer) = refl
 
 behind : (r : Record) (rs : List Record) → history_in r ≡ [] → histories_in (r ∷ rs) ≡ histories_in rs
 unfolding histories_in
 behind r rs none = ap (λ (l : List QueueHistory). l ++ histories_in rs) none
 
+none_of_shown : (number : ℕ) (shown : List (Output (List ℕ))) → histories_in (map (output_record number) shown) ≡ []
+unfolding histories_in
+none_of_shown number [] = refl
+none_of_shown number (output ∷ shown) = behind (output_record number output) (map (output_record number) shown) (none_of_output number output) ∙ none_of_shown number shown
+
 none_of_event : (e : Event) → histories_in (event_records e) ≡ []
 none_of_event (event.Reply reply) = behind (rec.Repl reply) [] refl ∙ no_histories []
 none_of_event (event.Vsync v) =
-    behind (rec.Vsyn (record { number = v.number; expected = v.expected; timelines = v.timelines })) (map rec.Comm v.commits ++ frame_records v.number v.frame) refl
-    ∙ histories_in-append (map rec.Comm v.commits) (frame_records v.number v.frame)
-    ∙ ap (λ (l : List QueueHistory). l ++ histories_in (frame_records v.number v.frame)) (no_histories v.commits) ∙ none_of_frame v.number v.frame
+    behind (rec.Vsyn (record { number = v.number; expected = v.expected; timelines = v.timelines })) (map rec.Comm v.commits ++ map (output_record v.number) v.shown) refl
+    ∙ histories_in-append (map rec.Comm v.commits) (map (output_record v.number) v.shown)
+    ∙ ap (λ (l : List QueueHistory). l ++ histories_in (map (output_record v.number) v.shown)) (no_histories v.commits) ∙ none_of_shown v.number v.shown
 
 none_of_events : (events : List Event) → histories_in (events_records events) ≡ []
 unfolding events_records

@@ -1,5 +1,5 @@
 -- The period of a scene that a script spells is in its range, since only the line of the display gives it.
-use Rattle.std.proofs.Common.{◌≡◌, ℕ, ◌+◌, ◌≤◌, ◌==◌, Bool, true, false, List, [], ◌∷◌, length, Option, None, Some, Result, Ok, Err, refl, ap, subst, if◌then◌else◌, arith}
+use Rattle.std.proofs.Common.{◌≡◌, ℕ, ◌+◌, ◌≤◌, ◌==◌, Bool, true, false, List, [], ◌∷◌, length, Option, None, Some, Result, Ok, Err, refl, ap, subst, arith}
 use Rattle.std.specs.Prelude.{nat_lt}
 use Rattle.std.specs.Str.{is_utf8}
 use Rattle.sf_words.specs.Numbers.{decimal_of, in_range}
@@ -19,7 +19,6 @@ use Rattle.sf_script.specs.declared.line.Keyword.{Keyword}
 use Rattle.sf_script.specs.declared.line.Keyword.TheVariants as key
 use Rattle.sf_script.specs.declared.line.Line.{Line}
 use Rattle.sf_script.specs.declared.line.Line.TheVariants as line
-use Rattle.sf_app.specs.Scripts.{asked_of, at_no_place, is_played}
 
 -- a period in its range
 pub record IsPeriod (period : ℕ) : Type 0 where
@@ -162,23 +161,11 @@ lines_timed number d (text ∷ texts) scene timed e = by_draft (λ next. lines_t
     by_draft later (Ok next) s = later next (draft_timed number d (trimmed text) next timed s) (rw s at e)
     by_draft later (Err fault) s = no_ok _ fault scene refl (rw s at e)
 
-parsed_timed : (bytes : List ℕ) (scene : SceneValue) → parsed_of bytes ≡ Ok scene → IsPeriod scene.period
+-- a scene that is spelled has a period in its range
+pub parsed_timed : (bytes : List ℕ) (scene : SceneValue) → parsed_of bytes ≡ Ok scene → IsPeriod scene.period
 unfolding parsed_of script_of
 parsed_timed bytes scene e = by_length (nat_lt 1048576 (length bytes)) refl
   where
     by_length : (long : Bool) → nat_lt 1048576 (length bytes) ≡ long → IsPeriod scene.period
     by_length true s = no_ok _ _ scene refl (rw s at e)
     by_length false s = lines_timed 1 no_lines (lines_of bytes) scene (record { low = omega arith; high = omega arith }) (rw s at e)
-
--- a scene that is asked for has a period in its range
-pub asked_timed : (bytes : List ℕ) (scene : SceneValue) → asked_of bytes ≡ Ok scene → IsPeriod scene.period
-unfolding asked_of
-asked_timed bytes scene e = by_parsed (parsed_of bytes) refl
-  where
-    by_played : (read : SceneValue) → parsed_of bytes ≡ Ok read → (played : Bool) → (if played then Ok read else Err (at_no_place 0)) ≡ Ok scene → IsPeriod scene.period
-    by_played read is true same = subst (λ (x : SceneValue). IsPeriod x.period) (ok_same _ read scene refl same) (parsed_timed bytes read is)
-    by_played read is false same = no_ok _ (at_no_place 0) scene refl same
-
-    by_parsed : (r : Result SceneValue ScriptFault) → parsed_of bytes ≡ r → IsPeriod scene.period
-    by_parsed (Ok read) s = by_played read s (is_played read) (rw s at e)
-    by_parsed (Err fault) s = no_ok _ fault scene refl (rw s at e)

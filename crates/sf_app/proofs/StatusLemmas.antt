@@ -1,11 +1,10 @@
 -- Which statuses are left where the words are right, the script is a scene, and nothing failed.
-use Rattle.std.proofs.Common.{◌≡◌, ℕ, ◌<◌, ◌≤◌, ◌==◌, Bool, true, false, List, [], ◌∷◌, ◌++◌, Option, None, Some, Result, Ok, Err, length, ◌⊎◌, inl, inr, refl, sym, ap, subst, ◌∙◌, arith, length-append, OnErr, IsErrOf}
-use Rattle.std.specs.Prelude.{◌≢◌, ◌&&◌, if◌then◌else◌}
+use Rattle.std.proofs.Common.{◌≡◌, ℕ, ◌<◌, ◌≤◌, Bool, true, false, List, [], ◌∷◌, ◌++◌, Option, None, Some, Result, Ok, Err, length, ◌⊎◌, inl, inr, refl, sym, ap, subst, ◌∙◌, arith, length-append, OnErr, IsErrOf}
+use Rattle.std.specs.Prelude.{◌≢◌}
 use Rattle.std.proofs.lemmas.List.{append-nil}
 use Rattle.std.proofs.lemmas.Bool.{cases_eq, lt-ltb}
 use Rattle.std.proofs.KnownBytes.{Appends-nil}
 use Rattle.std.specs.Io.KnownBytes.{Appends, Consumes, IsAtEnd}
-use Rattle.std.specs.List.{list_all}
 use Rattle.sf_io.specs.Streams.{Took, TookPrefix}
 use Rattle.sf_live.specs.Runs.{WroteLive}
 use Rattle.sf_options.specs.declared.options.Options.{Options}
@@ -13,31 +12,20 @@ use Rattle.sf_options.specs.declared.options.Run.{Run}
 use Rattle.sf_options.specs.declared.options.Run.TheVariants as run
 use Rattle.sf_scene.specs.Limits.{IsWithinLimits}
 use Rattle.sf_scene.specs.Scene.{SceneValue}
-use Rattle.sf_scene.specs.declared.change.Change.{Change}
-use Rattle.sf_scene.specs.declared.change.Change.TheVariants as change
-use Rattle.sf_scene.specs.declared.step.ActorScript.{ActorScript}
-use Rattle.sf_scene.specs.declared.step.Step.{Step}
-use Rattle.sf_scene.specs.declared.step.Step.TheVariants as step
 use Rattle.sf_script.specs.declared.fault.ScriptFault.{ScriptFault}
 use Rattle.sf_script.specs.Parse.{parsed_of}
-use Rattle.sf_cast.specs.Scripts.{are_playable, are_taken, is_taken}
-use Rattle.sf_load.proofs.ReadyLemmas.{and_both, and_first, and_second}
 use Rattle.sf_load.proofs.SceneLemmas.{text_is_scene}
-use Rattle.sf_load.specs.Turning.{all_turn_none, is_still, turns_none}
 use Rattle.sf_record.specs.Fitting.{RecordFits}
 use Rattle.sf_record.specs.declared.encode.RunFault.{RunFault}
 use Rattle.sf_record.specs.declared.encode.RunFault.TheVariants as run_fault
-use Rattle.sf_record.specs.declared.record.Record.{Record}
 use Rattle.sf_record.specs.declared.record.Record.TheVariants as rec
 use Rattle.sf_run.proofs.Ending.{timed_records}
 use Rattle.sf_show.proofs.WritingLemmas.{cut_none as none_cut, cut_part, one_part, one_written, part_none as none_of, part_whole as all_as_part, some_cut}
 use Rattle.sf_show.specs.Runs.{CutRun}
 use Rattle.sf_show.specs.Writing.{CutSome}
-use Rattle.sf_tally.specs.Summaries.{summary_of, wrapped}
-use Rattle.sf_app.proofs.HeaderLemmas.{IsPeriod, asked_timed}
-use Rattle.sf_app.specs.Scripts.{asked_of, at_no_place, is_for_a_cast, played_of}
+use Rattle.sf_app.proofs.HeaderLemmas.{IsPeriod, parsed_timed}
 use Rattle.sf_app.specs.Shown.{ShowsPart, ShowsPlay, ShowsRun, ShowsRunPart, records_shown}
-use Rattle.sf_app.specs.Statuses.{NoScene, PlayedScript, PrefixOf, RefusedScript, WritesPrefix, fault_bytes, misspelled, too_long}
+use Rattle.sf_app.specs.Statuses.{NoScene, PlayedScript, PrefixOf, RefusedScript, WritesPrefix, at_no_place, fault_bytes, misspelled, too_long}
 use Rattle.sf_app.specs.Words.{IsScript, IsScriptBy, IsTold, IsToldBy, generated, is_gen}
 
 pub nothing_took : (a : Option (List ℕ)) (bs : List ℕ) → TookPrefix a a bs
@@ -102,15 +90,15 @@ too_many : (bytes : List ℕ) (rest : Option (List ℕ)) → Took (Some bytes) r
 too_many bytes None (bs, h, n) = absurd h
 too_many bytes (Some ys) (bs, h, n) = omega (arith, length-append bs ys, ap length h)
 
-too_long_fault : (bytes : List ℕ) → 1048576 < length bytes → asked_of bytes ≡ Err (at_no_place 9)
-unfolding asked_of parsed_of
+too_long_fault : (bytes : List ℕ) → 1048576 < length bytes → parsed_of bytes ≡ Err (at_no_place 9)
+unfolding parsed_of
 too_long_fault bytes h = rw (lt-ltb 1048576 (length bytes) h) refl
 
 -- a scene is no fault
-pub scene_is_read : (bytes : List ℕ) (scene : SceneValue) (rest : Option (List ℕ)) (fault : ScriptFault) → asked_of bytes ≡ Ok scene → NoScene (Some bytes) rest fault → ⊥
+pub scene_is_read : (bytes : List ℕ) (scene : SceneValue) (rest : Option (List ℕ)) (fault : ScriptFault) → parsed_of bytes ≡ Ok scene → NoScene (Some bytes) rest fault → ⊥
 scene_is_read bytes scene rest _ spelled (misspelled bs fault given end wrong) =
     let same = all_given bytes bs rest given end in
-    let two : Ok scene ≡ Err fault = sym spelled ∙ ap asked_of same ∙ wrong in
+    let two : Ok scene ≡ Err fault = sym spelled ∙ ap parsed_of same ∙ wrong in
     cc
 scene_is_read bytes scene rest _ spelled (too_long took) =
     let two : Ok scene ≡ Err (at_no_place 9) = sym spelled ∙ too_long_fault bytes (too_many bytes rest took) in
@@ -128,45 +116,10 @@ two_or_last n h a b c d = elim (cases_eq n 2) [
   | inr some ↦ inr (omega (arith, some, a, b, c, d))
 ]
 
-if_both : {X : Type 0} (a b : Bool) (x y : X) → a ≡ true → b ≡ true → (if a && b then x else y) ≡ x
-if_both true true x y e f = refl
-if_both true false x y e f = absurd (cc)
-if_both false b x y e f = absurd (cc)
-
--- a step that sets no orientation sets none that layers don't take
-still_set : (number layer : ℕ) (c : Change) → is_still (step.Set number layer c) ≡ true → is_taken (step.Set number layer c) ≡ true
-still_set number layer (change.Orient orientation) still = absurd (cc)
-still_set number layer c still = refl
-
-still_taken : (s : Step) → is_still s ≡ true → is_taken s ≡ true
-still_taken (step.Set number layer c) still = still_set number layer c still
-still_taken s still = refl
-
-still_all : (steps : List Step) → list_all is_still steps ≡ true → list_all is_taken steps ≡ true
-still_all [] still = refl
-still_all (s ∷ steps) still = and_both (is_taken s) (list_all is_taken steps) (still_taken s (and_first (is_still s) (list_all is_still steps) still)) (still_all steps (and_second (is_still s) (list_all is_still steps) still))
-
-still_playable : (actors : List ActorScript) → all_turn_none actors ≡ true → are_playable actors ≡ true
-still_playable [] still = refl
-still_playable (a ∷ actors) still =
-    and_both (are_taken a) (are_playable actors) (still_all a.steps (and_first (turns_none a) (all_turn_none actors) still)) (still_playable actors (and_second (turns_none a) (all_turn_none actors) still))
-
--- the scene of a number is played
-played_when : (scene : SceneValue) → scene.version ≡ 1 → all_turn_none scene.actors ≡ true → played_of (Ok scene) ≡ Ok scene
-played_when scene v still =
-    let cast : is_for_a_cast scene ≡ true = and_both (scene.version == 1) (are_playable scene.actors) (ap (λ (n : ℕ). n == 1) v) (still_playable scene.actors still) in
-    if_both (is_for_a_cast scene) (all_turn_none scene.actors) (Ok scene) (Err (at_no_place 0)) cast still
-
-generated_played : (number : ℕ) → (scene : SceneValue) × (asked_of (generated number) ≡ Ok scene)
-unfolding asked_of
-generated_played number =
-    let text = text_is_scene number in
-    (text.scene, ap played_of text.parsed ∙ played_when text.scene text.version text.still)
-
-generated_no_fault : (number : ℕ) (fault : ScriptFault) → asked_of (generated number) ≡ Err fault → ⊥
+generated_no_fault : (number : ℕ) (fault : ScriptFault) → parsed_of (generated number) ≡ Err fault → ⊥
 generated_no_fault number fault wrong =
-    let is = generated_played number in
-    let two : Ok is.0 ≡ Err fault = sym is.1 ∙ wrong in
+    let is = text_is_scene number in
+    let two : Ok is.scene ≡ Err fault = sym is.parsed ∙ wrong in
     cc
 
 -- the script that was played is the one that is known
@@ -178,19 +131,19 @@ same_script : (options : Options) (left rest : Option (List ℕ)) (script bytes 
 same_script options left rest script bytes s told = same_by (is_gen options.run) options.number left rest script bytes s told
 
 refused_by : (gen : Bool) (options : Options) (left rest a b : Option (List ℕ)) (script : List ℕ) → is_gen options.run ≡ gen → IsScriptBy gen options.number left rest script →
-    (fault : ScriptFault) → asked_of script ≡ Err fault → Appends a b (fault_bytes fault) → RefusedScript (Some options) left rest a b
-refused_by true options left rest a b script is s fault wrong written = absurd (generated_no_fault options.number fault (ap asked_of (sym s.1) ∙ wrong))
+    (fault : ScriptFault) → parsed_of script ≡ Err fault → Appends a b (fault_bytes fault) → RefusedScript (Some options) left rest a b
+refused_by true options left rest a b script is s fault wrong written = absurd (generated_no_fault options.number fault (ap parsed_of (sym s.1) ∙ wrong))
 refused_by false options left rest a b script is s fault wrong written =
     record { options = options; right = refl; reads = is; fault = fault; cause = misspelled script fault s.0 s.1 wrong; written = written }
 
 -- a script that is refused was read
 pub refused_script : (options : Options) (left rest a b : Option (List ℕ)) (script : List ℕ) → IsScript options left rest script →
-    (fault : ScriptFault) × (asked_of script ≡ Err fault) × Appends a b (fault_bytes fault) → RefusedScript (Some options) left rest a b
+    (fault : ScriptFault) × (parsed_of script ≡ Err fault) × Appends a b (fault_bytes fault) → RefusedScript (Some options) left rest a b
 refused_script options left rest a b script s r = refused_by (is_gen options.run) options left rest a b script refl s r.0 r.1 r.2
 
 -- a script that was played
 pub played_script : (options : Options) (left rest a b : Option (List ℕ)) (script : List ℕ) → IsScript options left rest script →
-    (scene : SceneValue) × (asked_of script ≡ Ok scene) × ShowsRun options.run options.summary scene a b → PlayedScript (Some options) left rest a b
+    (scene : SceneValue) × (parsed_of script ≡ Ok scene) × ShowsRun options.run options.summary scene a b → PlayedScript (Some options) left rest a b
 played_script options left rest a b script s p = record { options = options; right = refl; bytes = script; script = s; scene = p.0; spelled = p.1; run = p.2 }
 
 some_same : (asked : Option Options) (x y : Options) → asked ≡ Some x → asked ≡ Some y → x ≡ y
@@ -205,26 +158,26 @@ told_read options left bytes reads told = subst (λ (gen : Bool). IsToldBy gen o
 
 -- a script that is a scene is not refused
 pub no_refusal : (asked : Option Options) (options : Options) (left rest a b : Option (List ℕ)) (bytes : List ℕ) (scene : SceneValue) → asked ≡ Some options → IsTold options left bytes →
-    asked_of bytes ≡ Ok scene → RefusedScript asked left rest a b → ⊥
+    parsed_of bytes ≡ Ok scene → RefusedScript asked left rest a b → ⊥
 no_refusal asked options left rest a b bytes scene right told spelled r =
     let reads : is_gen options.run ≡ false = ap (λ (o : Options). is_gen o.run) (some_same asked options r.options right r.right) ∙ r.reads in
     scene_is_read bytes scene rest r.fault spelled (subst (λ (l : Option (List ℕ)). NoScene l rest r.fault) (told_read options left bytes reads told) r.cause)
 
 -- a script that was played is no fault
 pub no_play : (asked : Option Options) (options : Options) (left rest a b : Option (List ℕ)) (bytes : List ℕ) (fault : ScriptFault) → asked ≡ Some options → IsTold options left bytes →
-    asked_of bytes ≡ Err fault → PlayedScript asked left rest a b → ⊥
+    parsed_of bytes ≡ Err fault → PlayedScript asked left rest a b → ⊥
 no_play asked options left rest a b bytes fault right told wrong p =
     let script : IsScript options left rest p.bytes = subst (λ (o : Options). IsScript o left rest p.bytes) (some_same asked p.options options p.right right) p.script in
-    let two : Err fault ≡ Ok p.scene = sym wrong ∙ ap asked_of (same_script options left rest p.bytes bytes script told) ∙ p.spelled in
+    let two : Err fault ≡ Ok p.scene = sym wrong ∙ ap parsed_of (same_script options left rest p.bytes bytes script told) ∙ p.spelled in
     cc
 
-none_by : (options : Options) (bytes : List ℕ) (p : Result SceneValue ScriptFault) (a : Option (List ℕ)) → asked_of bytes ≡ p → PrefixOf options p a a
-none_by options bytes (Ok scene) a is = run_part_none options.run options.summary scene a (asked_timed bytes scene is)
+none_by : (options : Options) (bytes : List ℕ) (p : Result SceneValue ScriptFault) (a : Option (List ℕ)) → parsed_of bytes ≡ p → PrefixOf options p a a
+none_by options bytes (Ok scene) a is = run_part_none options.run options.summary scene a (parsed_timed bytes scene is)
 none_by options bytes (Err fault) a is = nothing_took a (fault_bytes fault)
 
 -- nothing was written
-pub prefix_none : (options : Options) (bytes : List ℕ) (a : Option (List ℕ)) → PrefixOf options (asked_of bytes) a a
-prefix_none options bytes a = none_by options bytes (asked_of bytes) a refl
+pub prefix_none : (options : Options) (bytes : List ℕ) (a : Option (List ℕ)) → PrefixOf options (parsed_of bytes) a a
+prefix_none options bytes a = none_by options bytes (parsed_of bytes) a refl
 
 pub prefix_shown : (options : Options) (p : Result SceneValue ScriptFault) (scene : SceneValue) (a b : Option (List ℕ)) → p ≡ Ok scene → ShowsRunPart options.run options.summary scene a b → PrefixOf options p a b
 prefix_shown options p scene a b is h = subst (λ (q : Result SceneValue ScriptFault). PrefixOf options q a b) (sym is) h
@@ -233,20 +186,20 @@ pub prefix_refused : (options : Options) (p : Result SceneValue ScriptFault) (fa
 prefix_refused options p fault a b is h = subst (λ (q : Result SceneValue ScriptFault). PrefixOf options q a b) (sym is) h
 
 pub writes_none : (options : Options) (left a b : Option (List ℕ)) → b ≡ a → WritesPrefix (Some options) left a b
-writes_none options left a b e = λ bytes told. subst (PrefixOf options (asked_of bytes) a) (sym e) (prefix_none options bytes a)
+writes_none options left a b e = λ bytes told. subst (PrefixOf options (parsed_of bytes) a) (sym e) (prefix_none options bytes a)
 
 -- a prefix was written of what the script that was played asks for
 pub writes_script : (options : Options) (left rest : Option (List ℕ)) (script : List ℕ) (a b : Option (List ℕ)) → IsScript options left rest script →
-    PrefixOf options (asked_of script) a b → WritesPrefix (Some options) left a b
+    PrefixOf options (parsed_of script) a b → WritesPrefix (Some options) left a b
 writes_script options left rest script a b s h = λ bytes told.
-    subst (λ (t : List ℕ). PrefixOf options (asked_of t) a b) (sym (same_script options left rest script bytes s told)) h
+    subst (λ (t : List ℕ). PrefixOf options (parsed_of t) a b) (sym (same_script options left rest script bytes s told)) h
 
 -- too many bytes were read, and a prefix was written of the record that says so
 pub writes_too_long : (options : Options) (left rest a b : Option (List ℕ)) → is_gen options.run ≡ false → Took left rest 1048577 → TookPrefix a b (fault_bytes (at_no_place 9)) →
     WritesPrefix (Some options) left a b
 writes_too_long options left rest a b reads took h = λ bytes told.
     let many : Took (Some bytes) rest 1048577 = subst (λ (l : Option (List ℕ)). Took l rest 1048577) (told_read options left bytes reads told) took in
-    prefix_refused options (asked_of bytes) (at_no_place 9) a b (too_long_fault bytes (too_many bytes rest many)) h
+    prefix_refused options (parsed_of bytes) (at_no_place 9) a b (too_long_fault bytes (too_many bytes rest many)) h
 
 -- the status of a refusal
 pub refusal_range : (n : ℕ) → (n ≡ 2) ⊎ ((n ≡ 4) ⊎ (n ≡ 5)) → (n ≤ 5) × ((n ≢ 1) × (n ≢ 3))

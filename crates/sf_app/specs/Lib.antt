@@ -1,4 +1,3 @@
-pub mod Scripts
 pub mod Words
 pub mod Shown
 pub mod Statuses

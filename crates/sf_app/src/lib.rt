@@ -10,7 +10,6 @@
 mod laws;
 mod live;
 mod play;
-mod script;
 mod session;
 mod summary;
 mod words;

@@ -1,10 +1,9 @@
-ghost use Rattle.std.specs.Prelude.{◌≡◌, ◌≤◌, true, OnErr, OnOk, IsErrOf};
+ghost use Rattle.std.specs.Prelude.{◌≡◌, ◌≤◌, OnErr, OnOk, IsErrOf};
 ghost use Rattle.sf_io.specs.Causes.{Rose};
 ghost use Rattle.sf_record.specs.declared.encode.RunFault.TheVariants.{WriteFault};
 ghost use Rattle.sf_cast.specs.Scripts.{permits_of};
 ghost use Rattle.sf_live.specs.Runs.{WroteLive};
 ghost use Rattle.sf_show.specs.Writing.{CutSome};
-ghost use Rattle.sf_app.specs.Scripts.{is_played};
 
 use sf_base::NoMemory;
 use sf_cast::permits_for;
@@ -30,7 +29,6 @@ fn live_with<R: Threads + Wait + Sync, K: Sink, G: Gate + Sync>(
 ) -> Result<(), RunFault>
     requires some { 1 ≤ workers }
     requires few { workers ≤ 16 }
-    requires played { is_played scene ≡ true }
     requires counted { permits ≡ permits_of scene.actors }
     ensures ok { OnOk result (WroteLive scene (K.taken sink.old) (K.taken sink.new)) }
     ensures err { OnErr result (CutSome (K.taken sink.old) (K.taken sink.new)) }
@@ -57,7 +55,6 @@ pub fn live<R: Threads + Wait + Sync, K: Sink, G: Gate + Sync>(
 ) -> Result<(), RunFault>
     requires some { 1 ≤ workers }
     requires few { workers ≤ 16 }
-    requires played { is_played scene ≡ true }
     ensures ok { OnOk result (WroteLive scene (K.taken sink.old) (K.taken sink.new)) }
     ensures err { OnErr result (CutSome (K.taken sink.old) (K.taken sink.new)) }
     ensures later { K.faults sink.old ≤ K.faults sink.new }
@@ -65,7 +62,7 @@ pub fn live<R: Threads + Wait + Sync, K: Sink, G: Gate + Sync>(
 {
     match permits_for(scene.actors.as_slice()) {
         Some(permits) => live_with(rt, alloc, workers, sink, gate, scene, permits),
-        // No scene comes to it: 16 actors have at most 4,096 steps each.
+        // No scene comes to it: 64 actors have at most 4,096 steps each.
         None => Err(RunFault::NoMemory),
     }
 }

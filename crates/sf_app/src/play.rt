@@ -1,9 +1,8 @@
-ghost use Rattle.std.specs.Prelude.{◌≡◌, ◌≤◌, true, OnErr, OnOk, IsErrOf};
+ghost use Rattle.std.specs.Prelude.{◌≡◌, ◌≤◌, OnErr, OnOk, IsErrOf};
 ghost use Rattle.sf_io.specs.Causes.{Rose};
 ghost use Rattle.sf_record.specs.declared.encode.RunFault.TheVariants.{WriteFault};
 ghost use Rattle.sf_cast.specs.Scripts.{permits_of};
 ghost use Rattle.sf_show.specs.Runs.{CutRun, WroteRun};
-ghost use Rattle.sf_app.specs.Scripts.{is_played};
 
 use sf_base::NoMemory;
 use sf_cast::permits_for;
@@ -28,7 +27,6 @@ fn play_with<R: Threads + Sync, K: Sink>(
 ) -> Result<(), RunFault>
     requires some { 1 ≤ workers }
     requires few { workers ≤ 16 }
-    requires played { is_played scene ≡ true }
     requires counted { permits ≡ permits_of scene.actors }
     ensures ok { OnOk result (WroteRun scene (K.taken sink.old) (K.taken sink.new)) }
     ensures err { OnErr result (CutRun scene (K.taken sink.old) (K.taken sink.new)) }
@@ -54,7 +52,6 @@ pub fn play<R: Threads + Sync, K: Sink>(
 ) -> Result<(), RunFault>
     requires some { 1 ≤ workers }
     requires few { workers ≤ 16 }
-    requires played { is_played scene ≡ true }
     ensures ok { OnOk result (WroteRun scene (K.taken sink.old) (K.taken sink.new)) }
     ensures err { OnErr result (CutRun scene (K.taken sink.old) (K.taken sink.new)) }
     ensures later { K.faults sink.old ≤ K.faults sink.new }
@@ -62,7 +59,7 @@ pub fn play<R: Threads + Sync, K: Sink>(
 {
     match permits_for(scene.actors.as_slice()) {
         Some(permits) => play_with(rt, alloc, workers, sink, scene, permits),
-        // No scene comes to it: 16 actors have at most 4,096 steps each.
+        // No scene comes to it: 64 actors have at most 4,096 steps each.
         None => Err(RunFault::NoMemory),
     }
 }

@@ -7,22 +7,21 @@ ghost use Rattle.sf_options.specs.Options.{options_of};
 ghost use Rattle.sf_options.specs.declared.options.Options.{Options as OptionsValue};
 ghost use Rattle.sf_record.specs.declared.encode.RunFault.TheVariants.{WriteFault};
 ghost use Rattle.sf_scene.specs.Scene.{SceneValue};
+ghost use Rattle.sf_script.specs.Parse.{parsed_of};
 ghost use Rattle.sf_script.specs.declared.fault.ScriptFault.{ScriptFault};
 ghost use Rattle.sf_show.specs.Writing.{CutSome};
-ghost use Rattle.sf_app.specs.Scripts.{asked_of, is_played};
 ghost use Rattle.sf_app.specs.Shown.{ShowsRun, ShowsRunPart};
-ghost use Rattle.sf_app.specs.Statuses.{MeansScript, PlayedScript, PrefixOf, RefusedScript, WritesPrefix, fault_bytes};
+ghost use Rattle.sf_app.specs.Statuses.{MeansScript, PlayedScript, PrefixOf, RefusedScript, WritesPrefix, at_no_place, fault_bytes};
 ghost use Rattle.sf_app.specs.Words.{IsTold, is_gen};
 
 use crate::live::live;
-use crate::script::{at_no_place, scene_of};
 use crate::summary::show;
 use crate::words::script_asked;
 use sf_io::{Gate, ReadFault, Sink, Source};
 use sf_options::{Options, OptionsFault, Run};
 use sf_record::{Record, RunFault, write_record};
 use sf_scene::Scene;
-use sf_script::{ParseFault, ScriptFault};
+use sf_script::{ParseFault, ScriptFault, parse};
 use std::alloc::Global;
 use std::sync::Wait;
 use std::thread::Threads;
@@ -44,6 +43,17 @@ const WRITE_FAILED: u8 = 4;
 
 /// The status of a run that found no memory.
 const NO_MEMORY: u8 = 5;
+
+// The fault of this cause, which has no place.
+fn at_no_place(cause: u32) -> ScriptFault
+    ensures { result ≡ at_no_place cause }
+{
+    ScriptFault {
+        line: 0,
+        word: 0,
+        cause,
+    }
+}
 
 // Writes the place of a script's fault.
 fn refuse<K: Sink>(alloc: Global, sink: &mut K, fault: ScriptFault) -> u8
@@ -73,7 +83,6 @@ fn show_run<R: Threads + Wait + Sync, K: Sink, G: Gate + Sync>(
 ) -> Result<(), RunFault>
     requires some { 1 ≤ options.workers }
     requires few { options.workers ≤ 16 }
-    requires played { is_played scene ≡ true }
     ensures ok { OnOk result (ShowsRun options.run options.summary scene (K.taken sink.old) (K.taken sink.new)) }
     ensures err { OnErr result (ShowsRunPart options.run options.summary scene (K.taken sink.old) (K.taken sink.new)) }
     ensures later { K.faults sink.old ≤ K.faults sink.new }
@@ -96,7 +105,6 @@ fn play_scene<R: Threads + Wait + Sync, K: Sink, G: Gate + Sync>(
 ) -> u8
     requires some { 1 ≤ options.workers }
     requires few { options.workers ≤ 16 }
-    requires played { is_played scene ≡ true }
     ensures played { result ≡ 0 → ShowsRun options.run options.summary scene (K.taken sink.old) (K.taken sink.new) }
     ensures part { ShowsRunPart options.run options.summary scene (K.taken sink.old) (K.taken sink.new) }
     ensures write_failed { result ≡ 4 → Rose (K.faults sink.old) (K.faults sink.new) }
@@ -121,17 +129,17 @@ fn play_script<R: Threads + Wait + Sync, K: Sink, G: Gate + Sync>(
 ) -> u8
     requires some { 1 ≤ options.workers }
     requires few { options.workers ≤ 16 }
-    ensures played { result ≡ 0 → (scene : SceneValue) × (asked_of script.now ≡ Ok scene)
+    ensures played { result ≡ 0 → (scene : SceneValue) × (parsed_of script.now ≡ Ok scene)
         × ShowsRun options.run options.summary scene (K.taken sink.old) (K.taken sink.new) }
-    ensures refused { result ≡ 2 → (fault : ScriptFault) × (asked_of script.now ≡ Err fault) × Appends (K.taken sink.old) (K.taken sink.new) (fault_bytes fault) }
-    ensures prefix { PrefixOf options (asked_of script.now) (K.taken sink.old) (K.taken sink.new) }
+    ensures refused { result ≡ 2 → (fault : ScriptFault) × (parsed_of script.now ≡ Err fault) × Appends (K.taken sink.old) (K.taken sink.new) (fault_bytes fault) }
+    ensures prefix { PrefixOf options (parsed_of script.now) (K.taken sink.old) (K.taken sink.new) }
     ensures cut { CutSome (K.taken sink.old) (K.taken sink.new) }
     ensures write_failed { result ≡ 4 → Rose (K.faults sink.old) (K.faults sink.new) }
     ensures range { result ≤ 5 }
     ensures begun { result ≢ 1 }
     ensures read { result ≢ 3 }
 {
-    match scene_of(alloc, script) {
+    match parse(alloc, script) {
         Ok(scene) => play_scene(rt, alloc, options, sink, gate, scene),
         Err(ParseFault::Script(fault)) => refuse(alloc, sink, fault),
         Err(ParseFault::NoMemory) => NO_MEMORY,
@@ -212,7 +220,7 @@ fn follow<R: Threads + Wait + Sync, S: Source, K: Sink, G: Gate + Sync>(
 /// |---|---|
 /// | 0 | the script was read to its end and is a scene, or was generated, and what shows its run was written |
 /// | 1 | the words are wrong. Nothing is read or written |
-/// | 2 | the bytes are no scene, or one that is not played yet, or they are more than 1,048,576; the record SFLT was written |
+/// | 2 | the bytes are no scene, or more than 1,048,576; the record SFLT was written |
 /// | 3 | the source failed; nothing is written |
 /// | 4 | the sink failed |
 /// | 5 | want of memory |
@@ -257,10 +265,10 @@ pub fn run<R: Threads + Wait + Sync, S: Source, K: Sink, G: Gate + Sync>(
 
     // Right words, a script that is told, and no count of faults that rose: the run is whole, or the script refused, but for want of memory.
     ensures complete { (options : OptionsValue) (bytes : List ℕ) (scene : SceneValue) → options_of (map string_bytes words.now) ≡ Some options
-        → IsTold options (S.left source.old) bytes → asked_of bytes ≡ Ok scene
+        → IsTold options (S.left source.old) bytes → parsed_of bytes ≡ Ok scene
         → ¬ Rose (S.faults source.old) (S.faults source.new) → ¬ Rose (K.faults sink.old) (K.faults sink.new) → (result ≡ 0) ⊎ (result ≡ 5) }
     ensures complete_refusal { (options : OptionsValue) (bytes : List ℕ) (fault : ScriptFault) → options_of (map string_bytes words.now) ≡ Some options
-        → IsTold options (S.left source.old) bytes → asked_of bytes ≡ Err fault
+        → IsTold options (S.left source.old) bytes → parsed_of bytes ≡ Err fault
         → ¬ Rose (S.faults source.old) (S.faults source.new) → ¬ Rose (K.faults sink.old) (K.faults sink.new) → (result ≡ 2) ⊎ (result ≡ 5) }
 {
     follow(rt, alloc, words, source, sink, gate)

@@ -1,7 +1,6 @@
 ghost use Rattle.std.specs.Prelude.{◌≡◌, ◌≤◌, false, true, OnErr, OnOk, IsErrOf};
 ghost use Rattle.sf_io.specs.Causes.{Rose};
 ghost use Rattle.sf_record.specs.declared.encode.RunFault.TheVariants.{WriteFault};
-ghost use Rattle.sf_app.specs.Scripts.{is_played};
 ghost use Rattle.sf_app.specs.Shown.{ShowsPart, ShowsPlay};
 
 use crate::play::play;
@@ -23,7 +22,6 @@ fn sum_up<R: Threads + Sync, K: Sink>(
 ) -> Result<(), RunFault>
     requires some { 1 ≤ workers }
     requires few { workers ≤ 16 }
-    requires played { is_played scene ≡ true }
     ensures ok { OnOk result (ShowsPlay true scene (K.taken sink.old) (K.taken sink.new)) }
     ensures err { OnErr result (ShowsPart true scene (K.taken sink.old) (K.taken sink.new)) }
     ensures later { K.faults sink.old ≤ K.faults sink.new }
@@ -49,7 +47,6 @@ pub fn show<R: Threads + Sync, K: Sink>(
 ) -> Result<(), RunFault>
     requires some { 1 ≤ workers }
     requires few { workers ≤ 16 }
-    requires played { is_played scene ≡ true }
     ensures ok { OnOk result (ShowsPlay summary scene (K.taken sink.old) (K.taken sink.new)) }
     ensures err { OnErr result (ShowsPart summary scene (K.taken sink.old) (K.taken sink.new)) }
     ensures later { K.faults sink.old ≤ K.faults sink.new }

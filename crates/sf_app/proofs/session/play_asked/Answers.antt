@@ -1,6 +1,5 @@
 use Rattle.std.proofs.Common.{ap, Err, refl}
-use Rattle.sf_app.specs.Scripts.{at_no_place}
-use Rattle.sf_app.specs.Statuses.{too_long}
+use Rattle.sf_app.specs.Statuses.{at_no_place, too_long}
 use Rattle.sf_app.proofs.StatusLemmas.{cut_nothing, played_script, refusal_is_late, refusal_range, refused_script, writes_none, writes_script, writes_too_long}
 use Rattle.sf_app.proofs.session.play_asked.Goals as goal
 

@@ -1,17 +1,17 @@
-use Rattle.sf_app.specs.Scripts.{asked_of}
+use Rattle.sf_script.specs.Parse.{parsed_of}
 use Rattle.sf_app.proofs.StatusLemmas.{cut_nothing, prefix_none, prefix_refused, prefix_shown, refusal_is_late, refusal_range, run_cut}
 use Rattle.sf_app.proofs.session.play_script.Goals as goal
 
 pub returns-in-Ok-clause-played : goal.returns-in-Ok-clause-played
-returns-in-Ok-clause-played g c = λ done. (c.in-Ok.scene, c.in-Ok.ensures.gives, c.play_scene.ensures.played done)
+returns-in-Ok-clause-played g c = λ done. (c.in-Ok.scene, c.in-Ok.ensures, c.play_scene.ensures.played done)
 
 pub returns-in-Ok-clause-refused : goal.returns-in-Ok-clause-refused
 returns-in-Ok-clause-refused g c = λ two. absurd (c.play_scene.ensures.other.1.0 two)
 
 pub returns-in-Ok-clause-prefix : goal.returns-in-Ok-clause-prefix
 returns-in-Ok-clause-prefix g c =
-    prefix_shown c.args.options (asked_of c.args.script.now) c.in-Ok.scene (g.K.Sink.taken c.args.sink.now) (g.K.Sink.taken c.play_scene.new.sink)
-    c.in-Ok.ensures.gives c.play_scene.ensures.part
+    prefix_shown c.args.options (parsed_of c.args.script.now) c.in-Ok.scene (g.K.Sink.taken c.args.sink.now) (g.K.Sink.taken c.play_scene.new.sink)
+    c.in-Ok.ensures c.play_scene.ensures.part
 
 pub returns-in-Ok-clause-begun : goal.returns-in-Ok-clause-begun
 returns-in-Ok-clause-begun g c = c.play_scene.ensures.other.0
@@ -23,12 +23,12 @@ pub returns-in-Err-Script-clause-played : goal.returns-in-Err-Script-clause-play
 returns-in-Err-Script-clause-played g c = λ zero. absurd (refusal_is_late c.refuse.result c.refuse.ensures.range zero)
 
 pub returns-in-Err-Script-clause-refused : goal.returns-in-Err-Script-clause-refused
-returns-in-Err-Script-clause-refused g c = λ h. (c.in-Err-Script.fault, rw c.in-Err-Script.field-0-is at c.in-Err-Script.ensures.gives, rw c.in-Err-Script.fault-is at (c.refuse.ensures.faulty h))
+returns-in-Err-Script-clause-refused g c = λ h. (c.in-Err-Script.fault, rw c.in-Err-Script.field-0-is at c.in-Err-Script.ensures, rw c.in-Err-Script.fault-is at (c.refuse.ensures.faulty h))
 
 pub returns-in-Err-Script-clause-prefix : goal.returns-in-Err-Script-clause-prefix
 returns-in-Err-Script-clause-prefix g c =
-    prefix_refused c.args.options (asked_of c.args.script.now) c.in-Err-Script.fault (g.K.Sink.taken c.args.sink.now) (g.K.Sink.taken c.refuse.new.sink)
-    (rw c.in-Err-Script.field-0-is at c.in-Err-Script.ensures.gives) (rw c.in-Err-Script.fault-is at c.refuse.ensures.prefix)
+    prefix_refused c.args.options (parsed_of c.args.script.now) c.in-Err-Script.fault (g.K.Sink.taken c.args.sink.now) (g.K.Sink.taken c.refuse.new.sink)
+    (rw c.in-Err-Script.field-0-is at c.in-Err-Script.ensures) (rw c.in-Err-Script.fault-is at c.refuse.ensures.prefix)
 
 pub returns-in-Err-Script-clause-range : goal.returns-in-Err-Script-clause-range
 returns-in-Err-Script-clause-range g c = (refusal_range c.refuse.result c.refuse.ensures.range).0
