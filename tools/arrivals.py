@@ -10,6 +10,8 @@ from typing import NamedTuple, Optional
 OK = 0
 # The steps that give a name a lent buffer: which of their words the name is, and which of their values begins the fence.
 LENDING = {"dequeue": (3, 3), "dequeuewait": (3, 3), "pattach": (4, 2)}
+# The steps that give a name a loose buffer.
+DETACHING = ("pdetach", "cdetach")
 # The words of a change that is of one kind with another one.
 KINDS = {"relative": "z"}
 # Changes that take no earlier one's place and lose none.
@@ -200,7 +202,7 @@ class Reader:
 
     def leave(self, state, words, values, by, moment):
         state.names.pop(words[1], None)
-        if "as" in words:
+        if words[0] in DETACHING:
             state.names[words[3]] = None
 
     do_cancel = do_release = do_pdetach = do_cdetach = leave

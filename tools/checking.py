@@ -5,6 +5,8 @@ replies, the arrivals, the commits with what they release, the calls on queues, 
 first part that is found not to hold refuses the records.
 """
 
+from collections import Counter
+
 from histories import History, check_histories_are_due
 from makers import Makers
 from ordering import Ordered, Refused, early_reply
@@ -131,7 +133,7 @@ def check_meaning(scene, shown):
     check_histories_are_due(scene, shown.histories)
     traces = traces_of(scene, shown)
     arrivals = arrivals_of(traces, shown.arrivals)
-    released = released_by(arrivals, shown.vsyncs)
+    released = released_by(scene, arrivals, shown.vsyncs)
     histories = {record.fields["queue"]: History(traces, record, released.get(record.fields["queue"], [])) for record in shown.histories}
     for history in histories.values():
         history.check()
@@ -155,6 +157,18 @@ def check_play(scene, records):
             raise Refused("play", f"record {place}, {record.tag}", f"the play of the scene has here: {wanted}")
 
 
+def counts(shown):
+    """How much of what a run shows was checked; captures and hits where there are some."""
+    outputs = Counter(output.tag for vsync in shown.vsyncs for output in vsync.outputs)
+    yield len(shown.replies), "replies"
+    yield len(shown.vsyncs), "vsyncs"
+    yield sum(len(vsync.commits) for vsync in shown.vsyncs), "commits"
+    yield outputs["FRAM"] + outputs["FRAD"], "frames"
+    for tag, things in (("CAPT", "captures"), ("HITS", "hits")):
+        if outputs[tag]:
+            yield outputs[tag], things
+
+
 def checked(script, records, is_play, is_live):
     """What the records come to whose meaning is the scene's. Raises NoScene, NoRun or Refused."""
     scene = read_scene(script)
@@ -169,5 +183,4 @@ def checked(script, records, is_play, is_live):
         raise Refused("live", early.text(), "replies of a live run stand behind the last vsync, by actor and step")
     if is_play:
         check_play(scene, records)
-    commits = sum(len(vsync.commits) for vsync in shown.vsyncs)
-    return f"{len(shown.replies)} replies, {len(shown.vsyncs)} vsyncs, {commits} commits, {sum(vsync.frame is not None for vsync in shown.vsyncs)} frames"
+    return ", ".join(f"{count} {things}" for count, things in counts(shown))

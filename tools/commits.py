@@ -5,11 +5,12 @@ from transactions import SHOW
 
 
 class Stage:
-    """The tree after the commits so far; on which layers frames are, each with the vsync that showed it first; of each layer the
-    greatest frame that was ever committed for it; and the layers that got a frame in this vsync, whose number is `vsync`."""
+    """The tree after the commits so far, which may have `most_layers`; on which layers frames are, each with the vsync that showed
+    it first; of each layer the greatest frame that was ever committed for it; and the layers that got a frame in this vsync, whose
+    number is `vsync`."""
 
-    def __init__(self):
-        self.tree, self.on, self.frames, self.fresh, self.vsync = {}, {}, {}, set(), 0
+    def __init__(self, most_layers):
+        self.tree, self.on, self.frames, self.fresh, self.vsync, self.most_layers = {}, {}, {}, set(), 0, most_layers
 
     def begin(self, vsync):
         self.fresh, self.vsync = set(), vsync
@@ -35,7 +36,7 @@ class Stage:
     def commit(self, txn):
         """Commits a transaction. Its result and operation, and the frames that go back, each with whether it was read."""
         operations, buffers = txn.operations(), txn.buffers()
-        self.tree, cause, place = after(self.tree, operations)
+        self.tree, cause, place = after(self.tree, operations, self.most_layers)
         if cause:
             return cause, place, [(frame, False) for _, frame in buffers]
         for layer, frame in buffers:

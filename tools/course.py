@@ -13,9 +13,10 @@ from typing import NamedTuple, Optional
 from arrivals import Reader
 from declarations import read_declarations
 from holds import Seen, why_held
-from layer_tree import Content, Tree
+from layer_tree import Content, Tree, drawn
 from scripts import read_script
 from slots import Slots, changes_of
+from stream import OUTPUTS, OWN_DISPLAY, place_of
 from summing import REASONS, Run, awaited_text
 from waits import Waits
 from wording import HOLDS, REJECTIONS
@@ -26,6 +27,8 @@ class NoCourse(Exception):
 
 
 NOT_OF_SCRIPT = "the script is not the one of these records"
+# The records that stand behind that of a vsync.
+BEHIND_VSYNC = ("COMM", *OUTPUTS)
 
 
 class Commit(NamedTuple):
@@ -55,16 +58,38 @@ class Reply(NamedTuple):
     moment: int
 
 
+class Place(NamedTuple):
+    """What shows images: the own display, a further one or a capture, by its tag and number, with its size; and the stack of a
+    display, or the layer of a capture."""
+
+    of: tuple
+    width: int
+    height: int
+    shows: int
+
+    def is_capture(self):
+        return self.of[0] == "CAPT"
+
+
+class Output(NamedTuple):
+    """What a place shows at a moment: the last image's place among all images, or None; whether it came with this vsync; whether a
+    later one should have come, as in a stream that was cut off; and how it is painted, None where that is not known. Of a layer
+    that is not there, a capture shows nothing."""
+
+    frame: Optional[int]
+    is_new: bool
+    is_missing: bool
+    drawn: Optional[list]
+
+
 class Moment:
     """What there is after a vsync, or at the end, where `number` is None: what it took, which transactions and which actors
-    wait, and the layers. `outline` and `drawn` are None where the records do
-    not tell the tree. `frame` is the place of the last frame among all frames, None before the first; `is_new` tells that it came
-    with this vsync, and `is_missing` that a later one should have come, as in a stream that was cut off."""
+    wait, the layers, what each place shows, and the layer that each hit met last. `outline` is None where the records do not
+    tell the tree."""
 
     def __init__(self, number, time, timelines):
         self.number, self.time, self.timelines = number, time, timelines
-        self.commits, self.held, self.waits = [], [], []
-        self.frame, self.is_new, self.is_missing, self.outline, self.drawn = None, False, False, None, None
+        self.commits, self.held, self.waits, self.outline, self.outputs, self.hits = [], [], [], None, [], {}
 
 
 class Queue(NamedTuple):
@@ -91,12 +116,21 @@ class Course:
         self.declarations = read_declarations(script)
         tags = [record.tag for record in self.records]
         self.is_live = "REPL" in tags and "VSYN" in tags and tags.index("VSYN") < tags.index("REPL")
-        self.replies, self.moments, self.frames, self.fault, self.is_missing = [], [], [], None, False
+        self.replies, self.moments, self.frames, self.fault = [], [], [], None
+        # The last image of each place; which places have one of this vsync; and which should have one and have none.
+        self.places, self.last, self.new, self.missing = self.places_shown(), {}, set(), set()
         self.reader = Reader(self.script, {number: picture[:2] for number, picture in self.declarations.pictures.items()})
         self.tree, self.shown, self.latched, self.committed = Tree(), {}, set(), set()
         self.follow()
         self.queues = [self.queue(number, calls) for number, calls in self.run.histories.items()]
         self.end()
+
+    def places_shown(self):
+        """What shows images, in the order in which a vsync writes them."""
+        declared, own = self.declarations, self.scene
+        displays = (Place(("FRAD", number), *display) for number, display in sorted(declared.displays.items()))
+        captures = (Place(("CAPT", number), width, height, layer) for number, (layer, width, height) in sorted(declared.captures.items()))
+        return [Place(OWN_DISPLAY, own["width"], own["height"], 0), *displays, *captures]
 
     # The replies.
 
@@ -130,15 +164,15 @@ class Course:
                 self.begin(record.fields)
             elif record.tag == "COMM" and self.moments:
                 self.commit(record.fields)
-            elif record.tag == "FRAM" and self.moments:
-                self.frames.append(record.fields["pixels"])
-                self.moments[-1].is_new = True
-            if record.tag in ("VSYN", "COMM", "FRAM") and self.moments and (following is None or following.tag not in ("COMM", "FRAM")):
+            elif record.tag in OUTPUTS and self.moments:
+                self.show(record.tag, record.fields)
+            if record.tag in ("VSYN", *BEHIND_VSYNC) and self.moments and (following is None or following.tag not in BEHIND_VSYNC):
                 self.settle()
 
     def begin(self, fields):
+        hits = dict(self.moments[-1].hits) if self.moments else {}
         self.moments.append(Moment(fields["number"], fields["expected"], dict(fields["timelines"])))
-        self.latched = set()
+        self.moments[-1].hits, self.latched, self.new = hits, set(), set()
 
     def commit(self, fields):
         number, result = fields["arrival"], fields["result"]
@@ -170,21 +204,44 @@ class Course:
         except (KeyError, StopIteration):
             self.fault = f"the operations of arrival {arrival.number} do not fit the layers that are there"
 
+    def show(self, tag, fields):
+        """Notes an image, or the layer that a hit meets."""
+        if tag == "HITS":
+            self.moments[-1].hits[fields["hit"]] = fields["layer"]
+            return
+        of = place_of(tag, fields)
+        self.frames.append(fields["pixels"])
+        self.last[of] = len(self.frames) - 1
+        self.new.add(of)
+
     def settle(self):
         """Notes what there is once a vsync has done all."""
         moment = self.moments[-1]
-        moment.frame = len(self.frames) - 1 if self.frames else None
         if any(commit.cause is None for commit in moment.commits):
-            self.is_missing = not moment.is_new
-        moment.is_missing = self.is_missing
+            self.missing = {place.of for place in self.places if place.of not in self.new and not self.shows_nothing(place)}
         self.note_tree(moment)
         if not self.is_live:
             moment.held = self.held_at(moment)
 
+    def shows_nothing(self, place):
+        """Whether a place is a capture of a layer that is not there, as far as that is known."""
+        return place.is_capture() and (self.fault is not None or place.shows not in self.tree.layers)
+
     def note_tree(self, moment):
+        """Notes the layers, and what each place shows of them."""
         if not self.fault:
             moment.outline = self.tree.outline()
-            moment.drawn = self.tree.drawn(self.scene["width"], self.scene["height"])
+        placed = self.tree.written(self.declarations.mirrors).placed()
+        for place in self.places:
+            is_gone = not self.fault and self.shows_nothing(place)
+            layers = None if self.fault else self.drawn_at(place, placed)
+            moment.outputs.append(Output(None if is_gone else self.last.get(place.of), place.of in self.new, place.of in self.missing, layers))
+
+    def drawn_at(self, place, placed):
+        """How the layers that a place shows are painted, where those of displays are placed like this."""
+        if not place.is_capture():
+            return drawn(placed, place.width, place.height, self.declarations.stacks, place.shows)
+        return [] if self.shows_nothing(place) else drawn(self.tree.alone(place.shows).placed(), place.width, place.height)
 
     # What waits.
 
@@ -257,8 +314,9 @@ class Course:
         """Adds the end of the run, and of each moment who waits."""
         last = self.moments[-1] if self.moments else None
         end = Moment(None, None, dict(self.run.reached))
-        end.frame, end.is_missing = (last.frame, last.is_missing) if last else (None, False)
+        self.new = set()
         self.note_tree(end)
+        end.hits = last.hits if last else {}
         end.held = [self.hold_of(arrival, tuple(hold), self.run) for arrival, *hold in self.run.held]
         end.waits = [(actor, step, awaited_text(self.run, actor, step).strip(": ")) for actor, step in self.run.stuck]
         self.moments.append(end)

@@ -7,9 +7,8 @@ from wording import FAULTS, named
 MOST_BYTES = 1_048_576
 # How much of a line is shown.
 MOST_COLUMNS = 120
-NOT_PLAYED, UNKNOWN_WORD, EXTRA_WORD, OUT_OF_ORDER, UNDEFINED, TWICE, LIMIT, UNENDED = 0, 2, 5, 6, 7, 8, 9, 10
+UNKNOWN_WORD, EXTRA_WORD, OUT_OF_ORDER, UNDEFINED, TWICE, LIMIT, UNENDED = 2, 5, 6, 7, 8, 9, 10
 MEANINGS = {
-    0: "the script is a scene, but has forms that are read and not played yet",
     1: "the line is not UTF-8",
     2: "the word begins no form, or another word has to stand here",
     3: "the word is not of its form and range",
@@ -35,7 +34,7 @@ class Above:
     def __init__(self, lines):
         self.lines = [(number, words) for number, words in enumerate(map(texts_of, lines), 1) if words]
         self.has_actor = any(words[0] == "actor" for _, words in self.lines)
-        self.version = 2 if any(words[:2] == ["scene", "2"] for _, words in self.lines) else 1
+        self.version = 2 if any(words[0] == "scene" and words[1:] and words[1].lstrip("0") == "2" for _, words in self.lines) else 1
 
     def declared(self, first_word):
         """The numbers that lines with this first word declare, each with its line."""
@@ -162,26 +161,14 @@ def shown_place(text, word):
     return line, " " * (len(before) + start - cut) + carets
 
 
-def not_played(lines):
-    """The first line and word that make a scene one that is not played yet, or None."""
-    for line, words in enumerate(map(texts_of, lines), 1):
-        if words[:1] == ["scene"] and len(words) > 1 and words[1].lstrip("0") == "2":
-            return line, 2
-        if words[:1] == ["set"] and words[3:4] == ["orient"] and words[4:]:
-            return line, 5
-    return None
-
-
 def explained(name, script, fault):
     """The lines that show a fault of the script of this name: `fault` has its line, word and cause."""
     line, word, cause = fault["line"], fault["word"], fault["cause"]
     lines, meaning = lines_of(script), MEANINGS.get(cause, "the cause has no name here")
     if line == 0 and cause == LIMIT:
         return [f"{name}: limit: the script has {len(script)} bytes, and may have {MOST_BYTES}"]
-    place = not_played(lines) if line == 0 and cause == NOT_PLAYED else (line, word) if line else None
-    if place is None:
+    if line == 0:
         return [f"{name}: {meaning}"]
-    line, word = place
     head = f"{name}:{line}:{word}: {named(FAULTS, cause)}: {meaning}"
     gutter = " " * len(str(line))
     if line > len(lines):

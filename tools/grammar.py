@@ -28,8 +28,9 @@ CHANGES = (
     "relative LAYER Z", "position PX PY", "crop PX PY CWIDTH CHEIGHT", "crop none", "alpha ALPHA", "hidden FLAG",
     "opaque FLAG", "colour COLOUR", "backpressure FLAG", "orient ORIENT",
 )
+FORMATS = ("rgba", "rgbx", "rgb565")
 WORDS = {
-    "VERSION": "1; 2 is read, and not played yet", "WIDTH": "1 to 1024, in pixels", "HEIGHT": "1 to 1024, in pixels",
+    "VERSION": "1 or 2", "WIDTH": "1 to 1024, in pixels", "HEIGHT": "1 to 1024, in pixels",
     "PERIOD": "1000000 to 1000000000, in nanoseconds", "TIMELINE": "a timeline that is declared above, 1 to 64",
     "QUEUE": "a queue that is declared above, 1 to 16", "ACTOR": "an actor, 1 to 16; in version 2, 1 to 64",
     "PICTURE": "a picture that is declared above, 1 to 256", "BWIDTH": "1 to 512, in pixels",
@@ -42,7 +43,7 @@ WORDS = {
     "TIME": "0 to 9223372036854775807, in nanoseconds", "TX": "1 to 64", "LAYER": "1 to 4294967295",
     "TOKEN": "1 to 4294967295", "PARENT": "none, or a layer, 0 being the root", "Z": "-2147483648 to 2147483647",
     "PX": "-16384 to 16384, in pixels", "PY": "-16384 to 16384, in pixels", "CWIDTH": "0 to 16384, in pixels",
-    "CHEIGHT": "0 to 16384, in pixels", "ALPHA": "0 to 255", "ORIENT": "0 to 7; read, and not played yet",
+    "CHEIGHT": "0 to 16384, in pixels", "ALPHA": "0 to 255", "ORIENT": "0 to 7: the quarter turns clockwise, and 4 more where it is mirrored before",
     "PICK": "v or an actor's number, alone or with * and 1 to 256 behind it, as 1*20",
     "DISPLAY": "2 to 8", "CAPTURE": "1 to 8", "HIT": "1 to 64", "STACK": "0 to 4294967295", "FORMAT": "rgba, rgbx or rgb565",
 }

@@ -1,12 +1,14 @@
-"""The layer tree as transactions change it, and what of it a display shows.
+"""The layer tree as transactions change it, and what of it a display or a capture shows.
 
-The rules stand in docs/SCRIPT.md, under Layers and The frame.
+The rules stand in docs/SCRIPT.md, under Layers, The frame, and Further displays, captures, hits and mirrors.
 """
 
 from typing import NamedTuple, Optional
 
 ROOT = 0
 OPAQUE_ALPHA = 255
+# Further than any layer reaches.
+FAR = 1 << 40
 
 
 def product(a, b):
@@ -26,7 +28,8 @@ class Content(NamedTuple):
 
 
 class Layer(NamedTuple):
-    """A layer: `parent` is ROOT, another layer or None, `relative` another layer or None."""
+    """A layer: `parent` is ROOT, another layer or None, `relative` another layer or None. The number of a copy that a mirror shows
+    is a pair, of the mirror and of the original."""
 
     number: int
     kind: str
@@ -39,21 +42,28 @@ class Layer(NamedTuple):
     hidden: bool = False
     opaque: bool = False
     colour: str = "000000ff"
+    orient: int = 0
     backpressure: bool = False
     content: Optional[Content] = None
 
     def draw_parent(self):
         return self.parent if self.relative is None else self.relative
 
+    def has_content(self):
+        return self.kind == "colour" or (self.kind == "buffer" and self.content is not None)
+
 
 class Drawn(NamedTuple):
-    """A layer as it is painted: its place, what of the display it covers, its alpha with those above it, and what it shows."""
+    """A layer as it is painted: its place, what of the display it covers, its alpha with those above it, and what it shows. Of a copy
+    `layer` is the original, and `mirror` the mirror that shows it."""
 
     layer: int
+    mirror: Optional[int]
     place: tuple
     clip: tuple
     alpha: int
     opaque: bool
+    orient: int
     colour: Optional[str]
     content: Optional[Content]
 
@@ -83,8 +93,8 @@ def changed(layer, change, content):
         return layer._replace(position=numbers(rest))
     if word == "colour":
         return layer._replace(colour=rest[0].lower())
-    if word == "alpha":
-        return layer._replace(alpha=int(rest[0]))
+    if word in ("alpha", "orient"):
+        return layer._replace(**{word: int(rest[0])})
     return layer._replace(**{word: int(rest[0]) == 1})
 
 
@@ -99,11 +109,47 @@ def moved(rectangle, place):
     return rectangle[0] + place[0], rectangle[1] + place[1], rectangle[2], rectangle[3]
 
 
+class Placement(NamedTuple):
+    """Where a layer is with all above it: its place, its alpha, what their crops leave, and the uppermost of them."""
+
+    place: tuple
+    alpha: int
+    clip: tuple
+    uppermost: object
+
+    def below(self, layer):
+        """Where a layer is whose parent is here."""
+        place = self.place[0] + layer.position[0], self.place[1] + layer.position[1]
+        clip = intersection(self.clip, moved(layer.crop, place)) if layer.crop else self.clip
+        return Placement(place, product(self.alpha, layer.alpha), clip, layer.number if self.uppermost is None else self.uppermost)
+
+
+EVERYWHERE = Placement((0, 0), OPAQUE_ALPHA, (-FAR, -FAR, 2 * FAR, 2 * FAR), None)
+
+
+def drawn_at(layer, placement, display):
+    """How a layer that has something to show is painted on a display."""
+    mirror, number = layer.number if isinstance(layer.number, tuple) else (None, layer.number)
+    place, clip = placement.place, intersection(display, placement.clip)
+    if layer.kind == "colour":
+        return Drawn(number, mirror, place, clip, placement.alpha, layer.opaque, 0, layer.colour, None)
+    width, height = layer.content.crop[2:]
+    box = (*place, height, width) if layer.orient % 2 else (*place, width, height)
+    return Drawn(number, mirror, place, intersection(clip, box), placement.alpha, layer.opaque, layer.orient, None, layer.content)
+
+
+def drawn(placed, width, height, stacks=None, stack=0):
+    """The layers of those that are placed which a display of this size shows: those of its stack, where the stacks of layers are
+    given."""
+    return [drawn_at(layer, placement, (0, 0, width, height)) for layer, placement in placed
+            if stacks is None or stacks.get(placement.uppermost, 0) == stack]
+
+
 class Tree:
     """The layers that are there, by number, the oldest first."""
 
-    def __init__(self):
-        self.layers = {}
+    def __init__(self, layers=()):
+        self.layers = dict(layers)
 
     def apply(self, operation, content):
         """Does an operation that can be done; `content` is the frame where it shows one."""
@@ -115,13 +161,6 @@ class Tree:
             self.layers = {other: without(layer, number) for other, layer in self.layers.items()}
         else:
             self.layers[number] = changed(self.layers[number], change, content)
-
-    def ancestry(self, layer):
-        """A layer and its ancestors, from the one at the root, or the one without a parent, down."""
-        line = [layer]
-        while line[-1].parent in self.layers:
-            line.append(self.layers[line[-1].parent])
-        return line[::-1]
 
     def shown(self):
         """The numbers of the layers that are shown."""
@@ -171,24 +210,51 @@ class Tree:
             left += [(child, True) for child in reversed(children) if child.z < 0]
         return order
 
-    def drawn(self, width, height):
-        """The layers that a display of this size shows and that have something to show, from the back to the front."""
-        return [drawn for drawn in (self.placed(layer, width, height) for layer in self.draw_order()) if drawn]
+    def below(self, number):
+        """A layer and those that reach it by their parents, the oldest first."""
+        children, reached, left = self.children(lambda layer: layer.parent, self.layers), set(), [number]
+        while left:
+            reached.add(left[-1])
+            left += [child.number for child in children.get(left.pop(), [])]
+        return [layer for layer in self.layers.values() if layer.number in reached]
 
-    def placed(self, layer, width, height):
-        """How a layer is painted, or None where it shows nothing itself."""
-        if layer.kind == "container" or (layer.kind == "buffer" and layer.content is None):
-            return None
-        place, alpha, clip = (0, 0), OPAQUE_ALPHA, (0, 0, width, height)
-        for above in self.ancestry(layer):
-            place = place[0] + above.position[0], place[1] + above.position[1]
-            alpha = product(alpha, above.alpha)
-            if above.crop:
-                clip = intersection(clip, moved(above.crop, place))
-        if layer.kind == "colour":
-            return Drawn(layer.number, place, clip, alpha, layer.opaque, layer.colour, None)
-        box = (*place, *layer.content.crop[2:])
-        return Drawn(layer.number, place, intersection(clip, box), alpha, layer.opaque, None, layer.content)
+    def alone(self, number):
+        """The tree of a layer at the root with all below it, as a capture shows it."""
+        kept = {layer.number: layer for layer in self.below(number)}
+        kept = {other: layer._replace(relative=layer.relative if layer.relative in kept else None) for other, layer in kept.items()}
+        kept[number] = kept[number]._replace(parent=ROOT, relative=None, position=(0, 0))
+        return Tree(kept)
+
+    def copies(self, mirror, number):
+        """Copies of a layer with all below it, for a mirror."""
+        originals = {layer.number for layer in self.below(number)}
+        for layer in self.below(number):
+            relative = (mirror, layer.relative) if layer.relative in originals else None
+            copy = layer._replace(number=(mirror, layer.number), parent=(mirror, layer.parent), relative=relative)
+            yield copy._replace(parent=mirror, relative=None, z=0, position=(0, 0)) if layer.number == number else copy
+
+    def written(self, mirrors):
+        """The tree with the copies that its mirrors show."""
+        whole = Tree(self.layers)
+        for mirror, number in mirrors.items():
+            if number in self.layers and mirror in self.layers and self.layers[mirror].kind == "container":
+                whole.layers.update((copy.number, copy) for copy in self.copies(mirror, number))
+        return whole
+
+    def placement(self, layer, known):
+        """Where a layer is with all above it; what was found is kept in `known`."""
+        way = [layer]
+        while way[-1].number not in known and way[-1].parent in self.layers:
+            way.append(self.layers[way[-1].parent])
+        for below in reversed(way):
+            if below.number not in known:
+                known[below.number] = known.get(below.parent, EVERYWHERE).below(below)
+        return known[layer.number]
+
+    def placed(self):
+        """The layers that are shown and have something to show, from the back to the front, each with where it is."""
+        known = {}
+        return [(layer, self.placement(layer, known)) for layer in self.draw_order() if layer.has_content()]
 
     def outline(self):
         """The layers with how deep each stands, parents before children, those in front first; then those that no parents

@@ -2,6 +2,8 @@
 
 from typing import NamedTuple
 
+from stream import OUTPUTS
+
 
 class Refused(Exception):
     """The records do not mean what their scene allows: the part that does not hold, the place in the stream, and why."""
@@ -24,11 +26,11 @@ class Numbered(NamedTuple):
 
 
 class Vsync(NamedTuple):
-    """The records of a vsync; `frame` is None where it has none."""
+    """The records of a vsync: its own, those of its commits, and those of what it shows."""
 
     record: Numbered
     commits: list
-    frame: Numbered
+    outputs: list
 
 
 class Shown:
@@ -61,24 +63,24 @@ class Ordered:
         self.at += 1
         return record
 
-    def take_all(self, tag):
+    def take_all(self, *tags):
         taken = []
-        while self.tag() == tag:
-            taken.append(self.take(tag))
+        while self.tag() in tags:
+            taken.append(self.take(self.tag()))
         return taken
 
     def vsync(self):
-        vsync = self.take("VSYN")
-        commits = self.take_all("COMM")
-        frame = self.take("FRAM") if self.tag() == "FRAM" else None
-        if frame and frame.fields["number"] != vsync.fields["number"]:
-            raise Refused("order", frame.text(), f"it is of vsync {frame.fields['number']}, and stands behind VSYN {vsync.fields['number']}")
-        return Vsync(vsync, commits, frame)
+        vsync = Vsync(self.take("VSYN"), self.take_all("COMM"), self.take_all(*OUTPUTS))
+        number = vsync.record.fields["number"]
+        for output in vsync.outputs:
+            if output.fields["number"] != number:
+                raise Refused("order", output.text(), f"it is of vsync {output.fields['number']}, and stands behind VSYN {number}")
+        return vsync
 
     def shown(self, scene):
         """What all records show, in the order that a run of this scene has."""
         opening, shown = self.take("SCEN"), Shown()
-        expected = {"version": 1, "width": scene.width, "height": scene.height, "period": scene.period}
+        expected = {"version": scene.version, "width": scene.width, "height": scene.height, "period": scene.period}
         if opening.fields != expected:
             raise Refused("order", opening.text(), f"it says {list(opening.fields.values())}, and the script {list(expected.values())}")
         while self.tag() in ("REPL", "VSYN"):

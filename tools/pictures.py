@@ -5,11 +5,14 @@ import struct
 import zlib
 from typing import NamedTuple
 
+from scenes import read_scene
+from stream import IMAGES, OWN_DISPLAY, place_of, place_text
+
 SIGNATURE = b"\x89PNG\r\n\x1a\n"
 
 
 class Frame(NamedTuple):
-    """A frame with the number of its vsync and the time at which it is expected, in nanoseconds."""
+    """An image with the number of its vsync and the time at which it is expected, in nanoseconds."""
 
     number: int
     time: int
@@ -17,7 +20,7 @@ class Frame(NamedTuple):
 
 
 class Frames(NamedTuple):
-    """The frames of a run, with the display's size and the time from a vsync to the next."""
+    """The frames of a display or a capture, with its size and the time from a vsync to the next."""
 
     width: int
     height: int
@@ -45,29 +48,58 @@ def png(width, height, pixels):
     return SIGNATURE + header(width, height) + chunk(b"IDAT", zlib.compress(rows)) + chunk(b"IEND", b"")
 
 
-def frames_in(records):
-    """The frames that have the display's size."""
-    width, height, period, times, frames = 0, 0, 0, {}, []
+def frames_by_place(records, sizes):
+    """The frames of each place that have its size: those of the own display, and those of further displays and captures, whose
+    sizes are these."""
+    sizes, period, times, runs = dict(sizes), 0, {}, {}
     for record in records:
         if record.fields is None:
             continue
         if record.tag == "SCEN":
-            width, height, period = (record.fields[name] for name in ("width", "height", "period"))
+            sizes[OWN_DISPLAY], period = (record.fields["width"], record.fields["height"]), record.fields["period"]
         elif record.tag == "VSYN":
             times[record.fields["number"]] = record.fields["expected"]
-        elif record.tag == "FRAM" and 0 < width * height * 4 == len(record.fields["pixels"]):
-            number = record.fields["number"]
-            frames.append(Frame(number, times.get(number, number * period), record.fields["pixels"]))
-    return Frames(width, height, period, frames)
+        elif record.tag in IMAGES:
+            place, number, pixels = place_of(record.tag, record.fields), record.fields["number"], record.fields["pixels"]
+            width, height = sizes.get(place, (0, 0))
+            if 0 < width * height * 4 == len(pixels):
+                runs.setdefault(place, Frames(width, height, period, [])).frames.append(Frame(number, times.get(number, number * period), pixels))
+    return runs
 
 
-def write_frames(folder, records):
-    """Writes each frame into the folder, and answers the paths."""
+def frames_in(records):
+    """The frames of the own display."""
+    return frames_by_place(records, {}).get(OWN_DISPLAY, Frames(0, 0, 0, []))
+
+
+def has_further(records):
+    """Whether the records have images whose size only the script tells."""
+    return any(record.fields is not None and record.tag in IMAGES and record.tag != "FRAM" for record in records)
+
+
+def sizes_in(script):
+    """The sizes of the further displays and captures that a script declares. Raises NoScene where it is no scene."""
+    scene = read_scene(script)
+    return {**{("FRAD", number): display[:2] for number, display in scene.displays.items()},
+            **{("CAPT", number): capture[1:] for number, capture in scene.captures.items()}}
+
+
+def folder_of(place):
+    """The folder of a place's frames, below that of the own display."""
+    return "" if place == OWN_DISPLAY else place_text(place).replace(" ", "-")
+
+
+def write_frames(folder, records, sizes):
+    """Writes each image that has its size into the folder, those of further displays and captures into folders below, and answers
+    the paths."""
     os.makedirs(folder, exist_ok=True)
-    run, paths = frames_in(records), []
-    for frame in run.frames:
-        path = os.path.join(folder, f"frame-{frame.number}.png")
-        with open(path, "wb") as file:
-            file.write(png(run.width, run.height, frame.pixels))
-        paths.append(path)
+    paths = []
+    for place, run in frames_by_place(records, sizes).items():
+        below = os.path.join(folder, folder_of(place))
+        os.makedirs(below, exist_ok=True)
+        for frame in run.frames:
+            path = os.path.join(below, f"frame-{frame.number}.png")
+            with open(path, "wb") as file:
+                file.write(png(run.width, run.height, frame.pixels))
+            paths.append(path)
     return paths

@@ -2,7 +2,7 @@
 
 from commits import Stage
 from makers import Makers
-from painting import Painter
+from outputs import Outputs
 from queues import RELEASE, WOULD_BLOCK, Queue, open_point
 from steps import Actor, Lent, frame_call
 from transactions import BEHIND, TIME, hold_of
@@ -84,8 +84,8 @@ class Play:
     """A play so far: its world, its commits, and what its last vsync left waiting."""
 
     def __init__(self, scene):
-        self.scene, self.world, self.stage, self.vsyncs, self.held = scene, World(scene), Stage(), 0, []
-        self.painter = Painter(scene.pictures, scene.width, scene.height)
+        self.scene, self.world, self.stage, self.vsyncs, self.held = scene, World(scene), Stage(scene.most_layers()), 0, []
+        self.outputs = Outputs(scene)
 
     def turn(self, actor):
         """One try of an actor's next step: its reply, or nothing."""
@@ -133,7 +133,7 @@ class Play:
             yield "VSYN", {"number": self.vsyncs, "expected": self.vsyncs * self.scene.period, "timelines": seen}
             yield from commits
         if any(fields["result"] == 0 for _, fields in commits):
-            yield "FRAM", {"number": self.vsyncs, "pixels": self.painter.image(self.stage.tree)}
+            yield from self.outputs.due(self.stage.tree, self.vsyncs)
 
     def picks(self):
         for number, times in self.scene.order:
@@ -156,7 +156,7 @@ class Play:
 
     def records(self):
         """All records, in order."""
-        yield "SCEN", {"version": 1, "width": self.scene.width, "height": self.scene.height, "period": self.scene.period}
+        yield "SCEN", {"version": self.scene.version, "width": self.scene.width, "height": self.scene.height, "period": self.scene.period}
         yield from self.picks()
         is_quiet = False
         while not is_quiet:

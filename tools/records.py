@@ -3,7 +3,10 @@
 
     records.py dump [FILE]          a sentence for each record
     records.py lines [FILE]         the numbers of each record, a line each, for programs to compare
-    records.py png FOLDER [FILE]    each frame as FOLDER/frame-NUMBER.png
+    records.py png FOLDER [--script SCRIPT] [FILE]
+                                    each frame as FOLDER/frame-NUMBER.png; with the script, those of further
+                                    displays as FOLDER/display-D/frame-NUMBER.png, and captures as
+                                    FOLDER/capture-C/frame-NUMBER.png: the records do not tell their sizes
     records.py apng PICTURE [--slow N] [FILE]
                                     the frames at their times in one animated PNG, N times slower; the last one
                                     stands for a second before the first comes again
@@ -32,8 +35,8 @@ standard library is needed.
 status: 0 the stream is right, and for explain the script has no fault; 1 something is wrong with the
 stream (what can be read is told, and what is wrong stands on standard error), or the reader of the
 output went away; 2 wrong words, or a file cannot be read or written; 3 explain has shown a fault.
-For check: 0 the records are accepted; 1 they are refused; 2 the script is no scene that is played, the
-stream has no records of a run, words are wrong, or a file cannot be read or the verdict not written.
+For check: 0 the records are accepted; 1 they are refused; 2 the script is no scene, the stream has no
+records of a run, words are wrong, or a file cannot be read or the verdict not written.
 """
 
 import json
@@ -45,7 +48,7 @@ from checking import NoRun, checked
 from course import NoCourse
 from explaining import explained
 from ordering import Refused
-from pictures import write_frames
+from pictures import has_further, sizes_in, write_frames
 from scenes import NoScene
 from scripts import read_script
 from stream import LAST, faults, read
@@ -58,10 +61,11 @@ COMMANDS = ("dump", "lines", "png", "apng", "y4m", "trace", "summary", "view", "
 # Commands with a path of their own before the file: a folder or a picture to write, or a script to look into.
 WITH_PATH = ("png", "apng", "explain")
 # The option that a command may have, with its value.
-OPTIONS = {"summary": "--script", "view": "--script", "apng": "--slow"}
+OPTIONS = {"png": "--script", "summary": "--script", "view": "--script", "apng": "--slow"}
 FAULT_SHOWN = 3
 MOST_SLOW = 1000
 NOT_CHECKED = 2
+LEFT_OUT = "further displays and captures are left out: their sizes stand in the script, which --script SCRIPT names"
 
 
 def script_fault(records):
@@ -87,8 +91,9 @@ def animated(records, picture, slow):
     return picture
 
 
-def told(records, command, path, option):
-    """The lines that a command writes, or the pieces where it writes bytes."""
+def told(records, command, path, option, sizes):
+    """The lines that a command writes, or the pieces where it writes bytes. `sizes` has those of further displays and captures,
+    where a script is named that pictures are written by."""
     if command == "dump":
         yield from map(sentence, records)
     elif command == "apng":
@@ -98,7 +103,7 @@ def told(records, command, path, option):
     elif command == "lines":
         yield from map(plain, records)
     elif command == "png":
-        yield from write_frames(path, records)
+        yield from write_frames(path, records, sizes or {})
     elif command == "summary":
         yield from summed(records, read_script(contents(option)) if option else None)
     elif command == "view":
@@ -165,11 +170,14 @@ def say(pieces):
 def run(command, path, option, name):
     if command == "y4m" and sys.stdout is not None and sys.stdout.isatty():
         raise OSError("a raw video is nothing for a terminal: send it on, as in `records.py y4m FILE | mpv -`")
-    records, of_stream = read(contents(name))
+    sizes = sizes_in(contents(option)) if command == "png" and option else None
+    records, of_stream = read(contents(name), sizes)
     try:
-        say(told(records, command, path, option))
+        say(told(records, command, path, option, sizes))
     except (NoFrames, NoCourse) as fault:
         of_stream = of_stream + [str(fault)]
+    if command == "png" and sizes is None and has_further(records):
+        complain(LEFT_OUT)
     wrong = faults(records, of_stream)
     for line in wrong:
         complain(line)
@@ -215,6 +223,9 @@ def main(words):
         return 2
     try:
         return check(*parsed) if is_check else run(*parsed)
+    except NoScene as fault:
+        complain(fault)
+        return 2
     except BrokenPipeError:
         # Nobody reads on; what Python still holds back for them goes nowhere.
         os.dup2(os.open(os.devnull, os.O_WRONLY), sys.stdout.fileno())

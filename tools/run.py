@@ -9,7 +9,8 @@ folder crates/. The folder gets
     records.bin      the records, for tools/records.py; they are written while they come
     dump.txt         a sentence for each record
     trace.json       a timeline, for chrome://tracing or Perfetto
-    frame-N.png      the frame of vsync N
+    frame-N.png      the frame of vsync N; those of further displays and captures stand in folders
+                     below, display-D and capture-C
     view.html        a page to look into the run, for a browser
 
 in the place of those that an earlier run left there.
@@ -43,7 +44,8 @@ import compiling
 import small_program
 from course import NoCourse
 from explaining import explained
-from pictures import write_frames
+from pictures import has_further, sizes_in, write_frames
+from scenes import NoScene
 from scripts import read_script
 from stream import faults, read
 from summing import summed
@@ -62,6 +64,7 @@ INTERRUPTED, NOT_RUN = 130, 126
 # What a run leaves in its folder.
 LEFT = ("records.bin", "dump.txt", "trace.json", "view.html")
 FRAME = re.compile(r"frame-[0-9]+\.png")
+BELOW = re.compile(r"(display|capture)-[0-9]+")
 # What `rt try` does, and about how long on four idle processors at 2.5 GHz. Its first run is on an interpreter, which cannot
 # read standard input: one step of it is enough.
 UNPROVED = ["rt", "try", "--steps", "1"]
@@ -248,8 +251,19 @@ def clear(folder):
     """Makes a folder, and takes out of it what an earlier run left there."""
     os.makedirs(folder, exist_ok=True)
     for name in os.listdir(folder):
+        path = os.path.join(folder, name)
         if name in LEFT or FRAME.fullmatch(name):
-            os.remove(os.path.join(folder, name))
+            os.remove(path)
+        elif BELOW.fullmatch(name) and os.path.isdir(path):
+            clear_below(path)
+
+
+def clear_below(folder):
+    """Takes the frames out of a folder, and the folder away where it then is empty."""
+    for name in filter(FRAME.fullmatch, os.listdir(folder)):
+        os.remove(os.path.join(folder, name))
+    if not os.listdir(folder):
+        os.rmdir(folder)
 
 
 def write_text(folder, name, text):
@@ -273,11 +287,20 @@ def leave_view(records, scene, folder):
     print(f"{os.path.relpath(os.path.join(folder, 'view.html'))}: open it in a browser, to look into the run")
 
 
+def further_sizes(records, scene):
+    """The sizes of the further displays and captures that a run shows."""
+    try:
+        return sizes_in(contents(scene)) if has_further(records) else {}
+    except NoScene as fault:
+        complain(f"further displays and captures are left out: {fault}")
+        return {}
+
+
 def leave(records, scene, folder):
     """Writes what a whole stream tells into the folder, and says what it comes to."""
     write_text(folder, "dump.txt", "".join(sentence(record) + "\n" for record in records))
     write_text(folder, "trace.json", json.dumps(trace(records), indent=1) + "\n")
-    for path in write_frames(folder, records):
+    for path in write_frames(folder, records, further_sizes(records, scene)):
         print(os.path.relpath(path))
     if records[0].tag == "SFLT" and records[0].fields is not None:
         for line in explained(os.path.relpath(scene), contents(scene), records[0].fields):

@@ -1,4 +1,4 @@
-"""A scene: what a script of version 1 declares, and the steps of its actors, as values.
+"""A scene: what a script declares, and the steps of its actors, as values.
 
 The forms are those of grammar.py. This reads a script by itself, so that a run can be checked without the program
 that played it; where a script is no scene it only says in which line, and sf_main says why.
@@ -8,36 +8,58 @@ import re
 from functools import lru_cache
 from typing import NamedTuple
 
-from grammar import CHANGES, LINES, STEPS, parts_of
+from grammar import CHANGES, FORMATS, STEPS, lines_in, parts_of
 from scripts import lines_of, texts_of
 
-MOST_BYTES, MOST_STEPS, MOST_FILLS, MOST_NAMES = 1_048_576, 4096, 1024, 32
+MOST_BYTES, MOST_STEPS, MOST_FILLS, MOST_NAMES, MOST_MIRRORS = 1_048_576, 4096, 1024, 32, 8
+# How many actors and layers a scene may have, by its version.
+MOST_ACTORS, MOST_LAYERS = {1: 16, 2: 64}, {1: 256, 2: 1024}
 U32, U64 = (1 << 32) - 1, (1 << 64) - 1
 RANGES = {
     "WIDTH": (1, 1024), "HEIGHT": (1, 1024), "PERIOD": (1_000_000, 1_000_000_000), "TIMELINE": (1, 64), "QUEUE": (1, 16),
-    "ACTOR": (1, 16), "PICTURE": (1, 256), "BWIDTH": (1, 512), "BHEIGHT": (1, 512), "X": (0, 511), "Y": (0, 511), "FLAG": (0, 1),
+    "ACTOR": (1, 64), "PICTURE": (1, 256), "BWIDTH": (1, 512), "BHEIGHT": (1, 512), "X": (0, 511), "Y": (0, 511), "FLAG": (0, 1),
     "COUNT": (0, U32), "AWIDTH": (0, U32), "AHEIGHT": (0, U32), "VALUE": (0, U64), "FRAME": (0, U64), "TIME": (0, (1 << 63) - 1),
     "TX": (1, 64), "LAYER": (1, U32), "TOKEN": (1, U32), "Z": (-(1 << 31), (1 << 31) - 1), "PX": (-16384, 16384), "PY": (-16384, 16384),
     "CWIDTH": (0, 16384), "CHEIGHT": (0, 16384), "ALPHA": (0, 255), "ORIENT": (0, 7), "VERSION": (1, 2),
+    "DISPLAY": (2, 8), "STACK": (0, U32), "CAPTURE": (1, 8), "HIT": (1, 64),
 }
 SIGNED = ("Z", "PX", "PY")
 NUMBER = re.compile(r"-?[0-9]{1,20}", re.ASCII)
 COLOUR = re.compile(r"[0-9a-fA-F]{8}", re.ASCII)
 NAME = re.compile(r"[A-Za-z][A-Za-z0-9_]{0,15}", re.ASCII)
 PICK = re.compile(r"(v|[0-9]{1,20})(?:\*([0-9]{1,20}))?", re.ASCII)
-RANKS = ("scene", "timeline", "queue", "picture", "actor", "order", "end")
+# The place of each line among the others, by its first word; those of version 2 stand with the timelines.
+RANKS = {word: rank for rank, words in enumerate((("scene",), ("timeline", "display", "stack", "capture", "hit", "mirror"), ("queue",),
+                                                  ("picture", "fill"), ("actor",), ("order",), ("end",))) for word in words}
 
 
 class NoScene(Exception):
-    """A script that is no scene, or none that is played; it says why in a sentence."""
+    """A script that is no scene; it says why in a sentence."""
 
 
 class Picture(NamedTuple):
-    """A picture: its size, and its fills, each as a corner, a size and a colour of four bytes."""
+    """A picture: its size, its fills, each as a corner, a size and a colour of four bytes, and its format."""
 
     width: int
     height: int
     fills: list
+    format: str = "rgba"
+
+
+class Display(NamedTuple):
+    """A further display: its size, and the stack whose layers it shows."""
+
+    width: int
+    height: int
+    stack: int
+
+
+class Capture(NamedTuple):
+    """A capture: its layer and its size."""
+
+    layer: int
+    width: int
+    height: int
 
 
 class Step(NamedTuple):
@@ -50,11 +72,21 @@ class Step(NamedTuple):
 
 
 class Scene:
-    """What a script declares, the steps of each actor, and the picks of the order, 0 being the vsync."""
+    """What a script declares, each by its number; the steps of each actor; and the picks of the order, 0 being the vsync. `stacks`
+    has the stack of each layer that was given one, `mirrors` the layer that each mirror shows, `hits` points."""
 
     def __init__(self):
-        self.width = self.height = self.period = 0
+        self.version = self.width = self.height = self.period = 0
         self.timelines, self.queues, self.pictures, self.actors, self.order = [], {}, {}, {}, []
+        self.displays, self.stacks, self.captures, self.hits, self.mirrors = {}, {}, {}, {}, {}
+
+    def most_layers(self):
+        return MOST_LAYERS[self.version]
+
+    def sort(self):
+        """Puts what is looked through by rising number into that order."""
+        self.timelines.sort()
+        self.displays, self.captures, self.hits = (dict(sorted(declared.items())) for declared in (self.displays, self.captures, self.hits))
 
 
 @lru_cache(None)
@@ -79,6 +111,8 @@ def value_of(kind, text):
         return text if NAME.fullmatch(text) else None
     if kind == "COLOUR":
         return bytes.fromhex(text) if COLOUR.fullmatch(text) else None
+    if kind == "FORMAT":
+        return text if text in FORMATS else None
     if kind == "PARENT":
         number = number_of("COUNT", text)
         return -1 if text == "none" else number
@@ -89,7 +123,7 @@ def values_of(kinds, words):
     """What words mean that stand for these kinds and fixed words, or None where one is wrong."""
     values = []
     for kind, word in zip(kinds, words):
-        if kind not in RANGES and kind not in ("NAME", "COLOUR", "PARENT"):
+        if kind not in RANGES and kind not in ("NAME", "COLOUR", "PARENT", "FORMAT"):
             if kind != word:
                 return None
             continue
@@ -123,7 +157,19 @@ def parsed(form, words):
 FORMS_OF_STEPS = {}
 for a_form in STEPS[:-1] + tuple("set TX LAYER " + change for change in CHANGES):
     FORMS_OF_STEPS.setdefault(a_form.split()[0], []).append(a_form)
-FORMS_OF_LINES = {form.split()[0]: form for form in LINES}
+FORMS_OF_LINES = {version: {form.split()[0]: form for form in lines_in(version)} for version in MOST_ACTORS}
+
+
+def parts_by_word(more):
+    """The values of the parts in brackets, by their first words, without their kinds."""
+    return {word: [tuple(value for _, value in each) for each in several] for word, several in more.items()}
+
+
+def declared_as(first, values):
+    """What a line with this first word declares under its number."""
+    if first in ("display", "capture"):
+        return (Display if first == "display" else Capture)(*values)
+    return values[0] if first in ("stack", "mirror") else values
 
 
 def change_of(form, values):
@@ -145,8 +191,6 @@ class Reader:
 
     def step(self, line, words):
         """One more step of the actor; false where it is none."""
-        if words[0] == "set" and words[3:4] == ["orient"]:
-            raise NoScene(f"line {line} sets an orientation, which is read and not played yet")
         for form in FORMS_OF_STEPS[words[0]]:
             found = parsed(form, words)
             if found is None:
@@ -166,33 +210,37 @@ class Reader:
         steps, values = self.scene.actors[self.actor], tuple(value for _, value in found)
         if form.startswith("set "):
             values = values[:2] + (change_of(form, values[2:]),)
-        parts = {word: [tuple(value for _, value in each) for each in several] for word, several in more.items()}
-        steps.append(Step(line, form.split()[0], values, parts))
+        steps.append(Step(line, form.split()[0], values, parts_by_word(more)))
         return len(self.names) <= MOST_NAMES and len(steps) <= MOST_STEPS
 
-    def declare(self, first, values):
-        """A line that declares something; false where its number is declared already."""
+    def begin(self, version, width, height, period):
+        """The first line."""
         scene = self.scene
-        if first == "scene":
-            scene.width, scene.height, scene.period = values[1:]
-            return True
-        if first == "fill":
-            if self.picture is None or len(scene.pictures[self.picture].fills) >= MOST_FILLS:
-                return False
-            scene.pictures[self.picture].fills.append(values)
-            return True
-        number = values[0] if values else 0
-        there = {"timeline": scene.timelines, "queue": scene.queues, "picture": scene.pictures, "actor": scene.actors, "end": ()}[first]
-        if number in there:
+        scene.version, scene.width, scene.height, scene.period = version, width, height, period
+
+    def fill(self, values):
+        """One more fill of the last picture; false where there is none, or it has too many."""
+        fills = self.scene.pictures[self.picture].fills if self.picture else None
+        if fills is None or len(fills) >= MOST_FILLS:
+            return False
+        fills.append(values)
+        return True
+
+    def declare(self, first, number, values, more):
+        """A line that declares something; false where its number is declared already, or there are too many."""
+        scene = self.scene
+        there = {"timeline": scene.timelines, "queue": scene.queues, "picture": scene.pictures, "actor": scene.actors, "display": scene.displays,
+                 "stack": scene.stacks, "capture": scene.captures, "hit": scene.hits, "mirror": scene.mirrors}[first]
+        if number in there or first == "mirror" and len(there) >= MOST_MIRRORS or first == "actor" and number > MOST_ACTORS[scene.version]:
             return False
         if first == "timeline":
-            scene.timelines.append(number)
-        elif first == "queue":
-            scene.queues[number] = values[1:]
+            there.append(number)
         elif first == "picture":
-            scene.pictures[number], self.picture = Picture(values[1], values[2], []), number
+            there[number], self.picture = Picture(*values, [], *more.get("format", [()])[0]), number
         elif first == "actor":
-            scene.actors[number], self.actor, self.names = [], number, set()
+            there[number], self.actor, self.names = [], number, set()
+        else:
+            there[number] = declared_as(first, values)
         return True
 
     def picks(self, words):
@@ -210,29 +258,33 @@ class Reader:
     def add(self, line, words):
         """One more line; false where it is none of a scene at its place."""
         first = words[0]
-        if self.rank == 6 or (self.rank == -1) != (first == "scene"):
+        if self.rank == RANKS["end"] or (self.rank == -1) != (first == "scene"):
             return False
         if self.actor is not None and first in FORMS_OF_STEPS:
-            return self.rank == 4 and self.step(line, words)
-        if first not in FORMS_OF_LINES:
+            return self.rank == RANKS["actor"] and self.step(line, words)
+        forms = FORMS_OF_LINES[self.scene.version or 1]
+        if first not in forms or RANKS[first] < self.rank:
             return False
-        rank = RANKS.index("picture" if first == "fill" else first)
-        if rank < self.rank:
-            return False
-        self.rank = rank
+        self.rank = RANKS[first]
         if first == "order":
             return self.picks(words[1:])
-        found = parsed(FORMS_OF_LINES[first], words)
-        if found is None:
-            return False
-        values = tuple(value for _, value in found[0])
-        if first == "scene" and values[0] == 2:
-            raise NoScene("the script is of version 2, which is read and not played yet")
-        return self.declare(first, values)
+        found = parsed(forms[first], words)
+        return found is not None and self.take(first, *found)
+
+    def take(self, first, found, more):
+        """Takes a line that is of its form; false where it does not fit those before."""
+        values = tuple(value for _, value in found)
+        if first == "scene":
+            self.begin(*values)
+        elif first == "fill":
+            return self.fill(values)
+        elif first != "end":
+            return self.declare(first, values[0], values[1:], parts_by_word(more))
+        return True
 
 
 def read_scene(script):
-    """The scene that a script spells. Raises NoScene where it spells none, or one that is not played yet."""
+    """The scene that a script spells. Raises NoScene where it spells none."""
     if len(script) > MOST_BYTES:
         raise NoScene(f"the script has {len(script)} bytes, and may have {MOST_BYTES}")
     reader = Reader()
@@ -240,7 +292,7 @@ def read_scene(script):
         words = texts_of(text)
         if words and not reader.add(line, words):
             raise NoScene(f"line {line} is none of a scene at its place: {text[:80]}")
-    if reader.rank != 6:
+    if reader.rank != RANKS["end"]:
         raise NoScene("the script ends without the line end")
-    reader.scene.timelines.sort()
+    reader.scene.sort()
     return reader.scene

@@ -25,6 +25,9 @@ FORMS = {
     "COMM": (("token", U32), ("arrival", U32), ("result", U32), ("operation", U32),
              ("buffers", Rows((U32, U32, U64, U32, U32, U32, U32, U32)))),
     "FRAM": (("number", U32), ("pixels", PIXELS)),
+    "FRAD": (("display", U32), ("number", U32), ("pixels", PIXELS)),
+    "CAPT": (("capture", U32), ("number", U32), ("pixels", PIXELS)),
+    "HITS": (("hit", U32), ("number", U32), ("layer", U32)),
     "ARRV": (("arrivals", Rows((U32, U32, U32))),),
     "HIST": (("queue", U32), ("calls", Rows((U32, U32, U32, U32, U32, U64)))),
     "HOLD": (("held", Rows((U32, U32, U64, U64))),),
@@ -34,6 +37,10 @@ FORMS = {
         "replies", "vsyncs", "commits", "rejected", "frames", "pixel_sum", "held", "stuck")),
     "SFLT": (("line", U32), ("word", U32), ("cause", U32)),
 }
+# What a vsync shows: the records, each with the name of its number, and the own display's without one. All but hits are images.
+OUTPUTS = {"FRAM": None, "FRAD": "display", "CAPT": "capture", "HITS": "hit"}
+IMAGES = ("FRAM", "FRAD", "CAPT")
+OWN_DISPLAY = ("FRAM", 0)
 # A stream ends with one of these.
 LAST = ("DONE", "SUMM", "SFLT")
 HEAD = 8
@@ -127,28 +134,46 @@ def split(data):
         at = end
 
 
-def frame_fault(record, scene):
-    """What is wrong with the size of a frame, if something is."""
-    if scene is None:
-        return "a frame without SCEN before it"
-    wanted, got = scene["width"] * scene["height"] * 4, len(record.fields["pixels"])
-    if wanted != got:
-        return f"{got} bytes of pixels, where the display of {scene['width']} x {scene['height']} has {wanted}"
+def place_of(tag, fields):
+    """What an image or a hit is of: its tag and its number, 0 for the own display."""
+    return tag, fields[OUTPUTS[tag]] if OUTPUTS[tag] else 0
+
+
+def place_text(place):
+    """A place in words."""
+    tag, number = place
+    return f"{OUTPUTS[tag]} {number}" if OUTPUTS[tag] else "the display"
+
+
+def image_fault(record, sizes, is_whole):
+    """What is wrong with the size of an image, if something is, where these sizes of places are known, and those of all if
+    `is_whole`."""
+    place, got = place_of(record.tag, record.fields), len(record.fields["pixels"])
+    if place not in sizes:
+        if place == OWN_DISPLAY:
+            return "a frame without SCEN before it"
+        if is_whole:
+            return f"the script has no {place_text(place)}"
+        return f"{got} bytes of pixels, which are no whole ones" if got % 4 else None
+    width, height = sizes[place]
+    if got != width * height * 4:
+        return f"{got} bytes of pixels, where {place_text(place)} of {width} x {height} has {width * height * 4}"
     return None
 
 
-def read(data):
-    """The records of a stream with their faults, and what is wrong with the stream as a whole."""
-    records, scene, ended = [], None, False
+def read(data, sizes=None):
+    """The records of a stream with their faults, and what is wrong with the stream as a whole. `sizes` has those of further
+    displays and captures by their places, where the script is known."""
+    records, known, ended = [], dict(sizes or {}), False
     for record in split(data):
         if ended:
             record.faults.append("it stands behind the end of the run")
-        if record.fields is not None and record.tag == "FRAM":
-            fault = frame_fault(record, scene)
+        if record.fields is not None and record.tag in IMAGES:
+            fault = image_fault(record, known, sizes is not None)
             if fault:
                 record.faults.append(fault)
         if record.fields is not None and record.tag == "SCEN":
-            scene = record.fields
+            known[OWN_DISPLAY] = record.fields["width"], record.fields["height"]
         ended = ended or record.tag in LAST
         records.append(record)
     if not records:

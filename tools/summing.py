@@ -7,9 +7,11 @@ told from the steps before.
 from collections import Counter
 from functools import cached_property
 
-from wording import CALLS, HOLDS, REFUSALS, REJECTIONS, REJECTS, STATUSES, listed, named, summary_sentence
+from arrivals import LENDING
+from stream import place_of, place_text
+from wording import CALLS, HOLDS, REFUSALS, REJECTIONS, REJECTS, STATUSES, layer_text, listed, named, summary_sentence
 
-# How many rejects are told one by one.
+# How many rejects, and how many changes of a hit, are told one by one.
 MOST_TOLD = 10
 QUEUE, ACQUIRE, RELEASE, DISCONNECT, MAX_DEQUEUED, ASYNC, MAX_ACQUIRED = 7, 13, 14, 2, 3, 4, 11
 # Where a call that was done leaves its slot, if not free.
@@ -21,8 +23,6 @@ MADE_BY = {
     8: ("cancel",), 9: ("pdetach",), 10: ("pattach",), 11: ("maxacquired",), 12: ("abandon",), 13: ("acquire",),
     14: ("release", "buffer", "merge"), 15: ("cdetach",), 16: ("cattach",),
 }
-# The steps that bind a name to a lent buffer, with the place of the fence's points among their values.
-LENDING = {"dequeue": 3, "dequeuewait": 3, "pattach": 2}
 
 
 def of(records, tag):
@@ -193,8 +193,9 @@ def slots_text(run, calls):
 def lending(run, actor, step, name):
     """The points of the fence of the buffer that a name of an actor holds at a step."""
     for number, before in run.script.before(actor, step):
-        if before.words[0] in LENDING and before.words[before.words.index("as") + 1] == name and (actor, number) in run.done:
-            points = run.done[actor, number][LENDING[before.words[0]]:]
+        place, fence = LENDING.get(before.words[0], (0, 0))
+        if place and before.words[place] == name and (actor, number) in run.done:
+            points = run.done[actor, number][fence:]
             return list(zip(points[::2], points[1::2]))
     return []
 
@@ -239,8 +240,27 @@ def queue_line(queue, calls):
             + (f"; {len(refused)} refused ({counted(refused)})" if refused else "; none refused"))
 
 
+def further_lines(records):
+    """How many frames further displays have, and captures."""
+    counts = Counter(place_of(record.tag, record.fields) for record in records if record.tag in ("FRAD", "CAPT") and record.fields is not None)
+    for place, count in counts.items():
+        yield f"{place_text(place)}: {plural(count, 'frame')}"
+
+
+def hit_lines(hits):
+    """Which layer each hit meets from which vsync on."""
+    changes = {}
+    for hit in hits:
+        of_hit = changes.setdefault(hit["hit"], [])
+        if not of_hit or of_hit[-1][0] != hit["layer"]:
+            of_hit.append((hit["layer"], hit["number"]))
+    for number, of_hit in changes.items():
+        more = f", and {len(of_hit) - MOST_TOLD} changes more" if len(of_hit) > MOST_TOLD else ""
+        yield f"hit {number}: " + ", ".join(f"{layer_text(layer)} from vsync {vsync}" for layer, vsync in of_hit[:MOST_TOLD]) + more
+
+
 def fault_text(fault):
-    return f"no scene: fault at line {fault['line']}, word {fault['word']}" if fault["line"] else "no scene that is played"
+    return f"no scene: fault at line {fault['line']}, word {fault['word']}" if fault["line"] else "no scene"
 
 
 def summed(records, script=None):
@@ -252,6 +272,8 @@ def summed(records, script=None):
     run, vsyncs, frames = Run(records, script), of(records, "VSYN"), of(records, "FRAM")
     if vsyncs:
         yield f"{plural(len(frames), 'frame')} at {plural(len(vsyncs), 'vsync')} with commits, the last of them vsync {vsyncs[-1]['number']}"
+    yield from further_lines(records)
+    yield from hit_lines(of(records, "HITS"))
     if script and not run.is_of_script():
         yield "the script is not the one of these records: what follows is told without it"
         run.script = None

@@ -175,6 +175,11 @@ class Commands(Case):
         tool.stderr.close()
 
 
+def answers(*words):
+    """Whether there is such a program, and it does not fail with these words."""
+    return shutil.which(words[0]) is not None and subprocess.run(words, capture_output=True).returncode == 0
+
+
 class Decoders(unittest.TestCase):
     """What other programs make of these files."""
 
@@ -218,7 +223,7 @@ class Decoders(unittest.TestCase):
             picture = got[place * size:(place + 1) * size]
             self.assertLessEqual(max(abs(a - b) for a, b in zip(picture, wanted)), 4, f"picture {place}")
 
-    @unittest.skipUnless(shutil.which("convert"), "ImageMagick is not installed")
+    @unittest.skipUnless(answers("convert", "-version"), "ImageMagick is not installed")
     def test_imagemagick_reads_the_first_picture(self):
         path = self.written("run.png", animation.apng(self.frames))
         self.assertEqual(self.output("convert", "PNG:" + path, "-depth", "8", "RGBA:-"), self.frames.frames[0].pixels)

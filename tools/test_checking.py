@@ -11,7 +11,7 @@ from checking import NoRun, checked
 from ordering import Refused
 from playing import Play
 from scenes import NoScene, read_scene
-from stream import Record
+from stream import OUTPUTS, Record
 
 TOP = os.path.dirname(os.path.dirname(os.path.abspath(__file__)))
 
@@ -92,10 +92,10 @@ def without_row(tag, at, name, row):
     return with_rows(tag, at, name, lambda rows: rows[:row] + rows[row + 1:])
 
 
-def with_pixel(told):
+def with_pixel(tag, at=0, byte=0):
     def edit(fields):
-        fields["pixels"] = fields["pixels"][:5] + bytes([fields["pixels"][5] ^ 1]) + fields["pixels"][6:]
-    return with_fields("FRAM", 0, edit)(told)
+        fields["pixels"] = fields["pixels"][:byte] + bytes([fields["pixels"][byte] ^ 1]) + fields["pixels"][byte + 1:]
+    return with_fields(tag, at, edit)
 
 
 def done_after_all(told):
@@ -216,9 +216,62 @@ dequeue 1 as b
 dequeuewait 1 as c
 end
 """
+# What version 2 has besides: further displays, captures, one of them of a layer that is never there, hits, a mirror, an actor with a
+# high number, a turned picture of another format; and a vsync that commits and one that rejects.
+SECOND = b"""scene 2 3 2 1000000
+display 5 2 1 7
+display 2 1 1 0
+stack 9 7
+capture 3 2 2 3
+capture 2 8 1 1
+capture 1 1 2 2
+hit 4 0 0
+hit 1 2 1
+mirror 3 1
+queue 1 2 1
+picture 1 2 1 format rgb565
+fill 0 0 1 1 64656680
+actor 33
+connect 1
+dequeue 1 as s
+request s
+draw s 1
+queue s 1
+acquire 1 as i
+tx 1
+set 1 1 create container 0
+set 1 2 create buffer 1
+set 1 2 orient 5
+buffer 1 2 i
+set 1 3 create container 0
+set 1 3 position 1 0
+set 1 9 create colour 0
+set 1 9 colour 00ff00ff
+apply 1 token 1
+tx 1
+set 1 2 position 0 1
+apply 1 token 1
+tx 1
+set 1 8 destroy
+apply 1 token 1
+order 33*16 v 33*3 v 33*3 v
+end
+"""
+REFUSED_OF_SECOND = {
+    "order": [with_number("FRAD", 0, "number"), with_number("CAPT", 1, "number"), with_number("HITS", 0, "number"), moved("FRAD", 0, -2),
+              moved("HITS", 3, 1), with_number("SCEN", 0, "version", -1)],
+    "frames": [with_pixel("FRAM"), with_pixel("FRAD"), with_pixel("FRAD", 1, 7), with_pixel("FRAD", 3), with_pixel("CAPT", 0, 15), with_pixel("CAPT", 3, 3),
+               with_number("HITS", 0, "layer"), with_fields("HITS", 1, lambda fields: fields.update(layer=0)), with_number("HITS", 3, "layer", 9),
+               without("FRAM"), without("FRAD"), without("FRAD", 1), without("CAPT", 0), without("CAPT", 3), without("HITS", 0), without("HITS", 3),
+               doubled("FRAM"), doubled("FRAD", 1), doubled("CAPT", 1), doubled("HITS", 1), moved("FRAM", 0, 1), moved("FRAD", 0, 1), moved("FRAD", 1, 1),
+               moved("CAPT", 0, 1), moved("CAPT", 1, 1), moved("HITS", 0, 1), with_number("FRAD", 0, "display"), with_number("CAPT", 0, "capture"),
+               with_number("HITS", 0, "hit"), with_fields("CAPT", 0, lambda fields: fields.update(pixels=fields["pixels"][:-4])),
+               with_fields("FRAD", 0, lambda fields: fields.update(pixels=fields["pixels"] * 2)),
+               lambda told: told[:found(told, "ARRV")] + [told[found(told, "HITS")]._replace(fields={"hit": 1, "number": 3, "layer": 0})] + told[found(told, "ARRV"):]],
+}
 REFUSED = {
     "order": [without("DONE"), without("SCEN"), doubled("SCEN"), without("STUK"), moved("FRAM", 0, -1), with_number("FRAM", 0, "number"),
-              with_number("SCEN", 0, "width"), with_number("SCEN", 0, "period"), doubled("FRAM"), moved("DONE", 0, -1), doubled("DONE"),
+              with_number("SCEN", 0, "width"), with_number("SCEN", 0, "period"), moved("DONE", 0, -1), doubled("DONE"),
               moved("ARRV", 0, 1), with_number("SCEN", 0, "version")],
     "replies": [without("REPL", 3), doubled("REPL", 3), moved("REPL", 2, 1), with_number("REPL", 0, "actor", 8), with_number("REPL", 0, "status"),
                 with_row("REPL", 2, "values", 0, 0), with_row("REPL", 2, "values", 1, 0), with_row("REPL", 2, "values", 2, 0, -1),
@@ -238,7 +291,7 @@ REFUSED = {
               with_row("HIST", 0, "calls", 0, 0, 8), with_row("HIST", 0, "calls", 0, 3), with_row("HIST", 0, "calls", 2, 2), with_row("HIST", 0, "calls", 4, 5),
               with_rows("HIST", 0, "calls", lambda rows: rows[1:2] + rows[:1] + rows[2:]), with_rows("HIST", 0, "calls", lambda rows: rows[:-1]),
               without("HIST", 1), doubled("HIST", 1), with_number("HIST", 1, "queue"), moved("HIST", 0, 1)],
-    "frames": [with_pixel, without("FRAM"), without("FRAM", 2)],
+    "frames": [with_pixel("FRAM", 0, 5), without("FRAM"), without("FRAM", 2), doubled("FRAM")],
     "buffers": [with_row("COMM", 1, "buffers", 0, 3), with_row("COMM", 1, "buffers", 0, 4), with_row("COMM", 3, "buffers", 0, 6)],
     "holds": [without_row("HOLD", 0, "held", 0), with_row("HOLD", 0, "held", 0, 1, -1), with_row("HOLD", 0, "held", 0, 3), with_row("HOLD", 0, "held", 1, 1),
               with_rows("HOLD", 0, "held", lambda rows: rows[::-1]), with_row("HOLD", 0, "held", 1, 0)],
@@ -259,6 +312,15 @@ class Parts(unittest.TestCase):
             for number, change in enumerate(changes):
                 with self.subTest(part=part, number=number):
                     self.assertEqual(verdict(BUSY, change(told)), part)
+
+    def test_what_version_2_shows(self):
+        told = played(SECOND)
+        self.assertEqual([one.tag for one in told if one.tag in OUTPUTS], ["FRAM", "FRAD", "FRAD", "CAPT", "CAPT", "HITS", "HITS"] * 2)
+        self.assertEqual(checked(SECOND, told, True, False), "22 replies, 3 vsyncs, 3 commits, 6 frames, 4 captures, 4 hits")
+        for part, changes in REFUSED_OF_SECOND.items():
+            for number, change in enumerate(changes):
+                with self.subTest(part=part, number=number):
+                    self.assertEqual(verdict(SECOND, change(told)), part)
 
     def test_a_draw_before_an_older_one(self):
         self.assertEqual(verdict(OWED, done_after_all(played(OWED))), "turns")
@@ -307,7 +369,7 @@ class Parts(unittest.TestCase):
                 checked(BUSY, played(BUSY)[:count], False, False)
 
     def test_no_scene_or_no_run(self):
-        for script in (b"", b"scene 1 1 1 1000000\n", b"scene 2 1 1 1000000\nend\n", BUSY.replace(b"z -1", b"orient 1"), BUSY.replace(b"picture 2", b"picture 1")):
+        for script in (b"", b"scene 1 1 1 1000000\n", b"scene 3 1 1 1000000\nend\n", BUSY.replace(b"z -1", b"orient 8"), BUSY.replace(b"picture 2", b"picture 1")):
             with self.assertRaises(NoScene):
                 checked(script, played(BUSY), False, False)
         for told in ([], [record("SUMM", {})]):

@@ -8,10 +8,11 @@ import run
 from arrivals import Operation
 from course import Course, NoCourse
 from holds import Seen, why_held
-from layer_tree import Content, Tree, intersection, product
+from layer_tree import Content, Tree, drawn, intersection, product
 from pictures import rows_of
 from slots import Slots, changes_of
 from stream import FORMS, PIXELS, U32, Rows, read
+from test_checking import SECOND, played
 from test_records import NO_SLOT
 
 PROGRAM = run.built(run.TOP)
@@ -57,6 +58,15 @@ def course(data, script):
     return Course(records, script)
 
 
+def own(moment):
+    """What the own display shows at a moment."""
+    return moment.outputs[0]
+
+
+def course_of(script):
+    return Course(played(script), script)
+
+
 # The runs of two scenes.
 HELD = stream(
     "SCEN 1 96 64 16666667\nREPL 1 1 0\nREPL 1 2 0 0 1 1\nREPL 1 3 0 0 1 96 64\nREPL 1 4 0\nREPL 1 5 0 0 1\nREPL 1 6 0 0 1 1 0 1 5",
@@ -71,15 +81,32 @@ REJECTED = stream(
     "REPL 1 5 0\nREPL 1 6 0\nREPL 1 7 0\nREPL 1 8 0 2\nVSYN 2 33333334\nCOMM 1 2 1 2\nARRV | 1 4 1 | 1 8 1\nHOLD\nSTUK\nDONE")
 
 
+def shown_point(orient, width, height, u, v):
+    """The pixel of a crop that shows with an orientation so far from the left and from the top of its box. It is found back: each
+    quarter turn is undone, and then the mirror."""
+    wide, high = (height, width) if orient % 2 else (width, height)
+    for _ in range(orient % 4):
+        u, v, wide, high = v, wide - 1 - u, high, wide
+    return (width - 1 - u if orient > 3 else u), v
+
+
+def seen_as(form, digits):
+    """A colour as a picture's format has it."""
+    red, green, blue, alpha = bytes.fromhex(digits)
+    if form == "rgb565":
+        red, green, blue = red >> 3 << 3 | red >> 5, green >> 2 << 2 | green >> 6, blue >> 3 << 3 | blue >> 5
+    return red, green, blue, alpha if form == "rgba" else 255
+
+
 def painted(drawn, pictures, width, height):
     """What a display shows of layers, one pixel after another, as docs/SCRIPT.md says it."""
     def pixel_of(layer, x, y):
         if layer.content is None:
             return bytes.fromhex(layer.colour)
-        picture = pictures[layer.content.picture]
-        column, row = x - layer.place[0] + layer.content.crop[0], y - layer.place[1] + layer.content.crop[1]
-        covering = [colour for left, top, wide, high, colour in picture.fills if left <= column < left + wide and top <= row < top + high]
-        return bytes.fromhex(covering[-1] if covering else "00000000")
+        picture, (left, top, wide, high) = pictures[layer.content.picture], layer.content.crop
+        column, row = shown_point(layer.orient, wide, high, x - layer.place[0], y - layer.place[1])
+        covering = [fill for fill in picture.fills if fill[0] <= left + column < fill[0] + fill[2] and fill[1] <= top + row < fill[1] + fill[3]]
+        return seen_as(picture.format, covering[-1][4] if covering else "00000000")
 
     rows = [[[0, 0, 0, 255] for _ in range(width)] for _ in range(height)]
     known = {}
@@ -103,7 +130,7 @@ class Held(unittest.TestCase):
         cls.first, cls.second, cls.end = cls.course.moments
 
     def test_moments(self):
-        self.assertEqual([(moment.number, moment.time, moment.frame, moment.is_new) for moment in self.course.moments],
+        self.assertEqual([(moment.number, moment.time, own(moment).frame, own(moment).is_new) for moment in self.course.moments],
                          [(1, 16666667, 0, True), (2, 33333334, 1, True), (None, None, 1, False)])
         self.assertEqual((self.course.fault, self.course.is_live), (None, False))
 
@@ -126,13 +153,13 @@ class Held(unittest.TestCase):
 
     def test_layers(self):
         self.assertEqual([(layer.number, depth) for layer, depth in self.second.outline], [(2, 0), (3, 0), (1, 0)])
-        self.assertEqual([(drawn.layer, drawn.clip) for drawn in self.second.drawn], [(1, (0, 0, 96, 64)), (3, (0, 58, 96, 6)), (2, (0, 0, 96, 6))])
-        self.assertEqual(self.second.drawn[0].content, Content(1, 1, 1, (0, 0, 96, 64), "i"))
+        self.assertEqual([(drawn.layer, drawn.clip) for drawn in own(self.second).drawn], [(1, (0, 0, 96, 64)), (3, (0, 58, 96, 6)), (2, (0, 0, 96, 6))])
+        self.assertEqual(own(self.second).drawn[0].content, Content(1, 1, 1, (0, 0, 96, 64), "i"))
 
     def test_the_frames_are_those_of_the_layers(self):
         for moment in (self.first, self.second):
-            pixels = painted(moment.drawn, self.course.declarations.pictures, 96, 64)
-            self.assertEqual(rows_of(pixels, 96), rows_of(self.course.frames[moment.frame], 96))
+            pixels = painted(own(moment).drawn, self.course.declarations.pictures, 96, 64)
+            self.assertEqual(rows_of(pixels, 96), rows_of(self.course.frames[own(moment).frame], 96))
 
     def test_slots(self):
         (queue,) = self.course.queues
@@ -140,12 +167,81 @@ class Held(unittest.TestCase):
         self.assertEqual(queue.moments, [0] * 5)
 
 
+def turning(orient):
+    """A scene that shows a crop of a picture with an orientation, on a display of its own."""
+    return f"""scene 2 5 6 1000000
+queue 1 4 5
+picture 1 4 5 format {("rgba", "rgbx", "rgb565")[orient % 3]}
+fill 0 0 4 5 102030ff
+fill 1 0 1 2 a04070c0
+fill 2 3 2 1 8060ffff
+fill 1 2 1 1 ff7f3f80
+actor 1
+connect 1
+dequeue 1 as s
+request s
+draw s 1
+queue s 1 crop 1 0 3 4
+acquire 1 as i
+tx 1
+set 1 1 create buffer 0
+set 1 1 position 1 -1
+set 1 1 orient {orient}
+buffer 1 1 i
+apply 1 token 1
+end
+""".encode()
+
+
+class Second(unittest.TestCase):
+    """What version 2 shows, followed over the plays of the tools' own player."""
+
+    def assert_painted(self, script):
+        """Each image is that of the layers that are rebuilt, and each hit meets the one in front."""
+        followed, count = Course(played(script), script), 0
+        self.assertIsNone(followed.fault)
+        for moment in followed.moments:
+            for place, output in zip(followed.places, moment.outputs):
+                if output.is_new:
+                    pixels = painted(output.drawn, followed.declarations.pictures, place.width, place.height)
+                    self.assertEqual(pixels, followed.frames[output.frame], f"vsync {moment.number}, {place.of}")
+                    count += 1
+        return followed, count
+
+    def test_displays_captures_and_mirrors(self):
+        followed, count = self.assert_painted(SECOND)
+        self.assertEqual([place.of for place in followed.places], [("FRAM", 0), ("FRAD", 2), ("FRAD", 5), ("CAPT", 1), ("CAPT", 2), ("CAPT", 3)])
+        self.assertEqual(count, 10)
+        first, second, rejecting, end = followed.moments
+        self.assertEqual([(output.frame, output.is_new, output.is_missing) for output in first.outputs],
+                         [(0, True, False), (1, True, False), (2, True, False), (3, True, False), (None, False, False), (4, True, False)])
+        self.assertEqual([output.frame for output in second.outputs], [5, 6, 7, 8, None, 9])
+        self.assertEqual([(output.frame, output.is_new) for output in rejecting.outputs], [(output.frame, False) for output in second.outputs])
+        self.assertEqual([output.drawn for output in end.outputs], [output.drawn for output in second.outputs])
+        self.assertEqual([moment.hits for moment in followed.moments], [{1: 0, 4: 2}, {1: 0, 4: 0}, {1: 0, 4: 0}, {1: 0, 4: 0}])
+
+    def test_a_copy_is_told_by_its_original_and_its_mirror(self):
+        moment = course_of(SECOND).moments[0]
+        self.assertEqual([(drawn.layer, drawn.mirror, drawn.place) for drawn in own(moment).drawn], [(2, None, (0, 0)), (2, 3, (1, 0))])
+
+    def test_each_orientation_and_format(self):
+        for orient in range(8):
+            with self.subTest(orient=orient):
+                self.assertEqual(self.assert_painted(turning(orient))[1], 1)
+
+    def test_an_image_that_was_cut_off_is_missing(self):
+        told = played(SECOND)
+        place = [one.tag for one in told].index("CAPT")
+        cut = Course(told[:place], SECOND)
+        self.assertEqual([output.is_missing for output in cut.moments[0].outputs], [False, False, False, True, False, True])
+
+
 class Other(unittest.TestCase):
     def test_a_rejected_transaction_changes_nothing(self):
         rejected = course(REJECTED, scene("whole-or-nothing.sf"))
         first, second, _ = rejected.moments
         self.assertEqual(second.commits, [(2, 1, 2, "the layer, or the parent or relative that it names, is not there")])
-        self.assertEqual((second.outline, second.drawn, second.is_new), (first.outline, first.drawn, False))
+        self.assertEqual((second.outline, own(second).drawn, own(second).is_new), (first.outline, own(first).drawn, False))
 
     def test_another_script_or_no_run_is_told(self):
         for data, name in ((HELD, "phone.sf"), (HELD, "red.sf"), (stream("SFLT 1 1 2"), "held.sf")):
@@ -155,11 +251,11 @@ class Other(unittest.TestCase):
     def test_a_stream_that_is_cut_off_is_followed_as_far_as_it_goes(self):
         cut = course(HELD[:HELD.index(b"ARRV")], scene("held.sf"))
         self.assertEqual([moment.number for moment in cut.moments], [1, 2, None])
-        self.assertEqual(cut.moments[1].drawn, course(HELD, scene("held.sf")).moments[1].drawn)
+        self.assertEqual(own(cut.moments[1]).drawn, own(course(HELD, scene("held.sf")).moments[1]).drawn)
 
     def test_a_frame_that_was_cut_off_is_missing(self):
         cut = course(HELD[:HELD.rindex(b"FRAM") + 100], scene("held.sf"))
-        self.assertEqual([(moment.frame, moment.is_new, moment.is_missing) for moment in cut.moments], [(0, True, False), (0, False, True), (0, False, True)])
+        self.assertEqual([own(moment)[:3] for moment in cut.moments], [(0, True, False), (0, False, True), (0, False, True)])
 
     def test_a_live_run_tells_its_replies_behind_its_vsyncs(self):
         records, _ = read(HELD)
@@ -167,15 +263,19 @@ class Other(unittest.TestCase):
         head, middle, tail = records[:1], [record for record in records[1:] if record.tag in ("VSYN", "COMM", "FRAM")], records[-5:]
         live = Course(head + middle + replies + tail, scene("held.sf"))
         self.assertTrue(live.is_live)
-        self.assertEqual([moment.drawn for moment in live.moments], [moment.drawn for moment in course(HELD, scene("held.sf")).moments])
+        self.assertEqual([own(moment).drawn for moment in live.moments], [own(moment).drawn for moment in course(HELD, scene("held.sf")).moments])
         self.assertEqual(live.moments[0].held, [])
 
     def test_operations_that_do_not_fit_are_told_and_the_rest_goes_on(self):
         missing = HELD.replace(stream("COMM 2 3 0 0"), stream("COMM 2 7 0 0"))
         broken = course(missing, scene("held.sf"))
         self.assertEqual(broken.fault, "the records do not tell the operations of arrival 7")
-        self.assertEqual([moment.drawn for moment in broken.moments], [None, None, None])
+        self.assertEqual([own(moment).drawn for moment in broken.moments], [None, None, None])
         self.assertEqual(len(broken.frames), 2)
+
+    def test_a_name_may_be_a_word_of_the_forms(self):
+        script = b"scene 1 1 1 1000000\nqueue 1 1 1\nactor 1\nconnect 1\ndequeue 1 as as\ncancel as\nend\n"
+        self.assertEqual(course_of(script).reader.actors[1].names, {})
 
     def test_who_waits_is_told_at_each_vsync(self):
         script = (b"scene 1 2 1 1000000\ntimeline 1\nactor 1\nwait 1 5\ntx 1\napply 1 token 1\nactor 2\ntx 1\nset 1 1 create colour 0\napply 1 token 1\n"
@@ -254,11 +354,16 @@ class Trees(unittest.TestCase):
     def test_place_crop_and_alpha_come_from_the_parents(self):
         tree = self.tree((1, "create container 0"), (1, "position 10 20"), (1, "crop 0 0 30 30"), (1, "alpha 128"),
                          (2, "create colour 1"), (2, "position -5 5"), (2, "crop 0 0 100 10"), (2, "alpha 128"))
-        (drawn,) = tree.drawn(64, 48)
-        self.assertEqual((drawn.place, drawn.clip, drawn.alpha), ((5, 25), (10, 25, 30, 10), 64))
+        (one,) = drawn(tree.placed(), 64, 48)
+        self.assertEqual((one.place, one.clip, one.alpha), ((5, 25), (10, 25, 30, 10), 64))
+
+    def test_a_display_shows_its_stack(self):
+        tree = self.tree((1, "create colour 0"), (2, "create colour 1"), (3, "create colour 0"))
+        shown = [[one.layer for one in drawn(tree.placed(), 8, 8, stacks, stack)] for stacks, stack in ((None, 0), ({}, 0), ({}, 7), ({1: 7, 2: 5}, 7), ({1: 7, 2: 5}, 5))]
+        self.assertEqual(shown, [[1, 2, 3], [1, 2, 3], [], [1, 2], []])
 
     def test_what_has_nothing_to_show_is_not_drawn(self):
-        self.assertEqual(self.tree((1, "create container 0"), (2, "create buffer 0")).drawn(8, 8), [])
+        self.assertEqual(self.tree((1, "create container 0"), (2, "create buffer 0")).placed(), [])
 
     def test_rectangles_without_a_point_in_common(self):
         self.assertEqual(intersection((0, 0, 4, 4), (6, 1, 2, 2))[2:], (0, 2))
@@ -330,9 +435,9 @@ class Played(unittest.TestCase):
         self.assertIsNone(followed.fault)
         size = followed.scene["width"], followed.scene["height"]
         for moment in followed.moments:
-            if moment.is_new:
-                pixels = painted(moment.drawn, followed.declarations.pictures, *size)
-                self.assertTrue(pixels == followed.frames[moment.frame], f"vsync {moment.number}")
+            if own(moment).is_new:
+                pixels = painted(own(moment).drawn, followed.declarations.pictures, *size)
+                self.assertTrue(pixels == followed.frames[own(moment).frame], f"vsync {moment.number}")
 
     def test_the_frames_of_small_scenes(self):
         for name in ("windows.sf", "glass.sf", "late.sf", "sizes.sf", "refusals.sf", "panes.sf", "picture.sf"):

@@ -3,13 +3,16 @@
 import glob
 import os
 import re
+import textwrap
 import unittest
 
 from grammar import CHANGES, LINES, SECOND, STEPS, form_text
+from playing import Play
 from run import LEFT
-from stream import FORMS, faults, read
+from scenes import read_scene
+from stream import FORMS, OUTPUTS, faults, read
 from test_scenes import of_some_form
-from wording import CALLS, HOLDS, REJECTS, STATUSES, plain
+from wording import CALLS, HOLDS, REJECTS, STATUSES, field_text, plain
 
 TOP = os.path.dirname(os.path.dirname(os.path.abspath(__file__)))
 DOCUMENTS = ["README.md"] + sorted(os.path.join("docs", name) for name in os.listdir(os.path.join(TOP, "docs")) if name.endswith(".md"))
@@ -74,20 +77,26 @@ class Documents(unittest.TestCase):
 
     def test_the_page_on_scripts_has_each_form(self):
         page = text("docs/SCRIPT.md")
-        for form in LINES[1:] + SECOND + STEPS[:-1] + tuple(change for change in CHANGES if change != "orient ORIENT"):
+        for form in LINES + SECOND + STEPS[:-1] + CHANGES:
             shown = form_text(form) + (" PICK .." if form == "order PICK" else "")
             self.assertIn(f"`{shown}`", page)
-        self.assertIn("`set TX LAYER orient ORIENT`", page)
 
     def test_the_examples_of_the_page_on_scripts_have_lines_of_its_forms(self):
         blocks = [block.splitlines() for block in text("docs/SCRIPT.md").split("\n\n") if block.startswith("    ")]
-        self.assertEqual(len(blocks), 3)
+        self.assertEqual(len(blocks), 4)
         for block in blocks:
-            in_steps = False
+            in_steps, version = False, 2 if any(line.split()[:2] == ["scene", "2"] for line in block) else 1
             for line in block:
                 words = line.split()
                 in_steps = in_steps or words[0] == "actor"
-                self.assertTrue(words[0] == "#" or of_some_form(words, in_steps), line)
+                self.assertTrue(words[0] == "#" or of_some_form(words, in_steps, version), line)
+
+    def test_the_example_of_version_2_shows_what_the_page_says(self):
+        (script,) = [block for block in text("docs/SCRIPT.md").split("\n\n") if block.startswith("    scene 2 ")]
+        told = Play(read_scene(textwrap.dedent(script).encode())).records()
+        red, black = "ff0000ff", "000000ff"
+        self.assertEqual([tag + "".join(field_text(*field) for field in list(fields.items())[-1:]) for tag, fields in told if tag in OUTPUTS],
+                         [f"FRAM 2*{black} 1*{red} 5*{black}", f"FRAD 1*{red} 7*{black}", f"CAPT 1*{red} 3*{black}", "HITS 0"])
 
     def test_the_page_on_records_has_each_tag_and_each_name(self):
         page = text("docs/RECORDS.md")

@@ -52,6 +52,7 @@ FAULTS = (
     (HEAD + "display 2 1 1 0\n", (2, 1, 2), ("   = display is a form of version 2",)),
     (SECOND_HEAD + "display 1 1 1 0\n", (2, 2, 3), ("   = DISPLAY: a number that no display line above has, 2 to 8",)),
     (SECOND_HEAD + "picture 1 1 1 format rgb\n", (2, 6, 3), ("   = FORMAT: rgba, rgbx or rgb565",)),
+    (SECOND_HEAD.replace("2", "02", 1) + "hit 0 0 0\n", (2, 2, 3), ("   = HIT: a number that no hit line above has, 1 to 64",)),
     (SECOND_HEAD + "mirror 1 2\n", (2, 1, 9), ("   = a scene has at most 8 mirrors",)),
     (HEAD + "picture 1 1 1 format rgbx\n", (2, 5, 5), ("   = the form is: picture PICTURE WIDTH HEIGHT",)),
     (HEAD + "queue 1 2 2 2\nend\n", (2, 5, 5), ("   |             ^", "   = the form is: queue QUEUE WIDTH HEIGHT")),
@@ -59,11 +60,10 @@ FAULTS = (
     (HEAD + HEAD, (2, 1, 6), ("   = lines stand in this order: scene; timeline; queue; picture and its fills; actor and its steps; order; end",)),
     (HEAD, (2, 0, 10), ("a.sf:2:0: unended: the script ends without the line end", "   = the last line is: end")),
     ("x", (0, 0, 9), ("a.sf: limit: the script has 1 bytes, and may have 1048576",)),
-    # A scene that is read and not played yet: the first form of it that is not.
-    (SECOND_HEAD + "end\n", (0, 0, 0), ("a.sf:1:2: not played: the script is a scene, but has forms that are read and not played yet",)),
-    (HEAD + "actor 1\ntx 1\nset 1 1 alpha 0\nset 1 1 orient 3\nend\n", (0, 0, 0),
-     (" 5 | set 1 1 orient 3", "   = ORIENT: 0 to 7; read, and not played yet")),
-    (HEAD + "end\n", (0, 0, 0), ("a.sf: the script is a scene, but has forms that are read and not played yet",)),
+    (HEAD + "actor 1\ntx 1\nset 1 1 alpha 0\nset 1 1 orient 8\nend\n", (5, 5, 3),
+     (" 5 | set 1 1 orient 8", "   = ORIENT: 0 to 7: the quarter turns clockwise, and 4 more where it is mirrored before")),
+    # A fault without a place and without a cause that has a name.
+    (HEAD + "end\n", (0, 0, 0), ("a.sf: the cause has no name here",)),
 )
 
 

@@ -59,6 +59,27 @@ LONG = b"".join([
     DONE,
 ])
 
+# A run with two further displays, a capture and a hit, and the script that declares them.
+OUTPUTS = b"".join([
+    record("SCEN", 2, 2, 1, (1000000,)),
+    record("VSYN", 1, (1000000,), 0),
+    record("COMM", 1, 1, 0, 0, 0),
+    record("FRAM", 1, 0xff0000ff, 0xff0000ff),
+    record("FRAD", 2, 1, 0x0000ffff),
+    record("FRAD", 5, 1, 1, 1, 2),
+    record("CAPT", 1, 1, 7, 8),
+    record("HITS", 3, 1, 9),
+    record("VSYN", 2, (2000000,), 0),
+    record("COMM", 1, 2, 0, 0, 0),
+    record("FRAM", 2, 0xff0000ff, 0xff0000ff),
+    record("FRAD", 2, 2, 0x0000ffff),
+    record("FRAD", 5, 2, 1, 1, 2),
+    record("HITS", 3, 2, 0),
+    record("ARRV", 0), record("HOLD", 0), record("STUK", 0),
+    DONE,
+])
+OUTPUTS_SCRIPT = b"scene 2 2 1 1000000\ndisplay 5 3 1 7\ndisplay 2 1 1 0\ncapture 1 9 1 2\nhit 3 0 0\nend\n"
+
 
 def run(*words):
     out, err = io.StringIO(), io.StringIO()
@@ -76,10 +97,10 @@ class Case(unittest.TestCase):
     def path(self, name):
         return os.path.join(self.folder, name)
 
-    def file(self, data):
-        with open(self.path("records"), "wb") as file:
+    def file(self, data, name="records"):
+        with open(self.path(name), "wb") as file:
             file.write(data)
-        return self.path("records")
+        return self.path(name)
 
 
 class Dump(Case):
@@ -111,6 +132,18 @@ class Dump(Case):
             "STUK stuck actor 2 at step 2",
         ):
             self.assertIn(text, out)
+
+    def test_what_version_2_shows_is_told(self):
+        _, out, _ = run("dump", self.file(OUTPUTS))
+        self.assertEqual([line for line in out.splitlines() if line[:4] in ("FRAD", "CAPT", "HITS")], [
+            "FRAD frame of display 2 at vsync 1, 1 pixels",
+            "FRAD frame of display 5 at vsync 1, 3 pixels",
+            "CAPT capture 1 at vsync 1, 2 pixels",
+            "HITS hit 3 at vsync 1: layer 9",
+            "FRAD frame of display 2 at vsync 2, 1 pixels",
+            "FRAD frame of display 5 at vsync 2, 3 pixels",
+            "HITS hit 3 at vsync 2: no layer",
+        ])
 
     def test_each_status_has_its_name(self):
         for status, name in ((11, "BadValue"), (15, "Empty"), (16, "Occupied"), (99, "number 99")):
@@ -150,6 +183,10 @@ class Lines(Case):
             "STUK | 2 2",
             "DONE",
         ])
+
+    def test_what_version_2_shows(self):
+        status, lines = self.lines(OUTPUTS)
+        self.assertEqual((status, lines[3:8]), (0, ["FRAM 1 2*ff0000ff", "FRAD 2 1 1*0000ffff", "FRAD 5 1 2*00000001 1*00000002", "CAPT 1 1 1*00000007 1*00000008", "HITS 3 1 9"]))
 
     def test_empty_lists_a_summary_and_a_fault(self):
         empty = SCEN + record("ARRV", 0) + record("HIST", 1, 0) + record("HOLD", 0) + record("STUK", 0) + DONE
@@ -230,6 +267,39 @@ class Pictures(Case):
     def test_frames_are_named_for_their_vsyncs(self):
         run("png", self.path("out"), self.file(LONG))
         self.assertEqual(sorted(os.listdir(self.path("out"))), ["frame-1.png", "frame-3.png"])
+
+
+    def below(self):
+        """What is in the folder, by its paths."""
+        return sorted(os.path.relpath(os.path.join(folder, name), self.path("out")) for folder, _, names in os.walk(self.path("out")) for name in names)
+
+    def test_further_displays_and_captures_have_folders_of_their_own(self):
+        script, stream = self.file(OUTPUTS_SCRIPT, "a.sf"), self.file(OUTPUTS)
+        status, out, err = run("png", self.path("out"), "--script", script, stream)
+        paths = ["capture-1/frame-1.png", "display-2/frame-1.png", "display-2/frame-2.png", "display-5/frame-1.png", "display-5/frame-2.png", "frame-1.png", "frame-2.png"]
+        self.assertEqual((status, sorted(out.splitlines()), err), (0, [self.path("out/" + path) for path in paths], ""))
+        self.assertEqual(self.below(), paths)
+        with open(self.path("out/capture-1/frame-1.png"), "rb") as file:
+            self.assertEqual(struct.unpack_from(">II", file.read(), 16), (1, 2))
+
+    def test_without_the_script_further_displays_and_captures_are_left_out(self):
+        status, _, err = run("png", self.path("out"), self.file(OUTPUTS))
+        self.assertEqual((status, err), (0, "records.py: further displays and captures are left out: their sizes stand in the script, which --script SCRIPT names\n"))
+        self.assertEqual(self.below(), ["frame-1.png", "frame-2.png"])
+
+    def test_a_script_that_is_another_or_none(self):
+        stream = self.file(OUTPUTS)
+        status, _, err = run("png", self.path("out"), "--script", self.file(OUTPUTS_SCRIPT.replace(b"display 5 3", b"display 6 3").replace(b"9 1 2", b"9 2 2"), "a.sf"), stream)
+        self.assertEqual(status, 1)
+        self.assertIn("(FRAD, at byte 120): the script has no display 5", err)
+        self.assertIn("(CAPT, at byte 148): 8 bytes of pixels, where capture 1 of 2 x 2 has 16", err)
+        self.assertEqual(self.below(), ["display-2/frame-1.png", "display-2/frame-2.png", "frame-1.png", "frame-2.png"])
+        status, out, err = run("png", self.path("none"), "--script", self.file(b"end\n", "b.sf"), stream)
+        self.assertEqual((status, out, err), (2, "", "records.py: line 1 is none of a scene at its place: end\n"))
+
+    def test_pixels_that_are_no_whole_ones(self):
+        status, _, err = run("dump", self.file(SCEN + record("CAPT", 1, 1, rest=b"abc") + DONE))
+        self.assertEqual((status, err), (1, "records.py: record 2 (CAPT, at byte 28): 3 bytes of pixels, which are no whole ones\n"))
 
 
 class CommandLine(Case):
@@ -389,6 +459,19 @@ class Trace(Case):
              "args": details("actor 1 step 1", "connect", None, 0)},
             {"name": "dequeue: WouldBlock", "cat": "queue", "ph": "i", "s": "t", "ts": 500.0, "pid": 103, "tid": 1,
              "args": details("actor 2 step 1", "dequeue", None, 0, "WouldBlock")},
+        ])
+
+    def test_what_version_2_shows(self):
+        self.assertEqual([event for event in self.events if event["pid"] == 3], [])
+        events = json.loads(run("trace", self.file(OUTPUTS))[1])["traceEvents"]
+        names = {event["tid"]: event["args"]["name"] for event in events if event["pid"] == 3 and event["name"] == "thread_name"}
+        self.assertEqual(names, {2: "display 2", 5: "display 5", 11: "capture 1", 23: "hit 3"})
+        told = [(event["tid"], event["cat"], event["name"], event["ts"], event["dur"], event["args"]) for event in events if event["pid"] == 3 and event["ph"] == "X"]
+        self.assertEqual(told, [
+            (2, "display", "frame 1", 1000.0, 1000.0, {"number": 1}), (2, "display", "frame 2", 2000.0, 1000.0, {"number": 2}),
+            (5, "display", "frame 1", 1000.0, 1000.0, {"number": 1}), (5, "display", "frame 2", 2000.0, 1000.0, {"number": 2}),
+            (11, "capture", "frame 1", 1000.0, 2000.0, {"number": 1}),
+            (23, "hit", "layer 9", 1000.0, 1000.0, {"number": 1}), (23, "hit", "no layer", 2000.0, 1000.0, {"number": 2}),
         ])
 
     def test_what_is_held_and_who_is_stuck(self):

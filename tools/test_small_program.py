@@ -45,7 +45,7 @@ class Made(unittest.TestCase):
     def test_each_module_is_there_and_what_it_uses_is_named(self):
         main = self.contents("crates", small_program.NAME, "src", "main.rt")
         modules = re.findall(r"^mod (\w+);", main, re.M)
-        self.assertEqual(sorted(modules), ["play", "script"])
+        self.assertEqual(sorted(modules), ["play"])
         for module in modules:
             text = self.contents("crates", small_program.NAME, "src", module + ".rt")
             for name in re.findall(r"^use %s::(?:\{([^}]*)\}|(\w+));" % module, main, re.M):
@@ -56,16 +56,13 @@ class Made(unittest.TestCase):
         self.assertEqual(small_program.used_in(["ghost use Rattle.a::b.{\n  c};\nuse d::e; // f::g\nlet x = h::i(j);\n"]), {"d", "h"})
 
     def test_what_it_calls_of_sf_app_takes_what_it_gives(self):
-        for module, name, wanted in (("play", "play", ["rt", "alloc", "workers", "sink", "scene"]), ("script", "scene_of", ["alloc", "bytes"]),
-                                     ("script", "at_no_place", ["cause"])):
-            text = self.contents("crates", small_program.NAME, "src", module + ".rt")
-            head = re.search(r"^pub fn %s\b.*?\((.*?)\) ->" % name, text, re.M | re.S).group(1)
-            self.assertEqual(re.findall(r"(\w+): ", head), wanted, name)
+        text = self.contents("crates", small_program.NAME, "src", "play.rt")
+        head = re.search(r"^pub fn play\b.*?\((.*?)\) ->", text, re.M | re.S).group(1)
+        self.assertEqual(re.findall(r"(\w+): ", head), ["rt", "alloc", "workers", "sink", "scene"])
 
     def test_sources_are_copied_as_they_stand_without_proofs(self):
-        for name in ("play.rt", "script.rt"):
-            with open(os.path.join(run.TOP, "crates", "sf_app", "src", name), encoding="utf-8") as file:
-                self.assertEqual(self.contents("crates", small_program.NAME, "src", name), file.read())
+        with open(os.path.join(run.TOP, "crates", "sf_app", "src", "play.rt"), encoding="utf-8") as file:
+            self.assertEqual(self.contents("crates", small_program.NAME, "src", "play.rt"), file.read())
         self.assertEqual(os.listdir(os.path.join(self.folder, "crates", "sf_show")), ["src"])
 
     def test_what_may_wait_stays_behind_a_crates_name(self):

@@ -5,7 +5,7 @@ import unittest
 from scripts import read_script
 from stream import read
 from summing import summed
-from test_records import LONG, NO_SLOT, RED, Case, record, run
+from test_records import LONG, NO_SLOT, OUTPUTS, RED, Case, record, run
 
 ALL_HELD = b"".join([
     record("ARRV", 6, 1, 4, 1, 1, 5, 1, 1, 6, 2, 1, 7, 3, 2, 1, 4, 2, 2, 5),
@@ -78,6 +78,20 @@ class Summed(unittest.TestCase):
             " 1 refused (1 dequeue WouldBlock)",
         ])
 
+    def test_what_version_2_shows(self):
+        self.assertEqual(lines(OUTPUTS)[1:6], [
+            "2 frames at 2 vsyncs with commits, the last of them vsync 2",
+            "display 2: 2 frames",
+            "display 5: 2 frames",
+            "capture 1: 1 frame",
+            "hit 3: layer 9 from vsync 1, no layer from vsync 2",
+        ])
+
+    def test_of_many_changes_of_a_hit_some_are_told(self):
+        told = lines(b"".join(record("HITS", 1, number, number // 2) for number in range(1, 30)))
+        self.assertTrue(told[0].startswith("hit 1: no layer from vsync 1, layer 1 from vsync 2, layer 2 from vsync 4, "))
+        self.assertTrue(told[0].endswith("layer 9 from vsync 18, and 5 changes more"), told)
+
     def test_each_reason_to_wait(self):
         self.assertEqual([line.split(": ")[2] for line in lines(ALL_HELD)], [
             "queue 1 frame 2 is not drawn", "it is behind arrival 1 of its token", "it is desired for 9000000 ns",
@@ -112,7 +126,7 @@ class Summed(unittest.TestCase):
 
     def test_a_script_that_is_none(self):
         self.assertEqual(lines(record("SFLT", 3, 1, 2)), ["no scene: fault at line 3, word 1"])
-        self.assertEqual(lines(record("SFLT", 0, 0, 0)), ["no scene that is played"])
+        self.assertEqual(lines(record("SFLT", 0, 0, 9)), ["no scene"])
 
     def test_a_run_that_is_sums_alone(self):
         self.assertEqual(lines(record("SUMM", *((number,) for number in range(8)))), [

@@ -12,8 +12,10 @@ import browsing
 import run
 from course import Course
 from stream import read
+from test_checking import played
 from test_course import HELD, PROGRAM, REJECTED, scene, stream
 from test_records import Case, run as run_records
+from test_scenes import SCENES
 from viewing import values_text, view_page
 
 # How long the page may take to go to another vsync of a phone's screen, and to check all its frames, in seconds. A tenth of
@@ -23,6 +25,13 @@ STEP, CHECK = 3.0, 40.0
 
 def page(name, data):
     return view_page(name, read(data)[0], scene(name))
+
+
+def played_page(name):
+    """The page of a scene's play, by the program where it is built, and else by the player of the tools."""
+    script = scene(name)
+    data = subprocess.run([PROGRAM], input=script, stdout=subprocess.PIPE, timeout=60).stdout if PROGRAM else b""
+    return view_page(name, read(data)[0] if data else played(script), script)
 
 
 def data_of(text):
@@ -56,13 +65,22 @@ class Page(Case):
         self.assertNotRegex(text, r"(?i)<(script|img|link|iframe)[^>]*(src|href)")
         self.assertNotRegex(text, r"\b(fetch|XMLHttpRequest|WebSocket|import)\b *\(")
         data = data_of(text)
-        self.assertEqual((data["name"], data["width"], len(data["frames"]), len(data["moments"])), ("held.sf", 96, 2, 3))
+        self.assertEqual((data["name"], data["outputs"], len(data["frames"]), len(data["moments"])),
+                         ("held.sf", [{"name": "the own display", "width": 96, "height": 64, "isCapture": False}], 2, 3))
         self.assertEqual(data["arrivals"]["2"]["operations"][0], [2, 24, "set 1 2 create colour 0"])
 
     def test_what_moments_have_alike_stands_once(self):
         data = data_of(page("held.sf", HELD))
         self.assertEqual([len(data[name]) for name in ("layers", "drawn")], [3, 3])
-        self.assertEqual([moment["drawn"] for moment in data["moments"]], [[0], [1, 0, 2], [1, 0, 2]])
+        self.assertEqual([moment["outputs"][0]["drawn"] for moment in data["moments"]], [[0], [1, 0, 2], [1, 0, 2]])
+
+    def test_displays_captures_and_hits(self):
+        data = data_of(played_page("capture.sf"))
+        self.assertEqual([output["name"] for output in data["outputs"]], ["the own display", "capture 1 of layer 10", "capture 2 of layer 12"])
+        self.assertEqual([[output["isNew"] for output in moment["outputs"]] for moment in data["moments"]],
+                         [[True, True, True], [True, True, True], [True, False, True], [False, False, False]])
+        data = data_of(played_page("drag.sf"))
+        self.assertEqual((data["hits"]["1"], data["mirrors"], data["moments"][5]["hits"][0]), ([28, 40], {"90": 5, "91": 4}, [1, 1]))
 
     def test_a_name_and_a_script_may_have_any_letters(self):
         script = b"scene 1 2 1 1000000\n# </script><b>\nactor 1\ntx 1\nend\n"
@@ -114,7 +132,8 @@ class Shown(unittest.TestCase):
 
     def settled(self):
         """Waits until the frame of the moment is shown and checked."""
-        self.browser.until("document.getElementById('check').dataset.place === document.getElementById('scrub').value")
+        self.browser.until("document.getElementById('check').dataset.place === document.getElementById('scrub').value"
+                           " && document.getElementById('check').dataset.output === document.getElementById('output').value")
 
     def text(self, name):
         return self.browser.value(f"document.getElementById('{name}').innerText")
@@ -131,6 +150,65 @@ class Shown(unittest.TestCase):
     def scrub(self, place):
         self.browser.value(f"(() => {{ const s = document.getElementById('scrub'); s.value = {place}; s.dispatchEvent(new Event('input')); }})()")
         self.settled()
+
+    def choose(self, number):
+        """Chooses a display or a capture."""
+        self.browser.value(f"(() => {{ const s = document.getElementById('output'); s.value = {number}; s.dispatchEvent(new Event('change')); }})()")
+        self.settled()
+
+    def size(self):
+        return self.browser.value("(() => { const c = document.getElementById('frame'); return [c.width, c.height]; })()")
+
+    def outlined(self):
+        return self.browser.value("[...document.querySelectorAll('#outlines rect')].map((one) => one.dataset.layer)")
+
+    def test_another_display_is_chosen(self):
+        self.open("external", played_page("external.sf"))
+        self.assertEqual((self.size(), self.texts("#output option")), ([96, 168], ["the own display", "display 2"]))
+        self.assertEqual(self.outlined(), ["1", "11", "2"])
+        self.choose(1)
+        self.assertEqual((self.size(), self.outlined()), ([240, 150], ["20", "11"]))
+        self.assertIn("the same to the last pixel", self.text("check"))
+        self.click_frame(200, 60)
+        self.assertIn("At 200 60: layer 11 (chat) is on top", self.text("at"))
+        self.assertIn("layer 11 (chat), copied by layer 30, covers all that is below it here", self.texts("#stack li")[0])
+        self.assertIn("at 150 14, covers 150 14 72 116, copied by layer 30", self.text("layer"))
+        self.assertIn("layer 30 containerchangedmirrors 10stack 1", self.texts("#tree li"))
+        self.browser.until("document.getElementById('checked').dataset.done === 'yes'")
+        self.assertEqual(self.text("checked"), "Of all 8 frames, 8 are the same as this page paints them.")
+
+    def test_a_capture_of_a_layer_that_is_gone(self):
+        self.open("capture", played_page("capture.sf"))
+        self.choose(1)
+        self.assertEqual((self.size(), self.outlined()), ([84, 110], ["11", "12"]))
+        self.scrub(2)
+        self.assertEqual((self.outlined(), self.text("check")), ([], "Nothing is captured: the layer is not there."))
+        self.choose(2)
+        self.assertIn("the same to the last pixel", self.text("check"))
+
+    def test_hits(self):
+        self.open("drag", played_page("drag.sf"))
+        self.assertEqual(self.texts("#hits li"), ["hit 1 at 28 40: layer 5 (tea)", "hit 2 at 58 48: layer 1 (wall)", "hit 3 at 84 44: layer 6 (dad)",
+                                                  "hit 4 at 112 40: layer 1 (wall)", "hit 5 at 134 58: layer 8", "hit 6 at 134 82: layer 9 (bin)"])
+        self.scrub(4)
+        self.browser.value("document.querySelectorAll('#hits li')[4].click()")
+        self.settled()
+        self.assertIn("At 134 58: layer 5 (tea) is on top", self.text("at"))
+        self.assertEqual([text.split(",")[0] for text in self.texts("#stack li")[:2]], ["layer 4 (ring)", "layer 5 (tea)"])
+        self.assertIn("copied by layer 90, lets through: covers 69 % here", self.texts("#stack li")[1])
+        self.assertIn("layer 8 transparent here", self.texts("#stack li")[2])
+        self.scrub(5)
+        self.assertEqual(self.texts("#hits li")[0], "hit 1 at 28 40: layer 1 (wall)")
+
+    def test_a_hit_that_differs_is_told(self):
+        told = played(scene("drag.sf"))
+        told = [one._replace(fields={**one.fields, "layer": 6}) if one.tag == "HITS" and one.fields["hit"] == 1 else one for one in told]
+        self.open("wrong-hit", view_page("drag.sf", told, scene("drag.sf")))
+        self.assertEqual(self.texts("#hits li")[0], "hit 1 at 28 40: layer 6 (dad) ✗ by the layers, 5")
+
+    def test_a_scene_without_hits_and_further_displays_shows_no_choice(self):
+        self.open("held", page("held.sf", HELD))
+        self.assertEqual(self.browser.value("[...document.querySelectorAll('#output, #hits-title')].map((one) => one.hidden)"), [True, True])
 
     def test_the_tree_and_the_frame(self):
         self.open("held", page("held.sf", HELD))
@@ -219,12 +297,10 @@ class Shown(unittest.TestCase):
         self.assertEqual([text.split("\n")[0] for text in self.texts("#actors > div")],
                          ["actor 1 16 of 16 steps, all done", "actor 2 6 of 6 steps, all done", "actor 3 0 of 1 steps, 1 to come"])
 
-    @unittest.skipUnless(PROGRAM, "sf_main is not built")
     def test_each_scene_is_painted_as_it_was(self):
-        for name in ("phone.sf", "windows.sf", "glass.sf", "camera.sf", "ball.sf", "panes.sf", "sizes.sf", "refusals.sf", "stuck.sf", "late.sf"):
+        for name in SCENES:
             with self.subTest(name=name):
-                data = subprocess.run([PROGRAM], input=scene(name), stdout=subprocess.PIPE, timeout=60).stdout
-                self.open(name, page(name, data))
+                self.open(name, played_page(name))
                 self.browser.until("document.getElementById('checked').dataset.done === 'yes'")
                 self.assertRegex(self.text("checked"), r"^Of all (\d+) frames, \1 are the same as this page paints them\.$")
 

@@ -7,9 +7,12 @@ before; a queue's call stands where its step or its vsync does.
 
 from collections import defaultdict
 
-from wording import CALLS, HOLDS, NO_SLOT, REJECTS, STATUSES, call_name, caller_name, named
+from stream import OUTPUTS, place_of, place_text
+from wording import CALLS, HOLDS, NO_SLOT, REJECTS, STATUSES, call_name, caller_name, layer_text, named
 
-COMPOSITOR, ACTORS, QUEUES = 1, 2, 100
+COMPOSITOR, ACTORS, FURTHER, QUEUES = 1, 2, 3, 100
+# The tracks of further displays, of captures and of hits: behind these, by their numbers.
+OUTPUT_TRACKS = {"FRAD": 0, "CAPT": 10, "HITS": 20}
 VSYNCS, FRAMES, REJECTED, HELD, TOKENS = 1, 2, 3, 4, 10
 # The calls after which a slot is nobody's any more.
 ENDING = (8, 9, 14, 15)
@@ -112,6 +115,33 @@ def frame_events(frames, clock):
                           number=frame["number"], pixels=len(frame["pixels"]) // 4)
 
 
+def output_track(place):
+    return OUTPUT_TRACKS[place[0]] + place[1]
+
+
+def changes_of(hits):
+    """The hits at which another layer is met than at the one before."""
+    return [hit for hit, before in zip(hits, [None] + hits) if before is None or hit["layer"] != before["layer"]]
+
+
+def further_events(records, clock):
+    """The frames of further displays and the captures, each for as long as it is the last, and the layers that hits meet."""
+    by_place = defaultdict(list)
+    for record in records:
+        if record.tag in OUTPUT_TRACKS:
+            by_place[place_of(record.tag, record.fields)].append(record.fields)
+    if by_place:
+        yield from process_name(FURTHER, "further displays, captures and hits")
+    for place in sorted(by_place, key=output_track):
+        tag, thread = place[0], output_track(place)
+        yield from track_name(FURTHER, thread, place_text(place))
+        told = changes_of(by_place[place]) if tag == "HITS" else by_place[place]
+        starts = [clock.vsyncs.get(fields["number"], clock.end) for fields in told]
+        for fields, start, end in zip(told, starts, starts[1:] + [clock.end]):
+            name = layer_text(fields["layer"]) if tag == "HITS" else f"frame {fields['number']}"
+            yield slice_event(name, OUTPUTS[tag], start, max(start, end), FURTHER, thread, number=fields["number"])
+
+
 def slot_events(queue, slot, calls, clock):
     """The calls of a slot: one that was done lasts until the next one, if it leaves the slot with somebody."""
     thread, _ = slot_track(slot)
@@ -187,6 +217,7 @@ def trace(all_records):
         elif record.tag in EVENTS:
             events += EVENTS[record.tag](record.fields, clock)
     events += frame_events([record.fields for record in records if record.tag == "FRAM"], clock)
+    events += further_events(records, clock)
     return {"displayTimeUnit": "ms", "traceEvents": events}
 
 

@@ -4,7 +4,6 @@ from typing import NamedTuple
 
 UNKNOWN_LAYER, LAYER_EXISTS, PARENT_CYCLE, DRAW_CYCLE, TOO_MANY_LAYERS, WRONG_KIND = range(1, 7)
 ROOT, NOTHING = 0, -1
-MOST_LAYERS = 256
 NEEDS_KIND = {"colour": "colour", "show": "buffer"}
 
 
@@ -23,6 +22,7 @@ class Layer(NamedTuple):
     opaque: int = 0
     backpressure: int = 0
     colour: bytes = b"\x00\x00\x00\xff"
+    orient: int = 0
     shown: object = None
 
 
@@ -51,12 +51,12 @@ def reaches_itself(tree, number, by_relative):
     return False
 
 
-def create(tree, number, kind, parent):
+def create(tree, most, number, kind, parent):
     if parent not in (ROOT, NOTHING) and parent not in tree:
         raise Rejected(UNKNOWN_LAYER)
     if number in tree:
         raise Rejected(LAYER_EXISTS)
-    if len(tree) >= MOST_LAYERS:
+    if len(tree) >= most:
         raise Rejected(TOO_MANY_LAYERS)
     tree[number] = Layer(number, kind, parent)
 
@@ -98,10 +98,11 @@ def edit(tree, number, name, values):
         tree[number] = layer._replace(**{"shown" if name == "show" else name: values[0]})
 
 
-def change(tree, number, name, *values):
-    """Does an operation on a tree, by the numbers of its layers in the order of their creation, or raises Rejected."""
+def change(tree, most, number, name, *values):
+    """Does an operation on a tree, by the numbers of its layers in the order of their creation, or raises Rejected. It may have
+    `most` layers."""
     if name == "create":
-        create(tree, number, *values)
+        create(tree, most, number, *values)
     elif number not in tree:
         raise Rejected(UNKNOWN_LAYER)
     elif name == "destroy":
@@ -114,12 +115,13 @@ def change(tree, number, name, *values):
         edit(tree, number, name, values)
 
 
-def after(tree, operations):
-    """The tree after operations, 0 and 0; or the tree as it was, the cause and the place of the first that is rejected."""
+def after(tree, operations, most):
+    """The tree after operations, 0 and 0; or the tree as it was, the cause and the place of the first that is rejected. It may
+    have `most` layers."""
     new = dict(tree)
     for place, (number, operation) in enumerate(operations, 1):
         try:
-            change(new, number, *operation)
+            change(new, most, number, *operation)
         except Rejected as rejected:
             return tree, rejected.cause, place
     return new, 0, 0
@@ -162,11 +164,3 @@ def draw_order(tree):
         parts = [(other, False) for other in others if other.z < 0] + [(layer, True)] + [(other, False) for other in others if other.z >= 0]
         left += reversed(parts)
     return order
-
-
-def with_parents(tree, layer):
-    """A layer and those above it, the topmost first."""
-    chain = [layer]
-    while chain[-1].parent not in (ROOT, NOTHING):
-        chain.append(tree[chain[-1].parent])
-    return chain[::-1]

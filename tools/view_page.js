@@ -3,7 +3,7 @@
 
 const pictures = new Pictures(RUN.pictures);
 const byId = (id) => document.getElementById(id);
-const now = { place: 0, layer: null, point: null, arrival: null };
+const now = { place: 0, output: 0, layer: null, point: null, arrival: null };
 
 // An element with its class, and with texts and elements in it.
 function make(name, className, ...inside) {
@@ -22,7 +22,11 @@ function drawing(name, attributes, text) {
 
 const fill = (id, ...inside) => byId(id).replaceChildren(...inside.filter((one) => one !== null));
 const moment = () => RUN.moments[now.place];
-const drawnOf = (one) => (one.drawn || []).map((place) => RUN.drawn[place]);
+// The display or capture that is shown, and what of it is known at a moment.
+const screen = () => RUN.outputs[now.output];
+const shownOf = (one) => one.outputs[now.output];
+const drawnBy = (output) => (output.drawn || []).map((place) => RUN.drawn[place]);
+const drawnOf = (one) => drawnBy(shownOf(one));
 const layersOf = (one) => (one.tree || []).map(([place, depth]) => ({ ...RUN.layers[place], depth }));
 const hue = (layer) => `hsl(${(layer * 47 + 10) % 360} 85% 58%)`;
 const milliseconds = (time) => `${(time / 1e6).toFixed(1)} ms`;
@@ -44,53 +48,57 @@ async function frameOf(place) {
   return unpackedFrames.get(place);
 }
 
-// What the check of a moment's frame came to, by the moment's place.
+// What the check of an output's frame at a moment came to, by both.
 const checks = new Map();
-async function checkOf(place) {
-  if (!checks.has(place)) {
-    const one = RUN.moments[place];
-    if (one.frame === null || one.isMissing || one.drawn === null) checks.set(place, null);
-    else {
-      const painted = paint(drawnOf(one), pictures, RUN.width, RUN.height);
-      checks.set(place, difference(painted, await frameOf(one.frame), RUN.width));
-    }
+async function checkOf(place, number) {
+  const key = `${place} ${number}`;
+  if (!checks.has(key)) {
+    const output = RUN.moments[place].outputs[number], { width, height } = RUN.outputs[number];
+    if (output.frame === null || output.isMissing || output.drawn === null) checks.set(key, null);
+    else checks.set(key, difference(paint(drawnBy(output), pictures, width, height), await frameOf(output.frame), width));
   }
-  return checks.get(place);
+  return checks.get(key);
 }
 
-function checkText(one, check) {
-  if (one.isMissing) return ["wait", "The frame of these layers is not in the records: this is the one before."];
-  if (one.frame === null) return ["faint", "No frame yet: the display is black."];
+function checkText(output, check) {
+  if (output.isMissing) return ["wait", "The frame of these layers is not in the records: this is the one before."];
+  if (output.frame === null) return ["faint", screen().isCapture ? "Nothing is captured: the layer is not there." : "No frame yet: the display is black."];
   if (check === null) return ["wait", "The tree is not known here, so the frame could not be painted again."];
   if (check.count === 0) return ["good", "✓ Painted again from the layers by this page: the same to the last pixel."];
   return ["bad", `✗ Painted again from the layers by this page, ${check.count} pixels differ, the first at ${check.x} ${check.y}.`];
 }
 
 async function showFrame() {
-  const place = now.place, one = moment(), canvas = byId("frame");
-  const pixels = one.frame === null ? paint([], pictures, RUN.width, RUN.height) : await frameOf(one.frame);
-  const check = await checkOf(place);
-  if (place !== now.place) return;
-  if (pixels.length === 4 * RUN.width * RUN.height)
-    canvas.getContext("2d").putImageData(new ImageData(pixels, RUN.width, RUN.height), 0, 0);
-  const [className, text] = checkText(one, check);
-  const old = one.isNew || one.isMissing || one.frame === null ? null : make("span", "faint", " No new frame came here: this is the last one.");
+  const place = now.place, number = now.output, output = shownOf(moment()), { width, height } = screen();
+  const pixels = output.frame === null ? paint([], pictures, width, height) : await frameOf(output.frame);
+  const check = await checkOf(place, number);
+  if (place !== now.place || number !== now.output) return;
+  if (pixels.length === 4 * width * height)
+    byId("frame").getContext("2d").putImageData(new ImageData(pixels, width, height), 0, 0);
+  const [className, text] = checkText(output, check);
+  const old = output.isNew || output.isMissing || output.frame === null ? null : make("span", "faint", " No new frame came here: this is the last one.");
   fill("check", make("span", className, text), old);
   byId("check").dataset.place = place;
+  byId("check").dataset.output = number;
 }
 
-// Checks the frames of all moments, one after another, while nothing else is to do.
+// All frames that came, each by its moment and its output.
+function newFrames() {
+  return RUN.moments.flatMap((one, place) => one.outputs.map((output, number) => [place, number, output.isNew])).filter(([, , isNew]) => isNew);
+}
+
+// Checks all frames, one after another, while nothing else is to do.
 async function checkAll() {
-  const places = RUN.moments.map((_, place) => place).filter((place) => RUN.moments[place].isNew);
+  const frames = newFrames();
   let same = 0, checked = 0;
-  const differ = [];
-  for (const place of places) {
-    const check = await checkOf(place);
+  const differ = new Set();
+  for (const [place, number] of frames) {
+    const check = await checkOf(place, number);
     checked += check !== null;
     if (check && check.count === 0) same++;
-    else if (check) differ.push(RUN.moments[place].vsync);
-    byId("checked").textContent = `Of all ${places.length} frames, ${same} are the same as this page paints them`
-      + (differ.length ? `; they differ at vsync ${differ.slice(0, 8).join(", ")}.` : checked < places.length ? ".." : ".");
+    else if (check) differ.add(RUN.moments[place].vsync);
+    byId("checked").textContent = `Of all ${frames.length} frames, ${same} are the same as this page paints them`
+      + (differ.size ? `; they differ at vsync ${[...differ].slice(0, 8).join(", ")}.` : checked < frames.length ? ".." : ".");
     await new Promise((done) => setTimeout(done, 0));
   }
   byId("checked").dataset.done = "yes";
@@ -107,8 +115,8 @@ function showOutlines() {
     }
   }
   if (now.point) {
-    const [x, y] = now.point;
-    svg.append(drawing("line", { x1: x + .5, x2: x + .5, y1: 0, y2: RUN.height }), drawing("line", { x1: 0, x2: RUN.width, y1: y + .5, y2: y + .5 }));
+    const [x, y] = now.point, { width, height } = screen();
+    svg.append(drawing("line", { x1: x + .5, x2: x + .5, y1: 0, y2: height }), drawing("line", { x1: 0, x2: width, y1: y + .5, y2: y + .5 }));
   }
 }
 
@@ -133,9 +141,34 @@ function showPoint() {
     const [className, text] = shownThere(one, coveredBy);
     if (coveredBy === null && one.cover === 255) coveredBy = one.layer;
     const colour = one.source.map((channel) => channel.toString(16).padStart(2, "0")).join("");
-    const inside = make("span", "", make("strong", "", titleOf(one.layer)), " ", make("span", className, text), make("span", "faint mono", ` ${colour}`));
+    const copied = one.mirror === null ? " " : `, copied by layer ${one.mirror}, `;
+    const inside = make("span", "", make("strong", "", titleOf(one.layer)), copied, make("span", className, text), make("span", "faint mono", ` ${colour}`));
     byId("stack").append(pickable(one.layer, 0, inside));
   }
+}
+
+// Hits.
+
+// The layer in front at a point of the own display, without what mirrors show; 0 where there is none.
+function inFront(one, x, y) {
+  const found = layersAt(drawnBy(one.outputs[0]), pictures, x, y).find((layer) => layer.mirror === null);
+  return found ? found.layer : 0;
+}
+
+function hitItem([number, met]) {
+  const one = moment(), [x, y] = RUN.hits[number], text = met ? titleOf(met) : "no layer";
+  const differs = one.outputs[0].drawn !== null && !one.outputs[0].isMissing && inFront(one, x, y) !== met;
+  const item = make("li", "pick", make("span", "", `hit ${number} at ${x} ${y}: `, make("strong", "", text),
+    differs ? make("span", "bad", ` ✗ by the layers, ${inFront(one, x, y) || "none"}`) : null));
+  item.style.borderLeftColor = met ? hue(met) : "transparent";
+  item.onclick = () => { now.point = [x, y]; if (met) now.layer = met; choose(0); };
+  return item;
+}
+
+function showHits() {
+  const hits = moment().hits;
+  byId("hits-title").hidden = !Object.keys(RUN.hits).length;
+  fill("hits", ...(byId("hits-title").hidden ? [] : hits.length ? hits.map(hitItem) : [make("li", "faint", "none yet")]));
 }
 
 // Layers.
@@ -186,6 +219,8 @@ function showTree() {
     const tags = [
       changed.has(layer.number) && ["good", "changed"], layer.hidden && ["faint", "hidden"],
       layer.relative !== null && ["faint", `relative to ${layer.relative}`],
+      RUN.mirrors[layer.number] && ["faint", `mirrors ${RUN.mirrors[layer.number]}`],
+      layer.parent === 0 && RUN.stacks[layer.number] && ["faint", `stack ${RUN.stacks[layer.number]}`],
       layer.alpha < 255 && ["faint", `alpha ${layer.alpha}`], layer.kind !== "container" && !drawn.has(layer.number) && ["wait", "not shown"]];
     byId("tree").append(pickable(layer.number, layer.depth, make("span", "", make("strong", "", `layer ${layer.number}`), ` ${contentText(layer)}`, swatch(layer),
       ...tags.filter((tag) => tag).map(([className, text]) => make("span", `tag ${className}`, text)))));
@@ -201,20 +236,29 @@ function changesOf(number) {
   return lines.reverse();
 }
 
+function orientText(orient) {
+  const turns = ["not turned", "a quarter turn clockwise", "turned upside down", "a quarter turn anticlockwise"][orient % 4];
+  return `${orient}: ${orient > 3 ? "mirrored, then " : ""}${turns}`;
+}
+
 function showLayer() {
   if (now.layer === null) return;
   const layer = layersOf(moment()).find((one) => one.number === now.layer);
   const drawn = drawnOf(moment()).find((one) => one.layer === now.layer);
   if (!layer) return void fill("layer", make("span", "faint", `Layer ${now.layer} is not there at ${nameOf(moment())}.`));
+  const copied = drawn && drawn.mirror !== null ? `, copied by layer ${drawn.mirror}` : "";
   const rows = [
     ["layer", `${layer.number}, ${contentText(layer)}`],
     ["parent", layer.parent === null ? "none, so it is not shown" : layer.parent === 0 ? "the root" : `layer ${layer.parent}`],
     layer.relative !== null && ["relative to", `layer ${layer.relative}`],
     ["z", layer.z], ["position", layer.position.join(" ")], ["crop", layer.crop ? layer.crop.join(" ") : "none"],
+    layer.orient > 0 && ["orientation", orientText(layer.orient)],
+    layer.parent === 0 && layer.number in RUN.stacks && ["stack", RUN.stacks[layer.number]],
+    RUN.mirrors[layer.number] && ["mirrors", `layer ${RUN.mirrors[layer.number]}, with all below it`],
     ["alpha", layer.alpha + (drawn && drawn.alpha !== layer.alpha ? `, with its parents' ${drawn.alpha}` : "")],
     ["flags", ["hidden", "opaque", "backpressure"].filter((flag) => layer[flag]).join(", ") || "none"],
     layer.content && ["frame's crop", layer.content.crop.join(" ")],
-    ["on the display", drawn ? `at ${drawn.place.join(" ")}, covers ${drawn.clip.join(" ")}` : "not shown"]];
+    [`on ${screen().name}`, drawn ? `at ${drawn.place.join(" ")}, covers ${drawn.clip.join(" ")}${copied}` : "not shown"]];
   const table = make("table", "", ...rows.filter((row) => row).map(([name, value]) => make("tr", "", make("td", "", name), make("td", "mono", String(value)))));
   const changes = changesOf(layer.number);
   fill("layer", table, thumbnail(layer), make("h2", "", "Changed by, the last first"),
@@ -236,7 +280,7 @@ function thumbnail(layer) {
 // The moment.
 
 function markClass(one, place) {
-  const kind = one.commits.some((commit) => commit.cause) ? "rejected" : one.held.length ? "held" : one.isNew ? "new" : "";
+  const kind = one.commits.some((commit) => commit.cause) ? "rejected" : one.held.length ? "held" : one.outputs[0].isNew ? "new" : "";
   return `${kind} ${place === now.place ? "now" : ""}`;
 }
 
@@ -248,12 +292,20 @@ function showWhere() {
 }
 
 function show() {
-  showWhere(); showOutlines(); showPoint(); showTree(); showLayer(); showTransactions(); showTokens(); showTransaction(); showActors(); showQueues();
+  showWhere(); showOutlines(); showPoint(); showHits(); showTree(); showLayer(); showTransactions(); showTokens(); showTransaction(); showActors(); showQueues();
   return showFrame();
 }
 
 function go(place) {
   now.place = Math.max(0, Math.min(place, RUN.moments.length - 1));
+  return show();
+}
+
+// Shows another display or capture.
+function choose(number) {
+  now.output = number;
+  byId("output").value = number;
+  sizeStage();
   return show();
 }
 
@@ -276,11 +328,12 @@ function play() {
 
 // The size in which the frame is shown: as many times larger as there is room for.
 function sizeStage() {
-  const scale = Math.max(1, Math.floor(Math.min(420 / RUN.width, 560 / RUN.height))), shrink = Math.min(1, 480 / (RUN.width * scale));
+  const { width, height } = screen();
+  const scale = Math.max(1, Math.floor(Math.min(420 / width, 560 / height))), shrink = Math.min(1, 480 / (width * scale));
   const canvas = byId("frame");
-  [canvas.width, canvas.height] = [RUN.width, RUN.height];
-  canvas.style.width = `${RUN.width * scale * shrink}px`;
-  byId("outlines").setAttribute("viewBox", `0 0 ${RUN.width} ${RUN.height}`);
+  [canvas.width, canvas.height] = [width, height];
+  canvas.style.width = `${width * scale * shrink}px`;
+  byId("outlines").setAttribute("viewBox", `0 0 ${width} ${height}`);
 }
 
 function start() {
@@ -291,6 +344,9 @@ function start() {
   byId("notes").textContent = notes.join(" ");
   if (RUN.moments.length <= 1500)
     RUN.moments.forEach((one, place) => { const mark = make("div", ""); mark.title = nameOf(one); mark.onclick = () => go(place); byId("marks").append(mark); });
+  RUN.outputs.forEach((output, number) => byId("output").append(new Option(output.name, number)));
+  byId("output").hidden = RUN.outputs.length === 1;
+  byId("output").onchange = () => { now.point = null; choose(Number(byId("output").value)); };
   sizeStage();
   byId("scrub").oninput = () => go(Number(byId("scrub").value));
   byId("previous").onclick = () => { stop(); go(now.place - 1); };
@@ -298,9 +354,9 @@ function start() {
   byId("play").onclick = play;
   byId("outlined").onchange = showOutlines;
   byId("stage").onclick = (event) => {
-    const box = byId("frame").getBoundingClientRect();
-    const x = Math.floor((event.clientX - box.left) / box.width * RUN.width), y = Math.floor((event.clientY - box.top) / box.height * RUN.height);
-    if (x < 0 || y < 0 || x >= RUN.width || y >= RUN.height) return;
+    const box = byId("frame").getBoundingClientRect(), { width, height } = screen();
+    const x = Math.floor((event.clientX - box.left) / box.width * width), y = Math.floor((event.clientY - box.top) / box.height * height);
+    if (x < 0 || y < 0 || x >= width || y >= height) return;
     now.point = [x, y];
     const top = layersAt(drawnOf(moment()), pictures, x, y).find((one) => one.isSeen);
     if (top) now.layer = top.layer;

@@ -1,6 +1,6 @@
 "use strict";
-// Paints what a display shows, pixel by pixel, and compares it with the frame that the run wrote. Channels are 0 to 255,
-// colours are premultiplied: docs/SCRIPT.md, The frame.
+// Paints what a display or a capture shows, pixel by pixel, and compares it with the image that the run wrote. Channels are 0 to
+// 255, colours are premultiplied: docs/SCRIPT.md, The frame.
 
 const PRODUCTS = new Uint8Array(256 * 256);
 for (let a = 0; a < 256; a++)
@@ -15,16 +15,30 @@ function channels(digits) {
   return [value >>> 24, value >>> 16 & 255, value >>> 8 & 255, value & 255];
 }
 
-// The pixels of a picture: transparent black where no fill covers it, else the colour of the last that does.
+// A colour as a picture of this format shows it.
+function seenAs(format, [red, green, blue, alpha]) {
+  if (format === "rgba") return [red, green, blue, alpha];
+  if (format === "rgbx") return [red, green, blue, 255];
+  return [red & 0xf8 | red >> 5, green & 0xfc | green >> 6, blue & 0xf8 | blue >> 5, 255];
+}
+
+// The pixels of a picture: what its format makes of transparent black where no fill covers it, else of the last one's colour.
 function picturePixels(picture) {
-  const pixels = new Uint8Array(4 * picture.width * picture.height);
+  const pixels = new Uint8Array(4 * picture.width * picture.height), ground = seenAs(picture.format, [0, 0, 0, 0]);
+  for (let at = 0; at < pixels.length; at += 4) pixels.set(ground, at);
   for (const [x, y, width, height, digits] of picture.fills) {
-    const colour = channels(digits);
+    const colour = seenAs(picture.format, channels(digits));
     for (let row = y; row < Math.min(y + height, picture.height); row++)
       for (let column = x; column < Math.min(x + width, picture.width); column++)
         pixels.set(colour, 4 * (row * picture.width + column));
   }
   return pixels;
+}
+
+// The column and the row of a crop of this size that show with an orientation, so far from the left and from the top.
+function turned(orient, width, height, u, v) {
+  const right = width - 1, low = height - 1;
+  return [[u, v], [v, low - u], [right - u, low - v], [right - v, u], [right - u, v], [right - v, low - u], [u, low - v], [v, u]][orient];
 }
 
 // Pictures that were painted lately.
@@ -39,14 +53,20 @@ class Pictures {
     return this.kept.get(number);
   }
 
+  // The place, among the bytes of its picture, of the pixel that a drawn layer shows at a point of the display.
+  at(drawn, x, y) {
+    const { picture, crop } = drawn.content;
+    const [column, row] = turned(drawn.orient, crop[2], crop[3], x - drawn.place[0], y - drawn.place[1]);
+    return 4 * ((crop[1] + row) * this.pictures[picture].width + crop[0] + column);
+  }
+
   // What a drawn layer shows at a point of the display that it covers, before its alpha counts.
   source(drawn, x, y) {
     let colour;
     if (drawn.content === null) colour = channels(drawn.colour);
     else {
-      const { picture, crop } = drawn.content;
-      const at = 4 * ((y - drawn.place[1] + crop[1]) * this.pictures[picture].width + x - drawn.place[0] + crop[0]);
-      colour = Array.from(this.pixels(picture).subarray(at, at + 4));
+      const at = this.at(drawn, x, y);
+      colour = Array.from(this.pixels(drawn.content.picture).subarray(at, at + 4));
     }
     if (drawn.opaque) colour[3] = 255;
     return colour;
@@ -68,7 +88,7 @@ function paintRow(target, to, count, source, from, step, alpha, opaque) {
   }
 }
 
-// The pixels of a display of opaque black, over which the layers are painted from the back to the front.
+// The pixels of an image of opaque black, over which the layers are painted from the back to the front.
 function paint(drawn, pictures, width, height) {
   const target = new Uint8ClampedArray(4 * width * height);
   for (let at = 3; at < target.length; at += 4) target[at] = 255;
@@ -80,9 +100,8 @@ function paint(drawn, pictures, width, height) {
         paintRow(target, to, wide, channels(layer.colour), 0, 0, layer.alpha, layer.opaque);
         continue;
       }
-      const { picture, crop } = layer.content;
-      const from = 4 * ((y - layer.place[1] + crop[1]) * pictures.pictures[picture].width + left - layer.place[0] + crop[0]);
-      paintRow(target, to, wide, pictures.pixels(picture), from, 4, layer.alpha, layer.opaque);
+      const from = pictures.at(layer, left, y), step = pictures.at(layer, left + 1, y) - from;
+      paintRow(target, to, wide, pictures.pixels(layer.content.picture), from, step, layer.alpha, layer.opaque);
     }
   }
   return target;
@@ -96,7 +115,7 @@ function layersAt(drawn, pictures, x, y) {
     if (x < left || y < top || x >= left + wide || y >= top + high) continue;
     const source = pictures.source(layer, x, y);
     const isSeen = source.some((channel) => product(channel, layer.alpha) > 0);
-    found.push({ layer: layer.layer, source, alpha: layer.alpha, cover: product(source[3], layer.alpha), isSeen });
+    found.push({ layer: layer.layer, mirror: layer.mirror, source, alpha: layer.alpha, cover: product(source[3], layer.alpha), isSeen });
   }
   return found;
 }

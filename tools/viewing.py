@@ -10,6 +10,7 @@ import os
 import zlib
 
 from course import Course
+from stream import OWN_DISPLAY
 from wording import NO_SLOT, REFUSALS, STATUSES, call_name, named
 
 FOLDER = os.path.dirname(os.path.abspath(__file__))
@@ -73,15 +74,29 @@ def arrival_of(course, arrival):
     }
 
 
+def name_of(place):
+    if place.is_capture():
+        return f"capture {place.of[1]} of layer {place.shows}"
+    return "the own display" if place.of == OWN_DISPLAY else f"display {place.of[1]}"
+
+
+def place_data(place):
+    return {"name": name_of(place), "width": place.width, "height": place.height, "isCapture": place.is_capture()}
+
+
+def output_of(output, drawn):
+    return {"frame": output.frame, "isNew": output.is_new, "isMissing": output.is_missing,
+            "drawn": None if output.drawn is None else [drawn.place(one, drawn_of(one)) for one in output.drawn]}
+
+
 def moment_of(moment, layers, drawn):
     return {
         "vsync": moment.number, "time": moment.time, "timelines": sorted(moment.timelines.items()),
-        "frame": moment.frame, "isNew": moment.is_new, "isMissing": moment.is_missing,
         "commits": [commit._asdict() for commit in moment.commits],
         "held": [hold._asdict() for hold in moment.held],
         "waiting": [list(waiting) for waiting in moment.waits],
         "tree": None if moment.outline is None else [[layers.place(layer, layer_of(layer)), depth] for layer, depth in moment.outline],
-        "drawn": None if moment.drawn is None else [drawn.place(one, drawn_of(one)) for one in moment.drawn],
+        "outputs": [output_of(output, drawn) for output in moment.outputs], "hits": sorted(moment.hits.items()),
     }
 
 
@@ -123,7 +138,8 @@ def view_data(name, course):
     layers, drawn = Once(), Once()
     moments = [moment_of(moment, layers, drawn) for moment in course.moments]
     return {
-        "name": name, "width": course.scene["width"], "height": course.scene["height"],
+        "name": name, "outputs": [place_data(place) for place in course.places],
+        "hits": course.declarations.hits, "stacks": course.declarations.stacks, "mirrors": course.declarations.mirrors,
         "isLive": course.is_live, "fault": course.fault, "isWhole": any(record.tag == "DONE" for record in course.records),
         "pictures": {number: picture._asdict() for number, picture in course.declarations.pictures.items()},
         "layers": layers.items, "drawn": drawn.items, "moments": moments,

@@ -1,8 +1,10 @@
-"""The vsyncs of a run: when they are and what they saw, what they commit, what they give back, and the frames that they show."""
+"""The vsyncs of a run: when they are and what they saw, what they commit, what they give back, and what they show."""
+
+from itertools import zip_longest
 
 from commits import Stage
 from ordering import Refused
-from painting import Painter
+from outputs import Outputs, name_of
 from playing import buffer_row
 from transactions import hold_of
 from wording import HOLDS, named
@@ -26,9 +28,9 @@ class Pending:
         return self.arrivals[left.pop() - 1][1]
 
 
-def released_by(arrivals, vsyncs):
+def released_by(scene, arrivals, vsyncs):
     """The frames that the vsyncs give back, by their queues: each with the vsync and whether it was read."""
-    pending, stage, released = Pending(arrivals), Stage(), {}
+    pending, stage, released = Pending(arrivals), Stage(scene.most_layers()), {}
     for vsync in vsyncs:
         number = vsync.record.fields["number"]
         stage.begin(number)
@@ -47,19 +49,19 @@ def check_result(record, result, operation):
 
 
 class Vsyncs:
-    """Checks the vsyncs of a run, one after another, with their commits and frames."""
+    """Checks the vsyncs of a run, one after another, with their commits and what they show."""
 
     def __init__(self, traces, arrivals):
-        self.traces, self.scene, self.pending, self.stage = traces, traces.scene, Pending(arrivals), Stage()
+        self.traces, self.scene, self.pending, self.stage = traces, traces.scene, Pending(arrivals), Stage(traces.scene.most_layers())
         self.arrivals, self.number, self.seen = arrivals, 0, {}
-        self.painter = Painter(self.scene.pictures, self.scene.width, self.scene.height)
+        self.outputs = Outputs(self.scene)
 
     def check(self, vsync):
         self.check_vsync(vsync)
         self.stage.begin(self.number)
         for at, record in enumerate(vsync.commits):
             self.check_commit(record, vsync.commits[at + 1:at + 2], vsync.record.fields["expected"])
-        self.check_frame(vsync)
+        self.check_outputs(vsync)
 
     def check_vsync(self, vsync):
         fields, where = vsync.record.fields, vsync.record.text()
@@ -106,22 +108,36 @@ class Vsyncs:
                 raise Refused("buffers", record.text(), f"it shows picture {row[3]} with crop {row[4:]} as frame {row[2]} of queue {row[1]}, which was queued "
                               f"with picture {wanted[3]} and crop {wanted[4:]}")
 
-    def check_frame(self, vsync):
+    def check_outputs(self, vsync):
+        """A vsync shows what is due, where it has not rejected all that it committed, and nothing else."""
         is_due = any(record.fields["result"] == 0 for record in vsync.commits)
-        if is_due and vsync.frame is None:
-            raise Refused("frames", vsync.record.text(), "its FRAM is missing")
-        if not is_due and vsync.frame:
-            raise Refused("frames", vsync.frame.text(), "its vsync has rejected all that it committed, and shows no frame")
-        if is_due:
-            self.check_pixels(vsync.frame)
+        due = self.outputs.due(self.stage.tree, self.number) if is_due else ()
+        for told, wanted in zip_longest(vsync.outputs, due):
+            if told is None:
+                raise Refused("frames", vsync.record.text(), f"its {name_of(*wanted)} is missing")
+            if wanted is None:
+                more = "it stands behind all that its vsync has to show" if is_due else "its vsync has rejected all that it committed, and shows nothing"
+                raise Refused("frames", told.text(), more)
+            self.check_output(told, *wanted)
 
-    def check_pixels(self, frame):
-        told, due = frame.fields["pixels"], self.painter.image(self.stage.tree)
+    def check_output(self, told, tag, fields):
+        """A record of what a vsync shows, where one of this tag with these fields is due."""
+        if told.tag != tag or name_of(tag, told.fields) != name_of(tag, fields):
+            raise Refused("frames", told.text(), f"it stands where {name_of(tag, fields)} is due")
+        if tag != "HITS":
+            self.check_pixels(told, fields["pixels"], *self.outputs.size_of(tag, fields))
+        elif told.fields["layer"] != fields["layer"]:
+            raise Refused("frames", told.text(), f"hit {fields['hit']} meets layer {told.fields['layer']}, where {fields['layer']} is in front")
+
+    def check_pixels(self, image, due, width, height):
+        told = image.fields["pixels"]
         if told == due:
             return
+        if len(told) != len(due):
+            raise Refused("frames", image.text(), f"it has {len(told)} bytes of pixels, where an image of {width} x {height} has {len(due)}")
         at = next(at for at in range(0, len(due), 4) if told[at:at + 4] != due[at:at + 4])
-        x, y = at // 4 % self.scene.width, at // 4 // self.scene.width
-        raise Refused("frames", frame.text(), f"the pixel at {x} {y} is {told[at:at + 4].hex()}, where the layers make it {due[at:at + 4].hex()}")
+        raise Refused("frames", image.text(),
+                      f"the pixel at {at // 4 % width} {at // 4 // width} is {told[at:at + 4].hex()}, where the layers make it {due[at:at + 4].hex()}")
 
 
 def hold_text(hold):

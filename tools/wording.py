@@ -30,7 +30,7 @@ CALLS = {
     13: "acquire", 14: "release", 15: "consumer detach", 16: "consumer attach",
 }
 FAULTS = {
-    0: "not played", 1: "not UTF-8", 2: "unknown word", 3: "bad word", 4: "missing word", 5: "extra word",
+    1: "not UTF-8", 2: "unknown word", 3: "bad word", 4: "missing word", 5: "extra word",
     6: "out of order", 7: "undefined", 8: "twice", 9: "limit", 10: "unended", 11: "wrong version",
 }
 NO_SLOT = 4294967295
@@ -79,6 +79,22 @@ def frame_sentence(f):
     return f"frame of vsync {f['number']}, {len(f['pixels']) // 4} pixels"
 
 
+def display_sentence(f):
+    return f"frame of display {f['display']} at vsync {f['number']}, {len(f['pixels']) // 4} pixels"
+
+
+def capture_sentence(f):
+    return f"capture {f['capture']} at vsync {f['number']}, {len(f['pixels']) // 4} pixels"
+
+
+def layer_text(number):
+    return f"layer {number}" if number else "no layer"
+
+
+def hit_sentence(f):
+    return f"hit {f['hit']} at vsync {f['number']}: {layer_text(f['layer'])}"
+
+
 def arrivals_sentence(f):
     return "arrivals " + listed(f"{number}: actor {actor} step {step} token {token}"
                                 for number, (actor, step, token) in enumerate(f["arrivals"], 1))
@@ -119,7 +135,8 @@ def fault_sentence(f):
 
 SENTENCES = {
     "SCEN": scene_sentence, "REPL": reply_sentence, "VSYN": vsync_sentence, "COMM": commit_sentence,
-    "FRAM": frame_sentence, "ARRV": arrivals_sentence, "HIST": history_sentence, "HOLD": held_sentence,
+    "FRAM": frame_sentence, "FRAD": display_sentence, "CAPT": capture_sentence, "HITS": hit_sentence,
+    "ARRV": arrivals_sentence, "HIST": history_sentence, "HOLD": held_sentence,
     "STUK": stuck_sentence, "DONE": lambda f: "the run is whole", "SUMM": summary_sentence, "SFLT": fault_sentence,
 }
 
