@@ -60,10 +60,28 @@ class Made(unittest.TestCase):
         head = re.search(r"^pub fn play\b.*?\((.*?)\) ->", text, re.M | re.S).group(1)
         self.assertEqual(re.findall(r"(\w+): ", head), ["rt", "alloc", "workers", "sink", "scene"])
 
-    def test_sources_are_copied_as_they_stand_without_proofs(self):
+    def test_sources_are_copied_without_contracts_and_proofs(self):
         with open(os.path.join(run.TOP, "crates", "sf_app", "src", "play.rt"), encoding="utf-8") as file:
-            self.assertEqual(self.contents("crates", small_program.NAME, "src", "play.rt"), file.read())
+            copied, whole = self.contents("crates", small_program.NAME, "src", "play.rt"), file.read()
+        self.assertEqual(copied, small_program.without_contracts(whole))
+        self.assertEqual(copied.count("\n"), whole.count("\n"))
         self.assertEqual(os.listdir(os.path.join(self.folder, "crates", "sf_show")), ["src"])
+
+    def test_only_the_clauses_of_contracts_are_left_out(self):
+        text = """\
+/// requires { x }
+fn a(x: &str) -> u8
+    requires { IsSome x.{ now } // }
+    }
+    ensures sync { "}" }
+{
+    let b = "ensures {"; // ensures { }
+    '{'
+}
+"""
+        lines = text.split("\n")
+        lines[2:5] = ["    ", "", "    "]
+        self.assertEqual(small_program.without_contracts(text), "\n".join(lines))
 
     def test_what_may_wait_stays_behind_a_crates_name(self):
         self.assertEqual(small_program.listed_crates("# all\na may_wait=3: b c # two\nb:\n"), {"a": ("a may_wait=3", ["b", "c"]), "b": ("b", [])})
