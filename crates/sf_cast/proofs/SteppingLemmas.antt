@@ -105,7 +105,7 @@ module _ {B : Type 0} where
   -- a try of the actor at a place is one of the cast
   pub steps_at : (table : TableId) (pictures : ℕ → Picture) (place : ℕ) (actors : List (Actor B)) (ofs : List (ActorOf B)) (before after : PlainOf B) (d one : Actor B) (came_to : Result Stepped NoMemory)
       → place < length actors → IsStrictlyIncreasing (numbers_of (scripts_of actors)) → home_of after ≡ home_of before
-      → ((of : ActorOf B) → IsActor table (get_or actors place d) of → Keeps pictures (home_of before) of (view_of before) → IfOk came_to (Steps table pictures (home_of before) (get_or actors place d).hands of (view_of before) one (view_of after)))
+      → ((of : ActorOf B) → IsActor table (get_or actors place d) of → Keeps pictures (home_of before) of (view_of before) → IfOk came_to (Steps table pictures (home_of before) (get_or actors place d).bindings of (view_of before) one (view_of after)))
       → KeepAs table pictures (home_of before) (view_of before) actors ofs → IfOk came_to (StepsAt table pictures place actors ofs before (set actors place one) after)
   steps_at table pictures place actors ofs before after d one (Err e) there rising same steps keep = tt
   steps_at table pictures place actors ofs before after d one (Ok came_to) there rising same steps keep =

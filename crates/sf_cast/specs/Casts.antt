@@ -56,7 +56,7 @@ module _ {B : Type 0} where
     pub kept : All (λ actor. IsKept table (picture_at pictures) (home_of desk) actor (view_of desk)) actors
 
   module _ (table : TableId) (pictures : ℕ → Picture) (place : ℕ) where
-    -- A try of the actor at a place: it does what its script says, with the tokens in its hands, and every other one is as before;
+    -- A try of the actor at a place: it does what its script says, with the tokens in its bindings, and every other one is as before;
     -- all keep what they keep.
     pub record StepsAt (was : List (Actor B)) (olds : List (ActorOf B)) (before : PlainOf B) (actors : List (Actor B)) (after : PlainOf B) (stepped : Stepped) : Type 0 where
       pub old : ActorOf B
@@ -69,7 +69,7 @@ module _ {B : Type 0} where
       pub was_at : slice_get was place ≡ Some was_here
       pub now_at : slice_get actors place ≡ Some now_here
       pub acts : (next : Step) → next_step old ≡ Some next
-          → Acts pictures (home_of before) next (length old.trace + 1) was_here.hands (view_of before) now_here.hands (view_of after)
+          → Acts pictures (home_of before) next (length old.trace + 1) was_here.bindings (view_of before) now_here.bindings (view_of after)
 
   -- nothing that a try leaves as it is was changed
   pub record IsSameCast (old new : CastOf B) : Type 0 where

@@ -1,4 +1,4 @@
--- An actor may cross to a thread, with what it has in its hands.
+-- An actor may cross to a thread, with what it has in its bindings.
 use denote.RattleType.{RattleType}
 use denote.Param.Send.{IsSend, sendable, view_send}
 use denote.Param.SendFields.{declared_send}
@@ -19,7 +19,7 @@ use Rattle.sf_surface.specs.contracts.reading.ReadLeaseLease.TheImpl as leased
 use Rattle.sf_txn.specs.contracts.transaction.Transaction as transaction
 use Rattle.sf_turns.specs.contracts.seat.TurnSeat as seat
 use Rattle.sf_steps.specs.contracts.actor.Actor as actor
-use Rattle.sf_steps.specs.contracts.hands.Hands as hands
+use Rattle.sf_steps.specs.contracts.bindings.Bindings as bindings
 use Rattle.sf_steps.specs.contracts.table.Table as table
 use Rattle.sf_steps.specs.contracts.table.Table.TheInside as inside
 use Rattle.sf_crew.proofs.CrossingTurns.{permit_send, stock_send}
@@ -37,8 +37,8 @@ module _ (B : RattleType) (T : naming.Ghosts B.Denot) where
   sent_send : IsSend Sent
   sent_send = transaction_send (read.the_row B T) (seat.the_row painted.the_row picture.the_row ghosts) (reading.the_row B T) (closing.the_row B T) (leased.ghosts B T leased.no_dict) (read_send B T)
 
-  pub hands_send : IsSend (hands.the_row B T)
-  hands_send = declared_send (hands.the_type B T) (
+  pub bindings_send : IsSend (bindings.the_row B T)
+  bindings_send = declared_send (bindings.the_type B T) (
     search (sendable, crosses) depth 20,
     (
       search (sendable, crosses) depth 20,
@@ -53,4 +53,4 @@ module _ (B : RattleType) (T : naming.Ghosts B.Denot) where
   )
 
   pub actor_send : IsSend (actor.the_row B T)
-  actor_send = declared_send (actor.the_type B T) (script_shown.the_send, (hands_send, (Vec-send _ reply_shown.the_send, (search (sendable, crosses) depth 20, tt))))
+  actor_send = declared_send (actor.the_type B T) (script_shown.the_send, (bindings_send, (Vec-send _ reply_shown.the_send, (search (sendable, crosses) depth 20, tt))))

@@ -96,7 +96,7 @@ module _ {B : Type 0} where
 module _ {B : Type 0} where
   pub gates_kept : (table : TableId) (pictures : ℕ → Picture) (home : DeskHome) (was now : Actor B) (of : ActorOf B) (before after : DeskView B) (stepped : Stepped) (gates : Gates)
       → IsActor table was of → now.script ≡ was.script → IsReady was gates
-      → Steps table pictures home was.hands of before now after stepped → HasPassed now gates
+      → Steps table pictures home was.bindings of before now after stepped → HasPassed now gates
   gates_kept table pictures home was now of before after stepped gates is script ready steps =
       let t = traces_on pictures home of steps.new before after stepped steps.tries in
       let w = within pictures home steps.new after steps.keeps in
@@ -115,7 +115,7 @@ module _ {B : Type 0} (table : TableId) (locks : Locks B) (pictures : List Pictu
       → AreSeats table locks now.seats → home_of others now.seats ≡ home_of locks was.seats
       → now.actor.script ≡ was.actor.script → IsReady was.actor now.gates
       → ((of : ActorOf B) → IsActor table was.actor of → Keeps (picture_at pictures) (home_of locks was.seats) of (view_of was.seats)
-      → Steps table (picture_at pictures) (home_of locks was.seats) was.actor.hands of (view_of was.seats) now.actor (view_of now.seats) stepped)
+      → Steps table (picture_at pictures) (home_of locks was.seats) was.actor.bindings of (view_of was.seats) now.actor (view_of now.seats) stepped)
       → Turns table locks pictures was now stepped
   turned was now others stepped aboard own home script ready steps =
       let caller : now.seats.by ≡ was.seats.by = same_caller locks others was.seats now.seats home in
@@ -140,7 +140,7 @@ module _ {B : Type 0} (table : TableId) (locks : Locks B) (pictures : List Pictu
       → old ≡ record { locks = locks; seats = was.seats } → IsHome locks (shared.home_of old) → shared.home_of new ≡ shared.home_of old → now.seats ≡ new.seats
       → ((others : Locks B) → IsHome others (shared.home_of new) → AreSeats table others now.seats) → now.actor.script ≡ was.actor.script → IsReady was.actor now.gates
       → ((of : ActorOf B) → IsActor table was.actor of → Keeps (picture_at pictures) (shared.home_of old) of (shared.view_of old)
-      → IfOk tried (Steps table (picture_at pictures) (shared.home_of old) was.actor.hands of (shared.view_of old) now.actor (shared.view_of new)))
+      → IfOk tried (Steps table (picture_at pictures) (shared.home_of old) was.actor.bindings of (shared.view_of old) now.actor (shared.view_of new)))
       → IfOk tried (Turns table locks pictures was now)
   turned_ok was now old new (Err e) aboard is home same seats own script ready steps = tt
   turned_ok was now old new (Ok stepped) aboard is home same seats own script ready steps =
@@ -152,7 +152,7 @@ module _ {B : Type 0} (table : TableId) (locks : Locks B) (pictures : List Pictu
       forth : (of : ActorOf B) → Keeps (picture_at pictures) (home_of locks was.seats) of (view_of was.seats) → Keeps (picture_at pictures) (shared.home_of old) of (shared.view_of old)
       forth of keeps = subst (λ (d : SharedOf B). Keeps (picture_at pictures) (shared.home_of d) of (shared.view_of d)) (sym is) keeps
 
-      back : (of : ActorOf B) → Steps table (picture_at pictures) (shared.home_of old) was.actor.hands of (shared.view_of old) now.actor (shared.view_of new) stepped
-          → Steps table (picture_at pictures) (home_of locks was.seats) was.actor.hands of (view_of was.seats) now.actor (view_of now.seats) stepped
-      back of steps = subst (λ (s : Seats B). Steps table (picture_at pictures) (home_of locks was.seats) was.actor.hands of (view_of was.seats) now.actor (view_of s) stepped) (sym seats)
-          (subst (λ (d : SharedOf B). Steps table (picture_at pictures) (shared.home_of d) was.actor.hands of (shared.view_of d) now.actor (shared.view_of new) stepped) is steps)
+      back : (of : ActorOf B) → Steps table (picture_at pictures) (shared.home_of old) was.actor.bindings of (shared.view_of old) now.actor (shared.view_of new) stepped
+          → Steps table (picture_at pictures) (home_of locks was.seats) was.actor.bindings of (view_of was.seats) now.actor (view_of now.seats) stepped
+      back of steps = subst (λ (s : Seats B). Steps table (picture_at pictures) (home_of locks was.seats) was.actor.bindings of (view_of was.seats) now.actor (view_of s) stepped) (sym seats)
+          (subst (λ (d : SharedOf B). Steps table (picture_at pictures) (shared.home_of d) was.actor.bindings of (shared.view_of d) now.actor (shared.view_of new) stepped) is steps)

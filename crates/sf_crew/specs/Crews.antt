@@ -35,7 +35,7 @@ module _ {B : Type 0} (table : TableId) (locks : Locks B) (pictures : List Pictu
     pub script : now.actor.script ≡ was.actor.script
     pub caller : now.seats.by ≡ was.seats.by
     pub steps : (of : ActorOf B) → IsActor table was.actor of → Keeps (picture_at pictures) (home_of locks was.seats) of (view_of was.seats)
-        → Steps table (picture_at pictures) (home_of locks was.seats) was.actor.hands of (view_of was.seats) now.actor (view_of now.seats) stepped
+        → Steps table (picture_at pictures) (home_of locks was.seats) was.actor.bindings of (view_of was.seats) now.actor (view_of now.seats) stepped
 
   -- what contracts see of the actor walked from the one moment to the other, where it keeps what it keeps
   pub record Walks (was : Crew B) (of : ActorOf B) (now : Crew B) : Type 0 where

@@ -40,7 +40,7 @@ module _ {B : Type 0} (table : TableId) (pictures : ℕ → Picture) (locks : Lo
     pub own : AreSeats table locks after.seats
     pub caller : after.seats.by ≡ before.seats.by
     pub stepped : Stepped
-    pub steps : Steps table pictures (home_of locks before.seats) before.actor.hands before.of (view_of before.seats) after.actor (view_of after.seats) stepped
+    pub steps : Steps table pictures (home_of locks before.seats) before.actor.bindings before.of (view_of before.seats) after.actor (view_of after.seats) stepped
     pub is : steps.new ≡ after.of
 
   -- one try after the other

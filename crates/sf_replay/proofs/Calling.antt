@@ -12,13 +12,13 @@ use Rattle.sf_turns.specs.Views.{SeatView}
 use Rattle.sf_actor.specs.Desks.{DeskHome, DeskView}
 use Rattle.sf_actor.specs.Names.{name_in}
 use Rattle.sf_actor.specs.Points.{frame_fence, requested_fence}
-use Rattle.sf_steps.specs.declared.hands.Hands.{Hands}
+use Rattle.sf_steps.specs.declared.bindings.Bindings.{Bindings}
 use Rattle.sf_steps.specs.declared.tried.Tried.{Tried}
 use Rattle.sf_steps.specs.declared.tried.Tried.TheVariants as tried
 use Rattle.sf_steps.specs.Acting.{Acts, Attempts}
 use Rattle.sf_steps.specs.Calling.{Ends}
 use Rattle.sf_steps.specs.Doing.{MakesCall}
-use Rattle.sf_steps.specs.Hands.{holdings_of}
+use Rattle.sf_steps.specs.Bindings.{holdings_of}
 use Rattle.sf_steps.specs.Leaving.{TriesToLeave}
 use Rattle.sf_replay.proofs.Seeing.{knows_just, saw_just, sees_just}
 
@@ -49,9 +49,9 @@ waits_not false status values same = absurd (cc same)
 module _ {B : Type 0} (pictures : ℕ → Picture) (home : DeskHome) where
   -- The one call that a step makes, from a view on that knows the calls and the turns that were known; and whatever else the step does, it
   -- does it over any desk, if it makes this call there.
-  pub record MakesOne (s : Step) (n : ℕ) (before after : Hands B) (old new : DeskView B) (came_to : Tried) : Type 0 where
+  pub record MakesOne (s : Step) (n : ℕ) (before after : Bindings B) (old new : DeskView B) (came_to : Tried) : Type 0 where
     pub from : DeskView B
-    pub called : Hands B
+    pub called : Bindings B
     pub makes : MakesCall pictures home before.by.0 n s before called from new came_to
     pub calls : from.calls ≡ old.calls
     pub left : from.turns.leaves ≡ old.turns.leaves
@@ -61,7 +61,7 @@ module _ {B : Type 0} (pictures : ℕ → Picture) (home : DeskHome) where
     pub again : (one other : DeskView B) → one.times ≡ times → MakesCall pictures (exactly home) before.by.0 n s before called (record one { times = looked }) other came_to
         → Acts pictures (exactly home) before.by.0 n s before after one other came_to
 
-  plain_call : (s : Step) (n : ℕ) (before after : Hands B) (old new : DeskView B) (came_to : Tried) → MakesCall pictures home before.by.0 n s before after old new came_to
+  plain_call : (s : Step) (n : ℕ) (before after : Bindings B) (old new : DeskView B) (came_to : Tried) → MakesCall pictures home before.by.0 n s before after old new came_to
       → ((one other : DeskView B) → MakesCall pictures (exactly home) before.by.0 n s before after one other came_to → Acts pictures (exactly home) before.by.0 n s before after one other came_to)
       → MakesOne s n before after old new came_to
   plain_call s n before after old new came_to makes again = record {
@@ -76,7 +76,7 @@ module _ {B : Type 0} (pictures : ℕ → Picture) (home : DeskHome) where
     again = λ one other same made. again one other (subst (λ (times : Knows). MakesCall pictures (exactly home) before.by.0 n s before after (record one { times = times }) other came_to) (sym same) made);
   }
 
-  leaving_call : (s : Step) (n : ℕ) (fence : Option Fence) (before after : Hands B) (old new : DeskView B) (status : QStatus) (values : List ℕ)
+  leaving_call : (s : Step) (n : ℕ) (fence : Option Fence) (before after : Bindings B) (old new : DeskView B) (status : QStatus) (values : List ℕ)
       → TriesToLeave pictures home before.by.0 n s fence before after old new (tried.Called status values)
       → ((one other : DeskView B) → TriesToLeave pictures (exactly home) before.by.0 n s fence before after one other (tried.Called status values) → Acts pictures (exactly home) before.by.0 n s before after one other (tried.Called status values))
       → MakesOne s n before after old new (tried.Called status values)
@@ -100,7 +100,7 @@ module _ {B : Type 0} (pictures : ℕ → Picture) (home : DeskHome) where
     );
   }
 
-  pub acts_one : (s : Step) (n : ℕ) (before after : Hands B) (old new : DeskView B) (status : QStatus) (values : List ℕ) → Acts pictures home before.by.0 n s before after old new (tried.Called status values)
+  pub acts_one : (s : Step) (n : ℕ) (before after : Bindings B) (old new : DeskView B) (status : QStatus) (values : List ℕ) → Acts pictures home before.by.0 n s before after old new (tried.Called status values)
       → MakesOne s n before after old new (tried.Called status values)
   acts_one (step.Disconnect queue) n before after old new status values acts = record {
     from = old;
@@ -134,7 +134,7 @@ module _ {B : Type 0} (pictures : ℕ → Picture) (home : DeskHome) where
   acts_one s n before after old new status values acts = plain_call s n before after old new (tried.Called status values) acts (λ one other made. made)
 
   -- where a call was made, no test of the step's own refused it
-  pub called_unrefused : (refusal : Option ℕ) (s : Step) (n : ℕ) (before after : Hands B) (old new : DeskView B) (status : QStatus) (values : List ℕ)
+  pub called_unrefused : (refusal : Option ℕ) (s : Step) (n : ℕ) (before after : Bindings B) (old new : DeskView B) (status : QStatus) (values : List ℕ)
       → Attempts refusal pictures home before.by.0 n s before after old new (tried.Called status values) → (refusal ≡ None) × Acts pictures home before.by.0 n s before after old new (tried.Called status values)
   called_unrefused None s n before after old new status values acts = (refl, acts)
   called_unrefused (Some refused) s n before after old new status values attempts = absurd (called_apart status values refused attempts.0)

@@ -5,7 +5,7 @@ use Rattle.std.proofs.lemmas.List.Sums.{sum_by-append}
 use Rattle.sf_surface.specs.Tokens.{ReadLeaseOf}
 use Rattle.sf_actor.specs.Rights.{Turn}
 use Rattle.sf_actor.specs.Tries.{ActorOf}
-use Rattle.sf_steps.specs.declared.hands.Hands.{Hands}
+use Rattle.sf_steps.specs.declared.bindings.Bindings.{Bindings}
 use Rattle.sf_scene.specs.declared.step.Step.{Step}
 use Rattle.sf_surface.specs.declared.call.QCall.TheVariants as call
 use Rattle.sf_rights.specs.Ledgers.{IsLedger}
@@ -58,14 +58,14 @@ module _ {B : Type 0} where
           omega (arith, e, a, b, c, d, f)
 
   -- what a try does, between states that are close to these
-  pub record GoesTo (s : Step) (before : Hands B) (number : ℕ) (old new : State B) : Type 0 where
+  pub record GoesTo (s : Step) (before : Bindings B) (number : ℕ) (old new : State B) : Type 0 where
     pub from : State B
     pub to : State B
     pub close_from : IsClose old from
     pub close_to : IsClose to new
     pub went : IsLedger (ledger_of from) → Went s before number from to
 
-  pub goes_keeps : (s : Step) (before : Hands B) (number : ℕ) (old new : State B) → GoesTo s before number old new → IsLedger (ledger_of old) → IsLedger (ledger_of new)
+  pub goes_keeps : (s : Step) (before : Bindings B) (number : ℕ) (old new : State B) → GoesTo s before number old new → IsLedger (ledger_of old) → IsLedger (ledger_of new)
   goes_keeps s before number old new goes is = close_keeps goes.to new goes.close_to (goes.went (close_keeps old goes.from goes.close_from is)).ledger
 
   -- a frame that is given back, between states that are close to these
@@ -82,7 +82,7 @@ module _ {B : Type 0} where
 
 module _ {B : Type 0} (whole : Whole B) (Holds : State B → Type 0) where
   -- what a try of an actor does keeps it, between any two states of all callers
-  abbrev pub GoesKept : ActorOf B → ActorOf B → Step → Hands B → Type 0
+  abbrev pub GoesKept : ActorOf B → ActorOf B → Step → Bindings B → Type 0
   GoesKept was is s before =
       (others later : List (Local B)) (on more : List ReadLeaseOf) (leaves left : List Turn) (heights risen : ℕ → ℕ)
       → GoesTo s before (length was.trace + 1) (state_at whole heights (others ++ local_of was on leaves ∷ later)) (state_at whole risen (others ++ local_of is more left ∷ later))
@@ -98,7 +98,7 @@ module _ {B : Type 0} (whole : Whole B) (Holds : State B → Type 0) where
 
 module _ {B : Type 0} (whole : Whole B) where
   -- so does the ledger
-  pub ledger_goes : (was is : ActorOf B) (s : Step) (before : Hands B) → GoesKept whole HasLedger was is s before
+  pub ledger_goes : (was is : ActorOf B) (s : Step) (before : Bindings B) → GoesKept whole HasLedger was is s before
   ledger_goes was is s before others later on more leaves left heights risen goes holds = goes_keeps s before (length was.trace + 1) _ _ goes holds
 
   pub ledger_gives : GivesKept whole HasLedger

@@ -28,19 +28,19 @@ use Rattle.sf_actor.specs.Tests as tests
 use Rattle.sf_actor.specs.Tries.{ActorOf}
 use Rattle.sf_actor.specs.Written as written
 use Rattle.sf_steps.specs.declared.asking.Asking.{Asking}
-use Rattle.sf_steps.specs.declared.hands.Hands.{Hands}
+use Rattle.sf_steps.specs.declared.bindings.Bindings.{Bindings}
 use Rattle.sf_steps.specs.declared.tried.Tried.{Tried}
 use Rattle.sf_steps.specs.declared.tried.Tried.TheVariants as tried
 use Rattle.sf_steps.specs.Acting.{Acts, Attempts}
 use Rattle.sf_steps.specs.Doing.{MakesCall}
 use Rattle.sf_steps.specs.Editing.{Releases, ReleasesAll, Sends, buffer_with}
-use Rattle.sf_steps.specs.Hands.{holdings_of}
+use Rattle.sf_steps.specs.Bindings.{holdings_of}
 use Rattle.sf_rights.specs.Makers.{RightAt, places_held, places_owed, places_sent}
 use Rattle.sf_rights.specs.Moves.{Gets}
 use Rattle.sf_rights.specs.States.{AreApart, is_queue}
 use Rattle.sf_rights.proofs.Ending.{ending_left, ends_are, turns_of}
 use Rattle.sf_rights.proofs.Forms.{names_owe, take_txn}
-use Rattle.sf_rights.proofs.Owing.{gets_more, gets_same, hands_owe}
+use Rattle.sf_rights.proofs.Owing.{gets_more, gets_same, bindings_owe}
 use Rattle.sf_rights.proofs.Releasing.{lease_of}
 use Rattle.sf_replay.specs.Cuts.{Lifts, Whole}
 use Rattle.sf_replay.specs.Orders.{raised}
@@ -52,7 +52,7 @@ use Rattle.sf_rights.specs.States.{State}
 use Rattle.sf_replay.proofs.Closing.{GivesKept, GoesKept}
 use Rattle.sf_replay.proofs.Happening.{draws_comes, edits_comes, finds_times, looked_calls, owes_after, owes_before, rest_lifts, rests, same_view, same_writes, times_comes, waits_comes}
 use Rattle.sf_replay.proofs.Lifting.{lifts_call}
-use Rattle.sf_replay.proofs.Quiets.{HandsRest, begins_rest, edits_rest, merges_rest, same_rest, shows_rest}
+use Rattle.sf_replay.proofs.Quiets.{BindingsRest, begins_rest, edits_rest, merges_rest, same_rest, shows_rest}
 use Rattle.sf_replay.proofs.Sending.{send_goes}
 use Rattle.sf_replay.proofs.Writing.{does_write, refused}
 
@@ -151,7 +151,7 @@ module _ {B : Type 0} (home : DeskHome) (by number : ℕ) where
 module _ {B : Type 0} (whole : Whole B) (pictures : ℕ → Picture) (home : DeskHome) (marks : whole.marks ≡ home.marks) (apart : AreApart home.marks)
     (absent : (queue : ℕ) → has_queue home queue ≡ false → whole.view.calls queue ≡ [])
     (legal : (queue : ℕ) → IsLegal (Answers (mark_among home.marks queue)) (whole.view.calls queue))
-    (was is : ActorOf B) (before after : Hands B) (old new : DeskView B)
+    (was is : ActorOf B) (before after : Bindings B) (old new : DeskView B)
     (begins : (queue : ℕ) → (more : List (Made B)) × (whole.view.calls queue ≡ more ++ new.calls queue)) (Holds : State B → Type 0)
     (kept : (s : Step) (came_to : Tried) → DoesTry pictures home was is s before after old new came_to → GoesKept whole Holds was is s before) (gives : GivesKept whole Holds) where
   abbrev by : ℕ
@@ -180,7 +180,7 @@ module _ {B : Type 0} (whole : Whole B) (pictures : ℕ → Picture) (home : Des
       later = all_begin by number (releases_give home by number buffers all.0 new all.2).gives all.0 new (releases_give home by number buffers all.0 new all.2).all buffer.lease.queue.0
 
   gives_comes : (s : Step) (came_to : Tried) (tries : DoesTry pictures home was is s before after old new came_to) → ((answer : Answered) → written.written_by (holdings_of before) s answer ≡ [])
-      → (buffers : List (Buffer ReadLeaseOf)) → HandsRest before after (map lease_of buffers) → ReleasesAll home by number buffers old new → Comes whole Holds by was is old new
+      → (buffers : List (Buffer ReadLeaseOf)) → BindingsRest before after (map lease_of buffers) → ReleasesAll home by number buffers old new → Comes whole Holds by was is old new
   gives_comes s came_to tries none buffers rest all =
       let each = releases_give home by number buffers old new all in
       Giving each.gives each.all (all_given buffers old all)
@@ -213,7 +213,7 @@ module _ {B : Type 0} (whole : Whole B) (pictures : ℕ → Picture) (home : Des
 
       owed : Gets (places_owed was.parts) [] (places_owed is.parts)
       owed = subst (λ xs. Gets xs [] (places_owed is.parts)) (owes_before whole pictures home was is s before after old new (tried.Sent arrival) tries Holds (kept s (tried.Sent arrival) tries))
-          (subst (λ xs. Gets (hands_owe before) [] xs) (owes_after whole pictures home was is s before after old new (tried.Sent arrival) tries Holds (kept s (tried.Sent arrival) tries)) (names_owe before after (ap (λ (hands : Hands B). hands.names) sends.takes.txn_rest)))
+          (subst (λ xs. Gets (bindings_owe before) [] xs) (owes_after whole pictures home was is s before after old new (tried.Sent arrival) tries Holds (kept s (tried.Sent arrival) tries)) (names_owe before after (ap (λ (bindings : Bindings B). bindings.names) sends.takes.txn_rest)))
 
   -- the actor answered itself
   own_comes : (s : Step) (status : ℕ) (tries : DoesTry pictures home was is s before after old new (tried.Own status)) → refusal_of pictures (holdings_of before) s ≡ None
@@ -226,8 +226,8 @@ module _ {B : Type 0} (whole : Whole B) (pictures : ℕ → Picture) (home : Des
       times_comes whole pictures home was is (step.CDetach from to) before after old new (tried.Own status) tries Holds (kept (step.CDetach from to) (tried.Own status) tries) (λ answer. refl) acts.1
       (finds_times whole pictures home was is (step.CDetach from to) before after old new (tried.Own status) tries Holds (kept (step.CDetach from to) (tried.Own status) tries) (frame_fence (name_in (holdings_of before) from)) acts.2)
   own_comes (step.Draw name p) status tries none acts = draws_comes whole pictures home was is before after old new Holds kept name p (tried.Own status) tries none acts
-  own_comes (step.Signal t v) status tries none acts = times_comes whole pictures home was is (step.Signal t v) before after old new (tried.Own status) tries Holds (kept (step.Signal t v) (tried.Own status) tries) (λ answer. refl) acts.hands acts.times
-  own_comes (step.Wait t v) status tries none acts = times_comes whole pictures home was is (step.Wait t v) before after old new (tried.Own status) tries Holds (kept (step.Wait t v) (tried.Own status) tries) (λ answer. refl) acts.hands acts.times
+  own_comes (step.Signal t v) status tries none acts = times_comes whole pictures home was is (step.Signal t v) before after old new (tried.Own status) tries Holds (kept (step.Signal t v) (tried.Own status) tries) (λ answer. refl) acts.bindings acts.times
+  own_comes (step.Wait t v) status tries none acts = times_comes whole pictures home was is (step.Wait t v) before after old new (tried.Own status) tries Holds (kept (step.Wait t v) (tried.Own status) tries) (λ answer. refl) acts.bindings acts.times
   own_comes (step.Tx n) status tries none acts = edits_comes whole pictures home was is (step.Tx n) before after old new (tried.Own status) tries Holds (kept (step.Tx n) (tried.Own status) tries) (λ answer. refl) (begins_rest before after n acts.changed) acts.desk
   own_comes (step.Desire n time) status tries none acts =
       edits_comes whole pictures home was is (step.Desire n time) before after old new (tried.Own status) tries Holds (kept (step.Desire n time) (tried.Own status) tries) (λ answer. refl) (edits_rest before after n _ (λ txn. refl) acts.changed) acts.desk
@@ -248,7 +248,7 @@ module _ {B : Type 0} (whole : Whole B) (pictures : ℕ → Picture) (home : Des
       → Acts pictures home by number s before after old new tried.NotYet → Comes whole Holds by was is old new
   not_yet_comes (step.Disconnect q) tries none acts =
       waits_comes whole pictures home was is (step.Disconnect q) before after old new tried.NotYet tries Holds (kept (step.Disconnect q) tried.NotYet tries) (λ answer. refl) none old refl refl refl
-      (subst (λ (hands : Hands B). MakesCall pictures home by number (step.Disconnect q) before hands old new tried.NotYet) (sym acts.drops) acts.makes)
+      (subst (λ (bindings : Bindings B). MakesCall pictures home by number (step.Disconnect q) before bindings old new tried.NotYet) (sym acts.drops) acts.makes)
   not_yet_comes (step.PDetach from to) tries none acts =
       let same = looked_calls whole pictures home was is (step.PDetach from to) before after old new tried.NotYet tries Holds (kept (step.PDetach from to) tried.NotYet tries) acts.0 (requested_fence (name_in (holdings_of before) from)) acts.1 in
       waits_comes whole pictures home was is (step.PDetach from to) before after old new tried.NotYet tries Holds (kept (step.PDetach from to) tried.NotYet tries) (λ answer. refl) none acts.0 same.0 same.1 same.2 acts.2
@@ -257,7 +257,7 @@ module _ {B : Type 0} (whole : Whole B) (pictures : ℕ → Picture) (home : Des
       waits_comes whole pictures home was is (step.CDetach from to) before after old new tried.NotYet tries Holds (kept (step.CDetach from to) tried.NotYet tries) (λ answer. refl) none acts.0 same.0 same.1 same.2 acts.2
   not_yet_comes (step.Draw name p) tries none acts = draws_comes whole pictures home was is before after old new Holds kept name p tried.NotYet tries none acts
   not_yet_comes (step.Signal t v) tries none acts = absurd (not_own tried.NotYet 0 (inl refl) acts.own)
-  not_yet_comes (step.Wait t v) tries none acts = times_comes whole pictures home was is (step.Wait t v) before after old new tried.NotYet tries Holds (kept (step.Wait t v) tried.NotYet tries) (λ answer. refl) acts.hands acts.times
+  not_yet_comes (step.Wait t v) tries none acts = times_comes whole pictures home was is (step.Wait t v) before after old new tried.NotYet tries Holds (kept (step.Wait t v) tried.NotYet tries) (λ answer. refl) acts.bindings acts.times
   not_yet_comes (step.Tx n) tries none acts = absurd (not_own tried.NotYet 0 (inl refl) acts.own)
   not_yet_comes (step.Desire n time) tries none acts = absurd (not_own tried.NotYet 0 (inl refl) acts.own)
   not_yet_comes (step.Barrier n layer frame) tries none acts = absurd (not_own tried.NotYet 0 (inl refl) acts.own)

@@ -23,17 +23,17 @@ use Rattle.sf_actor.specs.Rights.{Turn, issued_turn}
 use Rattle.sf_actor.specs.Tests.{refusal_of}
 use Rattle.sf_actor.specs.Tries.{ActorOf, ended_by, held_in, owed_turn}
 use Rattle.sf_actor.specs.Written as written
-use Rattle.sf_steps.specs.declared.hands.Hands.{Hands}
+use Rattle.sf_steps.specs.declared.bindings.Bindings.{Bindings}
 use Rattle.sf_steps.specs.declared.tried.Tried.{Tried}
 use Rattle.sf_steps.specs.declared.tried.Tried.TheVariants as tried
 use Rattle.sf_steps.specs.Doing.{MakesCall}
 use Rattle.sf_steps.specs.Drawing.{Draws}
-use Rattle.sf_steps.specs.Hands.{holdings_of}
+use Rattle.sf_steps.specs.Bindings.{holdings_of}
 use Rattle.sf_steps.specs.Leaving.{FindsOpen, LooksFor}
 use Rattle.sf_rights.specs.Makers.{RightAt, places_held, places_owed, right_read}
 use Rattle.sf_rights.specs.Moves.{AreIn, Gets}
 use Rattle.sf_rights.proofs.Draws.{draw_waits, draw_writes}
-use Rattle.sf_rights.proofs.Owing.{gets_push, gets_same, hands_owe}
+use Rattle.sf_rights.proofs.Owing.{gets_push, gets_same, bindings_owe}
 use Rattle.sf_replay.specs.Cuts.{Lifts, Whole, state_at}
 use Rattle.sf_replay.specs.Lifts.{Comes, LearnsOnly, local_of}
 use Rattle.sf_replay.specs.Lifts.Comes.{Quietly}
@@ -41,7 +41,7 @@ use Rattle.sf_replay.specs.Tries.{DoesTry}
 use Rattle.sf_rights.specs.States.{State}
 use Rattle.sf_replay.proofs.Closing.{GoesKept}
 use Rattle.sf_replay.proofs.Quieting.{pay_goes, quiet_goes}
-use Rattle.sf_replay.proofs.Quiets.{Drew, HandsPay, HandsRest, drawn_back, drew, same_rest, waits_rest, write_of}
+use Rattle.sf_replay.proofs.Quiets.{Drew, BindingsPay, BindingsRest, drawn_back, drew, same_rest, waits_rest, write_of}
 use Rattle.sf_replay.proofs.Quiets.Drew.{Lease, Paid}
 use Rattle.sf_replay.proofs.Writing.{done_is, does_write, nothing_written, unrefused}
 
@@ -52,7 +52,7 @@ ends_longer : {A : Type 0} (x : A) (xs : List A) → xs ++ x ∷ [] ≡ xs → �
 ends_longer x [] same = absurd (cc same)
 ends_longer x (y ∷ xs) same = ends_longer x xs (let rest : xs ++ x ∷ [] ≡ xs = cc in rest)
 
-module _ {B : Type 0} (whole : Whole B) (pictures : ℕ → Picture) (home : DeskHome) (was is : ActorOf B) (s : Step) (before after : Hands B) (old new : DeskView B) (came_to : Tried)
+module _ {B : Type 0} (whole : Whole B) (pictures : ℕ → Picture) (home : DeskHome) (was is : ActorOf B) (s : Step) (before after : Bindings B) (old new : DeskView B) (came_to : Tried)
     (tries : DoesTry pictures home was is s before after old new came_to) (Holds : State B → Type 0) (kept : GoesKept whole Holds was is s before) where
   abbrev by : ℕ
   by = before.by.0
@@ -60,13 +60,13 @@ module _ {B : Type 0} (whole : Whole B) (pictures : ℕ → Picture) (home : Des
   abbrev number : ℕ
   number = length was.trace + 1
 
-  pub owes_before : hands_owe before ≡ places_owed was.parts
+  pub owes_before : bindings_owe before ≡ places_owed was.parts
   owes_before = ap places_owed (sym tries.parts_was)
 
-  pub owes_after : hands_owe after ≡ places_owed is.parts
+  pub owes_after : bindings_owe after ≡ places_owed is.parts
   owes_after = ap places_owed (sym tries.parts_is)
 
-  pub rest_lifts : (more : List ReadLeaseOf) → HandsRest before after more → Gets (written.written_in was.trace) [] (written.written_in is.trace) → Gets old.turns.leaves [] new.turns.leaves
+  pub rest_lifts : (more : List ReadLeaseOf) → BindingsRest before after more → Gets (written.written_in was.trace) [] (written.written_in is.trace) → Gets old.turns.leaves [] new.turns.leaves
       → Lifts whole Holds (local_of was [] old.turns.leaves) None (local_of is more new.turns.leaves)
   rest_lifts more rest writes ended others later heights next unused holds =
       subst (λ (on : List ReadLeaseOf). Holds (state_at whole heights (others ++ local_of is on new.turns.leaves ∷ later))) (append-nil more)
@@ -80,15 +80,15 @@ module _ {B : Type 0} (whole : Whole B) (pictures : ℕ → Picture) (home : Des
           omega (arith, fewer, a, b)
 
       owed : Gets (places_owed was.parts) [] (places_owed is.parts)
-      owed = subst (λ xs. Gets xs [] (places_owed is.parts)) owes_before (subst (λ xs. Gets (hands_owe before) [] xs) owes_after rest.owed)
+      owed = subst (λ xs. Gets xs [] (places_owed is.parts)) owes_before (subst (λ xs. Gets (bindings_owe before) [] xs) owes_after rest.owed)
 
-  pay_lifts : (owing : OwingOf) (held : Held) → HandsPay before after (write_of owing held) → Gets (written.written_in was.trace) ((owing.queue, owing.frame) ∷ []) (written.written_in is.trace) → Gets old.turns.leaves (issued_turn owing.turn ∷ []) new.turns.leaves
+  pay_lifts : (owing : OwingOf) (held : Held) → BindingsPay before after (write_of owing held) → Gets (written.written_in was.trace) ((owing.queue, owing.frame) ∷ []) (written.written_in is.trace) → Gets old.turns.leaves (issued_turn owing.turn ∷ []) new.turns.leaves
       → Lifts whole Holds (local_of was [] old.turns.leaves) None (local_of is [] new.turns.leaves)
   pay_lifts owing held pay writes ended others later heights next unused holds =
       kept others later [] [] old.turns.leaves new.turns.leaves heights heights (pay_goes whole s before number was is [] [] old.turns.leaves new.turns.leaves less others later heights (write_of owing held)
       (subst (λ xs. Contains xs (write_of owing held)) owes_before pay.was_owed)
-      (subst (λ xs. AreIn xs (places_owed was.parts)) owes_after (subst (λ xs. AreIn (hands_owe after) xs) owes_before pay.fewer))
-      (subst (λ xs. AreIn xs ((write_of owing held ∷ []) ++ places_owed is.parts)) owes_before (subst (λ xs. AreIn (hands_owe before) ((write_of owing held ∷ []) ++ xs)) owes_after pay.unpaid))
+      (subst (λ xs. AreIn xs (places_owed was.parts)) owes_after (subst (λ xs. AreIn (bindings_owe after) xs) owes_before pay.fewer))
+      (subst (λ xs. AreIn xs ((write_of owing held ∷ []) ++ places_owed is.parts)) owes_before (subst (λ xs. AreIn (bindings_owe before) ((write_of owing held ∷ []) ++ xs)) owes_after pay.unpaid))
       writes ended) holds
     where
       less : (w : RightAt → ℕ) → sum_by w (places_held is.parts) + sum_by w (map right_read []) ≤ sum_by w (places_held was.parts)
@@ -98,8 +98,8 @@ module _ {B : Type 0} (whole : Whole B) (pictures : ℕ → Picture) (home : Des
           let b = ap (λ (parts : PartsOf B). sum_by w (places_held parts)) tries.parts_is in
           omega (arith, fewer, a, b)
 
-  -- a try that changed hands alone
-  pub rests : HandsRest before after [] → Gets (written.written_in was.trace) [] (written.written_in is.trace) → new.turns.leaves ≡ old.turns.leaves → LearnsOnly by old new → Comes whole Holds by was is old new
+  -- a try that changed bindings alone
+  pub rests : BindingsRest before after [] → Gets (written.written_in was.trace) [] (written.written_in is.trace) → new.turns.leaves ≡ old.turns.leaves → LearnsOnly by old new → Comes whole Holds by was is old new
   rests rest writes left learns = Quietly (rest_lifts [] rest writes (subst (λ (xs : List Turn). Gets old.turns.leaves [] xs) (sym left) (gets_same old.turns.leaves))) learns
 
   pub same_writes : ((answer : Answered) → written.written_by (holdings_of before) s answer ≡ []) → Gets (written.written_in was.trace) [] (written.written_in is.trace)
@@ -115,7 +115,7 @@ module _ {B : Type 0} (whole : Whole B) (pictures : ℕ → Picture) (home : Des
   pub waits_comes : ((answer : Answered) → written.written_by (holdings_of before) s answer ≡ []) → refusal_of pictures (holdings_of before) s ≡ None → (from : DeskView B) → from.calls ≡ old.calls → from.arrivals ≡ old.arrivals
       → from.turns.leaves ≡ old.turns.leaves → MakesCall pictures home by number s before after from new tried.NotYet → Comes whole Holds by was is old new
   waits_comes none unrefused from calls arrivals left makes =
-      rests (waits_rest pictures s before makes.taken after makes.asking makes.forms unrefused tries.ranges tries.wide makes.tries.hands) (same_writes none)
+      rests (waits_rest pictures s before makes.taken after makes.asking makes.forms unrefused tries.ranges tries.wide makes.tries.bindings) (same_writes none)
       (ap (λ (view : DeskView B). view.turns.leaves) makes.tries.waits.changes.same ∙ left)
       (record { calls = goes; arrivals = ap (λ (view : DeskView B). view.arrivals) makes.tries.waits.changes.same ∙ arrivals })
     where
@@ -136,10 +136,10 @@ module _ {B : Type 0} (whole : Whole B) (pictures : ℕ → Picture) (home : Des
   pub times_comes : ((answer : Answered) → written.written_by (holdings_of before) s answer ≡ []) → after ≡ before → ChangesTimes old new → Comes whole Holds by was is old new
   times_comes none same times = rests (same_rest before after same) (same_writes none) (ap (λ (view : DeskView B). view.turns.leaves) times) (looks_only times)
 
-  pub edits_comes : ((answer : Answered) → written.written_by (holdings_of before) s answer ≡ []) → HandsRest before after [] → new ≡ old → Comes whole Holds by was is old new
+  pub edits_comes : ((answer : Answered) → written.written_by (holdings_of before) s answer ≡ []) → BindingsRest before after [] → new ≡ old → Comes whole Holds by was is old new
   edits_comes none rest same = rests rest (same_writes none) (ap (λ (view : DeskView B). view.turns.leaves) same) (same_view same)
 
-module _ {B : Type 0} (whole : Whole B) (pictures : ℕ → Picture) (home : DeskHome) (was is : ActorOf B) (before after : Hands B) (old new : DeskView B) (Holds : State B → Type 0)
+module _ {B : Type 0} (whole : Whole B) (pictures : ℕ → Picture) (home : DeskHome) (was is : ActorOf B) (before after : Bindings B) (old new : DeskView B) (Holds : State B → Type 0)
     (kept : (s : Step) (came_to : Tried) → DoesTry pictures home was is s before after old new came_to → GoesKept whole Holds was is s before) where
   -- a draw
   module _ (name p : ℕ) (came_to : Tried) (tries : DoesTry pictures home was is (step.Draw name p) before after old new came_to) (none : refusal_of pictures (holdings_of before) (step.Draw name p) ≡ None) where

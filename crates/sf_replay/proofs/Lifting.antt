@@ -21,13 +21,13 @@ use Rattle.sf_actor.specs.Parts.{PartsOf}
 use Rattle.sf_actor.specs.Rights.{Turn}
 use Rattle.sf_actor.specs.Tests.{refusal_of}
 use Rattle.sf_actor.specs.Tries.{ActorOf}
-use Rattle.sf_steps.specs.declared.hands.Hands.{Hands}
+use Rattle.sf_steps.specs.declared.bindings.Bindings.{Bindings}
 use Rattle.sf_steps.specs.declared.tried.Tried.TheVariants as tried
 use Rattle.sf_steps.specs.Acting.{Acts, Attempts}
 use Rattle.sf_steps.specs.Calling.{Calls}
 use Rattle.sf_steps.specs.Doing.{MakesCall}
 use Rattle.sf_steps.specs.Forming.{permits_of}
-use Rattle.sf_steps.specs.Hands.{holdings_of}
+use Rattle.sf_steps.specs.Bindings.{holdings_of}
 use Rattle.sf_rights.specs.Calls.{buffers_in}
 use Rattle.sf_rights.specs.Moves.{Gets}
 use Rattle.sf_rights.specs.States.{AreApart, State, all_buffers}
@@ -85,7 +85,7 @@ module _ {B : Type 0} where
       ap (λ (ofs : List (ActorOf B)). slice_get ofs (length (flat_map (λ (local : Local B). local.actors) others))) (parted (λ (local : Local B). local.actors) others later (local_of was on leaves))
       ∙ got_at (flat_map (λ (local : Local B). local.actors) others) (flat_map (λ (local : Local B). local.actors) later) was
 
-module _ {B : Type 0} (pictures : ℕ → Picture) (home : DeskHome) (was is : ActorOf B) (before after : Hands B) (old new : DeskView B) (status : QStatus) (values : List ℕ)
+module _ {B : Type 0} (pictures : ℕ → Picture) (home : DeskHome) (was is : ActorOf B) (before after : Bindings B) (old new : DeskView B) (status : QStatus) (values : List ℕ)
     (before_state after_state : State B) (place : ℕ) (here : CallsHere before.by.0 place old new before_state.view.calls after_state.view.calls) where
   -- what a try that made a call wrote
   writes_called : (s : Step) → DoesTry pictures home was is s before after old new (tried.Called status values) → refusal_of pictures (holdings_of before) s ≡ None
@@ -98,7 +98,7 @@ module _ {B : Type 0} (pictures : ℕ → Picture) (home : DeskHome) (was is : A
 
 module _ {B : Type 0} (whole : Whole B) (pictures : ℕ → Picture) (home : DeskHome) (marks : whole.marks ≡ home.marks) (apart : AreApart home.marks)
     (absent : (queue : ℕ) → has_queue home queue ≡ false → whole.view.calls queue ≡ [])
-    (was is : ActorOf B) (s : Step) (before after : Hands B) (old new : DeskView B) (status : QStatus) (values : List ℕ)
+    (was is : ActorOf B) (s : Step) (before after : Bindings B) (old new : DeskView B) (status : QStatus) (values : List ℕ)
     (tries : DoesTry pictures home was is s before after old new (tried.Called status values)) where
   acts : (refusal_of pictures (holdings_of before) s ≡ None) × Acts pictures home before.by.0 (length was.trace + 1) s before after old new (tried.Called status values)
   acts = called_unrefused pictures home (refusal_of pictures (holdings_of before) s) s (length was.trace + 1) before after old new status values tries.attempts
@@ -189,7 +189,7 @@ module _ {B : Type 0} (whole : Whole B) (pictures : ℕ → Picture) (home : Des
         reply,
         one.makes.tries.1,
         one.makes.tries.2,
-        record { made_view = made_view; made = made_call; ends = ends_after reply.ends made_view; hands = calls.hands },
+        record { made_view = made_view; made = made_call; ends = ends_after reply.ends made_view; bindings = calls.bindings },
       );
     }
 

@@ -12,7 +12,7 @@ use Rattle.sf_token.specs.Pending.{Arrival}
 use Rattle.sf_actor.specs.Rights.{Turn}
 use Rattle.sf_actor.specs.Tries.{ActorOf}
 use Rattle.sf_actor.specs.Written as written
-use Rattle.sf_steps.specs.declared.hands.Hands.{Hands}
+use Rattle.sf_steps.specs.declared.bindings.Bindings.{Bindings}
 use Rattle.sf_rights.specs.Ledgers.{Write}
 use Rattle.sf_rights.specs.Makers.{RightAt, WriteAt, places_arrived, places_held, places_of, places_out, places_owed, right_read}
 use Rattle.sf_rights.specs.Moves.{AreIn, Gets, HasAtMost}
@@ -93,7 +93,7 @@ module _ {B : Type 0} where
     read_there x there = subst (λ (xs : List A). Contains xs x) (sym (flat_flat f (λ (local : Local B). local.actors) (others ++ local_of was on leaves ∷ later)))
         (here_at (λ (local : Local B). flat_map f local.actors) others later (local_of was on leaves) x (subst (λ (xs : List A). Contains xs x) (sym (alone f was)) there))
 
-  module _ (whole : Whole B) (s : Step) (hands : Hands B) (number : ℕ) (was is : ActorOf B) (on more : List ReadLeaseOf) (leaves left : List Turn)
+  module _ (whole : Whole B) (s : Step) (bindings : Bindings B) (number : ℕ) (was is : ActorOf B) (on more : List ReadLeaseOf) (leaves left : List Turn)
       (less : (w : RightAt → ℕ) → sum_by w (places_held is.parts) + sum_by w (map right_read more) ≤ sum_by w (places_held was.parts))
       (others later : List (Local B)) (heights : ℕ → ℕ) where
     abbrev old : State B
@@ -124,14 +124,14 @@ module _ {B : Type 0} where
         let m = sum_read right_read w on in
         omega (arith, fewer, a, b, c, d, e, f, g, h, i, j, k, l, m)
 
-    -- rights go to other hands, or are let go
-    pub quiet_goes : Gets (places_owed was.parts) [] (places_owed is.parts) → Gets (written.written_in was.trace) [] (written.written_in is.trace) → Gets leaves [] left → GoesTo s hands number old new
+    -- rights go to other bindings, or are let go
+    pub quiet_goes : Gets (places_owed was.parts) [] (places_owed is.parts) → Gets (written.written_in was.trace) [] (written.written_in is.trace) → Gets leaves [] left → GoesTo s bindings number old new
     quiet_goes owed writes ended = record {
       from = old;
       to = new;
       close_from = record { marks = refl; calls = refl; actors = refl; waiting = refl; on = λ count. refl; left = λ turn there. there; all_left = λ turn there. there };
       close_to = record { marks = refl; calls = refl; actors = refl; waiting = refl; on = λ count. refl; left = λ turn there. there; all_left = λ turn there. there };
-      went = λ ledger. rests_went s hands number old new refl refl held all_owed.no_others (quiet_keeps old new (record {
+      went = λ ledger. rests_went s bindings number old new refl refl held all_owed.no_others (quiet_keeps old new (record {
         marks = refl;
         calls = refl;
         held = rest_turns old new held;
@@ -146,13 +146,13 @@ module _ {B : Type 0} where
 
     -- what was owed is drawn
     pub pay_goes : (write : WriteAt) → Contains (places_owed was.parts) write → AreIn (places_owed is.parts) (places_owed was.parts) → AreIn (places_owed was.parts) ((write ∷ []) ++ places_owed is.parts)
-        → Gets (written.written_in was.trace) (write.write.frame ∷ []) (written.written_in is.trace) → Gets leaves (write.write.turn ∷ []) left → GoesTo s hands number old new
+        → Gets (written.written_in was.trace) (write.write.frame ∷ []) (written.written_in is.trace) → Gets leaves (write.write.turn ∷ []) left → GoesTo s bindings number old new
     pay_goes write was_owed fewer unpaid writes ended = record {
       from = old;
       to = new;
       close_from = record { marks = refl; calls = refl; actors = refl; waiting = refl; on = λ count. refl; left = λ turn there. there; all_left = λ turn there. there };
       close_to = record { marks = refl; calls = refl; actors = refl; waiting = refl; on = λ count. refl; left = λ turn there. there; all_left = λ turn there. there };
-      went = λ ledger. rests_went s hands number old new refl refl held all_fewer (pay_keeps old new write.write (record {
+      went = λ ledger. rests_went s bindings number old new refl refl held all_fewer (pay_keeps old new write.write (record {
         marks = refl;
         calls = refl;
         held = rest_turns old new held;

@@ -21,9 +21,9 @@ use Rattle.sf_actor.specs.Names.{Holdings}
 use Rattle.sf_actor.specs.Parts.{plain_of, turn_held}
 use Rattle.sf_actor.specs.Rights.{Turn, WasGivenAt}
 use Rattle.sf_actor.specs.Tries.{ActorOf, held_in, past_of}
-use Rattle.sf_steps.specs.declared.hands.Hands.{Hands}
+use Rattle.sf_steps.specs.declared.bindings.Bindings.{Bindings}
 use Rattle.sf_steps.specs.declared.tried.Tried.{Tried}
-use Rattle.sf_steps.specs.Hands.{holdings_of}
+use Rattle.sf_steps.specs.Bindings.{holdings_of}
 use Rattle.sf_rights.specs.MakerRuns.{AreDeclared}
 use Rattle.sf_rights.specs.Makers.{places_arrived, places_held, places_of, places_out, places_owed, right_read}
 use Rattle.sf_rights.specs.Moves.{AreIn, HasAtMost}
@@ -107,7 +107,7 @@ module _ {B : Type 0} where
   module _ (scene : SceneValue) (whole : Whole B) (declared : AreDeclared scene whole.marks) (pictures : ℕ → Picture) (home : DeskHome) (marks : whole.marks ≡ home.marks) (apart : AreApart home.marks)
       (legal : (queue : ℕ) → IsLegal (Answers (mark_among home.marks queue)) (whole.view.calls queue)) where
     -- a done try of an actor
-    module _ (was is : ActorOf B) (s : Step) (before after : Hands B) (old new : DeskView B) (came_to : Tried) (tries : DoesTry pictures home was is s before after old new came_to)
+    module _ (was is : ActorOf B) (s : Step) (before after : Bindings B) (old new : DeskView B) (came_to : Tried) (tries : DoesTry pictures home was is s before after old new came_to)
         (known : (queue : ℕ) → (more : List (Made B)) × (whole.view.calls queue ≡ more ++ old.calls queue)) (others later : List (Local B)) (on more : List ReadLeaseOf) (leaves left : List Turn) (heights risen : ℕ → ℕ) where
       abbrev number : ℕ
       number = length was.trace + 1
@@ -181,7 +181,7 @@ module _ {B : Type 0} where
             (close_rights scene (calls_in whole) old_state goes.from declared goes.close_from stands))
 
     -- what a done try comes to keeps it
-    pub comes_rights : (absent : (queue : ℕ) → has_queue home queue ≡ false → whole.view.calls queue ≡ []) (was is : ActorOf B) (s : Step) (before after : Hands B) (old new : DeskView B) (came_to : Tried)
+    pub comes_rights : (absent : (queue : ℕ) → has_queue home queue ≡ false → whole.view.calls queue ≡ []) (was is : ActorOf B) (s : Step) (before after : Bindings B) (old new : DeskView B) (came_to : Tried)
         → DoesTry pictures home was is s before after old new came_to → ((queue : ℕ) → (more : List (Made B)) × (whole.view.calls queue ≡ more ++ old.calls queue))
         → ((queue : ℕ) → (more : List (Made B)) × (whole.view.calls queue ≡ more ++ new.calls queue)) → Comes whole (RightsStand scene (calls_in whole)) before.by.0 was is old new
     comes_rights absent was is s before after old new came_to tries known begins =

@@ -18,7 +18,7 @@ use Rattle.sf_txn.specs.Transactions.{Contents}
 use Rattle.sf_actor.specs.Rights.{Turn}
 use Rattle.sf_actor.specs.Tries.{ActorOf}
 use Rattle.sf_actor.specs.Written as written
-use Rattle.sf_steps.specs.declared.hands.Hands.{Hands}
+use Rattle.sf_steps.specs.declared.bindings.Bindings.{Bindings}
 use Rattle.sf_rights.specs.Makers.{RightAt, places_arrived, places_held, places_of, places_out, places_owed, places_sent, right_read}
 use Rattle.sf_rights.specs.Moves.{Gets, HasAtMost}
 use Rattle.sf_rights.specs.States.{State}
@@ -44,7 +44,7 @@ waits_more : (e : Entry (ArriveCall ReadLeaseOf SeatView ReadLeaseOf Issued) (Ar
     → waiting (e ∷ history) ≡ waiting history ++ record { number = length (sent history) + 1; actor = record { 0 = e.by }; step = step; txn = txn } ∷ []
 waits_more e history step txn is = λ i. waiting (record { by = e.by; call = is i; reply = e.reply } ∷ history)
 
-module _ {B : Type 0} (whole : Whole B) (s : Step) (hands : Hands B) (number : ℕ) (was is : ActorOf B) (on : List ReadLeaseOf) (leaves left : List Turn) (txn : Contents ReadLeaseOf) (step : ℕ)
+module _ {B : Type 0} (whole : Whole B) (s : Step) (bindings : Bindings B) (number : ℕ) (was is : ActorOf B) (on : List ReadLeaseOf) (leaves left : List Turn) (txn : Contents ReadLeaseOf) (step : ℕ)
     (less : (w : RightAt → ℕ) → sum_by w (places_held is.parts) + sum_by w (places_sent txn) ≤ sum_by w (places_held was.parts))
     (more history : List (Entry (ArriveCall ReadLeaseOf SeatView ReadLeaseOf Issued) (ArriveReply ReadLeaseOf SeatView ReadLeaseOf Issued)))
     (e : Entry (ArriveCall ReadLeaseOf SeatView ReadLeaseOf Issued) (ArriveReply ReadLeaseOf SeatView ReadLeaseOf Issued)) (whole_is : whole.arriving ≡ more ++ e ∷ history) (sends : e.call ≡ arrive.Send step txn)
@@ -93,13 +93,13 @@ module _ {B : Type 0} (whole : Whole B) (s : Step) (hands : Hands B) (number : �
       let i = sum_by-append w (flat_map (λ (x : ActorOf B). places_held x.parts) new.actors) (flat_map places_arrived new.waiting) in
       omega (arith, fewer, a, b, c, d, e, l, m, f, g, h, i)
 
-  pub send_goes : Gets (places_owed was.parts) [] (places_owed is.parts) → Gets (written.written_in was.trace) [] (written.written_in is.trace) → Gets leaves [] left → GoesTo s hands number old new
+  pub send_goes : Gets (places_owed was.parts) [] (places_owed is.parts) → Gets (written.written_in was.trace) [] (written.written_in is.trace) → Gets leaves [] left → GoesTo s bindings number old new
   send_goes owed writes ended = record {
     from = old;
     to = new;
     close_from = record { marks = refl; calls = refl; actors = refl; waiting = refl; on = λ count. refl; left = λ turn there. there; all_left = λ turn there. there };
     close_to = record { marks = refl; calls = refl; actors = refl; waiting = refl; on = λ count. refl; left = λ turn there. there; all_left = λ turn there. there };
-    went = λ ledger. rests_went s hands number old new refl same_calls held all_owed.no_others (quiet_keeps old new (record {
+    went = λ ledger. rests_went s bindings number old new refl same_calls held all_owed.no_others (quiet_keeps old new (record {
       marks = refl;
       calls = same_calls;
       held = rest_turns old new held;

@@ -17,7 +17,7 @@ use Rattle.sf_actor.specs.Desks.{DeskHome, DeskView, known_of, mark_among}
 use Rattle.sf_actor.specs.Known.{GoesOn}
 use Rattle.sf_actor.specs.Plain.{PlainOf, home_of as plain_home, view_of as plain_view}
 use Rattle.sf_actor.specs.Tries.{ActorOf}
-use Rattle.sf_steps.specs.declared.hands.Hands.{Hands}
+use Rattle.sf_steps.specs.declared.bindings.Bindings.{Bindings}
 use Rattle.sf_steps.specs.declared.tried.Tried.{Tried}
 use Rattle.sf_shared.specs.declared.first.FirstSeats.{FirstSeats}
 use Rattle.sf_shared.specs.declared.locks.Locks.{Locks}
@@ -136,7 +136,7 @@ module _ {B : Type 0} (table : TableId) (locks : Locks B) (first : FirstSeats B)
     -- each try that is done, of whichever actor, is lifted
     abbrev pub LiftsAll : (State B → Type 0) → Type 0
     LiftsAll Holds =
-        (home : DeskHome) → home.marks ≡ marks_of locks → (was is : ActorOf B) (before after : Hands B) (old new : DeskView B) → ((queue : ℕ) → Front (new.calls queue) ((plain_view desk).calls queue))
+        (home : DeskHome) → home.marks ≡ marks_of locks → (was is : ActorOf B) (before after : Bindings B) (old new : DeskView B) → ((queue : ℕ) → Front (new.calls queue) ((plain_view desk).calls queue))
         → (s : Step) (came_to : Tried) → DoesTry pictures home was is s before after old new came_to → Comes (whole_of desk) Holds before.by.0 was is old new
 
     module _ (home : DeskHome) (same : home.marks ≡ marks_of locks) where

@@ -30,7 +30,7 @@ use Rattle.sf_rights.proofs.Marking.{mark_only}
 use Rattle.sf_rights.proofs.Played.{got_has, next_done}
 use Rattle.sf_replay.specs.Cuts.{Event, Local, MakesAt, Whole}
 use Rattle.sf_replay.specs.Lifts.{Comes, LearnsOnly, local_of}
-use Rattle.sf_steps.specs.declared.hands.Hands.{Hands}
+use Rattle.sf_steps.specs.declared.bindings.Bindings.{Bindings}
 use Rattle.sf_steps.specs.declared.tried.Tried.{Tried}
 use Rattle.sf_replay.proofs.Backing.{legal_front}
 use Rattle.sf_actor.specs.Rights.{MadeWith, made_with}
@@ -83,7 +83,7 @@ module _ {B : Type 0} (table : TableId) (pictures : ℕ → Picture) (locks : Lo
 module _ {B : Type 0} (whole : Whole B) (table : TableId) (pictures : ℕ → Picture) (locks : Locks B) (marks : whole.marks ≡ marks_of locks) (apart : AreApart (marks_of locks))
     (absent : (queue : ℕ) → list_any (λ (mark : QueueMark). mark.queue.0 == queue) (marks_of locks) ≡ false → whole.view.calls queue ≡ [])
     (legal : (queue : ℕ) → IsLegal (Answers (mark_among (marks_of locks) queue)) (whole.view.calls queue)) (Holds : State B → Type 0)
-    (lifted : (home : DeskHome) → home.marks ≡ marks_of locks → (was is : ActorOf B) (before after : Hands B) (old new : DeskView B) → ((queue : ℕ) → Front (new.calls queue) (whole.view.calls queue))
+    (lifted : (home : DeskHome) → home.marks ≡ marks_of locks → (was is : ActorOf B) (before after : Bindings B) (old new : DeskView B) → ((queue : ℕ) → Front (new.calls queue) (whole.view.calls queue))
     → (s : Step) (came_to : Tried) → DoesTry pictures home was is s before after old new came_to → Comes whole Holds before.by.0 was is old new)
     (by : ℕ) (stock : List ℕ) (script : ActorScript) (numbered : script.number ≡ by) (ranges : (s : Step) → Contains script.steps s → IsStep s)
     (owner : (number queue place : ℕ) → Contains stock number → (makes : MakesAt whole number queue place) → makes.made.by ≡ by)
@@ -170,15 +170,15 @@ module _ {B : Type 0} (whole : Whole B) (table : TableId) (pictures : ℕ → Pi
     abbrev new : DeskView B
     new = view_of after.seats
 
-    hands_by : before.actor.hands.by.0 ≡ by
-    hands_by = sound.is.by_it ∙ ap (λ (s : ActorScript). s.number) (sym sound.is.script) ∙ number_is before it
+    bindings_by : before.actor.bindings.by.0 ≡ by
+    bindings_by = sound.is.by_it ∙ ap (λ (s : ActorScript). s.number) (sym sound.is.script) ∙ number_is before it
 
     -- a try that was done
     done_try : (tries : Tries pictures (home_of locks before.seats) before.of (view_of before.seats) one.steps.new (view_of after.seats) stepped.Done)
         → (Comes whole Holds by before.of one.steps.new (view_of before.seats) (view_of after.seats)) × (length one.steps.new.trace ≡ length before.of.trace + 1)
     done_try tries = (
-      subst (λ (n : ℕ). Comes whole Holds n before.of one.steps.new (view_of before.seats) (view_of after.seats)) hands_by
-          (lifted (home_of locks before.seats) refl before.of one.steps.new before.actor.hands after.actor.hands (view_of before.seats) (view_of after.seats) front.calls tries.1.done.step acts.came_to (record {
+      subst (λ (n : ℕ). Comes whole Holds n before.of one.steps.new (view_of before.seats) (view_of after.seats)) bindings_by
+          (lifted (home_of locks before.seats) refl before.of one.steps.new before.actor.bindings after.actor.bindings (view_of before.seats) (view_of after.seats) front.calls tries.1.done.step acts.came_to (record {
             is_next = is_next;
             parts_was = sound.is.parts;
             parts_is = one.steps.is.parts;
@@ -198,7 +198,7 @@ module _ {B : Type 0} (whole : Whole B) (table : TableId) (pictures : ℕ → Pi
         is_next : next_step before.of ≡ Some tries.1.done.step
         is_next = next_done pictures (home_of locks before.seats) before.of one.steps.new (view_of before.seats) (view_of after.seats) tries.0 one.steps.keeps tries.1
 
-        acts : Acts pictures (home_of locks before.seats) tries.1.done.step (length before.of.trace + 1) before.actor.hands (view_of before.seats) after.actor.hands (view_of after.seats)
+        acts : Acts pictures (home_of locks before.seats) tries.1.done.step (length before.of.trace + 1) before.actor.bindings (view_of before.seats) after.actor.bindings (view_of after.seats)
         acts = one.steps.acts tries.1.done.step is_next
 
     record Back (rest : List (List (Event B))) (last : Local B) : Type 0 where
@@ -264,7 +264,7 @@ module _ {B : Type 0} (whole : Whole B) (table : TableId) (pictures : ℕ → Pi
         (learns_by before.of.script.number (number_is before it)
         (same_learns pictures (home_of locks before.seats) before.of (view_of before.seats) (view_of after.seats) sound.keeps
         (subst (λ (of : ActorOf B). Keeps pictures (home_of locks before.seats) of (view_of after.seats)) tries.same one.steps.keeps)
-        (attempts_front _ pictures (home_of locks before.seats) before.actor.hands.by.0 (length before.of.trace + 1) tries.next before.actor.hands after.actor.hands (view_of before.seats) (view_of after.seats) acts.came_to acts.attempts)
+        (attempts_front _ pictures (home_of locks before.seats) before.actor.bindings.by.0 (length before.of.trace + 1) tries.next before.actor.bindings after.actor.bindings (view_of before.seats) (view_of after.seats) acts.came_to acts.attempts)
         tries.arrivals))
         tries.left rest last behind
     back_by stepped.Ended tries rest last behind =

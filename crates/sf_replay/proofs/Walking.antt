@@ -29,13 +29,13 @@ use Rattle.sf_actor.specs.Rights.{made_with}
 use Rattle.sf_actor.specs.Tales.{IsMade, made_on}
 use Rattle.sf_actor.specs.Traces.{made_by}
 use Rattle.sf_actor.specs.Tries.{ActorOf, Keeps}
-use Rattle.sf_steps.specs.declared.hands.Hands.{Hands}
+use Rattle.sf_steps.specs.declared.bindings.Bindings.{Bindings}
 use Rattle.sf_steps.specs.declared.tried.Tried.{Tried}
 use Rattle.sf_steps.specs.declared.tried.Tried.TheVariants as tried
 use Rattle.sf_steps.specs.Acting.{Acts as StepActs, Attempts}
 use Rattle.sf_steps.specs.Doing.{MakesCall}
 use Rattle.sf_steps.specs.Editing.{ReleasesAll, TriesSend}
-use Rattle.sf_steps.specs.Hands.{holdings_of}
+use Rattle.sf_steps.specs.Bindings.{holdings_of}
 use Rattle.sf_steps.specs.Leaving.{FindsOpen, LooksFor, TriesToLeave}
 use Rattle.sf_shared.proofs.Passing.{as_long}
 use Rattle.sf_rights.specs.Calls.{made_of}
@@ -60,7 +60,7 @@ front_same xs ys same = ([], same)
 
 module _ {B : Type 0} where
   -- what was called stays called
-  makes_front : (pictures : ℕ → Picture) (home : DeskHome) (by n : ℕ) (s : Step) (before after : Hands B) (from new : DeskView B) (came_to : Tried) → MakesCall pictures home by n s before after from new came_to
+  makes_front : (pictures : ℕ → Picture) (home : DeskHome) (by n : ℕ) (s : Step) (before after : Bindings B) (from new : DeskView B) (came_to : Tried) → MakesCall pictures home by n s before after from new came_to
       → (queue : ℕ) → Front (from.calls queue) (new.calls queue)
   makes_front pictures home by n s before after from new (tried.Own status) makes queue = absurd makes.tries
   makes_front pictures home by n s before after from new (tried.Sent number) makes queue = absurd makes.tries
@@ -90,7 +90,7 @@ module _ {B : Type 0} where
   finds_front home None old new none = absurd none
   finds_front home (Some fence) old new finds = ap (λ (view : DeskView B). view.calls) finds.3
 
-  leaves_front : (pictures : ℕ → Picture) (home : DeskHome) (by n : ℕ) (s : Step) (fence : Option Fence) (before after : Hands B) (old new : DeskView B) (came_to : Tried)
+  leaves_front : (pictures : ℕ → Picture) (home : DeskHome) (by n : ℕ) (s : Step) (fence : Option Fence) (before after : Bindings B) (old new : DeskView B) (came_to : Tried)
       → TriesToLeave pictures home by n s fence before after old new came_to → (queue : ℕ) → Front (old.calls queue) (new.calls queue)
   leaves_front pictures home by n s fence before after old new (tried.Own status) leaves queue = view_front old new (finds_front home fence old new leaves.2) queue
   leaves_front pictures home by n s fence before after old new (tried.Called status values) leaves queue =
@@ -116,14 +116,14 @@ module _ {B : Type 0} where
         | inr apart ↦ front_same (old.calls queue) (all.0.calls queue) (ap (λ (cs : ℕ → List (Made B)). cs queue) ended ∙ all.1.made.changes.others queue apart)
       ]
 
-  sends_front : (home : DeskHome) (by n txn token : ℕ) (before after : Hands B) (old new : DeskView B) (came_to : Tried)
+  sends_front : (home : DeskHome) (by n txn token : ℕ) (before after : Bindings B) (old new : DeskView B) (came_to : Tried)
       → TriesSend home by n txn token before after old new came_to → (queue : ℕ) → Front (old.calls queue) (new.calls queue)
   sends_front home by n txn token before after old new (tried.Sent number) sends queue = view_front old new (ap (λ (view : DeskView B). view.calls) sends.made.same) queue
   sends_front home by n txn token before after old new (tried.Own status) sends queue = absurd sends
   sends_front home by n txn token before after old new (tried.Called status values) sends queue = absurd sends
   sends_front home by n txn token before after old new tried.NotYet sends queue = absurd sends
 
-  acts_front : (pictures : ℕ → Picture) (home : DeskHome) (by n : ℕ) (s : Step) (before after : Hands B) (old new : DeskView B) (came_to : Tried) → StepActs pictures home by n s before after old new came_to
+  acts_front : (pictures : ℕ → Picture) (home : DeskHome) (by n : ℕ) (s : Step) (before after : Bindings B) (old new : DeskView B) (came_to : Tried) → StepActs pictures home by n s before after old new came_to
       → (queue : ℕ) → Front (old.calls queue) (new.calls queue)
   acts_front pictures home by n (step.Disconnect q) before after old new came_to acts queue = makes_front pictures home by n (step.Disconnect q) before acts.called old new came_to acts.makes queue
   acts_front pictures home by n (step.PDetach from to) before after old new came_to acts queue =
@@ -143,7 +143,7 @@ module _ {B : Type 0} where
   acts_front pictures home by n (step.Apply txn token) before after old new came_to acts queue = sends_front home by n txn token before after old new came_to acts queue
   acts_front pictures home by n s before after old new came_to acts queue = makes_front pictures home by n s before after old new came_to acts queue
 
-  pub attempts_front : (refusal : Option ℕ) (pictures : ℕ → Picture) (home : DeskHome) (by n : ℕ) (s : Step) (before after : Hands B) (old new : DeskView B) (came_to : Tried)
+  pub attempts_front : (refusal : Option ℕ) (pictures : ℕ → Picture) (home : DeskHome) (by n : ℕ) (s : Step) (before after : Bindings B) (old new : DeskView B) (came_to : Tried)
       → Attempts refusal pictures home by n s before after old new came_to → (queue : ℕ) → Front (old.calls queue) (new.calls queue)
   attempts_front None pictures home by n s before after old new came_to acts queue = acts_front pictures home by n s before after old new came_to acts queue
   attempts_front (Some status) pictures home by n s before after old new came_to attempts queue = view_front old new (ap (λ (view : DeskView B). view.calls) attempts.2) queue

@@ -41,10 +41,10 @@ use Rattle.sf_actor.specs.Tests.{refusal_of}
 use Rattle.sf_actor.specs.Traces.{AnswersCall, AnswersTests, DoneAt, IsAnswered, MadeStep, Past, made_at, made_by, overtaken, own_call, past_after, places_of, source_in}
 use Rattle.sf_actor.specs.Tries.{ActorOf}
 use Rattle.sf_actor.specs.Written as written
-use Rattle.sf_steps.specs.declared.hands.Hands.{Hands}
+use Rattle.sf_steps.specs.declared.bindings.Bindings.{Bindings}
 use Rattle.sf_steps.specs.declared.tried.Tried.{Tried}
 use Rattle.sf_steps.specs.declared.tried.Tried.TheVariants as tried
-use Rattle.sf_steps.specs.Hands.{holdings_of}
+use Rattle.sf_steps.specs.Bindings.{holdings_of}
 use Rattle.sf_steps.proofs.HoldingLemmas.{name_in-held}
 use Rattle.sf_rights.specs.States.{CallsOnce, State}
 use Rattle.sf_rights.specs.Tries.{WritesTry}
@@ -114,7 +114,7 @@ called_as None asked answer same answers = absurd (not_none asked (sym same))
 lent_call : (picture : Picture) (time : Option ℕ) (part : Option (ℕ × ℕ × ℕ × ℕ)) (fence : Fence) (queue : QueueId) (token : WriteToken) (drawn : Option ℕ) → (asked : Asked) × (queueing_of picture time part fence (Some (Lent queue token drawn)) ≡ Some asked)
 lent_call picture time part fence queue token drawn = (_, refl)
 
-module _ {B : Type 0} (pictures : ℕ → Picture) (home : DeskHome) (was is : ActorOf B) (next : Step) (before after : Hands B) (old new : DeskView B) (came_to : Tried)
+module _ {B : Type 0} (pictures : ℕ → Picture) (home : DeskHome) (was is : ActorOf B) (next : Step) (before after : Bindings B) (old new : DeskView B) (came_to : Tried)
     (tries : DoesTry pictures home was is next before after old new came_to) where
   abbrev number : ℕ
   number = length was.trace + 1
@@ -185,7 +185,7 @@ pub record CallsHere {B : Type 0} (by queue : ℕ) (old new : DeskView B) (befor
   pub goes_on : GoesOnWithout by (old.calls queue) (before queue)
   pub others : (other : ℕ) → (other ≡ queue → ⊥) → after other ≡ before other
 
-module _ {B : Type 0} (pictures : ℕ → Picture) (home : DeskHome) (was is : ActorOf B) (name p : ℕ) (time : Option ℕ) (part : Option (ℕ × ℕ × ℕ × ℕ)) (points : List (ℕ × ℕ)) (before after : Hands B) (old new : DeskView B) (came_to : Tried)
+module _ {B : Type 0} (pictures : ℕ → Picture) (home : DeskHome) (was is : ActorOf B) (name p : ℕ) (time : Option ℕ) (part : Option (ℕ × ℕ × ℕ × ℕ)) (points : List (ℕ × ℕ)) (before after : Bindings B) (old new : DeskView B) (came_to : Tried)
     (tries : DoesTry pictures home was is (step.Queue name p time part points) before after old new came_to) (before_state after_state : State B) (place : ℕ)
     (here : CallsHere before.by.0 place old new before_state.view.calls after_state.view.calls) where
   abbrev asks : Step

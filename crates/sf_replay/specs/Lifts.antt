@@ -81,8 +81,8 @@ module _ {B : Type 0} where
     AllGiven [] = Unit {0}
     AllGiven (given ∷ later) = GoesBack whole Holds given.lease (suc given.queue, length given.earlier) × AllGiven later
 
-    -- What a done try comes to: it called nothing; or it made a call, or sent a transaction; or it gave frames back, which left its actor's
-    -- hands before.
+    -- What a done try comes to: it called nothing; or it made a call, or sent a transaction; or it gave frames back, which left its
+    -- actor's bindings before.
     pub data Comes (by : ℕ) (was is : ActorOf B) (old new : DeskView B) : Type 0 where
       Quietly : Lifts whole Holds (local_of was [] old.turns.leaves) None (local_of is [] new.turns.leaves) → LearnsOnly by old new → Comes by was is old new
       Calling : LiftsCall whole Holds by was is [] old new → Comes by was is old new

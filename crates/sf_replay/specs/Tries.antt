@@ -9,12 +9,12 @@ use Rattle.sf_actor.specs.Tests.{refusal_of}
 use Rattle.sf_actor.specs.Tries.{ActorOf, DoesStep, Keeps, next_step}
 use Rattle.sf_steps.specs.Acting.{Attempts}
 use Rattle.sf_steps.specs.Actors.{parts_of}
-use Rattle.sf_steps.specs.Hands.{holdings_of}
-use Rattle.sf_steps.specs.declared.hands.Hands.{Hands}
+use Rattle.sf_steps.specs.Bindings.{holdings_of}
+use Rattle.sf_steps.specs.declared.bindings.Bindings.{Bindings}
 use Rattle.sf_steps.specs.declared.tried.Tried.{Tried}
 
--- an actor tried its next step and did it, with the tokens in its hands; it kept what it keeps
-pub record DoesTry {B : Type 0} (pictures : ℕ → Picture) (home : DeskHome) (was is : ActorOf B) (next : Step) (before after : Hands B)
+-- an actor tried its next step and did it, with the tokens in its bindings; it kept what it keeps
+pub record DoesTry {B : Type 0} (pictures : ℕ → Picture) (home : DeskHome) (was is : ActorOf B) (next : Step) (before after : Bindings B)
     (old new : DeskView B) (came_to : Tried) : Type 0 where
   pub is_next : next_step was ≡ Some next
   pub parts_was : was.parts ≡ parts_of before

@@ -7,7 +7,7 @@ ghost use Rattle.sf_surface.specs.Histories.{Answers, Made};
 ghost use Rattle.sf_surface.specs.Tokens.{ReadLeaseOf};
 ghost use Rattle.sf_actor.specs.Desks.{DeskHome, DeskView, has_queue, mark_among};
 ghost use Rattle.sf_actor.specs.Tries.{ActorOf};
-ghost use Rattle.sf_steps.specs.declared.hands.Hands.{Hands as HandsOf};
+ghost use Rattle.sf_steps.specs.declared.bindings.Bindings.{Bindings as BindingsOf};
 ghost use Rattle.sf_steps.specs.declared.tried.Tried.{Tried};
 ghost use Rattle.sf_steps.specs.declared.tried.Tried.TheVariants as tried;
 ghost use Rattle.sf_rights.specs.States.{AreApart};
@@ -22,7 +22,7 @@ use sf_turns::TableName;
 pub fn a_call_is_lifted<B: TableName>()
     ensures { (whole : Whole B) (pictures : ℕ → Picture) (home : DeskHome) → whole.marks ≡ home.marks → AreApart home.marks
         → ((queue : ℕ) → has_queue home queue ≡ false → whole.view.calls queue ≡ [])
-        → (was is : ActorOf B) (s : Step) (before after : HandsOf B) (old new : DeskView B) (status : QStatus) (values : List ℕ)
+        → (was is : ActorOf B) (s : Step) (before after : BindingsOf B) (old new : DeskView B) (status : QStatus) (values : List ℕ)
         → DoesTry pictures home was is s before after old new (tried.Called status values)
         → (on : List ReadLeaseOf) → ((queue : ℕ) → (more : List (Made B)) × (whole.view.calls queue ≡ more ++ new.calls queue))
         → LiftsCall whole HasLedger before.by.0 was is on old new }
@@ -34,6 +34,6 @@ pub fn a_done_try_is_lifted<B: TableName>()
     ensures { (whole : Whole B) (pictures : ℕ → Picture) (home : DeskHome) → whole.marks ≡ home.marks → AreApart home.marks
         → ((queue : ℕ) → has_queue home queue ≡ false → whole.view.calls queue ≡ [])
         → ((queue : ℕ) → IsLegal (Answers (mark_among home.marks queue)) (whole.view.calls queue))
-        → (was is : ActorOf B) (s : Step) (before after : HandsOf B) (old new : DeskView B) (came_to : Tried) → DoesTry pictures home was is s before after old new came_to
+        → (was is : ActorOf B) (s : Step) (before after : BindingsOf B) (old new : DeskView B) (came_to : Tried) → DoesTry pictures home was is s before after old new came_to
         → ((queue : ℕ) → (more : List (Made B)) × (whole.view.calls queue ≡ more ++ new.calls queue)) → Comes whole HasLedger before.by.0 was is old new }
 {}

@@ -6,7 +6,7 @@ ghost use Rattle.sf_scene.specs.declared.step.Step.{Step};
 ghost use Rattle.sf_surface.specs.Histories.{Answers, Made};
 ghost use Rattle.sf_actor.specs.Desks.{DeskHome, DeskView, has_queue, mark_among};
 ghost use Rattle.sf_actor.specs.Tries.{ActorOf};
-ghost use Rattle.sf_steps.specs.declared.hands.Hands.{Hands as HandsOf};
+ghost use Rattle.sf_steps.specs.declared.bindings.Bindings.{Bindings as BindingsOf};
 ghost use Rattle.sf_steps.specs.declared.tried.Tried.{Tried};
 ghost use Rattle.sf_rights.specs.MakerRuns.{AreDeclared, MakersPlay};
 ghost use Rattle.sf_rights.specs.States.{AreApart};
@@ -40,7 +40,7 @@ pub fn a_done_try_leaves_rights_standing<B: TableName>()
         → whole.marks ≡ home.marks → AreApart home.marks
         → ((queue : ℕ) → has_queue home queue ≡ false → whole.view.calls queue ≡ [])
         → ((queue : ℕ) → IsLegal (Answers (mark_among home.marks queue)) (whole.view.calls queue))
-        → (was is : ActorOf B) (s : Step) (before after : HandsOf B) (old new : DeskView B) (came_to : Tried) → DoesTry pictures home was is s before after old new came_to
+        → (was is : ActorOf B) (s : Step) (before after : BindingsOf B) (old new : DeskView B) (came_to : Tried) → DoesTry pictures home was is s before after old new came_to
         → ((queue : ℕ) → (more : List (Made B)) × (whole.view.calls queue ≡ more ++ old.calls queue))
         → ((queue : ℕ) → (more : List (Made B)) × (whole.view.calls queue ≡ more ++ new.calls queue))
         → Comes whole (RightsStand scene (calls_in whole)) before.by.0 was is old new }

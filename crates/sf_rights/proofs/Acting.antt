@@ -15,7 +15,7 @@ use Rattle.sf_actor.specs.Desks.{DeskHome}
 use Rattle.sf_actor.specs.Parts.{PartsOf}
 use Rattle.sf_actor.specs.Tries.{ActorOf}
 use Rattle.sf_actor.specs.Written as written
-use Rattle.sf_steps.specs.declared.hands.Hands.{Hands}
+use Rattle.sf_steps.specs.declared.bindings.Bindings.{Bindings}
 use Rattle.sf_steps.specs.declared.tried.Tried.{Tried}
 use Rattle.sf_steps.specs.Actors.{parts_of}
 use Rattle.sf_rights.specs.Makers.{RightAt, WriteAt, places_arrived, places_held, places_of, places_out, places_owed, right_read}
@@ -26,7 +26,7 @@ use Rattle.sf_rights.proofs.Marking.{in_all}
 use Rattle.sf_rights.proofs.Owing.{gets_set, got_there, loses_set}
 use Rattle.sf_rights.proofs.Summing.{sum-flat_map}
 
-module _ {B : Type 0} (pictures : ℕ → Picture) (home : DeskHome) (place : ℕ) (s : Step) (came_to : Tried) (before after : Hands B) (old new : State B) (tries : TriesIn pictures home place s came_to before after old new) where
+module _ {B : Type 0} (pictures : ℕ → Picture) (home : DeskHome) (place : ℕ) (s : Step) (came_to : Tried) (before after : Bindings B) (old new : State B) (tries : TriesIn pictures home place s came_to before after old new) where
   low : place < length old.actors
   low = slice_get_within old.actors place tries.was tries.here
 

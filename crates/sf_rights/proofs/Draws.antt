@@ -21,13 +21,13 @@ use Rattle.sf_actor.specs.Desks.{DeskHome, DeskView}
 use Rattle.sf_actor.specs.Parts.{token_of}
 use Rattle.sf_actor.specs.Rights.{Turn, issued_turn}
 use Rattle.sf_actor.specs.Written as written
-use Rattle.sf_steps.specs.declared.hands.Hands.{Hands}
+use Rattle.sf_steps.specs.declared.bindings.Bindings.{Bindings}
 use Rattle.sf_steps.specs.declared.tried.Tried.{Tried}
 use Rattle.sf_steps.specs.declared.tried.Tried.TheVariants as tried
 use Rattle.sf_steps.specs.Actors.{parts_of}
 use Rattle.sf_steps.specs.Calling.{with_held}
 use Rattle.sf_steps.specs.Drawing.{Draws, DrawsHolding, WaitsToDraw, filled}
-use Rattle.sf_steps.specs.Hands.{holdings_of}
+use Rattle.sf_steps.specs.Bindings.{holdings_of}
 use Rattle.sf_steps.proofs.HoldingLemmas.{name_in-held}
 use Rattle.sf_run.proofs.Members.{has_map}
 use Rattle.sf_rights.specs.Ledgers.{IsLedger, Write}
@@ -40,11 +40,11 @@ use Rattle.sf_rights.proofs.Counting.{first, none_in}
 use Rattle.sf_rights.proofs.Handling.{set_most, set_none, weight_is}
 use Rattle.sf_rights.proofs.MakersTurns.{write_at}
 use Rattle.sf_rights.proofs.Marking.{in_all}
-use Rattle.sf_rights.proofs.Owing.{gets_push, gets_same, gets_set, loses_set, hands_owe, got_there}
+use Rattle.sf_rights.proofs.Owing.{gets_push, gets_same, gets_set, loses_set, bindings_owe, got_there}
 use Rattle.sf_rights.proofs.Placing.{Went, owed_in, owed_writes, rest_turns, rests_went}
-use Rattle.sf_rights.proofs.Quiet.{hands_only, rests_keeps, same_hands}
+use Rattle.sf_rights.proofs.Quiet.{bindings_only, rests_keeps, same_bindings}
 use Rattle.sf_rights.proofs.Resting.{pay_keeps}
-use Rattle.sf_rights.proofs.Trying.{hands_weight}
+use Rattle.sf_rights.proofs.Trying.{bindings_weight}
 
 -- a token is put back where it was
 put_back : {A : Type 0} (xs : List (Option A)) (i : ℕ) (y : A) → get_or xs i None ≡ Some y → set (set xs i None) i (Some y) ≡ xs
@@ -90,11 +90,11 @@ module _ {B : Type 0} where
   draw_waits picture seen (holding.Frees queue loose) old new none = absurd none
 
   -- what a draw writes
-  pub draw_writes : (before : Hands B) (name p : ℕ) (held : Holding B) → get_or before.names name None ≡ Some held → written.written_by (holdings_of before) (step.Draw name p) (answered.Own 0) ≡ written.paid_frame (Some (token_of held))
+  pub draw_writes : (before : Bindings B) (name p : ℕ) (held : Holding B) → get_or before.names name None ≡ Some held → written.written_by (holdings_of before) (step.Draw name p) (answered.Own 0) ≡ written.paid_frame (Some (token_of held))
   draw_writes before name p held there = ap written.paid_frame (name_in-held before name ∙ ap (option_map token_of) there)
 
 module _ {B : Type 0} (pictures : ℕ → Picture) (home : DeskHome) (place name p : ℕ) where
-  module _ (came_to : Tried) (before after : Hands B) (old new : State B) (tries : TriesIn pictures home place (step.Draw name p) came_to before after old new) where
+  module _ (came_to : Tried) (before after : Bindings B) (old new : State B) (tries : TriesIn pictures home place (step.Draw name p) came_to before after old new) where
     -- what the trace says where the actor answered itself
     own_told : (status : ℕ) → came_to ≡ tried.Own status
         → (answer : Answered) × (written.written_in tries.is.trace ≡ written.written_in tries.was.trace ++ written.written_by (holdings_of before) (step.Draw name p) answer) × (answer ≡ answered.Own status)
@@ -109,12 +109,12 @@ module _ {B : Type 0} (pictures : ℕ → Picture) (home : DeskHome) (place name
     draws_lease lease picture came calls arrivals leaves there same is = rests_keeps pictures home place (step.Draw name p) came_to before after old new tries (record {
       calls = calls;
       leaves = leaves;
-      held = hands_only pictures home place (step.Draw name p) came_to before after old new tries arrivals less;
-      owed = subst (λ (hands : Hands B). Gets (hands_owe before) [] (hands_owe hands)) (sym same) owes;
+      held = bindings_only pictures home place (step.Draw name p) came_to before after old new tries arrivals less;
+      owed = subst (λ (bindings : Bindings B). Gets (bindings_owe before) [] (bindings_owe bindings)) (sym same) owes;
       answers = λ answer told. ap (written.written_by (holdings_of before) (step.Draw name p)) (own_answer 0 came answer told) ∙ draw_writes before name p (holding.Lends lease) there;
     }) is
       where
-        drawn : Hands B
+        drawn : Bindings B
         drawn = with_held (with_held before name None) name (Some (holding.Lends (drawn_with lease picture)))
 
         less : (w : RightAt → ℕ) → sum_by w (places_held (parts_of after)) ≤ sum_by w (places_held (parts_of before))
@@ -123,13 +123,13 @@ module _ {B : Type 0} (pictures : ℕ → Picture) (home : DeskHome) (place name
             let most = set_most (λ (held : Option (Holding B)). sum_by w (place_of held)) (set before.names name None) name (Some (holding.Lends (drawn_with lease picture))) in
             let a = weight_is w before in
             let b = weight_is w drawn in
-            let c = hands_weight w before in
-            let d = hands_weight w drawn in
-            let e = ap (λ (hands : Hands B). sum_by w (places_held (parts_of hands))) same in
+            let c = bindings_weight w before in
+            let d = bindings_weight w drawn in
+            let e = ap (λ (bindings : Bindings B). sum_by w (places_held (parts_of bindings))) same in
             omega (arith, none, most, a, b, c, d, e)
 
-        owes : Gets (hands_owe before) [] (hands_owe drawn)
-        owes = subst (λ (names : List (Option (Holding B))). Gets (hands_owe before) [] (flat_map place_owed names)) (sym (put_other before.names name (Some (holding.Lends (drawn_with lease picture)))))
+        owes : Gets (bindings_owe before) [] (bindings_owe drawn)
+        owes = subst (λ (names : List (Option (Holding B))). Gets (bindings_owe before) [] (flat_map place_owed names)) (sym (put_other before.names name (Some (holding.Lends (drawn_with lease picture)))))
             (gets_set place_owed [] before.names name None (Some (holding.Lends (drawn_with lease picture))) (within before.names name (holding.Lends lease) there)
             (subst (λ (xs : List WriteAt). Gets xs [] []) (sym (ap place_owed there)) (gets_same [])))
 
@@ -166,8 +166,8 @@ module _ {B : Type 0} (pictures : ℕ → Picture) (home : DeskHome) (place name
 
         lose : AreIn (places_of new).owed (places_of old).owed × AreIn (places_of old).owed ((write ∷ []) ++ (places_of new).owed)
         lose = owed_lose pictures home place (step.Draw name p) came_to before after old new tries (write ∷ [])
-            (subst (λ (hands : Hands B). AreIn (places_owed (parts_of hands)) (places_owed (parts_of before))) (sym same) loses.0)
-            (subst (λ (hands : Hands B). AreIn (places_owed (parts_of before)) ((write ∷ []) ++ places_owed (parts_of hands))) (sym same) loses.1)
+            (subst (λ (bindings : Bindings B). AreIn (places_owed (parts_of bindings)) (places_owed (parts_of before))) (sym same) loses.0)
+            (subst (λ (bindings : Bindings B). AreIn (places_owed (parts_of before)) ((write ∷ []) ++ places_owed (parts_of bindings))) (sym same) loses.1)
 
         keeps : HasAtMost (places_out old) [] [] (places_out new)
         keeps w =
@@ -176,9 +176,9 @@ module _ {B : Type 0} (pictures : ℕ → Picture) (home : DeskHome) (place name
             let none = set_none (λ (held : Option (Holding B)). sum_by w (place_of held)) before.names name (holding.Owes owing held) there in
             let a = weight_is w before in
             let b = weight_is w (with_held before name None) in
-            let c = hands_weight w before in
-            let d = hands_weight w (with_held before name None) in
-            let e = ap (λ (hands : Hands B). sum_by w (places_held (parts_of hands))) same in
+            let c = bindings_weight w before in
+            let d = bindings_weight w (with_held before name None) in
+            let e = ap (λ (bindings : Bindings B). sum_by w (places_held (parts_of bindings))) same in
             omega (arith, all, nothing, none, a, b, c, d, e)
 
         told : (answer : Answered) × (written.written_in tries.is.trace ≡ written.written_in tries.was.trace ++ written.written_by (holdings_of before) (step.Draw name p) answer) × (answer ≡ answered.Own 0)
@@ -190,7 +190,7 @@ module _ {B : Type 0} (pictures : ℕ → Picture) (home : DeskHome) (place name
             (ap (written.written_by (holdings_of before) (step.Draw name p)) told.2 ∙ draw_writes before name p (holding.Owes owing held) there)
 
   -- a draw, by what came of it
-  draws_done : (came_to : Tried) (before after : Hands B) (old new : State B) (tries : TriesIn pictures home place (step.Draw name p) came_to before after old new) (seen : Seen) (looked : DeskView B) (held : Holding B) (left : Option (Holding B)) (picture : Picture)
+  draws_done : (came_to : Tried) (before after : Bindings B) (old new : State B) (tries : TriesIn pictures home place (step.Draw name p) came_to before after old new) (seen : Seen) (looked : DeskView B) (held : Holding B) (left : Option (Holding B)) (picture : Picture)
       → came_to ≡ tried.Own 0 → looked.calls ≡ old.view.calls → looked.arrivals ≡ old.view.arrivals → looked.turns.leaves ≡ old.view.turns.leaves → new.view ≡ record looked { turns = new.view.turns }
       → get_or before.names name None ≡ Some held → DrawsHolding picture seen held left looked.turns new.view.turns → after ≡ filled (with_held before name None) name left → IsLedger (ledger_of old) → Went (step.Draw name p) before (length tries.was.trace + 1) old new
   draws_done came_to before after old new tries seen looked (holding.Lends lease) left picture came calls arrivals leaves turns there draws same is =
@@ -204,7 +204,7 @@ module _ {B : Type 0} (pictures : ℕ → Picture) (home : DeskHome) (place name
   draws_done came_to before after old new tries seen looked (holding.Reads lease) left picture came calls arrivals leaves turns there draws same is = absurd draws
   draws_done came_to before after old new tries seen looked (holding.Frees queue loose) left picture came calls arrivals leaves turns there draws same is = absurd draws
 
-  pub draws_keep : (came_to : Tried) (before after : Hands B) (old new : State B) (tries : TriesIn pictures home place (step.Draw name p) came_to before after old new)
+  pub draws_keep : (came_to : Tried) (before after : Bindings B) (old new : State B) (tries : TriesIn pictures home place (step.Draw name p) came_to before after old new)
       → Draws home name (pictures p) before after old.view new.view came_to → IsLedger (ledger_of old) → Went (step.Draw name p) before (length tries.was.trace + 1) old new
   draws_keep (tried.Called status values) before after old new tries draws is = absurd draws.tries
   draws_keep (tried.Sent number) before after old new tries draws is = absurd draws.tries
@@ -213,7 +213,7 @@ module _ {B : Type 0} (pictures : ℕ → Picture) (home : DeskHome) (place name
       (ap (λ (view : DeskView B). view.calls) draws.times) (ap (λ (view : DeskView B). view.arrivals) draws.times) (ap (λ (view : DeskView B). view.turns.leaves) draws.times) draws.turns
       draws.there draws.tries.2 draws.tries.3 is
   draws_keep tried.NotYet before after old new tries draws is =
-      same_hands pictures home place (step.Draw name p) tried.NotYet before after old new tries
+      same_bindings pictures home place (step.Draw name p) tried.NotYet before after old new tries
       (ap (λ (view : DeskView B). view.calls) draws.turns ∙ ap (λ (view : DeskView B). view.calls) draws.times)
       (draw_waits (pictures p) draws.seen draws.held draws.looked.turns new.view.turns draws.tries.0 ∙ ap (λ (view : DeskView B). view.turns.leaves) draws.times)
       (ap (λ (view : DeskView B). view.arrivals) draws.turns ∙ ap (λ (view : DeskView B). view.arrivals) draws.times)

@@ -24,9 +24,9 @@ use Rattle.sf_actor.specs.Parts.{token_of}
 use Rattle.sf_actor.specs.Rights.{turn_by}
 use Rattle.sf_steps.specs.declared.asking.Asking.{Asking}
 use Rattle.sf_steps.specs.declared.asking.Homes.{Homes}
-use Rattle.sf_steps.specs.declared.hands.Hands.{Hands}
+use Rattle.sf_steps.specs.declared.bindings.Bindings.{Bindings}
 use Rattle.sf_steps.specs.Forming.{FormsCall}
-use Rattle.sf_steps.specs.Hands.{holdings_of}
+use Rattle.sf_steps.specs.Bindings.{holdings_of}
 use Rattle.sf_steps.proofs.HoldingLemmas.{name_in-held}
 use Rattle.sf_rights.specs.MakerCalls.{brought_at, given_at}
 use Rattle.sf_rights.specs.Makers.{WriteAt, place_written}
@@ -62,7 +62,7 @@ module _ {B : Type 0} where
   lease_at : (asking exact : Asking B) → asking ≡ exact → IsOfLease exact.homes exact.call → IsOfLease asking.homes asking.call
   lease_at asking exact same is = subst (λ (x : Asking B). IsOfLease x.homes x.call) (sym same) is
 
-  pub forms_lease : (pictures : ℕ → Picture) (s : Step) (before taken : Hands B) (asking : Asking B) → FormsCall pictures s before taken asking → IsOfLease asking.homes asking.call
+  pub forms_lease : (pictures : ℕ → Picture) (s : Step) (before taken : Bindings B) (asking : Asking B) → FormsCall pictures s before taken asking → IsOfLease asking.homes asking.call
   forms_lease pictures (step.Connect q) before taken asking forms = lease_at asking _ forms.1 tt
   forms_lease pictures (step.Disconnect q) before taken asking forms = lease_at asking _ forms.1 tt
   forms_lease pictures (step.MaxDequeued q n) before taken asking forms = lease_at asking _ forms.1 tt
@@ -86,7 +86,7 @@ module _ {B : Type 0} where
   unlike asking exact C same none is = absurd (none (subst (λ (x : Asking B). IsAttach x.call) same is))
 
   -- a loose buffer that is attached was last where the name tells that the step uses
-  pub attaches : (pictures : ℕ → Picture) (s : Step) (before taken : Hands B) (asking : Asking B) → FormsCall pictures s before taken asking → IsAttach asking.call → (stay : BufferOf) → loose_at (holdings_of before) s stay ≡ from_of asking
+  pub attaches : (pictures : ℕ → Picture) (s : Step) (before taken : Bindings B) (asking : Asking B) → FormsCall pictures s before taken asking → IsAttach asking.call → (stay : BufferOf) → loose_at (holdings_of before) s stay ≡ from_of asking
   attaches pictures (step.Connect q) before taken asking forms is stay = unlike asking _ _ forms.1 (λ none. none) is
   attaches pictures (step.Disconnect q) before taken asking forms is stay = unlike asking _ _ forms.1 (λ none. none) is
   attaches pictures (step.MaxDequeued q n) before taken asking forms is stay = unlike asking _ _ forms.1 (λ none. none) is

@@ -22,13 +22,13 @@ use Rattle.sf_actor.specs.Names.{Holdings, Token, name_in}
 use Rattle.sf_actor.specs.Parts.{token_of}
 use Rattle.sf_actor.specs.Tests.{first_met, is_taken, occupied, refusal_of, tests_of}
 use Rattle.sf_steps.specs.declared.asking.Asking.{Asking}
-use Rattle.sf_steps.specs.declared.hands.Hands.{Hands}
+use Rattle.sf_steps.specs.declared.bindings.Bindings.{Bindings}
 use Rattle.sf_steps.specs.Forming.{FormsCall, Takes}
-use Rattle.sf_steps.specs.Hands.{holdings_of}
+use Rattle.sf_steps.specs.Bindings.{holdings_of}
 use Rattle.sf_steps.proofs.HoldingLemmas.{name_in-held}
 use Rattle.sf_rights.specs.Makers.{WriteAt, place_owed}
 use Rattle.sf_rights.specs.Moves.{Gets}
-use Rattle.sf_rights.proofs.Owing.{AreFree, IsFreeAt, gets_same, gets_set, hands_owe}
+use Rattle.sf_rights.proofs.Owing.{AreFree, IsFreeAt, gets_same, gets_set, bindings_owe}
 
 -- no test is met
 unmet_first : (test : Bool × ℕ) (tests : List (Bool × ℕ)) → first_met (test ∷ tests) ≡ None → (test.0 ≡ false) × (first_met tests ≡ None)
@@ -48,15 +48,15 @@ module _ {B : Type 0} where
   nothing_there (Some held) none = absurd (cc (none))
 
   -- a name of which the test says that it is empty
-  name_empty : (hands : Hands B) (name : ℕ) → is_some (name_in (holdings_of hands) name) ≡ false → get_or hands.names name None ≡ None
-  name_empty hands name none = nothing_there (get_or hands.names name None) (ap (λ (t : Option Token). is_some t) (sym (name_in-held hands name)) ∙ none)
+  name_empty : (bindings : Bindings B) (name : ℕ) → is_some (name_in (holdings_of bindings) name) ≡ false → get_or bindings.names name None ≡ None
+  name_empty bindings name none = nothing_there (get_or bindings.names name None) (ap (λ (t : Option Token). is_some t) (sym (name_in-held bindings name)) ∙ none)
 
   -- the name that a token was taken out of, or one that was empty before
-  taken_free : (before taken : Hands B) (name : ℕ) (held : Holding B) (filled : ℕ) → Takes before taken name held → length before.names ≡ 32 → name < 32 → filled < 32
+  taken_free : (before taken : Bindings B) (name : ℕ) (held : Holding B) (filled : ℕ) → Takes before taken name held → length before.names ≡ 32 → name < 32 → filled < 32
       → (not (filled == name) && is_some (name_in (holdings_of before) filled)) ≡ false → IsFreeAt taken filled
   taken_free before taken name held filled takes wide low lower test = record {
-    free = subst (λ (hands : Hands B). place_owed (get_or hands.names filled None) ≡ []) (sym takes.rest) (by_name (cases_Bool (filled == name)));
-    low = subst (λ (hands : Hands B). filled < length hands.names) (sym takes.rest) within;
+    free = subst (λ (bindings : Bindings B). place_owed (get_or bindings.names filled None) ≡ []) (sym takes.rest) (by_name (cases_Bool (filled == name)));
+    low = subst (λ (bindings : Bindings B). filled < length bindings.names) (sym takes.rest) within;
   }
     where
       within : filled < length (set before.names name None)
@@ -77,17 +77,17 @@ module _ {B : Type 0} where
           let empty : is_some (name_in (holdings_of before) filled) ≡ false = rw unmet at test in
           ap place_owed (get_or-set_other before.names name filled None None (apart unmet) ∙ name_empty before filled empty)
 
-  itself_free : (before taken : Hands B) (name : ℕ) (held : Holding B) → Takes before taken name held → length before.names ≡ 32 → name < 32 → IsFreeAt taken name
+  itself_free : (before taken : Bindings B) (name : ℕ) (held : Holding B) → Takes before taken name held → length before.names ≡ 32 → name < 32 → IsFreeAt taken name
   itself_free before taken name held takes wide low = taken_free before taken name held name takes wide low low (rw (eq-eqb name name refl) refl)
 
-  -- hands that nothing was taken out of
-  untaken_free : (before taken : Hands B) (name : ℕ) → taken.names ≡ before.names → length before.names ≡ 32 → name < 32 → is_some (name_in (holdings_of before) name) ≡ false → IsFreeAt taken name
+  -- bindings that nothing was taken out of
+  untaken_free : (before taken : Bindings B) (name : ℕ) → taken.names ≡ before.names → length before.names ≡ 32 → name < 32 → is_some (name_in (holdings_of before) name) ≡ false → IsFreeAt taken name
   untaken_free before taken name same wide low test = record {
     free = subst (λ (names : List (Option (Holding B))). place_owed (get_or names name None) ≡ []) (sym same) (ap place_owed (name_empty before name test));
     low = subst (λ (names : List (Option (Holding B))). name < length names) (sym same) (omega (arith, wide, low));
   }
 
-  all_at : (taken : Hands B) (asking exact : Asking B) → asking ≡ exact → IsFreeAt taken exact.homes.lent → IsFreeAt taken exact.homes.frame → IsFreeAt taken exact.homes.free → AreFree taken asking.homes
+  all_at : (taken : Bindings B) (asking exact : Asking B) → asking ≡ exact → IsFreeAt taken exact.homes.lent → IsFreeAt taken exact.homes.frame → IsFreeAt taken exact.homes.free → AreFree taken asking.homes
   all_at taken asking exact same a b c = subst (λ (x : Asking B). AreFree taken x.homes) (sym same) (record { lent = a; frame = b; free = c })
 
   -- a call that gives nothing
@@ -128,7 +128,7 @@ module _ {B : Type 0} where
   quiet asking exact homes same nothing brings = inl (subst (λ (x : Asking B). GivesNothing x.call) (sym same) nothing, ap (λ (x : Asking B). brought x.call) same ∙ brings)
 
   -- the names that the call of a step fills owe nothing, or it fills none
-  pub forms_free : (pictures : ℕ → Picture) (s : Step) (before taken : Hands B) (asking : Asking B) → FormsCall pictures s before taken asking → refusal_of pictures (holdings_of before) s ≡ None → IsStep s → length before.names ≡ 32
+  pub forms_free : (pictures : ℕ → Picture) (s : Step) (before taken : Bindings B) (asking : Asking B) → FormsCall pictures s before taken asking → refusal_of pictures (holdings_of before) s ≡ None → IsStep s → length before.names ≡ 32
       → (GivesNothing asking.call × (brought asking.call ≡ gives.Nothing)) ⊎ AreFree taken asking.homes
   forms_free pictures (step.Connect q) before taken asking forms none ranges wide = quiet asking _ _ forms.1 connect_nothing refl
   forms_free pictures (step.Disconnect q) before taken asking forms none ranges wide = quiet asking _ _ forms.1 disconnect_nothing refl
@@ -138,15 +138,15 @@ module _ {B : Type 0} where
   forms_free pictures (step.Abandon q) before taken asking forms none ranges wide = quiet asking _ _ forms.1 abandon_nothing refl
   forms_free pictures (step.Acquire q i at) before taken asking forms none ranges wide =
       let test = unmet_first (is_some (name_in (holdings_of before) i), occupied) [] (tests_pass pictures (holdings_of before) (step.Acquire q i at) none) in
-      let free = untaken_free before taken i (ap (λ (hands : Hands B). hands.names) forms.0) wide ranges.0.below test.0 in
+      let free = untaken_free before taken i (ap (λ (bindings : Bindings B). bindings.names) forms.0) wide ranges.0.below test.0 in
       inr (all_at taken asking _ forms.1 free free free)
   forms_free pictures (step.Dequeue q s size) before taken asking forms none ranges wide =
       let test = unmet_first (is_some (name_in (holdings_of before) s), occupied) [] (tests_pass pictures (holdings_of before) (step.Dequeue q s size) none) in
-      let free = untaken_free before taken s (ap (λ (hands : Hands B). hands.names) forms.1.same) wide ranges.0.below test.0 in
+      let free = untaken_free before taken s (ap (λ (bindings : Bindings B). bindings.names) forms.1.same) wide ranges.0.below test.0 in
       inr (all_at taken asking _ forms.2 free free free)
   forms_free pictures (step.DequeueWait q s size) before taken asking forms none ranges wide =
       let test = unmet_first (is_some (name_in (holdings_of before) s), occupied) [] (tests_pass pictures (holdings_of before) (step.DequeueWait q s size) none) in
-      let free = untaken_free before taken s (ap (λ (hands : Hands B). hands.names) forms.1.same) wide ranges.0.below test.0 in
+      let free = untaken_free before taken s (ap (λ (bindings : Bindings B). bindings.names) forms.1.same) wide ranges.0.below test.0 in
       inr (all_at taken asking _ forms.2 free free free)
   forms_free pictures (step.Request s) before taken asking forms none ranges wide =
       let free = itself_free before taken s (holding.Lends forms.0) forms.1 wide ranges.below in
@@ -186,9 +186,9 @@ module _ {B : Type 0} where
       inr (all_at taken asking _ forms.3 other other free)
   forms_free pictures other before taken asking forms none ranges wide = absurd forms
 
-  -- what is taken out of the hands was no drawing that is owed
-  pub takes_owes : (before taken : Hands B) (name : ℕ) (held : Holding B) → Takes before taken name held → place_owed (Some held) ≡ [] → Gets (hands_owe before) [] (hands_owe taken)
-  takes_owes before taken name held takes none = subst (λ (hands : Hands B). Gets (hands_owe before) [] (hands_owe hands)) (sym takes.rest) (taken_out before.names name takes.held_there)
+  -- what is taken out of the bindings was no drawing that is owed
+  pub takes_owes : (before taken : Bindings B) (name : ℕ) (held : Holding B) → Takes before taken name held → place_owed (Some held) ≡ [] → Gets (bindings_owe before) [] (bindings_owe taken)
+  takes_owes before taken name held takes none = subst (λ (bindings : Bindings B). Gets (bindings_owe before) [] (bindings_owe bindings)) (sym takes.rest) (taken_out before.names name takes.held_there)
     where
       within : (names : List (Option (Holding B))) (i : ℕ) → get_or names i None ≡ Some held → i < length names
       within [] i there = absurd (cc (there))
@@ -198,19 +198,19 @@ module _ {B : Type 0} where
       taken_out : (names : List (Option (Holding B))) (i : ℕ) → get_or names i None ≡ Some held → Gets (flat_map place_owed names) [] (flat_map place_owed (set names i None))
       taken_out names i there = gets_set place_owed [] names i None None (within names i there) (subst (λ (xs : List WriteAt). Gets xs [] []) (sym (ap place_owed there ∙ none)) (gets_same []))
 
-  same_owes : (before taken : Hands B) → taken.names ≡ before.names → Gets (hands_owe before) [] (hands_owe taken)
-  same_owes before taken same = subst (λ (names : List (Option (Holding B))). Gets (hands_owe before) [] (flat_map place_owed names)) (sym same) (gets_same (hands_owe before))
+  same_owes : (before taken : Bindings B) → taken.names ≡ before.names → Gets (bindings_owe before) [] (bindings_owe taken)
+  same_owes before taken same = subst (λ (names : List (Option (Holding B))). Gets (bindings_owe before) [] (flat_map place_owed names)) (sym same) (gets_same (bindings_owe before))
 
-  pub forms_owe : (pictures : ℕ → Picture) (s : Step) (before taken : Hands B) (asking : Asking B) → FormsCall pictures s before taken asking → Gets (hands_owe before) [] (hands_owe taken)
-  forms_owe pictures (step.Connect q) before taken asking forms = same_owes before taken (ap (λ (hands : Hands B). hands.names) forms.0)
-  forms_owe pictures (step.Disconnect q) before taken asking forms = same_owes before taken (ap (λ (hands : Hands B). hands.names) forms.0)
-  forms_owe pictures (step.MaxDequeued q n) before taken asking forms = same_owes before taken (ap (λ (hands : Hands B). hands.names) forms.0)
-  forms_owe pictures (step.Async q on) before taken asking forms = same_owes before taken (ap (λ (hands : Hands B). hands.names) forms.0)
-  forms_owe pictures (step.MaxAcquired q n) before taken asking forms = same_owes before taken (ap (λ (hands : Hands B). hands.names) forms.0)
-  forms_owe pictures (step.Abandon q) before taken asking forms = same_owes before taken (ap (λ (hands : Hands B). hands.names) forms.0)
-  forms_owe pictures (step.Acquire q i at) before taken asking forms = same_owes before taken (ap (λ (hands : Hands B). hands.names) forms.0)
-  forms_owe pictures (step.Dequeue q s size) before taken asking forms = same_owes before taken (ap (λ (hands : Hands B). hands.names) forms.1.same)
-  forms_owe pictures (step.DequeueWait q s size) before taken asking forms = same_owes before taken (ap (λ (hands : Hands B). hands.names) forms.1.same)
+  pub forms_owe : (pictures : ℕ → Picture) (s : Step) (before taken : Bindings B) (asking : Asking B) → FormsCall pictures s before taken asking → Gets (bindings_owe before) [] (bindings_owe taken)
+  forms_owe pictures (step.Connect q) before taken asking forms = same_owes before taken (ap (λ (bindings : Bindings B). bindings.names) forms.0)
+  forms_owe pictures (step.Disconnect q) before taken asking forms = same_owes before taken (ap (λ (bindings : Bindings B). bindings.names) forms.0)
+  forms_owe pictures (step.MaxDequeued q n) before taken asking forms = same_owes before taken (ap (λ (bindings : Bindings B). bindings.names) forms.0)
+  forms_owe pictures (step.Async q on) before taken asking forms = same_owes before taken (ap (λ (bindings : Bindings B). bindings.names) forms.0)
+  forms_owe pictures (step.MaxAcquired q n) before taken asking forms = same_owes before taken (ap (λ (bindings : Bindings B). bindings.names) forms.0)
+  forms_owe pictures (step.Abandon q) before taken asking forms = same_owes before taken (ap (λ (bindings : Bindings B). bindings.names) forms.0)
+  forms_owe pictures (step.Acquire q i at) before taken asking forms = same_owes before taken (ap (λ (bindings : Bindings B). bindings.names) forms.0)
+  forms_owe pictures (step.Dequeue q s size) before taken asking forms = same_owes before taken (ap (λ (bindings : Bindings B). bindings.names) forms.1.same)
+  forms_owe pictures (step.DequeueWait q s size) before taken asking forms = same_owes before taken (ap (λ (bindings : Bindings B). bindings.names) forms.1.same)
   forms_owe pictures (step.Request s) before taken asking forms = takes_owes before taken s (holding.Lends forms.0) forms.1 refl
   forms_owe pictures (step.Queue s p time crop points) before taken asking forms = takes_owes before taken s (holding.Lends forms.0) forms.1 refl
   forms_owe pictures (step.Cancel s points) before taken asking forms = takes_owes before taken s (holding.Lends forms.0) forms.1 refl

@@ -1,4 +1,4 @@
--- What a call takes out of an actor's hands and puts into them.
+-- What a call takes out of an actor's bindings and puts into them.
 use Rattle.std.proofs.Common.{◌≡◌, ℕ, ◌+◌, ◌≤◌, List, [], ◌∷◌, suc, zero, arith, ap, ◌∙◌, refl, get_or, set, Option, Some, None}
 use Rattle.std.specs.List.{flat_map, sum_by}
 use Rattle.std.proofs.lemmas.List.Sums.{sum_by-cons}
@@ -17,7 +17,7 @@ use Rattle.sf_actor.specs.Makers.{BufferOf}
 use Rattle.sf_actor.specs.Rights.{turn_by}
 use Rattle.sf_steps.specs.declared.asking.Asking.{Asking}
 use Rattle.sf_steps.specs.declared.asking.Homes.{Homes}
-use Rattle.sf_steps.specs.declared.hands.Hands.{Hands}
+use Rattle.sf_steps.specs.declared.bindings.Bindings.{Bindings}
 use Rattle.sf_steps.specs.Calling.{placed, with_held, with_spare}
 use Rattle.sf_steps.specs.Forming.{FormsCall, Takes}
 use Rattle.sf_rights.specs.MakerCalls.{brought_at, given_at, loose_from}
@@ -76,18 +76,18 @@ module _ {B : Type 0} (w : RightAt → ℕ) where
   held_weight held = sum_by w (place_of held)
 
   -- what is counted of the rights that names hold
-  abbrev pub names_weight : Hands B → ℕ
-  names_weight hands = sum_by w (flat_map place_of hands.names)
+  abbrev pub names_weight : Bindings B → ℕ
+  names_weight bindings = sum_by w (flat_map place_of bindings.names)
 
-  pub weight_is : (hands : Hands B) → names_weight hands ≡ sum_by held_weight hands.names
-  weight_is hands = sum-flat_map w place_of hands.names
+  pub weight_is : (bindings : Bindings B) → names_weight bindings ≡ sum_by held_weight bindings.names
+  weight_is bindings = sum-flat_map w place_of bindings.names
 
-  -- what a call brings was taken out of the hands
-  pub record FormsSum (before taken : Hands B) (asking : Asking B) : Type 0 where
+  -- what a call brings was taken out of the bindings
+  pub record FormsSum (before taken : Bindings B) (asking : Asking B) : Type 0 where
     pub names : names_weight taken + sum_by w (brings asking) ≡ names_weight before
     pub transactions : taken.transactions ≡ before.transactions
 
-  brings_nothing : (before taken : Hands B) (asking exact : Asking B) → taken.names ≡ before.names → taken.transactions ≡ before.transactions → asking ≡ exact → sum_by w (brings exact) ≡ 0 → FormsSum before taken asking
+  brings_nothing : (before taken : Bindings B) (asking exact : Asking B) → taken.names ≡ before.names → taken.transactions ≡ before.transactions → asking ≡ exact → sum_by w (brings exact) ≡ 0 → FormsSum before taken asking
   brings_nothing before taken asking exact names transactions same none = record {
     names =
         let a = ap (λ (x : Asking B). sum_by w (brings x)) same in
@@ -96,30 +96,30 @@ module _ {B : Type 0} (w : RightAt → ℕ) where
     transactions = transactions;
   }
 
-  brings_held : (before taken : Hands B) (asking exact : Asking B) (name : ℕ) (held : Holding B) → Takes before taken name held → asking ≡ exact → sum_by w (brings exact) ≡ held_weight (Some held) → FormsSum before taken asking
+  brings_held : (before taken : Bindings B) (asking exact : Asking B) (name : ℕ) (held : Holding B) → Takes before taken name held → asking ≡ exact → sum_by w (brings exact) ≡ held_weight (Some held) → FormsSum before taken asking
   brings_held before taken asking exact name held takes same equal = record {
     names =
         let a = ap (λ (x : Asking B). sum_by w (brings x)) same in
-        let b = ap (λ (hands : Hands B). names_weight hands) takes.rest in
+        let b = ap (λ (bindings : Bindings B). names_weight bindings) takes.rest in
         let c = weight_is (with_held before name None) in
         let d = weight_is before in
         let e = set_none held_weight before.names name held takes.held_there in
         omega (arith, a, b, c, d, e, equal);
-    transactions = ap (λ (hands : Hands B). hands.transactions) takes.rest;
+    transactions = ap (λ (bindings : Bindings B). bindings.transactions) takes.rest;
   }
 
-  pub forms_sum : (pictures : ℕ → Picture) (s : Step) (before taken : Hands B) (asking : Asking B) → FormsCall pictures s before taken asking → FormsSum before taken asking
-  forms_sum pictures (step.Connect q) before taken asking forms = brings_nothing before taken asking _ (ap (λ (hands : Hands B). hands.names) forms.0) (ap (λ (hands : Hands B). hands.transactions) forms.0) forms.1 refl
-  forms_sum pictures (step.Disconnect q) before taken asking forms = brings_nothing before taken asking _ (ap (λ (hands : Hands B). hands.names) forms.0) (ap (λ (hands : Hands B). hands.transactions) forms.0) forms.1 refl
-  forms_sum pictures (step.MaxDequeued q n) before taken asking forms = brings_nothing before taken asking _ (ap (λ (hands : Hands B). hands.names) forms.0) (ap (λ (hands : Hands B). hands.transactions) forms.0) forms.1 refl
-  forms_sum pictures (step.Async q on) before taken asking forms = brings_nothing before taken asking _ (ap (λ (hands : Hands B). hands.names) forms.0) (ap (λ (hands : Hands B). hands.transactions) forms.0) forms.1 refl
-  forms_sum pictures (step.MaxAcquired q n) before taken asking forms = brings_nothing before taken asking _ (ap (λ (hands : Hands B). hands.names) forms.0) (ap (λ (hands : Hands B). hands.transactions) forms.0) forms.1 refl
-  forms_sum pictures (step.Abandon q) before taken asking forms = brings_nothing before taken asking _ (ap (λ (hands : Hands B). hands.names) forms.0) (ap (λ (hands : Hands B). hands.transactions) forms.0) forms.1 refl
-  forms_sum pictures (step.Acquire q i at) before taken asking forms = brings_nothing before taken asking _ (ap (λ (hands : Hands B). hands.names) forms.0) (ap (λ (hands : Hands B). hands.transactions) forms.0) forms.1 refl
+  pub forms_sum : (pictures : ℕ → Picture) (s : Step) (before taken : Bindings B) (asking : Asking B) → FormsCall pictures s before taken asking → FormsSum before taken asking
+  forms_sum pictures (step.Connect q) before taken asking forms = brings_nothing before taken asking _ (ap (λ (bindings : Bindings B). bindings.names) forms.0) (ap (λ (bindings : Bindings B). bindings.transactions) forms.0) forms.1 refl
+  forms_sum pictures (step.Disconnect q) before taken asking forms = brings_nothing before taken asking _ (ap (λ (bindings : Bindings B). bindings.names) forms.0) (ap (λ (bindings : Bindings B). bindings.transactions) forms.0) forms.1 refl
+  forms_sum pictures (step.MaxDequeued q n) before taken asking forms = brings_nothing before taken asking _ (ap (λ (bindings : Bindings B). bindings.names) forms.0) (ap (λ (bindings : Bindings B). bindings.transactions) forms.0) forms.1 refl
+  forms_sum pictures (step.Async q on) before taken asking forms = brings_nothing before taken asking _ (ap (λ (bindings : Bindings B). bindings.names) forms.0) (ap (λ (bindings : Bindings B). bindings.transactions) forms.0) forms.1 refl
+  forms_sum pictures (step.MaxAcquired q n) before taken asking forms = brings_nothing before taken asking _ (ap (λ (bindings : Bindings B). bindings.names) forms.0) (ap (λ (bindings : Bindings B). bindings.transactions) forms.0) forms.1 refl
+  forms_sum pictures (step.Abandon q) before taken asking forms = brings_nothing before taken asking _ (ap (λ (bindings : Bindings B). bindings.names) forms.0) (ap (λ (bindings : Bindings B). bindings.transactions) forms.0) forms.1 refl
+  forms_sum pictures (step.Acquire q i at) before taken asking forms = brings_nothing before taken asking _ (ap (λ (bindings : Bindings B). bindings.names) forms.0) (ap (λ (bindings : Bindings B). bindings.transactions) forms.0) forms.1 refl
   forms_sum pictures (step.Dequeue q s size) before taken asking forms =
-      brings_nothing before taken asking _ (ap (λ (hands : Hands B). hands.names) forms.1.same) (ap (λ (hands : Hands B). hands.transactions) forms.1.same) forms.2 refl
+      brings_nothing before taken asking _ (ap (λ (bindings : Bindings B). bindings.names) forms.1.same) (ap (λ (bindings : Bindings B). bindings.transactions) forms.1.same) forms.2 refl
   forms_sum pictures (step.DequeueWait q s size) before taken asking forms =
-      brings_nothing before taken asking _ (ap (λ (hands : Hands B). hands.names) forms.1.same) (ap (λ (hands : Hands B). hands.transactions) forms.1.same) forms.2 refl
+      brings_nothing before taken asking _ (ap (λ (bindings : Bindings B). bindings.names) forms.1.same) (ap (λ (bindings : Bindings B). bindings.transactions) forms.1.same) forms.2 refl
   forms_sum pictures (step.Request s) before taken asking forms = brings_held before taken asking _ s (holding.Lends forms.0) forms.1 forms.2 refl
   forms_sum pictures (step.Queue s p time crop points) before taken asking forms = brings_held before taken asking _ s (holding.Lends forms.0) forms.1 forms.2 refl
   forms_sum pictures (step.Cancel s points) before taken asking forms = brings_held before taken asking _ s (holding.Lends forms.0) forms.1 forms.2 refl
@@ -130,47 +130,47 @@ module _ {B : Type 0} (w : RightAt → ℕ) where
   forms_sum pictures (step.CAttach q b i) before taken asking forms = brings_held before taken asking _ b (holding.Frees forms.0 forms.1) forms.2 forms.3 refl
   forms_sum pictures other before taken asking forms = absurd forms
 
-  -- what a reply gives goes into the hands
-  held_most : (hands : Hands B) (name : ℕ) (held : Holding B) → names_weight (with_held hands name (Some held)) ≤ names_weight hands + held_weight (Some held)
-  held_most hands name held =
-      let a = weight_is (with_held hands name (Some held)) in
-      let b = weight_is hands in
-      let c = set_most held_weight hands.names name (Some held) in
+  -- what a reply gives goes into the bindings
+  held_most : (bindings : Bindings B) (name : ℕ) (held : Holding B) → names_weight (with_held bindings name (Some held)) ≤ names_weight bindings + held_weight (Some held)
+  held_most bindings name held =
+      let a = weight_is (with_held bindings name (Some held)) in
+      let b = weight_is bindings in
+      let c = set_most held_weight bindings.names name (Some held) in
       omega (arith, a, b, c)
 
-  placed_most : (homes : Homes) (hands : Hands B) (from : BufferOf) (asked : QCall B) (given : Gives B) → FitsLoose homes from asked given
-      → names_weight (placed homes hands given) ≤ names_weight hands + sum_by w (given_at from asked given)
-  placed_most homes hands from asked gives.Nothing fits = omega arith
-  placed_most homes hands from asked (gives.Write lease) fits = held_most hands homes.lent (holding.Lends lease)
-  placed_most homes hands from asked (gives.Owes owing) fits = held_most hands homes.lent (holding.Owes owing homes.held)
-  placed_most homes hands from asked (gives.Read lease) fits = held_most hands homes.frame (holding.Reads lease)
-  placed_most homes hands from asked (gives.Free loose) fits =
-      let most = held_most hands homes.free (holding.Frees homes.last loose) in
+  placed_most : (homes : Homes) (bindings : Bindings B) (from : BufferOf) (asked : QCall B) (given : Gives B) → FitsLoose homes from asked given
+      → names_weight (placed homes bindings given) ≤ names_weight bindings + sum_by w (given_at from asked given)
+  placed_most homes bindings from asked gives.Nothing fits = omega arith
+  placed_most homes bindings from asked (gives.Write lease) fits = held_most bindings homes.lent (holding.Lends lease)
+  placed_most homes bindings from asked (gives.Owes owing) fits = held_most bindings homes.lent (holding.Owes owing homes.held)
+  placed_most homes bindings from asked (gives.Read lease) fits = held_most bindings homes.frame (holding.Reads lease)
+  placed_most homes bindings from asked (gives.Free loose) fits =
+      let most = held_most bindings homes.free (holding.Frees homes.last loose) in
       let same = ap (λ (at : BufferOf). sum_by w (record { turn = turn_by loose.turn; at = at } ∷ [])) fits in
       omega (arith, most, same)
 
-  spare_same : (hands : Hands B) (spare : Option PermitView) → (with_spare hands spare).names ≡ hands.names
-  spare_same hands None = refl
-  spare_same hands (Some permit) = refl
+  spare_same : (bindings : Bindings B) (spare : Option PermitView) → (with_spare bindings spare).names ≡ bindings.names
+  spare_same bindings None = refl
+  spare_same bindings (Some permit) = refl
 
-  pub given_most : (homes : Homes) (hands : Hands B) (from : BufferOf) (asked : QCall B) (given : Gives B) (spare : Option PermitView) → FitsLoose homes from asked given
-      → names_weight (with_spare (placed homes hands given) spare) ≤ names_weight hands + sum_by w (given_at from asked given)
-  given_most homes hands from asked given spare fits =
-      let a = placed_most homes hands from asked given fits in
-      let b = ap (λ (xs : List (Option (Holding B))). sum_by w (flat_map place_of xs)) (spare_same (placed homes hands given) spare) in
+  pub given_most : (homes : Homes) (bindings : Bindings B) (from : BufferOf) (asked : QCall B) (given : Gives B) (spare : Option PermitView) → FitsLoose homes from asked given
+      → names_weight (with_spare (placed homes bindings given) spare) ≤ names_weight bindings + sum_by w (given_at from asked given)
+  given_most homes bindings from asked given spare fits =
+      let a = placed_most homes bindings from asked given fits in
+      let b = ap (λ (xs : List (Option (Holding B))). sum_by w (flat_map place_of xs)) (spare_same (placed homes bindings given) spare) in
       omega (arith, a, b)
 
 module _ {B : Type 0} where
-  placed_transactions : (homes : Homes) (hands : Hands B) (given : Gives B) → (placed homes hands given).transactions ≡ hands.transactions
-  placed_transactions homes hands gives.Nothing = refl
-  placed_transactions homes hands (gives.Write lease) = refl
-  placed_transactions homes hands (gives.Owes owing) = refl
-  placed_transactions homes hands (gives.Read lease) = refl
-  placed_transactions homes hands (gives.Free loose) = refl
+  placed_transactions : (homes : Homes) (bindings : Bindings B) (given : Gives B) → (placed homes bindings given).transactions ≡ bindings.transactions
+  placed_transactions homes bindings gives.Nothing = refl
+  placed_transactions homes bindings (gives.Write lease) = refl
+  placed_transactions homes bindings (gives.Owes owing) = refl
+  placed_transactions homes bindings (gives.Read lease) = refl
+  placed_transactions homes bindings (gives.Free loose) = refl
 
-  spare_transactions : (hands : Hands B) (spare : Option PermitView) → (with_spare hands spare).transactions ≡ hands.transactions
-  spare_transactions hands None = refl
-  spare_transactions hands (Some permit) = refl
+  spare_transactions : (bindings : Bindings B) (spare : Option PermitView) → (with_spare bindings spare).transactions ≡ bindings.transactions
+  spare_transactions bindings None = refl
+  spare_transactions bindings (Some permit) = refl
 
-  pub given_transactions : (homes : Homes) (hands : Hands B) (given : Gives B) (spare : Option PermitView) → (with_spare (placed homes hands given) spare).transactions ≡ hands.transactions
-  given_transactions homes hands given spare = spare_transactions (placed homes hands given) spare ∙ placed_transactions homes hands given
+  pub given_transactions : (homes : Homes) (bindings : Bindings B) (given : Gives B) (spare : Option PermitView) → (with_spare (placed homes bindings given) spare).transactions ≡ bindings.transactions
+  given_transactions homes bindings given spare = spare_transactions (placed homes bindings given) spare ∙ placed_transactions homes bindings given

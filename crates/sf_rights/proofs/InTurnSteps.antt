@@ -46,7 +46,7 @@ use Rattle.sf_actor.specs.Scripts.{picture_at}
 use Rattle.sf_actor.specs.Traces.{DoneAt, no_past, past_after, places_of as steps_of}
 use Rattle.sf_actor.specs.Tries.{ActorOf, DoesStep, DrawsHeld, DrawsIn, Tries}
 use Rattle.sf_steps.specs.declared.actor.Actor.{Actor}
-use Rattle.sf_steps.specs.Hands.{holdings_of}
+use Rattle.sf_steps.specs.Bindings.{holdings_of}
 use Rattle.sf_steps.specs.Playable.{MayPlay}
 use Rattle.sf_cast.specs.Casts.{KeepAs, StepsAt, scripts_of}
 use Rattle.sf_run.specs.Actors.{AreActors, trace_among}
@@ -212,7 +212,7 @@ module _ {B : Type 0} (scene : SceneValue) (table : TableId) (buffers place : �
   new = state_of (home_of before) (view_of after) (slice_set ofs place steps.new) handler
 
   abbrev by : ℕ
-  by = steps.was_here.hands.by.0
+  by = steps.was_here.bindings.by.0
 
   abbrev number : ℕ
   number = length steps.old.trace + 1
@@ -281,7 +281,7 @@ module _ {B : Type 0} (scene : SceneValue) (table : TableId) (buffers place : �
     makers_now : MakersStand (run_in (trace_among next_ofs) old) (calls_in scene (run_in (trace_among next_ofs) old)) old
     makers_now = grown scene table buffers place pictures ofs actors nows before after st handler steps keep plays same_home over stands declared cast.apart reply does makers
 
-    did_in_turn : PlacesGo (holdings_of steps.was_here.hands) does.done.step by number old new → AreInTurn scene (run_in (trace_among next_ofs) new) (places_of new)
+    did_in_turn : PlacesGo (holdings_of steps.was_here.bindings) does.done.step by number old new → AreInTurn scene (run_in (trace_among next_ofs) new) (places_of new)
     did_in_turn (inl calls) =
         late_in_turn (trace_among next_ofs) old new by calls.queue number calls.asked calls.reply calls.from calls.made scene declared stands.ledger
         (λ stay attaches.
@@ -299,7 +299,7 @@ module _ {B : Type 0} (scene : SceneValue) (table : TableId) (buffers place : �
     stay_ofs : ofs ≡ next_ofs
     stay_ofs = same_ofs scene table buffers place pictures ofs actors nows before after st handler steps keep plays same_home over stands declared cast.apart same
 
-    left_in_turn : (next : Step) → ((queue : ℕ) → (view_of after).calls queue ≡ (view_of before).calls queue) → PlacesGo (holdings_of steps.was_here.hands) next by number old new → AreInTurn scene (run_in (trace_among next_ofs) new) (places_of new)
+    left_in_turn : (next : Step) → ((queue : ℕ) → (view_of after).calls queue ≡ (view_of before).calls queue) → PlacesGo (holdings_of steps.was_here.bindings) next by number old new → AreInTurn scene (run_in (trace_among next_ofs) new) (places_of new)
     left_in_turn next none (inl calls) =
         absurd (called_once (entry by (number, calls.asked) calls.reply) ((view_of before).calls calls.queue) (sym calls.made.call.once.newest ∙ none calls.queue))
     left_in_turn next none (inr returns) =

@@ -30,7 +30,7 @@ use Rattle.sf_actor.specs.Tales.{IsMade, made_on}
 use Rattle.sf_actor.specs.Traces.{DoneAt, made_by, past_after, places_of}
 use Rattle.sf_actor.specs.Tries.{ActorOf, DoesStep, Tries, next_step}
 use Rattle.sf_steps.specs.declared.actor.Actor.{Actor}
-use Rattle.sf_steps.specs.Hands.{holdings_of}
+use Rattle.sf_steps.specs.Bindings.{holdings_of}
 use Rattle.sf_steps.specs.Playable.{MayPlay}
 use Rattle.sf_cast.specs.Casts.{KeepAs, KeepsAs, StepsAt, scripts_of}
 use Rattle.sf_run.specs.Actors.{AreActors, number_of, run_of, told_on, trace_among}
@@ -77,13 +77,13 @@ module _ {B : Type 0} (scene : SceneValue) (table : TableId) (buffers place : �
   new = state_of (home_of before) (view_of after) (slice_set ofs place steps.new) handler
 
   abbrev pub by : ℕ
-  by = steps.was_here.hands.by.0
+  by = steps.was_here.bindings.by.0
 
   abbrev pub number : ℕ
   number = length steps.old.trace + 1
 
   abbrev pub holdings : Holdings
-  holdings = holdings_of steps.was_here.hands
+  holdings = holdings_of steps.was_here.bindings
 
   pub kept : KeepsAs table (picture_at pictures) (home_of before) (view_of before) steps.was_here steps.old
   kept = was_kept table buffers place pictures ofs actors nows before after st handler steps keep plays same_home over stands

@@ -1,4 +1,4 @@
--- The drawings that are owed, where a call takes tokens out of an actor's hands and puts others into them.
+-- The drawings that are owed, where a call takes tokens out of an actor's bindings and puts others into them.
 use Rattle.std.proofs.Common.{◌≡◌, ℕ, ◌<◌, ◌⊎◌, List, [], ◌∷◌, ◌++◌, suc, zero, arith, sym, refl, inl, inr, subst, get_or, length, map, set, Option, Some, None}
 use Rattle.std.specs.Prelude.{Contains}
 use Rattle.std.specs.List.{flat_map}
@@ -10,7 +10,7 @@ use Rattle.sf_actor.specs.declared.holding.Holding.{Holding}
 use Rattle.sf_actor.specs.declared.holding.Holding.TheVariants as holding
 use Rattle.sf_actor.specs.Rights.{issued_turn}
 use Rattle.sf_steps.specs.declared.asking.Homes.{Homes}
-use Rattle.sf_steps.specs.declared.hands.Hands.{Hands}
+use Rattle.sf_steps.specs.declared.bindings.Bindings.{Bindings}
 use Rattle.sf_steps.specs.Calling.{placed, with_held, with_spare}
 use Rattle.sf_rights.specs.Ledgers.{Write}
 use Rattle.sf_rights.specs.Moves.{AreIn, Gets}
@@ -151,9 +151,9 @@ loses_set {X} {A} f less xs i d y low fewer lost = (now, then)
         ]
 
 module _ {B : Type 0} where
-  -- the writes that hands owe, and the one that a reply leaves owed
-  abbrev pub hands_owe : Hands B → List WriteAt
-  hands_owe hands = flat_map place_owed hands.names
+  -- the writes that bindings owe, and the one that a reply leaves owed
+  abbrev pub bindings_owe : Bindings B → List WriteAt
+  bindings_owe bindings = flat_map place_owed bindings.names
 
   abbrev pub owes_by : Gives B → List Write
   owes_by (gives.Owes owing) = record { turn = issued_turn owing.turn; frame = (owing.queue, owing.frame) } ∷ []
@@ -167,39 +167,39 @@ module _ {B : Type 0} where
   owes_writes homes (gives.Owes owing) = refl
   owes_writes homes given = refl
 
-  -- a name of the hands owes nothing
-  pub record IsFreeAt (hands : Hands B) (name : ℕ) : Type 0 where
-    pub free : place_owed (get_or hands.names name None) ≡ []
-    pub low : name < length hands.names
+  -- a name of the bindings owes nothing
+  pub record IsFreeAt (bindings : Bindings B) (name : ℕ) : Type 0 where
+    pub free : place_owed (get_or bindings.names name None) ≡ []
+    pub low : name < length bindings.names
 
-  pub record AreFree (hands : Hands B) (homes : Homes) : Type 0 where
-    pub lent : IsFreeAt hands homes.lent
-    pub frame : IsFreeAt hands homes.frame
-    pub free : IsFreeAt hands homes.free
+  pub record AreFree (bindings : Bindings B) (homes : Homes) : Type 0 where
+    pub lent : IsFreeAt bindings homes.lent
+    pub frame : IsFreeAt bindings homes.frame
+    pub free : IsFreeAt bindings homes.free
 
-  put_at : (hands : Hands B) (name : ℕ) (held : Option (Holding B)) → IsFreeAt hands name → Gets (hands_owe hands) (place_owed held) (hands_owe (with_held hands name held))
-  put_at hands name held at = gets_set place_owed (place_owed held) hands.names name None held at.low
+  put_at : (bindings : Bindings B) (name : ℕ) (held : Option (Holding B)) → IsFreeAt bindings name → Gets (bindings_owe bindings) (place_owed held) (bindings_owe (with_held bindings name held))
+  put_at bindings name held at = gets_set place_owed (place_owed held) bindings.names name None held at.low
       (subst (λ (xs : List WriteAt). Gets xs (place_owed held) (place_owed held)) (sym at.free) (record { no_others = λ x there. Contains-append_left (place_owed held) [] x there; all = λ x there. only x (Contains-append_cases (place_owed held) [] x there) }))
     where
       only : (x : WriteAt) → Contains (place_owed held) x ⊎ Contains [] x → Contains (place_owed held) x
       only x (inl there) = there
       only x (inr none) = absurd (none_in x none)
 
-  placed_owes : (homes : Homes) (hands : Hands B) (given : Gives B) → AreFree hands homes → Gets (hands_owe hands) (owes_at homes given) (hands_owe (placed homes hands given))
-  placed_owes homes hands gives.Nothing free = gets_same (hands_owe hands)
-  placed_owes homes hands (gives.Write lease) free = put_at hands homes.lent (Some (holding.Lends lease)) free.lent
-  placed_owes homes hands (gives.Owes owing) free = put_at hands homes.lent (Some (holding.Owes owing homes.held)) free.lent
-  placed_owes homes hands (gives.Read lease) free = put_at hands homes.frame (Some (holding.Reads lease)) free.frame
-  placed_owes homes hands (gives.Free loose) free = put_at hands homes.free (Some (holding.Frees homes.last loose)) free.free
+  placed_owes : (homes : Homes) (bindings : Bindings B) (given : Gives B) → AreFree bindings homes → Gets (bindings_owe bindings) (owes_at homes given) (bindings_owe (placed homes bindings given))
+  placed_owes homes bindings gives.Nothing free = gets_same (bindings_owe bindings)
+  placed_owes homes bindings (gives.Write lease) free = put_at bindings homes.lent (Some (holding.Lends lease)) free.lent
+  placed_owes homes bindings (gives.Owes owing) free = put_at bindings homes.lent (Some (holding.Owes owing homes.held)) free.lent
+  placed_owes homes bindings (gives.Read lease) free = put_at bindings homes.frame (Some (holding.Reads lease)) free.frame
+  placed_owes homes bindings (gives.Free loose) free = put_at bindings homes.free (Some (holding.Frees homes.last loose)) free.free
 
-  spare_owes : (hands : Hands B) (spare : Option PermitView) → hands_owe (with_spare hands spare) ≡ hands_owe hands
-  spare_owes hands None = refl
-  spare_owes hands (Some permit) = refl
+  spare_owes : (bindings : Bindings B) (spare : Option PermitView) → bindings_owe (with_spare bindings spare) ≡ bindings_owe bindings
+  spare_owes bindings None = refl
+  spare_owes bindings (Some permit) = refl
 
-  pub given_owes : (homes : Homes) (hands : Hands B) (given : Gives B) (spare : Option PermitView) → AreFree hands homes → Gets (hands_owe hands) (owes_at homes given) (hands_owe (with_spare (placed homes hands given) spare))
-  given_owes homes hands given spare free = subst (λ (xs : List WriteAt). Gets (hands_owe hands) (owes_at homes given) xs) (sym (spare_owes (placed homes hands given) spare)) (placed_owes homes hands given free)
+  pub given_owes : (homes : Homes) (bindings : Bindings B) (given : Gives B) (spare : Option PermitView) → AreFree bindings homes → Gets (bindings_owe bindings) (owes_at homes given) (bindings_owe (with_spare (placed homes bindings given) spare))
+  given_owes homes bindings given spare free = subst (λ (xs : List WriteAt). Gets (bindings_owe bindings) (owes_at homes given) xs) (sym (spare_owes (placed homes bindings given) spare)) (placed_owes homes bindings given free)
 
-  pub nothing_owes : (homes : Homes) (hands : Hands B) (given : Gives B) (spare : Option PermitView) → given ≡ gives.Nothing → Gets (hands_owe hands) (owes_at homes given) (hands_owe (with_spare (placed homes hands given) spare))
-  nothing_owes homes hands given spare none =
-      subst (λ (g : Gives B). Gets (hands_owe hands) (owes_at homes g) (hands_owe (with_spare (placed homes hands g) spare))) (sym none)
-      (subst (λ (xs : List WriteAt). Gets (hands_owe hands) [] xs) (sym (spare_owes hands spare)) (gets_same (hands_owe hands)))
+  pub nothing_owes : (homes : Homes) (bindings : Bindings B) (given : Gives B) (spare : Option PermitView) → given ≡ gives.Nothing → Gets (bindings_owe bindings) (owes_at homes given) (bindings_owe (with_spare (placed homes bindings given) spare))
+  nothing_owes homes bindings given spare none =
+      subst (λ (g : Gives B). Gets (bindings_owe bindings) (owes_at homes g) (bindings_owe (with_spare (placed homes bindings g) spare))) (sym none)
+      (subst (λ (xs : List WriteAt). Gets (bindings_owe bindings) [] xs) (sym (spare_owes bindings spare)) (gets_same (bindings_owe bindings)))

@@ -16,8 +16,8 @@ use Rattle.sf_actor.specs.declared.holding.Holding.TheVariants as holding
 use Rattle.sf_actor.specs.Makers.{BufferOf}
 use Rattle.sf_actor.specs.Rights.{Turn}
 use Rattle.sf_actor.specs.Tries.{ActorOf}
-use Rattle.sf_steps.specs.declared.hands.Hands.{Hands}
-use Rattle.sf_steps.specs.Hands.{holdings_of}
+use Rattle.sf_steps.specs.declared.bindings.Bindings.{Bindings}
+use Rattle.sf_steps.specs.Bindings.{holdings_of}
 use Rattle.sf_run.proofs.Members.{has_map, map_has}
 use Rattle.sf_rights.specs.Calls.{brought_rights, given_rights}
 use Rattle.sf_rights.specs.Ledgers.{IsLedger, Write}
@@ -153,11 +153,11 @@ module _ {B : Type 0} where
   most_rests old new marks calls most owed = rests_at old new marks calls (λ right there. (right, most_there old new most right there, refl, refl)) owed
 
   -- a try did this: the ledger stays one, and rights go where it is told
-  pub record Went (s : Step) (before : Hands B) (number : ℕ) (old new : State B) : Type 0 where
+  pub record Went (s : Step) (before : Bindings B) (number : ℕ) (old new : State B) : Type 0 where
     pub ledger : IsLedger (ledger_of new)
     pub places : PlacesGo (holdings_of before) s before.by.0 number old new
 
-  pub rests_went : (s : Step) (before : Hands B) (number : ℕ) (old new : State B) → new.marks ≡ old.marks → new.view.calls ≡ old.view.calls → HasAtMost (places_out old) [] [] (places_out new)
+  pub rests_went : (s : Step) (before : Bindings B) (number : ℕ) (old new : State B) → new.marks ≡ old.marks → new.view.calls ≡ old.view.calls → HasAtMost (places_out old) [] [] (places_out new)
       → AreIn (places_of new).owed (places_of old).owed → IsLedger (ledger_of new) → Went s before number old new
   rests_went s before number old new marks calls most owed is = record {
     ledger = is;

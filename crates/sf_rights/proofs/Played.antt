@@ -28,11 +28,11 @@ use Rattle.sf_actor.specs.Tales.{step_done}
 use Rattle.sf_actor.specs.Tests.{refusal_of}
 use Rattle.sf_actor.specs.Tries.{ActorOf, DoesStep, Keeps, Tries, next_step}
 use Rattle.sf_steps.specs.declared.actor.Actor.{Actor}
-use Rattle.sf_steps.specs.declared.hands.Hands.{Hands}
+use Rattle.sf_steps.specs.declared.bindings.Bindings.{Bindings}
 use Rattle.sf_steps.specs.declared.tried.Tried.{Tried}
 use Rattle.sf_steps.specs.Acting.{Acts as StepActs, Attempts}
 use Rattle.sf_steps.specs.Actors.{Acts}
-use Rattle.sf_steps.specs.Hands.{holdings_of}
+use Rattle.sf_steps.specs.Bindings.{holdings_of}
 use Rattle.sf_steps.specs.Playable.{IsPlayable, MayPlay}
 use Rattle.sf_cast.specs.Casts.{KeepAs, KeepsAs, StepsAt, script_of, scripts_of}
 use Rattle.sf_cast.proofs.ArrivalLemmas.{waiting_many}
@@ -99,14 +99,14 @@ module _ {B : Type 0} where
 
   module _ (pictures : ℕ → Picture) (home : DeskHome) (was is : ActorOf B) where
     -- what a try wrote
-    acts_write : (next : Step) (before after : Hands B) (old new : State B) → Traced pictures home was is next before after old new → (came : Tried) (st : Stepped) → Tries pictures home was old.view is new.view st
+    acts_write : (next : Step) (before after : Bindings B) (old new : State B) → Traced pictures home was is next before after old new → (came : Tried) (st : Stepped) → Tries pictures home was old.view is new.view st
         → refusal_of pictures (holdings_of before) next ≡ None → StepActs pictures home before.by.0 (length was.trace + 1) next before after old.view new.view came
         → WritesTry home before.by.0 (length was.trace + 1) next (holdings_of before) old new was.trace is.trace came
     acts_write (step.Draw name p) before after old new traced came st tries none acts = draw_traced pictures home was is name p before after old new traced came st tries none acts
     acts_write (step.Queue name p time part points) before after old new traced came st tries none acts = queue_traced pictures home was is name p time part points before after old new traced came st tries none acts
     acts_write next before after old new traced came st tries none acts = silent pictures home was is next before after old new traced (λ answer. refl) st tries came
 
-    try_writes : (next : Step) (before after : Hands B) (old new : State B) → Traced pictures home was is next before after old new → (came : Tried) (st : Stepped) → Tries pictures home was old.view is new.view st
+    try_writes : (next : Step) (before after : Bindings B) (old new : State B) → Traced pictures home was is next before after old new → (came : Tried) (st : Stepped) → Tries pictures home was old.view is new.view st
         → (refusal : Option ℕ) → refusal_of pictures (holdings_of before) next ≡ refusal → Attempts refusal pictures home before.by.0 (length was.trace + 1) next before after old.view new.view came
         → WritesTry home before.by.0 (length was.trace + 1) next (holdings_of before) old new was.trace is.trace came
     try_writes next before after old new traced came st tries None none acts = acts_write next before after old new traced came st tries none acts
@@ -176,7 +176,7 @@ module _ {B : Type 0} where
 
     -- the try, as a change of the state
     tried : (next : Step) (next_is : next_step steps.old ≡ Some next)
-        → TriesIn (picture_at pictures) (home_of before) place next (steps.acts next next_is).came_to steps.was_here.hands steps.now_here.hands old_state new_state
+        → TriesIn (picture_at pictures) (home_of before) place next (steps.acts next next_is).came_to steps.was_here.bindings steps.now_here.bindings old_state new_state
     tried next next_is = record {
       was = steps.old;
       is = steps.new;
@@ -184,8 +184,8 @@ module _ {B : Type 0} where
       actors = refl;
       parts_was = was_kept.is.parts;
       parts_is = is_kept.is.parts;
-      writes = try_writes (picture_at pictures) (home_of before) steps.old steps.new next steps.was_here.hands steps.now_here.hands old_state new_state traced acts.came_to st steps.tries
-          (refusal_of (picture_at pictures) (holdings_of steps.was_here.hands) next) refl acts.attempts;
+      writes = try_writes (picture_at pictures) (home_of before) steps.old steps.new next steps.was_here.bindings steps.now_here.bindings old_state new_state traced acts.came_to st steps.tries
+          (refusal_of (picture_at pictures) (holdings_of steps.was_here.bindings) next) refl acts.attempts;
       wide = was_kept.is.names;
       ranges = ranges;
       exact = stands.exact;
@@ -202,10 +202,10 @@ module _ {B : Type 0} where
       attempts = acts.attempts;
     }
       where
-        acts : Acts (picture_at pictures) (home_of before) next (length steps.old.trace + 1) steps.was_here.hands (view_of before) steps.now_here.hands (view_of after)
+        acts : Acts (picture_at pictures) (home_of before) next (length steps.old.trace + 1) steps.was_here.bindings (view_of before) steps.now_here.bindings (view_of after)
         acts = steps.acts next next_is
 
-        traced : Traced (picture_at pictures) (home_of before) steps.old steps.new next steps.was_here.hands steps.now_here.hands old_state new_state
+        traced : Traced (picture_at pictures) (home_of before) steps.old steps.new next steps.was_here.bindings steps.now_here.bindings old_state new_state
         traced = record {
           keeps_was = was_kept.keeps;
           keeps_is = is_kept.keeps;
@@ -224,13 +224,13 @@ module _ {B : Type 0} where
 
     tries_in : (next : Step) → next_step steps.old ≡ Some next → IsLedger (ledger_of new_state)
     tries_in next next_is =
-        try_keeps (picture_at pictures) (home_of before) place next (steps.acts next next_is).came_to steps.was_here.hands steps.now_here.hands old_state new_state (tried next next_is) stands.ledger
+        try_keeps (picture_at pictures) (home_of before) place next (steps.acts next next_is).came_to steps.was_here.bindings steps.now_here.bindings old_state new_state (tried next next_is) stands.ledger
 
     -- and what it does to places
-    pub step_goes : (next : Step) → next_step steps.old ≡ Some next → PlacesGo (holdings_of steps.was_here.hands) next steps.was_here.hands.by.0 (length steps.old.trace + 1) old_state new_state
+    pub step_goes : (next : Step) → next_step steps.old ≡ Some next → PlacesGo (holdings_of steps.was_here.bindings) next steps.was_here.bindings.by.0 (length steps.old.trace + 1) old_state new_state
     unfolding tried
     step_goes next next_is =
-        try_places (picture_at pictures) (home_of before) place next (steps.acts next next_is).came_to steps.was_here.hands steps.now_here.hands old_state new_state (tried next next_is) stands.ledger
+        try_places (picture_at pictures) (home_of before) place next (steps.acts next next_is).came_to steps.was_here.bindings steps.now_here.bindings old_state new_state (tried next next_is) stands.ledger
 
     ended : st ≡ stepped.Ended → IsLedger (ledger_of new_state)
     ended same =

@@ -14,13 +14,13 @@ use Rattle.sf_actor.specs.Rights.{Turn}
 use Rattle.sf_actor.specs.Tests.{refusal_of}
 use Rattle.sf_actor.specs.Written as written
 use Rattle.sf_steps.specs.declared.asking.Asking.{Asking}
-use Rattle.sf_steps.specs.declared.hands.Hands.{Hands}
+use Rattle.sf_steps.specs.declared.bindings.Bindings.{Bindings}
 use Rattle.sf_steps.specs.declared.tried.Tried.{Tried}
 use Rattle.sf_steps.specs.declared.tried.Tried.TheVariants as tried
 use Rattle.sf_steps.specs.Actors.{parts_of}
 use Rattle.sf_steps.specs.Calling.{WaitsToCall, taken_back}
 use Rattle.sf_steps.specs.Forming.{FormsCall}
-use Rattle.sf_steps.specs.Hands.{holdings_of}
+use Rattle.sf_steps.specs.Bindings.{holdings_of}
 use Rattle.sf_rights.specs.Ledgers.{IsLedger}
 use Rattle.sf_rights.specs.Makers.{RightAt, places_arrived, places_held, places_of, places_out}
 use Rattle.sf_rights.specs.Moves.{Gets, HasAtMost}
@@ -29,13 +29,13 @@ use Rattle.sf_rights.specs.Tries.{AnswersAs, TriesIn, WritesTry}
 use Rattle.sf_rights.proofs.Acting.{held_sum, none_sent, owed_get, written_get}
 use Rattle.sf_rights.proofs.Fitting.{brought_back, brought_owes_none, fits_back}
 use Rattle.sf_rights.proofs.Freeing.{forms_free, forms_owe}
-use Rattle.sf_rights.proofs.Owing.{gets_more, gets_same, given_owes, hands_owe, nothing_owes, owes_at}
+use Rattle.sf_rights.proofs.Owing.{gets_more, gets_same, given_owes, bindings_owe, nothing_owes, owes_at}
 use Rattle.sf_rights.proofs.Handling.{from_of}
 use Rattle.sf_rights.proofs.Placing.{Went, owed_gets, rest_turns, rests_went}
 use Rattle.sf_rights.proofs.Resting.{quiet_keeps}
 use Rattle.sf_rights.proofs.Trying.{FromHere, forms_then}
 
-module _ {B : Type 0} (pictures : ℕ → Picture) (home : DeskHome) (place : ℕ) (s : Step) (came_to : Tried) (before after : Hands B) (old new : State B) (tries : TriesIn pictures home place s came_to before after old new) where
+module _ {B : Type 0} (pictures : ℕ → Picture) (home : DeskHome) (place : ℕ) (s : Step) (came_to : Tried) (before after : Bindings B) (old new : State B) (tries : TriesIn pictures home place s came_to before after old new) where
   abbrev number : ℕ
   number = length tries.was.trace + 1
 
@@ -54,12 +54,12 @@ module _ {B : Type 0} (pictures : ℕ → Picture) (home : DeskHome) (place : �
       by_came (tried.Sent n) told answers = nothing_more told.0 told.1 (answers told.0 told.2)
       by_came (tried.Called status values) told answers = nothing_more told.0 told.1 (answers told.0 told.2)
 
-  -- nothing but hands changed
+  -- nothing but bindings changed
   pub record Rests : Type 0 where
     pub calls : new.view.calls ≡ old.view.calls
     pub leaves : new.view.turns.leaves ≡ old.view.turns.leaves
     pub held : (w : RightAt → ℕ) → sum_by w (places_held (parts_of after)) + sum_by w (flat_map places_arrived tries.sends) ≤ sum_by w (places_held (parts_of before))
-    pub owed : Gets (hands_owe before) [] (hands_owe after)
+    pub owed : Gets (bindings_owe before) [] (bindings_owe after)
     pub answers : (answer : Answered) → AnswersAs home before.by.0 number s (holdings_of before) old new came_to answer → written.written_by (holdings_of before) s answer ≡ []
 
   pub rests_keeps : Rests → IsLedger (ledger_of old) → Went s before number old new
@@ -82,37 +82,37 @@ module _ {B : Type 0} (pictures : ℕ → Picture) (home : DeskHome) (place : �
       held : HasAtMost (places_out old) [] [] (places_out new)
       held w =
           let all = held_sum pictures home place s came_to before after old new tries w in
-          let hands = rests.held w in
-          omega (arith, all, hands)
+          let bindings = rests.held w in
+          omega (arith, all, bindings)
 
-  -- where nothing arrived, only hands count
-  pub hands_only : new.view.arrivals ≡ old.view.arrivals → ((w : RightAt → ℕ) → sum_by w (places_held (parts_of after)) ≤ sum_by w (places_held (parts_of before)))
+  -- where nothing arrived, only bindings count
+  pub bindings_only : new.view.arrivals ≡ old.view.arrivals → ((w : RightAt → ℕ) → sum_by w (places_held (parts_of after)) ≤ sum_by w (places_held (parts_of before)))
       → (w : RightAt → ℕ) → sum_by w (places_held (parts_of after)) + sum_by w (flat_map places_arrived tries.sends) ≤ sum_by w (places_held (parts_of before))
-  hands_only same less w =
+  bindings_only same less w =
       let none = ap (λ (xs : List (Arrival ReadLeaseOf)). sum_by w (flat_map places_arrived xs)) (none_sent pictures home place s came_to before after old new tries same) in
       let one = less w in
       omega (arith, none, one)
 
   -- nothing changed at all
-  pub same_hands : new.view.calls ≡ old.view.calls → new.view.turns.leaves ≡ old.view.turns.leaves → new.view.arrivals ≡ old.view.arrivals → after ≡ before
+  pub same_bindings : new.view.calls ≡ old.view.calls → new.view.turns.leaves ≡ old.view.turns.leaves → new.view.arrivals ≡ old.view.arrivals → after ≡ before
       → ((answer : Answered) → AnswersAs home before.by.0 number s (holdings_of before) old new came_to answer → written.written_by (holdings_of before) s answer ≡ []) → IsLedger (ledger_of old) → Went s before number old new
-  same_hands calls leaves arrivals same answers = rests_keeps (record {
+  same_bindings calls leaves arrivals same answers = rests_keeps (record {
     calls = calls;
     leaves = leaves;
-    held = hands_only arrivals (λ w. let e = ap (λ (hands : Hands B). sum_by w (places_held (parts_of hands))) same in omega (arith, e));
-    owed = subst (λ (hands : Hands B). Gets (hands_owe before) [] (hands_owe hands)) (sym same) (gets_same (hands_owe before));
+    held = bindings_only arrivals (λ w. let e = ap (λ (bindings : Bindings B). sum_by w (places_held (parts_of bindings))) same in omega (arith, e));
+    owed = subst (λ (bindings : Bindings B). Gets (bindings_owe before) [] (bindings_owe bindings)) (sym same) (gets_same (bindings_owe before));
     answers = answers;
   })
 
   -- a call that waits
-  pub waits_keeps : (from : DeskView B) (taken : Hands B) (asking : Asking B) → FromHere pictures home place s came_to before after old new tries from → FormsCall pictures s before taken asking → refusal_of pictures (holdings_of before) s ≡ None
+  pub waits_keeps : (from : DeskView B) (taken : Bindings B) (asking : Asking B) → FromHere pictures home place s came_to before after old new tries from → FormsCall pictures s before taken asking → refusal_of pictures (holdings_of before) s ≡ None
       → WaitsToCall home before.by.0 number asking taken after from new.view
       → ((answer : Answered) → AnswersAs home before.by.0 number s (holdings_of before) old new came_to answer → written.written_by (holdings_of before) s answer ≡ []) → IsLedger (ledger_of old) → Went s before number old new
   waits_keeps from taken asking here forms unrefused waits answers = rests_keeps (record {
     calls = (λ i queue. same_calls queue i) ∙ here.calls;
     leaves = ap (λ (view : DeskView B). view.turns.leaves) waits.waits.changes.same ∙ here.leaves;
-    held = hands_only (ap (λ (view : DeskView B). view.arrivals) waits.waits.changes.same ∙ here.arrivals) less;
-    owed = subst (λ (hands : Hands B). Gets (hands_owe before) [] (hands_owe hands)) (sym waits.hands) owes;
+    held = bindings_only (ap (λ (view : DeskView B). view.arrivals) waits.waits.changes.same ∙ here.arrivals) less;
+    owed = subst (λ (bindings : Bindings B). Gets (bindings_owe before) [] (bindings_owe bindings)) (sym waits.bindings) owes;
     answers = answers;
   })
     where
@@ -127,16 +127,16 @@ module _ {B : Type 0} (pictures : ℕ → Picture) (home : DeskHome) (place : �
 
       less : (w : RightAt → ℕ) → sum_by w (places_held (parts_of after)) ≤ sum_by w (places_held (parts_of before))
       less w =
-          let hands = forms_then w pictures s before taken after asking (brought asking.call) (permit_of asking.call) forms (fits_back asking.homes asking.call) waits.hands in
+          let bindings = forms_then w pictures s before taken after asking (brought asking.call) (permit_of asking.call) forms (fits_back asking.homes asking.call) waits.bindings in
           let same = ap (sum_by w) (brought_back (from_of asking) asking.call) in
-          omega (arith, hands, same)
+          omega (arith, bindings, same)
 
-      back : Gets (hands_owe taken) (owes_at asking.homes (brought asking.call)) (hands_owe (taken_back asking.homes taken asking.call))
+      back : Gets (bindings_owe taken) (owes_at asking.homes (brought asking.call)) (bindings_owe (taken_back asking.homes taken asking.call))
       back = elim (forms_free pictures s before taken asking forms unrefused tries.ranges tries.wide) [
         | inl quiet ↦ nothing_owes asking.homes taken (brought asking.call) (permit_of asking.call) quiet.1
         | inr free ↦ given_owes asking.homes taken (brought asking.call) (permit_of asking.call) free
       ]
 
-      owes : Gets (hands_owe before) [] (hands_owe (taken_back asking.homes taken asking.call))
-      owes = gets_more (hands_owe before) [] (hands_owe taken) (hands_owe (taken_back asking.homes taken asking.call)) (forms_owe pictures s before taken asking forms)
-          (subst (λ xs. Gets (hands_owe taken) xs (hands_owe (taken_back asking.homes taken asking.call))) (brought_owes_none asking.homes asking.call) back)
+      owes : Gets (bindings_owe before) [] (bindings_owe (taken_back asking.homes taken asking.call))
+      owes = gets_more (bindings_owe before) [] (bindings_owe taken) (bindings_owe (taken_back asking.homes taken asking.call)) (forms_owe pictures s before taken asking forms)
+          (subst (λ xs. Gets (bindings_owe taken) xs (bindings_owe (taken_back asking.homes taken asking.call))) (brought_owes_none asking.homes asking.call) back)

@@ -24,13 +24,13 @@ use Rattle.sf_actor.specs.Makers.{BufferOf}
 use Rattle.sf_actor.specs.Rights.{Turn}
 use Rattle.sf_actor.specs.Tries.{ActorOf}
 use Rattle.sf_actor.specs.Written as written
-use Rattle.sf_steps.specs.declared.hands.Hands.{Hands}
+use Rattle.sf_steps.specs.declared.bindings.Bindings.{Bindings}
 use Rattle.sf_steps.specs.declared.tried.Tried.{Tried}
 use Rattle.sf_steps.specs.Actors.{parts_of}
 use Rattle.sf_steps.specs.Calling.{with_held}
 use Rattle.sf_steps.specs.Editing.{Merges, Releases, ReleasesAll, Shows, buffer_with, with_txn}
 use Rattle.sf_steps.specs.Forming.{Takes}
-use Rattle.sf_steps.specs.Hands.{holdings_of}
+use Rattle.sf_steps.specs.Bindings.{holdings_of}
 use Rattle.sf_rights.specs.Ledgers.{IsLedger}
 use Rattle.sf_rights.specs.Makers.{RightAt, place_of, place_owed, places_arrived, places_held, places_of, places_out, right_read, right_shown}
 use Rattle.sf_rights.specs.MakerSteps.{PlaceStep}
@@ -44,13 +44,13 @@ use Rattle.sf_rights.proofs.Ending.{ending_left, ends_are, turns_of}
 use Rattle.sf_rights.proofs.Freeing.{takes_owes}
 use Rattle.sf_rights.proofs.Forms.{edits_names, edits_sum, put_txn, take_txn}
 use Rattle.sf_rights.proofs.Handling.{set_none, weight_is}
-use Rattle.sf_rights.proofs.Owing.{gets_same, hands_owe}
+use Rattle.sf_rights.proofs.Owing.{gets_same, bindings_owe}
 use Rattle.sf_rights.proofs.Placing.{Went, most_rests, owed_gets, rest_turns}
 use Rattle.sf_rights.proofs.Quiet.{nothing_written}
 use Rattle.sf_rights.proofs.Resting.{quiet_keeps}
 use Rattle.sf_rights.proofs.Returning.{back_places}
 use Rattle.sf_rights.proofs.Stepping.{call_keeps}
-use Rattle.sf_rights.proofs.Trying.{hands_weight}
+use Rattle.sf_rights.proofs.Trying.{bindings_weight}
 
 abbrev pub lease_of : Buffer ReadLeaseOf → ReadLeaseOf
 lease_of buffer = buffer.lease
@@ -218,19 +218,19 @@ module _ (w : RightAt → ℕ) where
       omega (arith, rest, a, c)
 
 module _ {B : Type 0} where
-  takes_sum : (w : RightAt → ℕ) (before taken : Hands B) (name : ℕ) (held : Holding B) → Takes before taken name held → sum_by w (places_held (parts_of taken)) + sum_by w (place_of (Some held)) ≡ sum_by w (places_held (parts_of before))
+  takes_sum : (w : RightAt → ℕ) (before taken : Bindings B) (name : ℕ) (held : Holding B) → Takes before taken name held → sum_by w (places_held (parts_of taken)) + sum_by w (place_of (Some held)) ≡ sum_by w (places_held (parts_of before))
   takes_sum w before taken name held takes =
       let none = set_none (λ (h : Option (Holding B)). sum_by w (place_of h)) before.names name held takes.held_there in
       let a = weight_is w before in
       let b = weight_is w (with_held before name None) in
-      let c = hands_weight w before in
-      let d = hands_weight w (with_held before name None) in
-      let e = ap (λ (hands : Hands B). sum_by w (places_held (parts_of hands))) takes.rest in
+      let c = bindings_weight w before in
+      let d = bindings_weight w (with_held before name None) in
+      let e = ap (λ (bindings : Bindings B). sum_by w (places_held (parts_of bindings))) takes.rest in
       omega (arith, none, a, b, c, d, e)
 
-module _ {B : Type 0} (pictures : ℕ → Picture) (home : DeskHome) (place : ℕ) (s : Step) (came_to : Tried) (before after : Hands B) (old new : State B) (tries : TriesIn pictures home place s came_to before after old new) where
+module _ {B : Type 0} (pictures : ℕ → Picture) (home : DeskHome) (place : ℕ) (s : Step) (came_to : Tried) (before after : Bindings B) (old new : State B) (tries : TriesIn pictures home place s came_to before after old new) where
   -- frames come into a transaction, and those whose places they take go back
-  overtakes_keep : (replaced : List (Buffer ReadLeaseOf)) → ((w : RightAt → ℕ) → sum_by w (places_held (parts_of after)) + buffers_weight w replaced ≤ sum_by w (places_held (parts_of before))) → Gets (hands_owe before) [] (hands_owe after)
+  overtakes_keep : (replaced : List (Buffer ReadLeaseOf)) → ((w : RightAt → ℕ) → sum_by w (places_held (parts_of after)) + buffers_weight w replaced ≤ sum_by w (places_held (parts_of before))) → Gets (bindings_owe before) [] (bindings_owe after)
       → ((answer : Answered) → written.written_by (holdings_of before) s answer ≡ []) → ReleasesAll home before.by.0 (length tries.was.trace + 1) replaced old.view new.view → IsLedger (ledger_of old) → Went s before (length tries.was.trace + 1) old new
   overtakes_keep replaced less owes nothing releases is = record {
     ledger = returned_keeps before.by.0 (length tries.was.trace + 1) (map lease_of replaced) between new returns rested;
@@ -258,11 +258,11 @@ module _ {B : Type 0} (pictures : ℕ → Picture) (home : DeskHome) (place : �
       held w =
           let all = held_sum pictures home place s came_to before after old new tries w in
           let nothing = ap (λ (xs : List (Arrival ReadLeaseOf)). sum_by w (flat_map places_arrived xs)) none in
-          let hands = less w in
+          let bindings = less w in
           let a = sum_by-append w (flat_map (λ (x : ActorOf B). places_held x.parts) new.actors ++ flat_map places_arrived new.waiting) (map right_read (map lease_of replaced ++ new.on)) in
           let b = sum_by-append w (flat_map (λ (x : ActorOf B). places_held x.parts) new.actors ++ flat_map places_arrived new.waiting) (map right_read new.on) in
           let c = on_sum w replaced new.on in
-          omega (arith, all, nothing, hands, a, b, c)
+          omega (arith, all, nothing, bindings, a, b, c)
 
       owed : Gets (places_of old).owed [] (places_of between).owed
       owed = owed_get pictures home place s came_to before after old new tries [] owes
@@ -293,8 +293,8 @@ module _ {B : Type 0} (pictures : ℕ → Picture) (home : DeskHome) (place : �
           let single = sum_by-cons w (right_read shows.lease) [] in
           omega (arith, take, edit, put, single)
 
-      owes : Gets (hands_owe before) [] (hands_owe after)
-      owes = subst (λ (names : List (Option (Holding B))). Gets (hands_owe before) [] (flat_map place_owed names)) (sym (edits_names shows.without_frame after number (λ txn. set_buffer txn (buffer_with layer shows.lease)) shows.edits))
+      owes : Gets (bindings_owe before) [] (bindings_owe after)
+      owes = subst (λ (names : List (Option (Holding B))). Gets (bindings_owe before) [] (flat_map place_owed names)) (sym (edits_names shows.without_frame after number (λ txn. set_buffer txn (buffer_with layer shows.lease)) shows.edits))
           (takes_owes before shows.without_frame name (holding.Reads shows.lease) shows.takes refl)
 
   pub merges_keep : (number other : ℕ) → ((answer : Answered) → written.written_by (holdings_of before) s answer ≡ []) → Merges home before.by.0 (length tries.was.trace + 1) number other before after old.view new.view → IsLedger (ledger_of old) → Went s before (length tries.was.trace + 1) old new
@@ -306,12 +306,12 @@ module _ {B : Type 0} (pictures : ℕ → Picture) (home : DeskHome) (place : �
           let b = take_txn w merges.without_into merges.without_both other merges.from merges.takes_from in
           let c = put_txn w merges.without_both number (merged merges.into merges.from) in
           let d = put_txn w (with_txn merges.without_both number (Some (merged merges.into merges.from))) other empty in
-          let e = ap (λ (hands : Hands B). sum_by w (places_held (parts_of hands))) merges.put_back in
+          let e = ap (λ (bindings : Bindings B). sum_by w (places_held (parts_of bindings))) merges.put_back in
           let f = withs_sum w merges.into.buffers merges.from.buffers in
           omega (arith, a, b, c, d, e, f)
 
       same : after.names ≡ before.names
-      same = ap (λ (hands : Hands B). hands.names) merges.put_back ∙ ap (λ (hands : Hands B). hands.names) merges.takes_from.txn_rest ∙ ap (λ (hands : Hands B). hands.names) merges.takes_into.txn_rest
+      same = ap (λ (bindings : Bindings B). bindings.names) merges.put_back ∙ ap (λ (bindings : Bindings B). bindings.names) merges.takes_from.txn_rest ∙ ap (λ (bindings : Bindings B). bindings.names) merges.takes_into.txn_rest
 
-      owes : Gets (hands_owe before) [] (hands_owe after)
-      owes = subst (λ (names : List (Option (Holding B))). Gets (hands_owe before) [] (flat_map place_owed names)) (sym same) (gets_same (hands_owe before))
+      owes : Gets (bindings_owe before) [] (bindings_owe after)
+      owes = subst (λ (names : List (Option (Holding B))). Gets (bindings_owe before) [] (flat_map place_owed names)) (sym same) (gets_same (bindings_owe before))

@@ -99,14 +99,14 @@ module _ {B : Type 0} where
       live : HasAtMost (ledger_of old).live (used_by move) (given_by move) (ledger_of new).live
       live w =
           let queues = rights_move old.marks old.view.calls new.view.calls by queue step asked reply made.once w in
-          let hands = made.held w in
+          let bindings = made.held w in
           let marks = ap (λ (ms : List QueueMark). sum_by w (all_lying ms new.view.calls)) made.marks in
           let a = sum_by-append w (all_lying old.marks old.view.calls) (brought_rights asked) in
           let b = sum_by-append w (all_lying old.marks new.view.calls) (given_rights reply.gives) in
           let c = sum_by-append w (rights_held old) (given_rights reply.gives) in
           let d = sum_by-append w (all_lying old.marks old.view.calls) (rights_held old) in
           let e = sum_by-append w (all_lying new.marks new.view.calls) (rights_held new) in
-          omega (arith, queues, hands, marks, a, b, c, d, e)
+          omega (arith, queues, bindings, marks, a, b, c, d, e)
 
       moves : Moves move (ledger_of old) (ledger_of new)
       moves = record {

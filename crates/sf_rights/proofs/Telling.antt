@@ -29,9 +29,9 @@ use Rattle.sf_actor.specs.Scripts.{crop_of, fence_of}
 use Rattle.sf_actor.specs.Traces.{DoneAt, Past, next, no_past, past_after, past_from, places_from, places_of}
 use Rattle.sf_actor.specs.Written as written
 use Rattle.sf_steps.specs.declared.asking.Asking.{Asking}
-use Rattle.sf_steps.specs.declared.hands.Hands.{Hands}
+use Rattle.sf_steps.specs.declared.bindings.Bindings.{Bindings}
 use Rattle.sf_steps.specs.Forming.{FormsCall, cancel_fence, permits_of}
-use Rattle.sf_steps.specs.Hands.{holdings_of}
+use Rattle.sf_steps.specs.Bindings.{holdings_of}
 use Rattle.sf_steps.proofs.HoldingLemmas.{name_in-held}
 use Rattle.sf_rights.specs.Calls.{ending, made_of, move_of, queueing}
 use Rattle.sf_rights.specs.Moves.{made_by, written_by}
@@ -89,7 +89,7 @@ module _ {B : Type 0} where
   abbrev writes : QueueId → PlainReply → Asking B → List written.FrameNumber
   writes queue given asking = written_by (move_of queue asking.call given)
 
-  queue_writes : (before : Hands B) (queue : QueueId) (name p : ℕ) (stepped : Option ℕ) (part : Option (ℕ × ℕ × ℕ × ℕ)) (points : List (ℕ × ℕ)) (lease : WriteLeaseOf) (picture : Picture) (time : Option ℕ) (crop : Rect) (fence : Fence) (given : PlainReply)
+  queue_writes : (before : Bindings B) (queue : QueueId) (name p : ℕ) (stepped : Option ℕ) (part : Option (ℕ × ℕ × ℕ × ℕ)) (points : List (ℕ × ℕ)) (lease : WriteLeaseOf) (picture : Picture) (time : Option ℕ) (crop : Rect) (fence : Fence) (given : PlainReply)
       → get_or before.names name None ≡ Some (holding.Lends lease) → queue ≡ lease.queue
       → written.written_by (holdings_of before) (step.Queue name p stepped part points) (answered.Called given) ≡ written_by (move_of {B = B} queue (call.Queue lease picture time crop fence) given)
   queue_writes before queue name p stepped part points lease picture time crop fence (plain.Queued frame) there same =
@@ -97,7 +97,7 @@ module _ {B : Type 0} where
       ∙ drawn_writes queue lease lease.work frame same
   queue_writes before queue name p stepped part points lease picture time crop fence given there same = refl
 
-  pub calls_write : (pictures : ℕ → Picture) (s : Step) (before taken : Hands B) (asking : Asking B) (queue : QueueId) (given : PlainReply) → FormsCall pictures s before taken asking → queue ≡ asking.queue
+  pub calls_write : (pictures : ℕ → Picture) (s : Step) (before taken : Bindings B) (asking : Asking B) (queue : QueueId) (given : PlainReply) → FormsCall pictures s before taken asking → queue ≡ asking.queue
       → written.written_by (holdings_of before) s (answered.Called given) ≡ written_by (move_of queue asking.call given)
   calls_write pictures (step.Connect q) before taken asking queue given forms same = sym (ap (writes queue given) forms.1)
   calls_write pictures (step.Disconnect q) before taken asking queue given forms same = sym (ap (writes queue given) forms.1)
@@ -126,7 +126,7 @@ module _ {B : Type 0} where
   none_made : (given : PlainReply) (asking exact : Asking B) (buffer : ℕ) {P : Type 0} → asking ≡ exact → makes given exact ≡ [] → Contains (makes given asking) buffer → P
   none_made given asking exact buffer same none there = absurd (none_in buffer (subst (λ (xs : List ℕ). Contains xs buffer) (ap (makes given) same ∙ none) there))
 
-  forms_make : (pictures : ℕ → Picture) (s : Step) (before taken : Hands B) (asking : Asking B) (given : PlainReply) (buffer : ℕ) → FormsCall pictures s before taken asking → Contains (makes given asking) buffer → Contains (permits_of before) buffer
+  forms_make : (pictures : ℕ → Picture) (s : Step) (before taken : Bindings B) (asking : Asking B) (given : PlainReply) (buffer : ℕ) → FormsCall pictures s before taken asking → Contains (makes given asking) buffer → Contains (permits_of before) buffer
   forms_make pictures (step.Connect q) before taken asking given buffer forms there = none_made given asking _ buffer forms.1 refl there
   forms_make pictures (step.Disconnect q) before taken asking given buffer forms there = none_made given asking _ buffer forms.1 refl there
   forms_make pictures (step.MaxDequeued q n) before taken asking given buffer forms there = none_made given asking _ buffer forms.1 refl there
@@ -150,6 +150,6 @@ module _ {B : Type 0} where
   forms_make pictures (step.CAttach q b i) before taken asking given buffer forms there = none_made given asking _ buffer forms.3 refl there
   forms_make pictures other before taken asking given buffer forms there = absurd forms
 
-  pub calls_make : (pictures : ℕ → Picture) (s : Step) (before taken : Hands B) (asking : Asking B) (queue : QueueId) (given : PlainReply) (buffer : ℕ) → FormsCall pictures s before taken asking → Contains (made_by (move_of queue asking.call given)) buffer → Contains (permits_of before) buffer
+  pub calls_make : (pictures : ℕ → Picture) (s : Step) (before taken : Bindings B) (asking : Asking B) (queue : QueueId) (given : PlainReply) (buffer : ℕ) → FormsCall pictures s before taken asking → Contains (made_by (move_of queue asking.call given)) buffer → Contains (permits_of before) buffer
   calls_make pictures s before taken asking queue given buffer forms there =
       forms_make pictures s before taken asking given buffer forms (subst (λ (xs : List ℕ). Contains xs buffer) (move_makes queue asking.call given) there)

@@ -48,13 +48,13 @@ use Rattle.sf_actor.specs.Tests.{refusal_of}
 use Rattle.sf_actor.specs.Traces.{AnswersCall, AnswersTests, DoneAt, IsAnswered, MadeStep, Past, made_at, made_by, overtaken, own_call, past_after, places_of, source_in}
 use Rattle.sf_actor.specs.Tries.{ActorOf, DoesStep, Keeps, Tries, ended_by, held_in, next_step, owed_turn}
 use Rattle.sf_actor.specs.Written as written
-use Rattle.sf_steps.specs.declared.hands.Hands.{Hands}
+use Rattle.sf_steps.specs.declared.bindings.Bindings.{Bindings}
 use Rattle.sf_steps.specs.declared.tried.Tried.{Tried}
 use Rattle.sf_steps.specs.declared.tried.Tried.TheVariants as tried
 use Rattle.sf_steps.specs.Actors.{parts_of}
 use Rattle.sf_steps.specs.Doing.{MakesCall}
 use Rattle.sf_steps.specs.Drawing.{Draws, DrawsHolding, WaitsToDraw}
-use Rattle.sf_steps.specs.Hands.{holdings_of}
+use Rattle.sf_steps.specs.Bindings.{holdings_of}
 use Rattle.sf_steps.proofs.HoldingLemmas.{name_in-held}
 use Rattle.sf_rights.specs.States.{CallsOnce, State}
 use Rattle.sf_rights.specs.Tries.{WritesTry}
@@ -116,7 +116,7 @@ none_overtaken place holdings name p time crop points answer = elim (cases_Bool 
   | inr unmet ↦ rw unmet refl
 ]
 
-module _ {B : Type 0} (pictures : ℕ → Picture) (home : DeskHome) (was is : ActorOf B) (next : Step) (before after : Hands B) (old new : State B) where
+module _ {B : Type 0} (pictures : ℕ → Picture) (home : DeskHome) (was is : ActorOf B) (next : Step) (before after : Bindings B) (old new : State B) where
   -- what is known of a try, as its actor's trace tells
   pub record Traced : Type 0 where
     pub keeps_was : Keeps pictures home was old.view
@@ -212,7 +212,7 @@ module _ {B : Type 0} (pictures : ℕ → Picture) (home : DeskHome) (was is : A
     pub unrefused : (reply : Reply) (does : DoesStep pictures home was old.view is new.view reply) → refusal_of pictures held next ≡ None → AnswersTests pictures (reached reply does) (past_after was.trace) next does.done.answered None
     unrefused reply does none = subst (λ (o : Option ℕ). AnswersTests pictures (reached reply does) (past_after was.trace) next does.done.answered o) none (answers reply does)
 
-module _ {B : Type 0} (pictures : ℕ → Picture) (home : DeskHome) (was is : ActorOf B) (name p : ℕ) (before after : Hands B) (old new : State B) (traced : Traced pictures home was is (step.Draw name p) before after old new) where
+module _ {B : Type 0} (pictures : ℕ → Picture) (home : DeskHome) (was is : ActorOf B) (name p : ℕ) (before after : Bindings B) (old new : State B) (traced : Traced pictures home was is (step.Draw name p) before after old new) where
   abbrev DrawGoal : Tried → Type 0
   DrawGoal came = WritesTry home before.by.0 (length was.trace + 1) (step.Draw name p) (holdings_of before) old new was.trace is.trace came
 
@@ -283,7 +283,7 @@ called_as None asked answer same answers = absurd (not_none asked (sym same))
 lent_call : (picture : Picture) (time : Option ℕ) (part : Option (ℕ × ℕ × ℕ × ℕ)) (fence : Fence) (queue : QueueId) (token : WriteToken) (drawn : Option ℕ) → (asked : Asked) × (queueing_of picture time part fence (Some (Lent queue token drawn)) ≡ Some asked)
 lent_call picture time part fence queue token drawn = (_, refl)
 
-module _ {B : Type 0} (pictures : ℕ → Picture) (home : DeskHome) (was is : ActorOf B) (name p : ℕ) (time : Option ℕ) (part : Option (ℕ × ℕ × ℕ × ℕ)) (points : List (ℕ × ℕ)) (before after : Hands B) (old new : State B)
+module _ {B : Type 0} (pictures : ℕ → Picture) (home : DeskHome) (was is : ActorOf B) (name p : ℕ) (time : Option ℕ) (part : Option (ℕ × ℕ × ℕ × ℕ)) (points : List (ℕ × ℕ)) (before after : Bindings B) (old new : State B)
     (traced : Traced pictures home was is (step.Queue name p time part points) before after old new) where
   abbrev asks : Step
   asks = step.Queue name p time part points

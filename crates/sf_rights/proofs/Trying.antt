@@ -24,12 +24,12 @@ use Rattle.sf_actor.specs.Rights.{Turn}
 use Rattle.sf_actor.specs.Tests.{refusal_of}
 use Rattle.sf_actor.specs.Written as written
 use Rattle.sf_steps.specs.declared.asking.Asking.{Asking}
-use Rattle.sf_steps.specs.declared.hands.Hands.{Hands}
+use Rattle.sf_steps.specs.declared.bindings.Bindings.{Bindings}
 use Rattle.sf_steps.specs.declared.tried.Tried.{Tried}
 use Rattle.sf_steps.specs.Actors.{parts_of}
 use Rattle.sf_steps.specs.Calling.{Calls, placed, with_spare}
 use Rattle.sf_steps.specs.Forming.{FormsCall}
-use Rattle.sf_steps.specs.Hands.{holdings_of}
+use Rattle.sf_steps.specs.Bindings.{holdings_of}
 use Rattle.sf_rights.specs.Calls.{move_of}
 use Rattle.sf_rights.specs.Ledgers.{IsLedger, Write}
 use Rattle.sf_rights.specs.MakerCalls.{given_at}
@@ -45,7 +45,7 @@ use Rattle.sf_rights.proofs.Freeing.{forms_free, forms_owe}
 use Rattle.sf_rights.proofs.Handling.{FitsLoose, brings, forms_sum, from_of, given_most, given_transactions, names_weight}
 use Rattle.sf_rights.proofs.MakersStepping.{counted_at, found_right, is_right}
 use Rattle.sf_rights.proofs.Marking.{mark_there}
-use Rattle.sf_rights.proofs.Owing.{gets_end, gets_more, given_owes, hands_owe, nothing_owes, owes_at, owes_writes}
+use Rattle.sf_rights.proofs.Owing.{gets_end, gets_more, given_owes, bindings_owe, nothing_owes, owes_at, owes_writes}
 use Rattle.sf_rights.proofs.Placing.{Went, brought_held, held_turns, owed_gets}
 use Rattle.sf_rights.proofs.Stepping.{call_keeps}
 use Rattle.sf_rights.proofs.Telling.{calls_make, calls_write}
@@ -54,35 +54,35 @@ cons_apart : {A : Type 0} (x : A) (xs : List A) → x ∷ xs ≡ [] → ⊥
 cons_apart x xs same = cc
 
 module _ {B : Type 0} where
-  -- what is counted of the rights in hands
-  pub hands_weight : (w : RightAt → ℕ) (hands : Hands B) → sum_by w (places_held (parts_of hands)) ≡ names_weight w hands + sum_by w (flat_map places_in hands.transactions)
-  hands_weight w hands = sum_by-append w (flat_map place_of hands.names) (flat_map places_in hands.transactions)
+  -- what is counted of the rights in bindings
+  pub bindings_weight : (w : RightAt → ℕ) (bindings : Bindings B) → sum_by w (places_held (parts_of bindings)) ≡ names_weight w bindings + sum_by w (flat_map places_in bindings.transactions)
+  bindings_weight w bindings = sum_by-append w (flat_map place_of bindings.names) (flat_map places_in bindings.transactions)
 
-  -- what a call brings was in the hands
-  forms_brought : (pictures : ℕ → Picture) (s : Step) (before taken : Hands B) (asking : Asking B) → FormsCall pictures s before taken asking → AreIn (brings asking) (places_held (parts_of before))
+  -- what a call brings was in the bindings
+  forms_brought : (pictures : ℕ → Picture) (s : Step) (before taken : Bindings B) (asking : Asking B) → FormsCall pictures s before taken asking → AreIn (brings asking) (places_held (parts_of before))
   forms_brought pictures s before taken asking forms right there =
       let counts = counted_at right (brings asking) there in
       let sum = (forms_sum (is_right right) pictures s before taken asking forms).names in
       Contains-append_left (flat_map place_of before.names) (flat_map places_in before.transactions) right
       (found_right right (flat_map place_of before.names) (omega (arith, counts, sum)))
 
-  -- what hands hold after a call's tokens were taken out and others put in
-  pub forms_then : (w : RightAt → ℕ) (pictures : ℕ → Picture) (s : Step) (before taken after : Hands B) (asking : Asking B) (given : Gives B) (spare : Option PermitView) → FormsCall pictures s before taken asking
+  -- what bindings hold after a call's tokens were taken out and others put in
+  pub forms_then : (w : RightAt → ℕ) (pictures : ℕ → Picture) (s : Step) (before taken after : Bindings B) (asking : Asking B) (given : Gives B) (spare : Option PermitView) → FormsCall pictures s before taken asking
       → FitsLoose asking.homes (from_of asking) asking.call given → after ≡ with_spare (placed asking.homes taken given) spare
       → sum_by w (places_held (parts_of after)) + sum_by w (brings asking) ≤ sum_by w (places_held (parts_of before)) + sum_by w (given_at (from_of asking) asking.call given)
   forms_then w pictures s before taken after asking given spare forms fits same =
       let sum = forms_sum w pictures s before taken asking forms in
       let names = sum.names in
       let most = given_most w asking.homes taken (from_of asking) asking.call given spare fits in
-      let a = hands_weight w before in
-      let b = hands_weight w after in
+      let a = bindings_weight w before in
+      let b = bindings_weight w after in
       let c = ap (names_weight w) same in
-      let d = ap (λ (hands : Hands B). sum_by w (flat_map places_in hands.transactions)) same in
+      let d = ap (λ (bindings : Bindings B). sum_by w (flat_map places_in bindings.transactions)) same in
       let e = ap (λ xs. sum_by w (flat_map places_in xs)) (given_transactions asking.homes taken given spare) in
       let f = ap (λ xs. sum_by w (flat_map places_in xs)) sum.transactions in
       omega (arith, names, most, a, b, c, d, e, f)
 
-module _ {B : Type 0} (pictures : ℕ → Picture) (home : DeskHome) (place : ℕ) (s : Step) (came_to : Tried) (before after : Hands B) (old new : State B) (tries : TriesIn pictures home place s came_to before after old new) where
+module _ {B : Type 0} (pictures : ℕ → Picture) (home : DeskHome) (place : ℕ) (s : Step) (came_to : Tried) (before after : Bindings B) (old new : State B) (tries : TriesIn pictures home place s came_to before after old new) where
   abbrev pub by : ℕ
   by = before.by.0
 
@@ -95,7 +95,7 @@ module _ {B : Type 0} (pictures : ℕ → Picture) (home : DeskHome) (place : �
     pub leaves : from.turns.leaves ≡ old.view.turns.leaves
     pub arrivals : from.arrivals ≡ old.view.arrivals
 
-  calls_once : (from : DeskView B) (asking : Asking B) (reply : QReply B) (taken called : Hands B) → FromHere from → Calls home by number asking taken called from new.view reply → CallsOnce home.marks old.view.calls new.view.calls by asking.queue.0 number asking.call reply
+  calls_once : (from : DeskView B) (asking : Asking B) (reply : QReply B) (taken called : Bindings B) → FromHere from → Calls home by number asking taken called from new.view reply → CallsOnce home.marks old.view.calls new.view.calls by asking.queue.0 number asking.call reply
   calls_once from asking reply taken called here made = record {
     apart = tries.apart;
     there = is_there;
@@ -137,17 +137,17 @@ module _ {B : Type 0} (pictures : ℕ → Picture) (home : DeskHome) (place : �
       → (answer : Answered) × (written.written_in tries.is.trace ≡ written.written_in tries.was.trace ++ written.written_by (holdings_of before) s answer)
       × (written.written_by (holdings_of before) s answer ≡ written.written_by (holdings_of before) s (answered.Called (told_reply (mark_among home.marks queue) (old.view.calls queue) by asked)))
 
-  -- a call was made, with tokens out of the hands, and what the reply gave came into them; something more may be dropped behind it
-  pub record CallsFrom (from : DeskView B) (taken called : Hands B) (asking : Asking B) (reply : QReply B) : Type 0 where
+  -- a call was made, with tokens out of the bindings, and what the reply gave came into them; something more may be dropped behind it
+  pub record CallsFrom (from : DeskView B) (taken called : Bindings B) (asking : Asking B) (reply : QReply B) : Type 0 where
     pub here : FromHere from
     pub forms : FormsCall pictures s before taken asking
     pub unrefused : refusal_of pictures (holdings_of before) s ≡ None
     pub calls : Calls home by number asking taken called from new.view reply
     pub dropped : (w : RightAt → ℕ) → sum_by w (places_held (parts_of after)) ≤ sum_by w (places_held (parts_of called))
-    pub owed : Gets (hands_owe called) [] (hands_owe after)
+    pub owed : Gets (bindings_owe called) [] (bindings_owe after)
     pub tells : TellsCall
 
-  pub call_done : (from : DeskView B) (taken called : Hands B) (asking : Asking B) (reply : QReply B) → CallsFrom from taken called asking reply → IsLedger (ledger_of old) → Went s before number old new
+  pub call_done : (from : DeskView B) (taken called : Bindings B) (asking : Asking B) (reply : QReply B) → CallsFrom from taken called asking reply → IsLedger (ledger_of old) → Went s before number old new
   call_done from taken called asking reply made is = record {
     ledger = call_keeps old new by asking.queue.0 number asking.call reply step is;
     places = inl (record {
@@ -200,19 +200,19 @@ module _ {B : Type 0} (pictures : ℕ → Picture) (home : DeskHome) (place : �
       held w =
           let all = held_sum pictures home place s came_to before after old new tries w in
           let nothing = ap (λ (xs : List (Arrival ReadLeaseOf)). sum_by w (flat_map places_arrived xs)) none in
-          let hands = forms_then w pictures s before taken called asking reply.gives reply.spare made.forms fits.loose made.calls.hands in
+          let bindings = forms_then w pictures s before taken called asking reply.gives reply.spare made.forms fits.loose made.calls.bindings in
           let less = made.dropped w in
           let joined = sum_by-append w (places_out old) (given_at (from_of asking) asking.call reply.gives) in
-          omega (arith, all, nothing, hands, less, joined)
+          omega (arith, all, nothing, bindings, less, joined)
 
-      called_owes : Gets (hands_owe taken) (owes_at asking.homes reply.gives) (hands_owe called)
-      called_owes = subst (λ (hands : Hands B). Gets (hands_owe taken) (owes_at asking.homes reply.gives) (hands_owe hands)) (sym made.calls.hands)
+      called_owes : Gets (bindings_owe taken) (owes_at asking.homes reply.gives) (bindings_owe called)
+      called_owes = subst (λ (bindings : Bindings B). Gets (bindings_owe taken) (owes_at asking.homes reply.gives) (bindings_owe bindings)) (sym made.calls.bindings)
           (elim (forms_free pictures s before taken asking made.forms made.unrefused tries.ranges tries.wide) [
             | inl quiet ↦ nothing_owes asking.homes taken reply.gives reply.spare (quiet.0 mark.queue told reply once_old.replied.answer)
             | inr free ↦ given_owes asking.homes taken reply.gives reply.spare free
           ])
 
-      after_called : (more : List WriteAt) → Gets (hands_owe taken) more (hands_owe called) → Gets (hands_owe taken) more (hands_owe after)
+      after_called : (more : List WriteAt) → Gets (bindings_owe taken) more (bindings_owe called) → Gets (bindings_owe taken) more (bindings_owe after)
       after_called more gets = record {
         no_others = λ x there. gets.no_others x (made.owed.no_others x there);
         all = λ x there. made.owed.all x (gets.all x there);
@@ -220,7 +220,7 @@ module _ {B : Type 0} (pictures : ℕ → Picture) (home : DeskHome) (place : �
 
       owes : Gets (places_of old).owed (owes_at asking.homes reply.gives) (places_of new).owed
       owes = owed_get pictures home place s came_to before after old new tries (owes_at asking.homes reply.gives)
-          (gets_more (hands_owe before) (owes_at asking.homes reply.gives) (hands_owe taken) (hands_owe after) (forms_owe pictures s before taken asking made.forms) (after_called (owes_at asking.homes reply.gives) called_owes))
+          (gets_more (bindings_owe before) (owes_at asking.homes reply.gives) (bindings_owe taken) (bindings_owe after) (forms_owe pictures s before taken asking made.forms) (after_called (owes_at asking.homes reply.gives) called_owes))
 
       owed : Gets (all_owed old) (owed_by (move_on old.marks old.view.calls by asking.queue.0 asking.call)) (all_owed new)
       owed = subst (λ (more : List Write). Gets (all_owed old) more (all_owed new)) (owes_writes asking.homes reply.gives ∙ owes_are mark.queue asking.call told reply once_old.replied.answer)

@@ -29,7 +29,7 @@ abbrev pub TellsPlaces : Ghosts ReadLeaseOf SeatView ReadLeaseOf Issued → Type
 TellsPlaces lease = (one other : ReadLeaseOf) → lease.plain one ≡ lease.plain other → (right_read one).at ≡ (right_read other).at
 
 module _ {B : Type 0} where
-  -- No call was made: rights went to other hands, to the next turn, or were let go.
+  -- No call was made: rights went to other bindings, to the next turn, or were let go.
   pub record RestsIn (old new : State B) : Type 0 where
     pub marks : new.marks ≡ old.marks
     pub calls : new.view.calls ≡ old.view.calls

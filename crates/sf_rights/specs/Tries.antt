@@ -16,13 +16,13 @@ use Rattle.sf_actor.specs.Names.{Holdings}
 use Rattle.sf_actor.specs.Tests.{refusal_of}
 use Rattle.sf_actor.specs.Tries.{ActorOf}
 use Rattle.sf_actor.specs.Written as written
-use Rattle.sf_steps.specs.declared.hands.Hands.{Hands}
+use Rattle.sf_steps.specs.declared.bindings.Bindings.{Bindings}
 use Rattle.sf_steps.specs.declared.tried.Tried.{Tried}
 use Rattle.sf_steps.specs.declared.tried.Tried.TheVariants as tried
 use Rattle.sf_steps.specs.Acting.{Attempts}
 use Rattle.sf_steps.specs.Actors.{parts_of}
 use Rattle.sf_steps.specs.Forming.{permits_of}
-use Rattle.sf_steps.specs.Hands.{holdings_of}
+use Rattle.sf_steps.specs.Bindings.{holdings_of}
 use Rattle.sf_rights.specs.States.{AreApart, CallsOnce, State, all_buffers}
 
 module _ {B : Type 0} where
@@ -43,7 +43,7 @@ module _ {B : Type 0} where
 
   -- The actor at a place tried its step, and changed alone; all that was sent is on its way; a queue that is not there is not called; and
   -- none of its permits made a buffer before.
-  pub record TriesIn (pictures : ℕ → Picture) (home : DeskHome) (place : ℕ) (s : Step) (came_to : Tried) (before after : Hands B) (old new : State B) : Type 0 where
+  pub record TriesIn (pictures : ℕ → Picture) (home : DeskHome) (place : ℕ) (s : Step) (came_to : Tried) (before after : Bindings B) (old new : State B) : Type 0 where
     pub was : ActorOf B
     pub is : ActorOf B
     pub here : slice_get old.actors place ≡ Some was

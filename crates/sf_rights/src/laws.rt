@@ -18,7 +18,7 @@ ghost use Rattle.sf_surface.specs.declared.call.QCall.{QCall as CallOf};
 ghost use Rattle.sf_surface.specs.declared.call.QReply.{QReply as ReplyOf};
 ghost use Rattle.sf_surface.specs.declared.mark.QueueMark.{QueueMark};
 ghost use Rattle.sf_surface.specs.Histories.{Made, Replied};
-ghost use Rattle.sf_steps.specs.declared.hands.Hands.{Hands as HandsOf};
+ghost use Rattle.sf_steps.specs.declared.bindings.Bindings.{Bindings as BindingsOf};
 ghost use Rattle.sf_steps.specs.declared.tried.Tried.{Tried};
 ghost use Rattle.atomic_table.specs.Seated.{TableId};
 ghost use Rattle.sf_actor.specs.declared.tried.Stepped.{Stepped};
@@ -86,7 +86,7 @@ pub fn a_call_keeps_the_ledger<B: TableName>()
 /// Whatever a try of an actor's step comes to, in each of the forms of steps, it keeps the ledger of
 /// a run.
 pub fn a_try_keeps_the_ledger<B: TableName>()
-    ensures { (pictures : ℕ → Picture) (home : DeskHome) (place : ℕ) (s : Step) (came_to : Tried) (before after : HandsOf B) (old new : State B)
+    ensures { (pictures : ℕ → Picture) (home : DeskHome) (place : ℕ) (s : Step) (came_to : Tried) (before after : BindingsOf B) (old new : State B)
         → TriesIn pictures home place s came_to before after old new → IsLedger (ledger_of old) → IsLedger (ledger_of new) }
 {}
 

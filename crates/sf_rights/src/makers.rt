@@ -1,9 +1,9 @@
 ghost use Rattle.std.specs.Prelude.{◌≡◌, map, is_some, true, ℕ, ◌<◌, ◌≤◌, ◌⊎◌, List, [], ◌∷◌, ◌++◌, length, Contains, ◌+◌};
 ghost use Rattle.sf_picture.specs.declared.picture.Picture.{Picture};
 ghost use Rattle.sf_scene.specs.declared.step.Step.{Step};
-ghost use Rattle.sf_steps.specs.declared.hands.Hands.{Hands as HandsOf};
+ghost use Rattle.sf_steps.specs.declared.bindings.Bindings.{Bindings as BindingsOf};
 ghost use Rattle.sf_steps.specs.declared.tried.Tried.{Tried};
-ghost use Rattle.sf_steps.specs.Hands.{holdings_of};
+ghost use Rattle.sf_steps.specs.Bindings.{holdings_of};
 ghost use Rattle.sf_calls.specs.Histories.{entry};
 ghost use Rattle.sf_base.specs.declared.ids.QueueId.{QueueId as QueueIdOf};
 ghost use Rattle.sf_slots.specs.declared.calls.PlainReply.{PlainReply};
@@ -151,7 +151,7 @@ pub fn makers_stand_at_the_beginning<B: TableName>()
 /// which did to the places of rights what calls do; or rights rest where they were, and frames that
 /// the actor held go back to their queues.
 pub fn a_try_does_to_places_what_is_told<B: TableName>()
-    ensures { (pictures : ℕ → Picture) (home : DeskHome) (place : ℕ) (s : Step) (came_to : Tried) (before after : HandsOf B) (old new : State B)
+    ensures { (pictures : ℕ → Picture) (home : DeskHome) (place : ℕ) (s : Step) (came_to : Tried) (before after : BindingsOf B) (old new : State B)
         (tries : TriesIn pictures home place s came_to before after old new) → IsLedger (ledger_of old)
         → PlacesGo (holdings_of before) s before.by.0 (length tries.was.trace + 1) old new }
 {}

@@ -43,7 +43,7 @@ use Rattle.sf_steps.specs.Calling.{Ends, TriesCall, received, with_held}
 use Rattle.sf_steps.specs.Coming.{Comes, IsReady, reply_with}
 use Rattle.sf_steps.specs.Leaving.{LooksFor}
 use Rattle.sf_steps.specs.declared.asking.Asking.{Asking}
-use Rattle.sf_steps.specs.declared.hands.Hands.{Hands}
+use Rattle.sf_steps.specs.declared.bindings.Bindings.{Bindings}
 use Rattle.sf_steps.specs.declared.tried.Tried.{Tried}
 use Rattle.sf_steps.specs.declared.tried.Tried.TheVariants as tried
 use Rattle.sf_steps.proofs.OwnComings.{look_left, look_signals, own_done}
@@ -65,19 +65,19 @@ set_back : {A : Type 0} (names : List (Option A)) (name : ℕ) (held : A) → ge
 set_back names name held there = set-set names name None (Some held) ∙ ap (λ (h : Option _). slice_set names name h) (sym there) ∙ set-get_or names name None
 
 module _ {B : Type 0} where
-  -- what hands have after a token was put back
-  parts_back : (hands : Hands B) (name : ℕ) (held : Holding B) → get_or hands.names name None ≡ Some held → parts_of (with_held (with_held hands name None) name (Some held)) ≡ parts_of hands
-  parts_back hands name held there = ap (λ (names : List (Option (Holding B))). parts_of (record hands { names = names })) (set_back hands.names name held there)
+  -- what bindings have after a token was put back
+  parts_back : (bindings : Bindings B) (name : ℕ) (held : Holding B) → get_or bindings.names name None ≡ Some held → parts_of (with_held (with_held bindings name None) name (Some held)) ≡ parts_of bindings
+  parts_back bindings name held there = ap (λ (names : List (Option (Holding B))). parts_of (record bindings { names = names })) (set_back bindings.names name held there)
 
   -- and after another token came in its place
-  pub parts_again : (hands : Hands B) (name : ℕ) (held : Option (Holding B)) → parts_of (with_held (with_held hands name None) name held) ≡ parts_with (parts_of hands) name held (parts_of hands).stock
-  parts_again hands name held = ap (λ (names : List (Option (Holding B))). parts_of (record hands { names = names })) (set-set hands.names name None held)
+  pub parts_again : (bindings : Bindings B) (name : ℕ) (held : Option (Holding B)) → parts_of (with_held (with_held bindings name None) name held) ≡ parts_with (parts_of bindings) name held (parts_of bindings).stock
+  parts_again bindings name held = ap (λ (names : List (Option (Holding B))). parts_of (record bindings { names = names })) (set-set bindings.names name None held)
 
-  -- the hands hold what the actor has
-  pub after_again : (actor : ActorOf B) (before : Hands B) (name : ℕ) (held : Option (Holding B)) → actor.parts ≡ parts_of before → parts_of (with_held (with_held before name None) name held) ≡ parts_with actor.parts name held actor.parts.stock
+  -- the bindings hold what the actor has
+  pub after_again : (actor : ActorOf B) (before : Bindings B) (name : ℕ) (held : Option (Holding B)) → actor.parts ≡ parts_of before → parts_of (with_held (with_held before name None) name held) ≡ parts_with actor.parts name held actor.parts.stock
   after_again actor before name held same = parts_again before name held ∙ ap (λ (p : PartsOf B). parts_with p name held p.stock) (sym same)
 
-  pub after_back : (actor : ActorOf B) (before : Hands B) (name : ℕ) (held : Holding B) → actor.parts ≡ parts_of before → get_or before.names name None ≡ Some held → parts_of (with_held (with_held before name None) name (Some held)) ≡ actor.parts
+  pub after_back : (actor : ActorOf B) (before : Bindings B) (name : ℕ) (held : Holding B) → actor.parts ≡ parts_of before → get_or before.names name None ≡ Some held → parts_of (with_held (with_held before name None) name (Some held)) ≡ actor.parts
   after_back actor before name held same there = parts_back before name held there ∙ sym same
 
   -- a look before the call adds no signal and no turn
@@ -134,7 +134,7 @@ module _ {B : Type 0} where
     | inr unmet ↦ rw unmet refl
   ]
 
-  -- the queues of what the hands have stay there where a name holds something else, whose queue is there
+  -- the queues of what the bindings have stay there where a name holds something else, whose queue is there
   pub there_with : (home : DeskHome) (parts : PartsOf B) (name : ℕ) (held : Option (Holding B)) (stock : List ℕ) → name < length parts.names → AreThere home parts → ((now : Holding B) → held ≡ Some now → has_queue home (queue_held now).0 ≡ true) → AreThere home (parts_with parts name held stock)
   there_with home parts name held stock low there new = record {
     names = λ other now holds. held_case parts name held stock other now low holds (λ same is. new now is) (λ apart was. there.names other now was);
@@ -157,15 +157,15 @@ module _ {B : Type 0} where
       none_some held e = cc
 
   -- what the call of a step came to: the queue answered so, the reply tells it and ends the turn of the step, and the actor
-  -- keeps what it keeps with what is in the hands
-  pub record Came (pictures : ℕ → Picture) (home : DeskHome) (actor : ActorOf B) (s : Step) (after : Hands B) (new : DeskView B) (reply : QReply B) : Type 0 where
+  -- keeps what it keeps with what is in the bindings
+  pub record Came (pictures : ℕ → Picture) (home : DeskHome) (actor : ActorOf B) (s : Step) (after : Bindings B) (new : DeskView B) (reply : QReply B) : Type 0 where
     pub told : PlainReply
     pub tells : Tells (past_of actor).holdings s told reply
     pub ended : ended_turn reply.ends ≡ ended_by actor.parts (called s told)
     pub keeps : ActorKept pictures (stepped actor (called s told) (parts_of after)) (share_of actor.script.number (known_of home new))
     pub there : AreThere home (parts_of after)
 
-  pub came_with : (pictures : ℕ → Picture) (home : DeskHome) (actor : ActorOf B) (s : Step) (after : Hands B) (new : DeskView B) (reply : QReply B) (told : PlainReply) (parts : PartsOf B) → parts_of after ≡ parts → Tells (past_of actor).holdings s told reply → ended_turn reply.ends ≡ ended_by actor.parts (called s told) → ActorKept pictures (stepped actor (called s told) parts) (share_of actor.script.number (known_of home new)) → AreThere home parts → Came pictures home actor s after new reply
+  pub came_with : (pictures : ℕ → Picture) (home : DeskHome) (actor : ActorOf B) (s : Step) (after : Bindings B) (new : DeskView B) (reply : QReply B) (told : PlainReply) (parts : PartsOf B) → parts_of after ≡ parts → Tells (past_of actor).holdings s told reply → ended_turn reply.ends ≡ ended_by actor.parts (called s told) → ActorKept pictures (stepped actor (called s told) parts) (share_of actor.script.number (known_of home new)) → AreThere home parts → Came pictures home actor s after new reply
   came_with pictures home actor s after new reply told parts same tells ended keeps there = record {
     told = told;
     tells = tells;
@@ -175,12 +175,12 @@ module _ {B : Type 0} where
   }
 
   -- the same of what a lemma of the actor says of the call; the queue's answer tells whether the step ends a turn
-  pub ending_came : (pictures : ℕ → Picture) (home : DeskHome) (actor : ActorOf B) (s : Step) (after : Hands B) (new : DeskView B) (queue : QueueId) (asked : QCall B) (reply : QReply B) (parts : PartsOf B) → ((told : PlainReply) → IsReply queue asked told reply → Tells (past_of actor).holdings s told reply) → ((told : PlainReply) → IsReply queue asked told reply → ended_turn reply.ends ≡ ended_by actor.parts (called s told)) → KeepsWith pictures actor s queue asked reply parts (share_of actor.script.number (known_of home new)) → parts_of after ≡ parts → AreThere home parts → Came pictures home actor s after new reply
+  pub ending_came : (pictures : ℕ → Picture) (home : DeskHome) (actor : ActorOf B) (s : Step) (after : Bindings B) (new : DeskView B) (queue : QueueId) (asked : QCall B) (reply : QReply B) (parts : PartsOf B) → ((told : PlainReply) → IsReply queue asked told reply → Tells (past_of actor).holdings s told reply) → ((told : PlainReply) → IsReply queue asked told reply → ended_turn reply.ends ≡ ended_by actor.parts (called s told)) → KeepsWith pictures actor s queue asked reply parts (share_of actor.script.number (known_of home new)) → parts_of after ≡ parts → AreThere home parts → Came pictures home actor s after new reply
   ending_came pictures home actor s after new queue asked reply parts tells ended kept same there =
       came_with pictures home actor s after new reply kept.told parts same (tells kept.told kept.replies) (ended kept.told kept.replies) kept.keeps there
 
   -- and of a call whose reply ends nothing
-  pub kept_came : (pictures : ℕ → Picture) (home : DeskHome) (actor : ActorOf B) (s : Step) (after : Hands B) (called_view new : DeskView B) (queue : QueueId) (asked : QCall B) (reply : QReply B) (parts : PartsOf B) → ((told : PlainReply) → IsReply queue asked told reply → Tells (past_of actor).holdings s told reply) → turn_ended actor.parts s ≡ [] → reply.ends ≡ None → Ends reply.ends called_view new → KeepsWith pictures actor s queue asked reply parts (share_of actor.script.number (known_of home called_view)) → parts_of after ≡ parts → AreThere home parts → Came pictures home actor s after new reply
+  pub kept_came : (pictures : ℕ → Picture) (home : DeskHome) (actor : ActorOf B) (s : Step) (after : Bindings B) (called_view new : DeskView B) (queue : QueueId) (asked : QCall B) (reply : QReply B) (parts : PartsOf B) → ((told : PlainReply) → IsReply queue asked told reply → Tells (past_of actor).holdings s told reply) → turn_ended actor.parts s ≡ [] → reply.ends ≡ None → Ends reply.ends called_view new → KeepsWith pictures actor s queue asked reply parts (share_of actor.script.number (known_of home called_view)) → parts_of after ≡ parts → AreThere home parts → Came pictures home actor s after new reply
   kept_came pictures home actor s after called_view new queue asked reply parts tells unended none ends kept same there =
       ending_came pictures home actor s after new queue asked reply parts tells
       (λ told is. ap ended_turn none ∙ sym (none_ended actor.parts s told unended))
@@ -188,7 +188,7 @@ module _ {B : Type 0} where
       same there
 
   -- the step of such a call is done
-  pub call_done : (pictures : ℕ → Picture) (home : DeskHome) (actor : ActorOf B) (s : Step) (after : Hands B) (old looked called_view new : DeskView B) (queue : ℕ) (asked : ℕ × QCall B) (reply : QReply B) → signal_of s ≡ [] → Looked home old looked → MadeCall home looked called_view actor.script.number queue asked reply → Ends reply.ends called_view new → Came pictures home actor s after new reply → Comes pictures home actor after old new (tried.Called reply.status reply.values)
+  pub call_done : (pictures : ℕ → Picture) (home : DeskHome) (actor : ActorOf B) (s : Step) (after : Bindings B) (old looked called_view new : DeskView B) (queue : ℕ) (asked : ℕ × QCall B) (reply : QReply B) → signal_of s ≡ [] → Looked home old looked → MadeCall home looked called_view actor.script.number queue asked reply → Ends reply.ends called_view new → Came pictures home actor s after new reply → Comes pictures home actor after old new (tried.Called reply.status reply.values)
   call_done pictures home actor s after old looked called_view new queue asked reply quiet look made ends came =
       let by = actor.script.number in
       let place : ℕ = length actor.trace + 1 in
@@ -217,25 +217,25 @@ module _ {B : Type 0} where
       })
 
   -- so a call that can't wait comes to this
-  pub call_comes : (pictures : ℕ → Picture) (home : DeskHome) (actor : ActorOf B) (s : Step) (taken given after : Hands B) (old looked new : DeskView B) (asking : Asking B) (came_to : Tried) → signal_of s ≡ [] → may_wait asking.call ≡ false → Looked home old looked → TriesCall home actor.script.number (length actor.trace + 1) asking taken given looked new came_to → ((reply : QReply B) (called_view : DeskView B) → came_to ≡ tried.Called reply.status reply.values → MadeCall home looked called_view actor.script.number asking.queue.0 (length actor.trace + 1, asking.call) reply → Ends reply.ends called_view new → given ≡ received asking.homes taken reply → Came pictures home actor s after new reply) → Comes pictures home actor after old new came_to
+  pub call_comes : (pictures : ℕ → Picture) (home : DeskHome) (actor : ActorOf B) (s : Step) (taken given after : Bindings B) (old looked new : DeskView B) (asking : Asking B) (came_to : Tried) → signal_of s ≡ [] → may_wait asking.call ≡ false → Looked home old looked → TriesCall home actor.script.number (length actor.trace + 1) asking taken given looked new came_to → ((reply : QReply B) (called_view : DeskView B) → came_to ≡ tried.Called reply.status reply.values → MadeCall home looked called_view actor.script.number asking.queue.0 (length actor.trace + 1, asking.call) reply → Ends reply.ends called_view new → given ≡ received asking.homes taken reply → Came pictures home actor s after new reply) → Comes pictures home actor after old new came_to
   call_comes pictures home actor s taken given after old looked new asking (tried.Own status) quiet unwaiting look tries form = absurd tries
   call_comes pictures home actor s taken given after old looked new asking (tried.Sent number) quiet unwaiting look tries form = absurd tries
   call_comes pictures home actor s taken given after old looked new asking tried.NotYet quiet unwaiting look tries form = absurd (false≢true (sym unwaiting ∙ tries.waits.not_yet.0))
   call_comes pictures home actor s taken given after old looked new asking (tried.Called status values) quiet unwaiting look (reply, same_status, same_values, calls) form =
       let was : tried.Called reply.status reply.values ≡ tried.Called status values = λ i. tried.Called (same_status i) (same_values i) in
-      let came = form reply calls.made_view (sym was) calls.made calls.ends calls.hands in
+      let came = form reply calls.made_view (sym was) calls.made calls.ends calls.bindings in
       subst (λ (t : Tried). Comes pictures home actor after old new t) was
       (call_done pictures home actor s after old looked calls.made_view new asking.queue.0 (length actor.trace + 1, asking.call) reply quiet look calls.made calls.ends came)
 
   -- the call of a step, as it was formed
-  pub formed : (home : DeskHome) (by place : ℕ) (asking as_formed : Asking B) (taken as_taken after : Hands B) (old new : DeskView B) (came_to : Tried) → taken ≡ as_taken → asking ≡ as_formed → TriesCall home by place asking taken after old new came_to → TriesCall home by place as_formed as_taken after old new came_to
-  formed home by place asking as_formed taken as_taken after old new came_to same_hands same_call tries =
-      subst (λ (hands : Hands B). TriesCall home by place as_formed hands after old new came_to) same_hands
+  pub formed : (home : DeskHome) (by place : ℕ) (asking as_formed : Asking B) (taken as_taken after : Bindings B) (old new : DeskView B) (came_to : Tried) → taken ≡ as_taken → asking ≡ as_formed → TriesCall home by place asking taken after old new came_to → TriesCall home by place as_formed as_taken after old new came_to
+  formed home by place asking as_formed taken as_taken after old new came_to same_bindings same_call tries =
+      subst (λ (bindings : Bindings B). TriesCall home by place as_formed bindings after old new came_to) same_bindings
       (subst (λ (a : Asking B). TriesCall home by place a taken after old new came_to) same_call tries)
 
-  -- a step has the names of its hands
-  pub names_there : (pictures : ℕ → Picture) (home : DeskHome) (actor : ActorOf B) (hands : Hands B) (view : DeskView B) (s : Step) → IsReady pictures home actor hands view s → length actor.parts.names ≡ 32
-  names_there pictures home actor hands view s ready = ap (λ (parts : PartsOf B). length parts.names) ready.parts ∙ ready.names
+  -- a step has the names of its bindings
+  pub names_there : (pictures : ℕ → Picture) (home : DeskHome) (actor : ActorOf B) (bindings : Bindings B) (view : DeskView B) (s : Step) → IsReady pictures home actor bindings view s → length actor.parts.names ≡ 32
+  names_there pictures home actor bindings view s ready = ap (λ (parts : PartsOf B). length parts.names) ready.parts ∙ ready.names
 
-  pub held_there : (pictures : ℕ → Picture) (home : DeskHome) (actor : ActorOf B) (hands : Hands B) (view : DeskView B) (s : Step) (name : ℕ) (held : Holding B) → IsReady pictures home actor hands view s → get_or hands.names name None ≡ Some held → held_in actor.parts name ≡ Some held
-  held_there pictures home actor hands view s name held ready there = ap (λ (parts : PartsOf B). held_in parts name) ready.parts ∙ there
+  pub held_there : (pictures : ℕ → Picture) (home : DeskHome) (actor : ActorOf B) (bindings : Bindings B) (view : DeskView B) (s : Step) (name : ℕ) (held : Holding B) → IsReady pictures home actor bindings view s → get_or bindings.names name None ≡ Some held → held_in actor.parts name ≡ Some held
+  held_there pictures home actor bindings view s name held ready there = ap (λ (parts : PartsOf B). held_in parts name) ready.parts ∙ there

@@ -39,7 +39,7 @@ use Rattle.sf_steps.specs.Actors.{parts_of}
 use Rattle.sf_steps.specs.Calling.{with_held}
 use Rattle.sf_steps.specs.Coming.{Comes, IsReady, LeftWith, reply_with}
 use Rattle.sf_steps.specs.Drawing.{Draws, TriesDraw, filled}
-use Rattle.sf_steps.specs.declared.hands.Hands.{Hands}
+use Rattle.sf_steps.specs.declared.bindings.Bindings.{Bindings}
 use Rattle.sf_steps.specs.declared.tried.Tried.{Tried}
 use Rattle.sf_steps.specs.declared.tried.Tried.TheVariants as tried
 use Rattle.sf_steps.proofs.OwnComings.{look_counts, look_left, look_signals, no_fence, own_done}
@@ -61,16 +61,16 @@ module _ {B : Type 0} where
   }
 
   -- a name is filled again
-  pub filled_parts : (hands : Hands B) (name : ℕ) (held : Option (Holding B)) → parts_of (filled (with_held hands name None) name held) ≡ parts_with (parts_of hands) name held (parts_of hands).stock
-  filled_parts hands name None = refl
-  filled_parts hands name (Some held) = ap (λ (names : List (Option (Holding B))). record (parts_of hands) { names = names }) (set-set hands.names name None (Some held))
+  pub filled_parts : (bindings : Bindings B) (name : ℕ) (held : Option (Holding B)) → parts_of (filled (with_held bindings name None) name held) ≡ parts_with (parts_of bindings) name held (parts_of bindings).stock
+  filled_parts bindings name None = refl
+  filled_parts bindings name (Some held) = ap (λ (names : List (Option (Holding B))). record (parts_of bindings) { names = names }) (set-set bindings.names name None (Some held))
 
   -- with what it held
-  pub filled_back : (hands : Hands B) (name : ℕ) (held : Holding B) → get_or hands.names name None ≡ Some held → parts_of (filled (with_held hands name None) name (Some held)) ≡ parts_of hands
-  filled_back hands name held there =
-      filled_parts hands name (Some held)
-      ∙ ap (λ (x : Option (Holding B)). record (parts_of hands) { names = set hands.names name x }) (sym there)
-      ∙ ap (λ (names : List (Option (Holding B))). record (parts_of hands) { names = names }) (set-get_or hands.names name None)
+  pub filled_back : (bindings : Bindings B) (name : ℕ) (held : Holding B) → get_or bindings.names name None ≡ Some held → parts_of (filled (with_held bindings name None) name (Some held)) ≡ parts_of bindings
+  filled_back bindings name held there =
+      filled_parts bindings name (Some held)
+      ∙ ap (λ (x : Option (Holding B)). record (parts_of bindings) { names = set bindings.names name x }) (sym there)
+      ∙ ap (λ (names : List (Option (Holding B))). record (parts_of bindings) { names = names }) (set-get_or bindings.names name None)
 
   -- what a draw leaves, which a look came before
   record Drew (home : DeskHome) (old looked new : DeskView B) (seen : Seen) : Type 0 where
@@ -106,7 +106,7 @@ module _ {B : Type 0} where
   )
   draws_in home old looked new (work.Drawn inside pixels) fence seen drew enters = enters ∙ same_turns home old looked new seen drew
 
-  lease_comes : (pictures : ℕ → Picture) (home : DeskHome) (actor : ActorOf B) (before after : Hands B) (old looked new : DeskView B) (name p : ℕ) (seen : Seen) (lease : WriteLeaseOf) → IsReady pictures home actor before old (step.Draw name p) → refusal_of pictures (past_of actor).holdings (step.Draw name p) ≡ None → Drew home old looked new seen → get_or before.names name None ≡ Some (holding.Lends lease) → Enters lease.work lease.fence seen looked.turns new.turns → after ≡ filled (with_held before name None) name (Some (holding.Lends (drawn_with lease (pictures p)))) → Comes pictures home actor after old new (tried.Own 0)
+  lease_comes : (pictures : ℕ → Picture) (home : DeskHome) (actor : ActorOf B) (before after : Bindings B) (old looked new : DeskView B) (name p : ℕ) (seen : Seen) (lease : WriteLeaseOf) → IsReady pictures home actor before old (step.Draw name p) → refusal_of pictures (past_of actor).holdings (step.Draw name p) ≡ None → Drew home old looked new seen → get_or before.names name None ≡ Some (holding.Lends lease) → Enters lease.work lease.fence seen looked.turns new.turns → after ≡ filled (with_held before name None) name (Some (holding.Lends (drawn_with lease (pictures p)))) → Comes pictures home actor after old new (tried.Own 0)
   lease_comes pictures home actor before after old looked new name p seen lease ready unrefused drew there enters left =
       let by = actor.script.number in
       let now : Holding B = holding.Lends (drawn_with lease (pictures p)) in
@@ -140,7 +140,7 @@ module _ {B : Type 0} where
       one : (held : Holding B) → Some (holding.Lends (drawn_with lease (pictures p))) ≡ Some held → holding.Lends (drawn_with lease (pictures p)) ≡ held
       one held e = cc
 
-  owing_comes : (pictures : ℕ → Picture) (home : DeskHome) (actor : ActorOf B) (before after : Hands B) (old looked new : DeskView B) (name p : ℕ) (seen : Seen) (owing : OwingOf) (held : Held) → IsReady pictures home actor before old (step.Draw name p) → refusal_of pictures (past_of actor).holdings (step.Draw name p) ≡ None → Drew home old looked new seen → get_or before.names name None ≡ Some (holding.Owes owing held) → IsSignalled owing.fence seen → Passes owing.turn.buffer owing.turn.number looked.turns new.turns → after ≡ filled (with_held before name None) name None → Comes pictures home actor after old new (tried.Own 0)
+  owing_comes : (pictures : ℕ → Picture) (home : DeskHome) (actor : ActorOf B) (before after : Bindings B) (old looked new : DeskView B) (name p : ℕ) (seen : Seen) (owing : OwingOf) (held : Held) → IsReady pictures home actor before old (step.Draw name p) → refusal_of pictures (past_of actor).holdings (step.Draw name p) ≡ None → Drew home old looked new seen → get_or before.names name None ≡ Some (holding.Owes owing held) → IsSignalled owing.fence seen → Passes owing.turn.buffer owing.turn.number looked.turns new.turns → after ≡ filled (with_held before name None) name None → Comes pictures home actor after old new (tried.Own 0)
   owing_comes pictures home actor before after old looked new name p seen owing held ready unrefused drew there signalled passes left =
       let by = actor.script.number in
       let here : held_in actor.parts name ≡ Some (holding.Owes owing held) = ap (λ (parts : PartsOf B). held_in parts name) ready.parts ∙ there in
@@ -178,7 +178,7 @@ module _ {B : Type 0} where
       none_some now e = cc
 
   -- a draw that is not done: its fence is open, or an earlier turn has not left
-  not_drawn : (pictures : ℕ → Picture) (home : DeskHome) (actor : ActorOf B) (before after : Hands B) (old looked new : DeskView B) (name p : ℕ) (seen : Seen) (held : Holding B) (fence : Fence) → IsReady pictures home actor before old (step.Draw name p) → refusal_of pictures (past_of actor).holdings (step.Draw name p) ≡ None → Drew home old looked new seen → get_or before.names name None ≡ Some held → undrawn_fence (Some (token_of held)) ≡ Some fence → MustWait fence seen (turn_held held).0 (turn_held held).1 looked.turns new.turns → after ≡ filled (with_held before name None) name (Some held) → LeftWith pictures home actor after old new
+  not_drawn : (pictures : ℕ → Picture) (home : DeskHome) (actor : ActorOf B) (before after : Bindings B) (old looked new : DeskView B) (name p : ℕ) (seen : Seen) (held : Holding B) (fence : Fence) → IsReady pictures home actor before old (step.Draw name p) → refusal_of pictures (past_of actor).holdings (step.Draw name p) ≡ None → Drew home old looked new seen → get_or before.names name None ≡ Some held → undrawn_fence (Some (token_of held)) ≡ Some fence → MustWait fence seen (turn_held held).0 (turn_held held).1 looked.turns new.turns → after ≡ filled (with_held before name None) name (Some held) → LeftWith pictures home actor after old new
   not_drawn pictures home actor before after old looked new name p seen held fence ready unrefused drew there undrawn waits left =
       let here : held_in actor.parts name ≡ Some held = ap (λ (parts : PartsOf B). held_in parts name) ready.parts ∙ there in
       let fenced : waited_fence (past_of actor).holdings (step.Draw name p) ≡ Some fence =
@@ -243,7 +243,7 @@ module _ {B : Type 0} where
             }
       ]
 
-  lease_waits : (pictures : ℕ → Picture) (home : DeskHome) (actor : ActorOf B) (before after : Hands B) (old looked new : DeskView B) (name p : ℕ) (seen : Seen) (lease : WriteLeaseOf) (w : Work) → lease.work ≡ w → IsReady pictures home actor before old (step.Draw name p) → refusal_of pictures (past_of actor).holdings (step.Draw name p) ≡ None → Drew home old looked new seen → get_or before.names name None ≡ Some (holding.Lends lease) → WaitsIn w lease.fence seen looked.turns new.turns → after ≡ filled (with_held before name None) name (Some (holding.Lends lease)) → LeftWith pictures home actor after old new
+  lease_waits : (pictures : ℕ → Picture) (home : DeskHome) (actor : ActorOf B) (before after : Bindings B) (old looked new : DeskView B) (name p : ℕ) (seen : Seen) (lease : WriteLeaseOf) (w : Work) → lease.work ≡ w → IsReady pictures home actor before old (step.Draw name p) → refusal_of pictures (past_of actor).holdings (step.Draw name p) ≡ None → Drew home old looked new seen → get_or before.names name None ≡ Some (holding.Lends lease) → WaitsIn w lease.fence seen looked.turns new.turns → after ≡ filled (with_held before name None) name (Some (holding.Lends lease)) → LeftWith pictures home actor after old new
   lease_waits pictures home actor before after old looked new name p seen lease (work.Fresh turn) is ready unrefused drew there waits left =
       not_drawn pictures home actor before after old looked new name p seen (holding.Lends lease) lease.fence ready unrefused drew there
       (ap (λ (of : Work). undrawn_fence (Some (Lent lease.queue (write_token lease.queue lease) (drawn_picture of)))) is)
@@ -251,7 +251,7 @@ module _ {B : Type 0} where
   lease_waits pictures home actor before after old looked new name p seen lease (work.Drawn inside pixels) is ready unrefused drew there waits left = absurd waits
 
   -- a draw, by what the name holds
-  held_comes : (pictures : ℕ → Picture) (home : DeskHome) (actor : ActorOf B) (before after : Hands B) (old looked new : DeskView B) (name p : ℕ) (seen : Seen) (held : Holding B) (came_to : Tried) → IsReady pictures home actor before old (step.Draw name p) → refusal_of pictures (past_of actor).holdings (step.Draw name p) ≡ None → Drew home old looked new seen → get_or before.names name None ≡ Some held → TriesDraw name (pictures p) seen held (with_held before name None) after looked new came_to → Comes pictures home actor after old new came_to
+  held_comes : (pictures : ℕ → Picture) (home : DeskHome) (actor : ActorOf B) (before after : Bindings B) (old looked new : DeskView B) (name p : ℕ) (seen : Seen) (held : Holding B) (came_to : Tried) → IsReady pictures home actor before old (step.Draw name p) → refusal_of pictures (past_of actor).holdings (step.Draw name p) ≡ None → Drew home old looked new seen → get_or before.names name None ≡ Some held → TriesDraw name (pictures p) seen held (with_held before name None) after looked new came_to → Comes pictures home actor after old new came_to
   held_comes pictures home actor before after old looked new name p seen (holding.Lends lease) (tried.Own status) ready unrefused drew there tries =
       let draws = tries.2.1 in
       let left = tries.3 ∙ ap (filled (with_held before name None) name) (tries.2.2 ∙ ap (λ (given : WriteLeaseOf). Some (holding.Lends given)) draws.1) in
@@ -272,7 +272,7 @@ module _ {B : Type 0} where
   held_comes pictures home actor before after old looked new name p seen held (tried.Called status values) ready unrefused drew there tries = absurd tries
   held_comes pictures home actor before after old looked new name p seen held (tried.Sent number) ready unrefused drew there tries = absurd tries
 
-  pub draw_comes : (pictures : ℕ → Picture) (home : DeskHome) (actor : ActorOf B) (before after : Hands B) (old new : DeskView B) (name p : ℕ) (came_to : Tried) → IsReady pictures home actor before old (step.Draw name p) → refusal_of pictures (past_of actor).holdings (step.Draw name p) ≡ None → Draws home name (pictures p) before after old new came_to → Comes pictures home actor after old new came_to
+  pub draw_comes : (pictures : ℕ → Picture) (home : DeskHome) (actor : ActorOf B) (before after : Bindings B) (old new : DeskView B) (name p : ℕ) (came_to : Tried) → IsReady pictures home actor before old (step.Draw name p) → refusal_of pictures (past_of actor).holdings (step.Draw name p) ≡ None → Draws home name (pictures p) before after old new came_to → Comes pictures home actor after old new came_to
   draw_comes pictures home actor before after old new name p came_to ready unrefused draws =
       held_comes pictures home actor before after old draws.looked new name p draws.seen draws.held came_to ready unrefused
       (record { sees = draws.sees; times = draws.times; turns = draws.turns }) draws.there draws.tries

@@ -27,12 +27,12 @@ use Rattle.sf_steps.specs.Coming.{Comes, IsReady}
 use Rattle.sf_steps.specs.Forming.{named}
 use Rattle.sf_steps.specs.Leaving.{let_go_of, was_ok, without_lent}
 use Rattle.sf_steps.specs.declared.asking.Asking.{Asking}
-use Rattle.sf_steps.specs.declared.hands.Hands.{Hands}
+use Rattle.sf_steps.specs.declared.bindings.Bindings.{Bindings}
 use Rattle.sf_steps.specs.declared.tried.Tried.{Tried}
 use Rattle.sf_steps.proofs.CallComings.{call_comes, formed, kept_came, unlooked}
 
 module _ {B : Type 0} where
-  -- the hands drop what the actor drops
+  -- the bindings drop what the actor drops
   same_let_go : (queue : ℕ) (held : Option (Holding B)) → let_go_of queue held ≡ let_go_held queue held
   same_let_go queue None = refl
   same_let_go queue (Some (holding.Lends lease)) = refl
@@ -44,8 +44,8 @@ module _ {B : Type 0} where
   all_let_go queue [] = refl
   all_let_go queue (held ∷ names) = λ i. same_let_go queue held i ∷ all_let_go queue names i
 
-  dropped : (queue : ℕ) (hands : Hands B) → parts_of (without_lent queue hands) ≡ parts_without (parts_of hands) queue
-  dropped queue hands = ap (λ (names : List (Option (Holding B))). parts_of (record hands { names = names })) (all_let_go queue hands.names)
+  dropped : (queue : ℕ) (bindings : Bindings B) → parts_of (without_lent queue bindings) ≡ parts_without (parts_of bindings) queue
+  dropped queue bindings = ap (λ (names : List (Option (Holding B))). parts_of (record bindings { names = names })) (all_let_go queue bindings.names)
 
   -- what is still there was there
   was_there : (queue : ℕ) (held : Option (Holding B)) (now : Holding B) → let_go_held queue held ≡ Some now → held ≡ Some now
@@ -64,24 +64,24 @@ module _ {B : Type 0} where
     frames = there.frames;
   }
 
-  pub disconnect_comes : (pictures : ℕ → Picture) (home : DeskHome) (actor : ActorOf B) (before after : Hands B) (old new : DeskView B) (q : ℕ) (came_to : Tried) → IsReady pictures home actor before old (step.Disconnect q) → refusal_of pictures (past_of actor).holdings (step.Disconnect q) ≡ None → Acts pictures home actor.script.number (length actor.trace + 1) (step.Disconnect q) before after old new came_to → Comes pictures home actor after old new came_to
+  pub disconnect_comes : (pictures : ℕ → Picture) (home : DeskHome) (actor : ActorOf B) (before after : Bindings B) (old new : DeskView B) (q : ℕ) (came_to : Tried) → IsReady pictures home actor before old (step.Disconnect q) → refusal_of pictures (past_of actor).holdings (step.Disconnect q) ≡ None → Acts pictures home actor.script.number (length actor.trace + 1) (step.Disconnect q) before after old new came_to → Comes pictures home actor after old new came_to
   disconnect_comes pictures home actor before after old new q came_to ready unrefused acts =
       let s : Step = step.Disconnect q in
       let makes = acts.makes in
       let asked : QCall B = call.Disconnect in
       let asking : Asking B = named (queue_of q) 0 asked in
       let queue = (mark_among home.marks q).queue in
-      let left : Bool → Hands B = λ ok. if ok then without_lent q acts.called else acts.called in
+      let left : Bool → Bindings B = λ ok. if ok then without_lent q acts.called else acts.called in
       call_comes pictures home actor s before acts.called after old old new asking came_to refl refl (unlooked home old)
       (formed home actor.script.number (length actor.trace + 1) makes.asking asking makes.taken before acts.called old new came_to makes.forms.0 makes.forms.1 makes.tries)
-      (λ reply called_view was made ends hands.
+      (λ reply called_view was made ends bindings.
       elim (disconnect_keeps pictures actor q home old called_view reply ready.is_next ready.keeps.kept made) [
         | inl given ↦
             let ok : was_ok came_to ≡ true = ap was_ok was ∙ ap (λ (r : QReply B). number_of r.status == 0) given.0 in
             kept_came pictures home actor s after called_view new queue asked reply (parts_without actor.parts q)
             (λ told is. disconnect_tells queue q (past_of actor).holdings told reply is)
             refl (ap (λ (r : QReply B). r.ends) given.0) ends given.1
-            (ap (λ (h : Hands B). parts_of h) (acts.drops ∙ ap left ok ∙ ap (without_lent q) (hands ∙ ap (received asking.homes before) given.0))
+            (ap (λ (h : Bindings B). parts_of h) (acts.drops ∙ ap left ok ∙ ap (without_lent q) (bindings ∙ ap (received asking.homes before) given.0))
             ∙ dropped q before ∙ ap (λ (p : PartsOf B). parts_without p q) (sym ready.parts))
             (there_without home actor.parts q ready.keeps.there)
         | inr refused ↦
@@ -89,6 +89,6 @@ module _ {B : Type 0} where
             kept_came pictures home actor s after called_view new queue asked reply actor.parts
             (λ told is. disconnect_tells queue q (past_of actor).holdings told reply is)
             refl (ap (λ (r : QReply B). r.ends) refused.0) ends refused.1
-            (ap (λ (h : Hands B). parts_of h) (acts.drops ∙ ap left not_ok ∙ hands ∙ ap (received asking.homes before) refused.0) ∙ sym ready.parts)
+            (ap (λ (h : Bindings B). parts_of h) (acts.drops ∙ ap left not_ok ∙ bindings ∙ ap (received asking.homes before) refused.0) ∙ sym ready.parts)
             ready.keeps.there
       ])

@@ -47,7 +47,7 @@ use Rattle.sf_steps.specs.Actors.{parts_of}
 use Rattle.sf_steps.specs.Calling.{Ends}
 use Rattle.sf_steps.specs.Coming.{Comes, IsReady, reply_with}
 use Rattle.sf_steps.specs.Editing.{Edits, Merges, Releases, ReleasesAll, Shows, TriesSend, buffer_with, with_txn}
-use Rattle.sf_steps.specs.declared.hands.Hands.{Hands}
+use Rattle.sf_steps.specs.declared.bindings.Bindings.{Bindings}
 use Rattle.sf_steps.specs.declared.tried.Tried.{Tried}
 use Rattle.sf_steps.specs.declared.tried.Tried.TheVariants as tried
 use Rattle.sf_steps.proofs.DrawComings.{there_with}
@@ -95,23 +95,23 @@ module _ {B : Type 0} where
   }
 
   -- a number is in the table
-  number_low : (pictures : ℕ → Picture) (home : DeskHome) (actor : ActorOf B) (hands : Hands B) (view : DeskView B) (s : Step) (n : ℕ) → IsReady pictures home actor hands view s → n ≤ 64 → n < length actor.parts.transactions
-  number_low pictures home actor hands view s n ready high =
+  number_low : (pictures : ℕ → Picture) (home : DeskHome) (actor : ActorOf B) (bindings : Bindings B) (view : DeskView B) (s : Step) (n : ℕ) → IsReady pictures home actor bindings view s → n ≤ 64 → n < length actor.parts.transactions
+  number_low pictures home actor bindings view s n ready high =
       let numbers = ready.numbers in
       let same = ap (λ (parts : PartsOf B). length parts.transactions) ready.parts in
       omega (arith, high, numbers, same)
 
-  there_in : (actor : ActorOf B) (hands : Hands B) (n : ℕ) (txn : Contents ReadLeaseOf) → actor.parts ≡ parts_of hands → get_or hands.transactions n None ≡ Some txn → contents_in actor.parts n ≡ Some txn
-  there_in actor hands n txn same there = ap (λ (parts : PartsOf B). contents_in parts n) same ∙ there
+  there_in : (actor : ActorOf B) (bindings : Bindings B) (n : ℕ) (txn : Contents ReadLeaseOf) → actor.parts ≡ parts_of bindings → get_or bindings.transactions n None ≡ Some txn → contents_in actor.parts n ≡ Some txn
+  there_in actor bindings n txn same there = ap (λ (parts : PartsOf B). contents_in parts n) same ∙ there
 
   -- the parts once a transaction was taken, changed and put back
-  edited_parts : (before after : Hands B) (n : ℕ) (change : Contents ReadLeaseOf → Contents ReadLeaseOf) → (edits : Edits before after n change) → parts_of after ≡ with_contents (parts_of before) n (Some (change edits.edited))
+  edited_parts : (before after : Bindings B) (n : ℕ) (change : Contents ReadLeaseOf → Contents ReadLeaseOf) → (edits : Edits before after n change) → parts_of after ≡ with_contents (parts_of before) n (Some (change edits.edited))
   edited_parts before after n change edits =
-      ap parts_of (edits.put_back ∙ ap (λ (hands : Hands B). with_txn hands n (Some (change edits.edited))) edits.takes.txn_rest)
+      ap parts_of (edits.put_back ∙ ap (λ (bindings : Bindings B). with_txn bindings n (Some (change edits.edited))) edits.takes.txn_rest)
       ∙ ap (λ (transactions : List (Option (Contents ReadLeaseOf))). record (parts_of before) { transactions = transactions }) (set-set before.transactions n None (Some (change edits.edited)))
 
   -- a step that is done by its actor alone, and changes what a number holds
-  edit_comes : (pictures : ℕ → Picture) (home : DeskHome) (actor : ActorOf B) (before after : Hands B) (old new : DeskView B) (s : Step) (n : ℕ) (now : Contents ReadLeaseOf) (came_to : Tried) → IsReady pictures home actor before old s → is_draw s ≡ false → signal_of s ≡ [] → turn_ended actor.parts s ≡ [] → detached_fence (past_of actor).holdings s ≡ None → came_to ≡ tried.Own 0 → new ≡ old → n ≤ 64 → parts_of after ≡ with_contents (parts_of before) n (Some now) → All (IsHere home) now.buffers → ActorKept pictures (stepped actor (record { step = s; answered = answered.Own 0 }) (with_contents actor.parts n (Some now))) (share_of actor.script.number (known_of home old)) → Comes pictures home actor after old new came_to
+  edit_comes : (pictures : ℕ → Picture) (home : DeskHome) (actor : ActorOf B) (before after : Bindings B) (old new : DeskView B) (s : Step) (n : ℕ) (now : Contents ReadLeaseOf) (came_to : Tried) → IsReady pictures home actor before old s → is_draw s ≡ false → signal_of s ≡ [] → turn_ended actor.parts s ≡ [] → detached_fence (past_of actor).holdings s ≡ None → came_to ≡ tried.Own 0 → new ≡ old → n ≤ 64 → parts_of after ≡ with_contents (parts_of before) n (Some now) → All (IsHere home) now.buffers → ActorKept pictures (stepped actor (record { step = s; answered = answered.Own 0 }) (with_contents actor.parts n (Some now))) (share_of actor.script.number (known_of home old)) → Comes pictures home actor after old new came_to
   edit_comes pictures home actor before after old new s n now came_to ready not quiet ends unfenced came same high has here kept =
       let done : Done = record { step = s; answered = answered.Own 0 } in
       let parts = with_contents actor.parts n (Some now) in
@@ -133,13 +133,13 @@ module _ {B : Type 0} where
       one : (other : Contents ReadLeaseOf) → Some now ≡ Some other → now ≡ other
       one other e = cc
 
-  pub begin_comes : (pictures : ℕ → Picture) (home : DeskHome) (actor : ActorOf B) (before after : Hands B) (old new : DeskView B) (n : ℕ) (came_to : Tried) → IsReady pictures home actor before old (step.Tx n) → refusal_of pictures (past_of actor).holdings (step.Tx n) ≡ None → Changes (after ≡ with_txn before n (Some empty)) old new came_to → Comes pictures home actor after old new came_to
+  pub begin_comes : (pictures : ℕ → Picture) (home : DeskHome) (actor : ActorOf B) (before after : Bindings B) (old new : DeskView B) (n : ℕ) (came_to : Tried) → IsReady pictures home actor before old (step.Tx n) → refusal_of pictures (past_of actor).holdings (step.Tx n) ≡ None → Changes (after ≡ with_txn before n (Some empty)) old new came_to → Comes pictures home actor after old new came_to
   begin_comes pictures home actor before after old new n came_to ready unrefused changes =
       let high = ready.playable.ranges.high in
       edit_comes pictures home actor before after old new (step.Tx n) n empty came_to ready refl refl refl refl changes.own changes.desk high (ap parts_of changes.changed) (λ k d low. absurd (omega (arith, low)))
       (begin_keeps pictures actor n (share_of actor.script.number (known_of home old)) ready.is_next ready.keeps.kept unrefused (number_low pictures home actor before old (step.Tx n) n ready high))
 
-  pub desire_comes : (pictures : ℕ → Picture) (home : DeskHome) (actor : ActorOf B) (before after : Hands B) (old new : DeskView B) (n time : ℕ) (came_to : Tried) → IsReady pictures home actor before old (step.Desire n time) → refusal_of pictures (past_of actor).holdings (step.Desire n time) ≡ None → Changes (Edits before after n (λ txn. record txn { desired = Some time })) old new came_to → Comes pictures home actor after old new came_to
+  pub desire_comes : (pictures : ℕ → Picture) (home : DeskHome) (actor : ActorOf B) (before after : Bindings B) (old new : DeskView B) (n time : ℕ) (came_to : Tried) → IsReady pictures home actor before old (step.Desire n time) → refusal_of pictures (past_of actor).holdings (step.Desire n time) ≡ None → Changes (Edits before after n (λ txn. record txn { desired = Some time })) old new came_to → Comes pictures home actor after old new came_to
   desire_comes pictures home actor before after old new n time came_to ready unrefused changes =
       let high = ready.playable.ranges.0.high in
       let edits = changes.changed in
@@ -148,7 +148,7 @@ module _ {B : Type 0} where
       (edited_parts before after n (λ txn. record txn { desired = Some time }) edits) (ready.keeps.there.frames n edits.edited there)
       (desire_keeps pictures actor n time edits.edited (share_of actor.script.number (known_of home old)) ready.is_next ready.keeps.kept unrefused (number_low pictures home actor before old (step.Desire n time) n ready high) there)
 
-  pub barrier_comes : (pictures : ℕ → Picture) (home : DeskHome) (actor : ActorOf B) (before after : Hands B) (old new : DeskView B) (n layer frame : ℕ) (came_to : Tried) → IsReady pictures home actor before old (step.Barrier n layer frame) → refusal_of pictures (past_of actor).holdings (step.Barrier n layer frame) ≡ None → Changes (Edits before after n (λ txn. record txn { barriers = txn.barriers ++ (layer_of layer, frame) ∷ [] })) old new came_to → Comes pictures home actor after old new came_to
+  pub barrier_comes : (pictures : ℕ → Picture) (home : DeskHome) (actor : ActorOf B) (before after : Bindings B) (old new : DeskView B) (n layer frame : ℕ) (came_to : Tried) → IsReady pictures home actor before old (step.Barrier n layer frame) → refusal_of pictures (past_of actor).holdings (step.Barrier n layer frame) ≡ None → Changes (Edits before after n (λ txn. record txn { barriers = txn.barriers ++ (layer_of layer, frame) ∷ [] })) old new came_to → Comes pictures home actor after old new came_to
   barrier_comes pictures home actor before after old new n layer frame came_to ready unrefused changes =
       let high = ready.playable.ranges.0.high in
       let edits = changes.changed in
@@ -157,7 +157,7 @@ module _ {B : Type 0} where
       (edited_parts before after n (λ txn. record txn { barriers = txn.barriers ++ (layer_of layer, frame) ∷ [] }) edits) (ready.keeps.there.frames n edits.edited there)
       (barrier_keeps pictures actor n layer frame edits.edited (share_of actor.script.number (known_of home old)) ready.is_next ready.keeps.kept unrefused (number_low pictures home actor before old (step.Barrier n layer frame) n ready high) there)
 
-  pub set_comes : (pictures : ℕ → Picture) (home : DeskHome) (actor : ActorOf B) (before after : Hands B) (old new : DeskView B) (n layer : ℕ) (change : Change) (came_to : Tried) → IsReady pictures home actor before old (step.Set n layer change) → refusal_of pictures (past_of actor).holdings (step.Set n layer change) ≡ None → Changes (Edits before after n (λ txn. with_op txn (layer_of layer, op_of change))) old new came_to → Comes pictures home actor after old new came_to
+  pub set_comes : (pictures : ℕ → Picture) (home : DeskHome) (actor : ActorOf B) (before after : Bindings B) (old new : DeskView B) (n layer : ℕ) (change : Change) (came_to : Tried) → IsReady pictures home actor before old (step.Set n layer change) → refusal_of pictures (past_of actor).holdings (step.Set n layer change) ≡ None → Changes (Edits before after n (λ txn. with_op txn (layer_of layer, op_of change))) old new came_to → Comes pictures home actor after old new came_to
   set_comes pictures home actor before after old new n layer change came_to ready unrefused changes =
       let high = ready.playable.ranges.0.high in
       let edits = changes.changed in
@@ -167,7 +167,7 @@ module _ {B : Type 0} where
       (set_keeps pictures actor n layer change edits.edited (share_of actor.script.number (known_of home old)) ready.is_next ready.keeps.kept unrefused (number_low pictures home actor before old (step.Set n layer change) n ready high) there)
 
   -- a transaction that is sent
-  pub send_comes : (pictures : ℕ → Picture) (home : DeskHome) (actor : ActorOf B) (before after : Hands B) (old new : DeskView B) (n token : ℕ) (came_to : Tried) → IsReady pictures home actor before old (step.Apply n token) → refusal_of pictures (past_of actor).holdings (step.Apply n token) ≡ None → TriesSend home actor.script.number (length actor.trace + 1) n token before after old new came_to → Comes pictures home actor after old new came_to
+  pub send_comes : (pictures : ℕ → Picture) (home : DeskHome) (actor : ActorOf B) (before after : Bindings B) (old new : DeskView B) (n token : ℕ) (came_to : Tried) → IsReady pictures home actor before old (step.Apply n token) → refusal_of pictures (past_of actor).holdings (step.Apply n token) ≡ None → TriesSend home actor.script.number (length actor.trace + 1) n token before after old new came_to → Comes pictures home actor after old new came_to
   send_comes pictures home actor before after old new n token (tried.Sent arrival) ready unrefused sends =
       let by = actor.script.number in
       let s : Step = step.Apply n token in
@@ -224,7 +224,7 @@ module _ {B : Type 0} where
       (back_alone other home by place later gives.1 new exact apart gives.3)
 
   -- a frame that goes into a transaction
-  pub show_comes : (pictures : ℕ → Picture) (home : DeskHome) (actor : ActorOf B) (before after : Hands B) (old new : DeskView B) (n layer i : ℕ) (came_to : Tried) → IsReady pictures home actor before old (step.Buffer n layer i) → refusal_of pictures (past_of actor).holdings (step.Buffer n layer i) ≡ None → (came_to ≡ tried.Own 0) × Shows home actor.script.number (length actor.trace + 1) n layer i before after old new → Comes pictures home actor after old new came_to
+  pub show_comes : (pictures : ℕ → Picture) (home : DeskHome) (actor : ActorOf B) (before after : Bindings B) (old new : DeskView B) (n layer i : ℕ) (came_to : Tried) → IsReady pictures home actor before old (step.Buffer n layer i) → refusal_of pictures (past_of actor).holdings (step.Buffer n layer i) ≡ None → (came_to ≡ tried.Own 0) × Shows home actor.script.number (length actor.trace + 1) n layer i before after old new → Comes pictures home actor after old new came_to
   show_comes pictures home actor before after old new n layer i came_to ready unrefused acts =
       let by = actor.script.number in
       let s : Step = step.Buffer n layer i in
@@ -241,7 +241,7 @@ module _ {B : Type 0} where
       let held : held_in actor.parts i ≡ Some (holding.Reads lease) = ap (λ (parts : PartsOf B). held_in parts i) ready.parts ∙ shows.takes.held_there in
       let there : contents_in actor.parts n ≡ Some txn =
       ap (λ (parts : PartsOf B). contents_in parts n) ready.parts
-      ∙ ap (λ (hands : Hands B). get_or hands.transactions n None) (sym shows.takes.rest)
+      ∙ ap (λ (bindings : Bindings B). get_or bindings.transactions n None) (sym shows.takes.rest)
       ∙ edits.takes.txn_there in
       let named = names_told pictures actor (share_of by (known_of home old)) i ready.keeps.kept ∙ ap (option_map token_of) held in
       let acquired = ready.keeps.kept.of_call i (holding.Reads lease) held (numbered pictures (past_of actor).holdings n layer i lease.queue (frame_of lease).1 named unrefused) in
@@ -259,7 +259,7 @@ module _ {B : Type 0} where
         alone = λ exact other apart. back_alone other home by (length actor.trace + 1) (map right_of (option_to_list (replaced_by txn.buffers buffer))) old new exact (λ e. apart (sym e)) gives;
         has =
             edited_parts shows.without_frame after n (λ t. set_buffer t (buffer_with layer lease)) edits
-            ∙ ap (λ (hands : Hands B). with_contents (parts_of hands) n (Some now)) shows.takes.rest
+            ∙ ap (λ (bindings : Bindings B). with_contents (parts_of bindings) n (Some now)) shows.takes.rest
             ∙ ap (λ (of : PartsOf B). parts_with (with_contents of n (Some now)) i None of.stock) (sym ready.parts);
         kept = show_keeps pictures actor n layer i lease txn home old new ready.is_next ready.keeps.kept unrefused there held acquired low low_name (marked_all home txn.buffers frames) gives;
         there = there_with home (with_contents actor.parts n (Some now)) i None actor.parts.stock low_name
@@ -276,7 +276,7 @@ module _ {B : Type 0} where
       one a b e = cc
 
   -- a transaction that is merged into another
-  pub merge_comes : (pictures : ℕ → Picture) (home : DeskHome) (actor : ActorOf B) (before after : Hands B) (old new : DeskView B) (n m : ℕ) (came_to : Tried) → IsReady pictures home actor before old (step.Merge n m) → refusal_of pictures (past_of actor).holdings (step.Merge n m) ≡ None → (came_to ≡ tried.Own 0) × Merges home actor.script.number (length actor.trace + 1) n m before after old new → Comes pictures home actor after old new came_to
+  pub merge_comes : (pictures : ℕ → Picture) (home : DeskHome) (actor : ActorOf B) (before after : Bindings B) (old new : DeskView B) (n m : ℕ) (came_to : Tried) → IsReady pictures home actor before old (step.Merge n m) → refusal_of pictures (past_of actor).holdings (step.Merge n m) ≡ None → (came_to ≡ tried.Own 0) × Merges home actor.script.number (length actor.trace + 1) n m before after old new → Comes pictures home actor after old new came_to
   merge_comes pictures home actor before after old new n m came_to ready unrefused acts =
       let by = actor.script.number in
       let s : Step = step.Merge n m in
@@ -296,7 +296,7 @@ module _ {B : Type 0} where
       let too : contents_in actor.parts m ≡ Some from =
       ap (λ (parts : PartsOf B). contents_in parts m) ready.parts
       ∙ sym (get_or-set_other before.transactions n m None None (λ e. away (sym e)))
-      ∙ ap (λ (hands : Hands B). get_or hands.transactions m None) (sym merges.takes_into.txn_rest)
+      ∙ ap (λ (bindings : Bindings B). get_or bindings.transactions m None) (sym merges.takes_into.txn_rest)
       ∙ merges.takes_from.txn_there in
       let gives = all_back home by (length actor.trace + 1) (all_replaced into.buffers from.buffers) old new merges.releases in
       let same = back_same home by (length actor.trace + 1) (map right_of (all_replaced into.buffers from.buffers)) old new gives in
@@ -313,7 +313,7 @@ module _ {B : Type 0} where
         refused = no_fence pictures home actor old new done refl;
         alone = λ exact other is_other. back_alone other home by (length actor.trace + 1) (map right_of (all_replaced into.buffers from.buffers)) old new exact (λ e. is_other (sym e)) gives;
         has =
-            ap parts_of (merges.put_back ∙ ap (λ (hands : Hands B). with_txn (with_txn hands n (Some now)) m (Some empty)) (merges.takes_from.txn_rest ∙ ap (λ (hands : Hands B). with_txn hands m None) merges.takes_into.txn_rest))
+            ap parts_of (merges.put_back ∙ ap (λ (bindings : Bindings B). with_txn (with_txn bindings n (Some now)) m (Some empty)) (merges.takes_from.txn_rest ∙ ap (λ (bindings : Bindings B). with_txn bindings m None) merges.takes_into.txn_rest))
             ∙ ap (λ (transactions : List (Option (Contents ReadLeaseOf))). record (parts_of before) { transactions = transactions }) (both before.transactions n m (Some now) (Some empty) away)
             ∙ ap (λ (of : PartsOf B). with_contents (with_contents of n (Some now)) m (Some empty)) (sym ready.parts);
         kept = merge_keeps pictures actor n m into from home old new ready.is_next ready.keeps.kept unrefused there too low low_other (marked_all home into.buffers frames) (marked_all home from.buffers frames_too) gives;

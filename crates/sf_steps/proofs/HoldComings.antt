@@ -43,7 +43,7 @@ use Rattle.sf_steps.specs.Coming.{Comes, IsReady}
 use Rattle.sf_steps.specs.Forming.{cancel_fence, moving}
 use Rattle.sf_steps.specs.declared.asking.Asking.{Asking}
 use Rattle.sf_steps.specs.declared.asking.Homes.{Homes}
-use Rattle.sf_steps.specs.declared.hands.Hands.{Hands}
+use Rattle.sf_steps.specs.declared.bindings.Bindings.{Bindings}
 use Rattle.sf_steps.specs.declared.tried.Tried.{Tried}
 use Rattle.sf_steps.proofs.CallComings.{after_again, after_back, call_comes, called, ended_turn, ending_came, ends_left, ends_on, formed, held_there, kept_came, names_there, parts_again, there_filled, there_with, unlooked}
 
@@ -62,7 +62,7 @@ same_fence (work.Fresh turn) points fence = refl
 same_fence (work.Drawn inside pixels) points fence = refl
 
 module _ {B : Type 0} where
-  pub request_comes : (pictures : ℕ → Picture) (home : DeskHome) (actor : ActorOf B) (before after : Hands B) (old new : DeskView B) (name : ℕ) (came_to : Tried) → IsReady pictures home actor before old (step.Request name) → refusal_of pictures (past_of actor).holdings (step.Request name) ≡ None → Acts pictures home actor.script.number (length actor.trace + 1) (step.Request name) before after old new came_to → Comes pictures home actor after old new came_to
+  pub request_comes : (pictures : ℕ → Picture) (home : DeskHome) (actor : ActorOf B) (before after : Bindings B) (old new : DeskView B) (name : ℕ) (came_to : Tried) → IsReady pictures home actor before old (step.Request name) → refusal_of pictures (past_of actor).holdings (step.Request name) ≡ None → Acts pictures home actor.script.number (length actor.trace + 1) (step.Request name) before after old new came_to → Comes pictures home actor after old new came_to
   request_comes pictures home actor before after old new name came_to ready unrefused makes =
       let s : Step = step.Request name in
       let lease = makes.forms.0 in
@@ -78,19 +78,19 @@ module _ {B : Type 0} where
       let named = names_told pictures actor _ name ready.keeps.kept ∙ ap (λ (h : Option (Holding B)). option_map token_of h) held in
       call_comes pictures home actor s (with_held before name None) after after old old new asking came_to refl refl (unlooked home old)
       (formed home actor.script.number (length actor.trace + 1) makes.asking asking makes.taken (with_held before name None) after old new came_to takes.rest makes.forms.2 makes.tries)
-      (λ reply called_view was made ends hands.
+      (λ reply called_view was made ends bindings.
       elim (request_keeps pictures actor name lease home old called_view reply ready.is_next ready.keeps.kept unrefused held low below (marked home lease.queue.0 there) made) [
         | inl given ↦
             kept_came pictures home actor s after called_view new queue asked reply (parts_with actor.parts name (Some (holding.Lends (requested_lease lease))) actor.parts.stock)
             (λ told is. request_tells queue name lease (drawn_picture lease.work) (past_of actor).holdings told reply named is)
             refl (ap (λ (r : QReply B). r.ends) given.1) ends given.2
-            (ap (λ (h : Hands B). parts_of h) (hands ∙ ap (received asking.homes (with_held before name None)) given.1) ∙ after_again actor before name (Some (holding.Lends (requested_lease lease))) ready.parts)
+            (ap (λ (h : Bindings B). parts_of h) (bindings ∙ ap (received asking.homes (with_held before name None)) given.1) ∙ after_again actor before name (Some (holding.Lends (requested_lease lease))) ready.parts)
             (there_filled home actor.parts name (holding.Lends (requested_lease lease)) actor.parts.stock low ready.keeps.there there)
         | inr refused ↦
             kept_came pictures home actor s after called_view new queue asked reply actor.parts
             (λ told is. request_tells queue name lease (drawn_picture lease.work) (past_of actor).holdings told reply named is)
             refl (ap (λ (r : QReply B). r.ends) refused.1) ends refused.2
-            (ap (λ (h : Hands B). parts_of h) (hands ∙ ap (received asking.homes (with_held before name None)) refused.1) ∙ after_back actor before name (holding.Lends lease) ready.parts takes.held_there)
+            (ap (λ (h : Bindings B). parts_of h) (bindings ∙ ap (received asking.homes (with_held before name None)) refused.1) ∙ after_back actor before name (holding.Lends lease) ready.parts takes.held_there)
             ready.keeps.there
       ])
 
@@ -100,7 +100,7 @@ module _ {B : Type 0} where
       apart : None ≡ Some now → ⊥
       apart e = cc
 
-  pub release_comes : (pictures : ℕ → Picture) (home : DeskHome) (actor : ActorOf B) (before after : Hands B) (old new : DeskView B) (name : ℕ) (points : List (ℕ × ℕ)) (came_to : Tried) → IsReady pictures home actor before old (step.Release name points) → refusal_of pictures (past_of actor).holdings (step.Release name points) ≡ None → Acts pictures home actor.script.number (length actor.trace + 1) (step.Release name points) before after old new came_to → Comes pictures home actor after old new came_to
+  pub release_comes : (pictures : ℕ → Picture) (home : DeskHome) (actor : ActorOf B) (before after : Bindings B) (old new : DeskView B) (name : ℕ) (points : List (ℕ × ℕ)) (came_to : Tried) → IsReady pictures home actor before old (step.Release name points) → refusal_of pictures (past_of actor).holdings (step.Release name points) ≡ None → Acts pictures home actor.script.number (length actor.trace + 1) (step.Release name points) before after old new came_to → Comes pictures home actor after old new came_to
   release_comes pictures home actor before after old new name points came_to ready unrefused makes =
       let s : Step = step.Release name points in
       let lease = makes.forms.0 in
@@ -116,19 +116,19 @@ module _ {B : Type 0} where
       let queue = (mark_among home.marks lease.queue.0).queue in
       call_comes pictures home actor s (with_held before name None) after after old old new asking came_to refl refl (unlooked home old)
       (formed home actor.script.number (length actor.trace + 1) makes.asking asking makes.taken (with_held before name None) after old new came_to takes.rest makes.forms.2 makes.tries)
-      (λ reply called_view was made ends hands.
+      (λ reply called_view was made ends bindings.
       elim (release_keeps pictures actor name points lease home old called_view reply ready.is_next ready.keeps.kept held low (marked home lease.queue.0 there) made) [
         | inl given ↦
             kept_came pictures home actor s after called_view new queue asked reply (parts_with actor.parts name None actor.parts.stock)
             (λ told is. release_tells queue name points lease fence (past_of actor).holdings told reply is)
             refl (ap (λ (r : QReply B). r.ends) given.0) ends given.1
-            (ap (λ (h : Hands B). parts_of h) (hands ∙ ap (received asking.homes (with_held before name None)) given.0) ∙ ap (λ (p : PartsOf B). parts_with p name None p.stock) (sym ready.parts))
+            (ap (λ (h : Bindings B). parts_of h) (bindings ∙ ap (received asking.homes (with_held before name None)) given.0) ∙ ap (λ (p : PartsOf B). parts_with p name None p.stock) (sym ready.parts))
             (there_with home actor.parts name None actor.parts.stock low ready.keeps.there (λ now e. none_some now e))
         | inr refused ↦
             kept_came pictures home actor s after called_view new queue asked reply actor.parts
             (λ told is. release_tells queue name points lease fence (past_of actor).holdings told reply is)
             refl (ap (λ (r : QReply B). r.ends) refused.1) ends refused.2
-            (ap (λ (h : Hands B). parts_of h) (hands ∙ ap (received asking.homes (with_held before name None)) refused.1) ∙ after_back actor before name (holding.Reads lease) ready.parts takes.held_there)
+            (ap (λ (h : Bindings B). parts_of h) (bindings ∙ ap (received asking.homes (with_held before name None)) refused.1) ∙ after_back actor before name (holding.Reads lease) ready.parts takes.held_there)
             ready.keeps.there
       ])
 
@@ -143,8 +143,8 @@ module _ {B : Type 0} where
   queue_ended queue parts name p time crop points lease picture shown fence (plain.Attached slot buffer) reply held is = absurd is
   queue_ended queue parts name p time crop points lease picture shown fence (plain.Acquired item dropped) reply held is = absurd is
 
-  -- what the hands hold of a lease that was queued
-  queued_parts : (before : Hands B) (homes : Homes) (name frame : ℕ) (queue : QueueId) (lease : WriteLeaseOf) (picture : Picture) (w : Work) → homes.lent ≡ name → homes.held ≡ lease.held → parts_of (placed homes (with_held before name None) (owes queue lease frame picture w)) ≡ parts_with (parts_of before) name (left_owed queue lease frame picture w) (parts_of before).stock
+  -- what the bindings hold of a lease that was queued
+  queued_parts : (before : Bindings B) (homes : Homes) (name frame : ℕ) (queue : QueueId) (lease : WriteLeaseOf) (picture : Picture) (w : Work) → homes.lent ≡ name → homes.held ≡ lease.held → parts_of (placed homes (with_held before name None) (owes queue lease frame picture w)) ≡ parts_with (parts_of before) name (left_owed queue lease frame picture w) (parts_of before).stock
   queued_parts before homes name frame queue lease picture (work.Fresh turn) same buffer =
       ap (λ (n : ℕ). parts_of (with_held (with_held before name None) n (Some (holding.Owes (owing_of queue lease frame turn picture) homes.held)))) same
       ∙ ap (λ (h : Held). parts_of (with_held (with_held before name None) name (Some (holding.Owes (owing_of queue lease frame turn picture) h)))) buffer
@@ -158,7 +158,7 @@ module _ {B : Type 0} where
       one e = cc
   owed_queue home queue lease frame picture (work.Drawn inside pixels) now there e = none_some now e
 
-  pub queue_comes : (pictures : ℕ → Picture) (home : DeskHome) (actor : ActorOf B) (before after : Hands B) (old new : DeskView B) (name p : ℕ) (time : Option ℕ) (crop : Option (ℕ × ℕ × ℕ × ℕ)) (points : List (ℕ × ℕ)) (came_to : Tried) → IsReady pictures home actor before old (step.Queue name p time crop points) → refusal_of pictures (past_of actor).holdings (step.Queue name p time crop points) ≡ None → Acts pictures home actor.script.number (length actor.trace + 1) (step.Queue name p time crop points) before after old new came_to → Comes pictures home actor after old new came_to
+  pub queue_comes : (pictures : ℕ → Picture) (home : DeskHome) (actor : ActorOf B) (before after : Bindings B) (old new : DeskView B) (name p : ℕ) (time : Option ℕ) (crop : Option (ℕ × ℕ × ℕ × ℕ)) (points : List (ℕ × ℕ)) (came_to : Tried) → IsReady pictures home actor before old (step.Queue name p time crop points) → refusal_of pictures (past_of actor).holdings (step.Queue name p time crop points) ≡ None → Acts pictures home actor.script.number (length actor.trace + 1) (step.Queue name p time crop points) before after old new came_to → Comes pictures home actor after old new came_to
   queue_comes pictures home actor before after old new name p time crop points came_to ready unrefused makes =
       let by = actor.script.number in
       let s : Step = step.Queue name p time crop points in
@@ -176,7 +176,7 @@ module _ {B : Type 0} where
       let named = names_told pictures actor _ name ready.keeps.kept ∙ ap (λ (h : Option (Holding B)). option_map token_of h) held in
       call_comes pictures home actor s (with_held before name None) after after old old new asking came_to refl refl (unlooked home old)
       (formed home by (length actor.trace + 1) makes.asking asking makes.taken (with_held before name None) after old new came_to takes.rest makes.forms.2 makes.tries)
-      (λ reply called_view was made ends hands.
+      (λ reply called_view was made ends bindings.
       elim (queue_keeps pictures actor name p time crop points lease home old called_view reply (share_of by (known_of home new)) ready.is_next ready.keeps.kept unrefused ready.pictured held low below marking made (ends_on by home reply.ends called_view new ends) (ends_left reply.ends called_view new ends)) [
         | inl given ↦
             let left : Option (Holding B) = left_owed queue lease given.0 (pictures p) lease.work in
@@ -184,7 +184,7 @@ module _ {B : Type 0} where
             (λ told is. queue_tells queue name p time crop points lease (drawn_picture lease.work) (pictures p) (crop_of lease.held crop) (fence_of points) (past_of actor).holdings told reply named is)
             (λ told is. queue_ended queue actor.parts name p time crop points lease (pictures p) (crop_of lease.held crop) (fence_of points) told reply held is)
             given.2
-            (ap (λ (h : Hands B). parts_of h) (hands ∙ ap (received asking.homes (with_held before name None)) given.1)
+            (ap (λ (h : Bindings B). parts_of h) (bindings ∙ ap (received asking.homes (with_held before name None)) given.1)
             ∙ queued_parts before asking.homes name given.0 queue lease (pictures p) lease.work refl refl
             ∙ ap (λ (parts : PartsOf B). parts_with parts name left parts.stock) (sym ready.parts))
             (there_with home actor.parts name left actor.parts.stock low ready.keeps.there
@@ -194,7 +194,7 @@ module _ {B : Type 0} where
             (λ told is. queue_tells queue name p time crop points lease (drawn_picture lease.work) (pictures p) (crop_of lease.held crop) (fence_of points) (past_of actor).holdings told reply named is)
             (λ told is. queue_ended queue actor.parts name p time crop points lease (pictures p) (crop_of lease.held crop) (fence_of points) told reply held is)
             refused.2
-            (ap (λ (h : Hands B). parts_of h) (hands ∙ ap (received asking.homes (with_held before name None)) refused.1) ∙ after_back actor before name (holding.Lends lease) ready.parts takes.held_there)
+            (ap (λ (h : Bindings B). parts_of h) (bindings ∙ ap (received asking.homes (with_held before name None)) refused.1) ∙ after_back actor before name (holding.Lends lease) ready.parts takes.held_there)
             ready.keeps.there
       ])
 
@@ -207,7 +207,7 @@ module _ {B : Type 0} where
   cancel_ended queue parts name points lease fence (plain.Attached slot buffer) reply held is = absurd is
   cancel_ended queue parts name points lease fence (plain.Acquired item dropped) reply held is = absurd is
 
-  pub cancel_comes : (pictures : ℕ → Picture) (home : DeskHome) (actor : ActorOf B) (before after : Hands B) (old new : DeskView B) (name : ℕ) (points : List (ℕ × ℕ)) (came_to : Tried) → IsReady pictures home actor before old (step.Cancel name points) → refusal_of pictures (past_of actor).holdings (step.Cancel name points) ≡ None → Acts pictures home actor.script.number (length actor.trace + 1) (step.Cancel name points) before after old new came_to → Comes pictures home actor after old new came_to
+  pub cancel_comes : (pictures : ℕ → Picture) (home : DeskHome) (actor : ActorOf B) (before after : Bindings B) (old new : DeskView B) (name : ℕ) (points : List (ℕ × ℕ)) (came_to : Tried) → IsReady pictures home actor before old (step.Cancel name points) → refusal_of pictures (past_of actor).holdings (step.Cancel name points) ≡ None → Acts pictures home actor.script.number (length actor.trace + 1) (step.Cancel name points) before after old new came_to → Comes pictures home actor after old new came_to
   cancel_comes pictures home actor before after old new name points came_to ready unrefused makes =
       let by = actor.script.number in
       let s : Step = step.Cancel name points in
@@ -225,20 +225,20 @@ module _ {B : Type 0} where
       let forms : makes.asking ≡ asking = makes.forms.2 ∙ ap (λ (f : Fence). moving lease.queue name name lease.held (call.Cancel lease f)) (same_fence lease.work (fence_of points) lease.fence) in
       call_comes pictures home actor s (with_held before name None) after after old old new asking came_to refl refl (unlooked home old)
       (formed home by (length actor.trace + 1) makes.asking asking makes.taken (with_held before name None) after old new came_to takes.rest forms makes.tries)
-      (λ reply called_view was made ends hands.
+      (λ reply called_view was made ends bindings.
       elim (cancel_keeps pictures actor name points lease home old called_view reply (share_of by (known_of home new)) ready.is_next ready.keeps.kept held low (marked home lease.queue.0 there) made (ends_on by home reply.ends called_view new ends) (ends_left reply.ends called_view new ends)) [
         | inl given ↦
             ending_came pictures home actor s after new queue asked reply (parts_with actor.parts name None actor.parts.stock)
             (λ told is. cancel_tells queue name points lease fence (past_of actor).holdings told reply is)
             (λ told is. cancel_ended queue actor.parts name points lease fence told reply held is)
             given.1
-            (ap (λ (h : Hands B). parts_of h) (hands ∙ ap (received asking.homes (with_held before name None)) given.0) ∙ ap (λ (p : PartsOf B). parts_with p name None p.stock) (sym ready.parts))
+            (ap (λ (h : Bindings B). parts_of h) (bindings ∙ ap (received asking.homes (with_held before name None)) given.0) ∙ ap (λ (p : PartsOf B). parts_with p name None p.stock) (sym ready.parts))
             (there_with home actor.parts name None actor.parts.stock low ready.keeps.there (λ now e. none_some now e))
         | inr refused ↦
             ending_came pictures home actor s after new queue asked reply actor.parts
             (λ told is. cancel_tells queue name points lease fence (past_of actor).holdings told reply is)
             (λ told is. cancel_ended queue actor.parts name points lease fence told reply held is)
             refused.2
-            (ap (λ (h : Hands B). parts_of h) (hands ∙ ap (received asking.homes (with_held before name None)) refused.1) ∙ after_back actor before name (holding.Lends lease) ready.parts takes.held_there)
+            (ap (λ (h : Bindings B). parts_of h) (bindings ∙ ap (received asking.homes (with_held before name None)) refused.1) ∙ after_back actor before name (holding.Lends lease) ready.parts takes.held_there)
             ready.keeps.there
       ])

@@ -8,7 +8,7 @@ use Rattle.sf_actor.specs.Tests.{refusal_of}
 use Rattle.sf_actor.specs.Tries.{ActorOf, past_of}
 use Rattle.sf_steps.specs.Acting.{Acts}
 use Rattle.sf_steps.specs.Coming.{Comes, IsReady}
-use Rattle.sf_steps.specs.declared.hands.Hands.{Hands}
+use Rattle.sf_steps.specs.declared.bindings.Bindings.{Bindings}
 use Rattle.sf_steps.specs.declared.tried.Tried.{Tried}
 use Rattle.sf_steps.proofs.DrawComings.{draw_comes}
 use Rattle.sf_steps.proofs.DropComings.{disconnect_comes}
@@ -20,7 +20,7 @@ use Rattle.sf_steps.proofs.SetComings.{abandon_comes, async_comes, connect_comes
 use Rattle.sf_steps.proofs.TakeComings.{acquire_comes, dequeue_comes, dequeue_wait_comes}
 
 module _ {B : Type 0} where
-  pub acts_comes : (pictures : ℕ → Picture) (home : DeskHome) (actor : ActorOf B) (before after : Hands B) (old new : DeskView B) (s : Step) (came_to : Tried) → IsReady pictures home actor before old s → refusal_of pictures (past_of actor).holdings s ≡ None → Acts pictures home actor.script.number (length actor.trace + 1) s before after old new came_to → Comes pictures home actor after old new came_to
+  pub acts_comes : (pictures : ℕ → Picture) (home : DeskHome) (actor : ActorOf B) (before after : Bindings B) (old new : DeskView B) (s : Step) (came_to : Tried) → IsReady pictures home actor before old s → refusal_of pictures (past_of actor).holdings s ≡ None → Acts pictures home actor.script.number (length actor.trace + 1) s before after old new came_to → Comes pictures home actor after old new came_to
   acts_comes pictures home actor before after old new (step.Connect q) came_to ready unrefused acts = connect_comes pictures home actor before after old new q came_to ready unrefused acts
   acts_comes pictures home actor before after old new (step.Disconnect q) came_to ready unrefused acts = disconnect_comes pictures home actor before after old new q came_to ready unrefused acts
   acts_comes pictures home actor before after old new (step.MaxDequeued q n) came_to ready unrefused acts = most_dequeued_comes pictures home actor before after old new q n came_to ready unrefused acts

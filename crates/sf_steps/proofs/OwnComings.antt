@@ -30,7 +30,7 @@ use Rattle.sf_actor.proofs.Timing.{point_reached, signal_keeps, wait_keeps}
 use Rattle.sf_steps.specs.Acting.{Signals, Waits}
 use Rattle.sf_steps.specs.Actors.{parts_of}
 use Rattle.sf_steps.specs.Coming.{Comes, DoneWith, IsReady, after_step, reply_with}
-use Rattle.sf_steps.specs.declared.hands.Hands.{Hands}
+use Rattle.sf_steps.specs.declared.bindings.Bindings.{Bindings}
 use Rattle.sf_steps.specs.declared.tried.Tried.{Tried}
 use Rattle.sf_steps.specs.declared.tried.Tried.TheVariants as tried
 
@@ -63,25 +63,25 @@ module _ {B : Type 0} where
       none_some : (fence : Fence) → None ≡ Some fence → ⊥
       none_some fence e = cc
 
-  -- the actor keeps what it keeps with what is in its hands
-  pub held_as : (pictures : ℕ → Picture) (actor : ActorOf B) (hands : Hands B) (done : Done) (reply : Reply) (parts : PartsOf B) (share : Share B) → parts_of hands ≡ parts → reply ≡ reply_at actor.script.number (at_end actor.trace done) → ActorKept pictures (stepped actor done parts) share → ActorKept pictures (after_step actor hands done reply) share
-  held_as pictures actor hands done reply parts share same told kept =
-      subst (λ (r : Reply). ActorKept pictures (after_step actor hands done r) share) (sym told)
+  -- the actor keeps what it keeps with what is in its bindings
+  pub held_as : (pictures : ℕ → Picture) (actor : ActorOf B) (bindings : Bindings B) (done : Done) (reply : Reply) (parts : PartsOf B) (share : Share B) → parts_of bindings ≡ parts → reply ≡ reply_at actor.script.number (at_end actor.trace done) → ActorKept pictures (stepped actor done parts) share → ActorKept pictures (after_step actor bindings done reply) share
+  held_as pictures actor bindings done reply parts share same told kept =
+      subst (λ (r : Reply). ActorKept pictures (after_step actor bindings done r) share) (sym told)
       (subst (λ (p : PartsOf B). ActorKept pictures (stepped actor done p) share) (sym same) kept)
 
   -- a step that its actor answers, after which the actor has these parts
-  pub record OwnDone (pictures : ℕ → Picture) (home : DeskHome) (actor : ActorOf B) (hands : Hands B) (old new : DeskView B) (done : Done) (parts : PartsOf B) : Type 0 where
+  pub record OwnDone (pictures : ℕ → Picture) (home : DeskHome) (actor : ActorOf B) (bindings : Bindings B) (old new : DeskView B) (done : Done) (parts : PartsOf B) : Type 0 where
     pub signals : new.times.signals ≡ old.times.signals ++ signal_of done.step
     pub ended : new.turns.leaves ≡ old.turns.leaves ++ ended_by actor.parts done
     pub entered : EntersInTurn home actor old new done
     pub refused : IsRefusedByFence pictures home actor old new done
     pub alone : home.is_exact ≡ true → (other : ℕ) → other ≢ actor.script.number → GoesOn other (known_of home old) (known_of home new)
-    pub has : parts_of hands ≡ parts
+    pub has : parts_of bindings ≡ parts
     pub kept : ActorKept pictures (stepped actor done parts) (share_of actor.script.number (known_of home new))
     pub there : AreThere home parts
 
-  pub own_done : (pictures : ℕ → Picture) (home : DeskHome) (actor : ActorOf B) (hands : Hands B) (old new : DeskView B) (done : Done) (parts : PartsOf B) (reply : Reply) → reply ≡ reply_at actor.script.number (at_end actor.trace done) → OwnDone pictures home actor hands old new done parts → DoneWith pictures home actor hands old new reply
-  own_done pictures home actor hands old new done parts reply told own = record {
+  pub own_done : (pictures : ℕ → Picture) (home : DeskHome) (actor : ActorOf B) (bindings : Bindings B) (old new : DeskView B) (done : Done) (parts : PartsOf B) (reply : Reply) → reply ≡ reply_at actor.script.number (at_end actor.trace done) → OwnDone pictures home actor bindings old new done parts → DoneWith pictures home actor bindings old new reply
+  own_done pictures home actor bindings old new done parts reply told own = record {
     done = done;
     does = record {
       done = done;
@@ -96,7 +96,7 @@ module _ {B : Type 0} where
       alone = own.alone;
     };
     keeps = record {
-      kept = held_as pictures actor hands done reply parts (share_of actor.script.number (known_of home new)) own.has told own.kept;
+      kept = held_as pictures actor bindings done reply parts (share_of actor.script.number (known_of home new)) own.has told own.kept;
       there = subst (AreThere home) (sym own.has) own.there;
     };
   }
@@ -119,7 +119,7 @@ module _ {B : Type 0} where
       let all = sees.all in
       omega (arith, shown, more, points, locked, turns, all)
 
-  pub signal_comes : (pictures : ℕ → Picture) (home : DeskHome) (actor : ActorOf B) (before after : Hands B) (old new : DeskView B) (t v : ℕ) (came_to : Tried) → IsReady pictures home actor before old (step.Signal t v) → refusal_of pictures (past_of actor).holdings (step.Signal t v) ≡ None → Signals t v before after old new came_to → Comes pictures home actor after old new came_to
+  pub signal_comes : (pictures : ℕ → Picture) (home : DeskHome) (actor : ActorOf B) (before after : Bindings B) (old new : DeskView B) (t v : ℕ) (came_to : Tried) → IsReady pictures home actor before old (step.Signal t v) → refusal_of pictures (past_of actor).holdings (step.Signal t v) ≡ None → Signals t v before after old new came_to → Comes pictures home actor after old new came_to
   signal_comes pictures home actor before after old new t v came_to ready unrefused signals =
       let done : Done = record { step = step.Signal t v; answered = answered.Own 0 } in
       let within = ready.playable.timelines 0 t (omega arith) in
@@ -131,18 +131,18 @@ module _ {B : Type 0} where
         entered = no_draw home actor old new done refl;
         refused = no_fence pictures home actor old new done refl;
         alone = λ exact other apart. signal_goes other home old new (t, v) signals.times signals.signalled;
-        has = ap parts_of signals.hands ∙ sym ready.parts;
+        has = ap parts_of signals.bindings ∙ sym ready.parts;
         kept = signal_keeps pictures actor t v home old new ready.is_next ready.keeps.kept within.0 within.1 signals.times signals.signalled;
         there = ready.keeps.there;
       }))
 
-  pub wait_comes : (pictures : ℕ → Picture) (home : DeskHome) (actor : ActorOf B) (before after : Hands B) (old new : DeskView B) (t v : ℕ) (came_to : Tried) → IsReady pictures home actor before old (step.Wait t v) → refusal_of pictures (past_of actor).holdings (step.Wait t v) ≡ None → Waits home t v before after old new came_to → Comes pictures home actor after old new came_to
+  pub wait_comes : (pictures : ℕ → Picture) (home : DeskHome) (actor : ActorOf B) (before after : Bindings B) (old new : DeskView B) (t v : ℕ) (came_to : Tried) → IsReady pictures home actor before old (step.Wait t v) → refusal_of pictures (past_of actor).holdings (step.Wait t v) ≡ None → Waits home t v before after old new came_to → Comes pictures home actor after old new came_to
   wait_comes pictures home actor before after old new t v came_to ready unrefused waits =
       let done : Done = record { step = step.Wait t v; answered = answered.Own 0 } in
       let seen = waits.seen in
       let sees = waits.sees in
       let within = ready.playable.timelines 0 t (omega arith) in
-      let has = ap parts_of waits.hands ∙ sym ready.parts in
+      let has = ap parts_of waits.bindings ∙ sym ready.parts in
       elim (cases_Bool (nat_lt (slice_index seen.values (t - 1)) v)) [
         | inl below ↦
             let came : came_to ≡ tried.NotYet = subst (λ (b : Bool). came_to ≡ (if b then tried.NotYet else tried.Own 0)) below waits.answers in

@@ -5,7 +5,7 @@ use Rattle.std.proofs.lemmas.Bool.{cases_Bool}
 use Rattle.sf_picture.specs.declared.picture.Picture.{Picture}
 use Rattle.sf_actor.specs.Scripts.{picture_at}
 use Rattle.sf_scene.specs.Scene.{has_picture}
-use Rattle.sf_steps.specs.Hands.{is_numbered}
+use Rattle.sf_steps.specs.Bindings.{is_numbered}
 
 pub not_found : (pictures : List Picture) (number : ℕ) → find (is_numbered number) pictures ≡ None → has_picture pictures number ≡ false
 not_found [] number e = refl

@@ -28,8 +28,8 @@ use Rattle.sf_steps.specs.Doing.{HasQueueOf}
 use Rattle.sf_steps.specs.Drawing.{TakesPicture}
 use Rattle.sf_steps.specs.Editing.{AreThere, HoldsShown, IsThere}
 use Rattle.sf_steps.specs.Forming.{AreOfTable, ArePoints, IsCrop, permits_of}
-use Rattle.sf_steps.specs.Hands.{holdings_of}
-use Rattle.sf_steps.specs.declared.hands.Hands.{Hands}
+use Rattle.sf_steps.specs.Bindings.{holdings_of}
+use Rattle.sf_steps.specs.declared.bindings.Bindings.{Bindings}
 use Rattle.sf_steps.proofs.HoldingLemmas.{name_in-held, transaction_in-held}
 
 some_none : {A : Type 0} (a : A) → Some a ≡ None → ⊥
@@ -110,91 +110,91 @@ module _ {B : Type 0} where
   can_move (Some (holding.Reads lease)) is framed = λ (none : lease.frame ≡ 0). false≢true (sym framed ∙ eq-eqb lease.frame 0 none)
   can_move (Some (holding.Frees queue loose)) is framed = absurd (false≢true is)
 
-  number_holds : (hands : Hands B) (number : ℕ) → is_none (transaction_in (holdings_of hands) number) ≡ false → is_some (get_or hands.transactions number None) ≡ true
-  number_holds hands number e = filled_so (get_or hands.transactions number None) (subst (λ (o : Option _). is_none o ≡ false) (transaction_in-held hands number) e)
+  number_holds : (bindings : Bindings B) (number : ℕ) → is_none (transaction_in (holdings_of bindings) number) ≡ false → is_some (get_or bindings.transactions number None) ≡ true
+  number_holds bindings number e = filled_so (get_or bindings.transactions number None) (subst (λ (o : Option _). is_none o ≡ false) (transaction_in-held bindings number) e)
 
-  module _ (pictures : ℕ → Picture) (table : TableId) (home : DeskHome) (actor : ActorOf B) (hands : Hands B) (view : DeskView B) (s : Step) (ready : IsReady pictures home actor hands view s) where
+  module _ (pictures : ℕ → Picture) (table : TableId) (home : DeskHome) (actor : ActorOf B) (bindings : Bindings B) (view : DeskView B) (s : Step) (ready : IsReady pictures home actor bindings view s) where
     -- what the trace tells of names and numbers is what they hold
-    pub holds_told : holdings_of hands ≡ (past_of actor).holdings
+    pub holds_told : holdings_of bindings ≡ (past_of actor).holdings
     holds_told = ap (λ (parts : PartsOf B). plain_of parts) (sym ready.parts) ∙ ready.keeps.kept.has
 
-    queue_there : (name : ℕ) → HasQueueOf home (name_in (holdings_of hands) name)
+    queue_there : (name : ℕ) → HasQueueOf home (name_in (holdings_of bindings) name)
     queue_there name =
-        subst (HasQueueOf home) (sym (name_in-held hands name))
-        (held_queue home (get_or hands.names name None) (λ held there. ready.keeps.there.names name held (ap (λ (parts : PartsOf B). held_in parts name) ready.parts ∙ there)))
+        subst (HasQueueOf home) (sym (name_in-held bindings name))
+        (held_queue home (get_or bindings.names name None) (λ held there. ready.keeps.there.names name held (ap (λ (parts : PartsOf B). held_in parts name) ready.parts ∙ there)))
 
-    frames_there : (number : ℕ) → AreThere home (get_or hands.transactions number None)
+    frames_there : (number : ℕ) → AreThere home (get_or bindings.transactions number None)
     frames_there number =
-        frames_of home (get_or hands.transactions number None) (λ txn there. ready.keeps.there.frames number txn (ap (λ (parts : PartsOf B). contents_in parts number) ready.parts ∙ there))
+        frames_of home (get_or bindings.transactions number None) (λ txn there. ready.keeps.there.frames number txn (ap (λ (parts : PartsOf B). contents_in parts number) ready.parts ∙ there))
 
-    shown_there : (name : ℕ) (held : Holding B) → get_or hands.names name None ≡ Some held → ShowsPictures pictures held
+    shown_there : (name : ℕ) (held : Holding B) → get_or bindings.names name None ≡ Some held → ShowsPictures pictures held
     shown_there name held there = ready.keeps.kept.shows name held (ap (λ (parts : PartsOf B). held_in parts name) ready.parts ∙ there)
 
-    permits_left : is_dequeue s ≡ true → 0 < length (permits_of hands)
+    permits_left : is_dequeue s ≡ true → 0 < length (permits_of bindings)
     permits_left is =
         let enough = ready.keeps.kept.permits.enough in
         let one = one_to_come actor.script.steps (length actor.trace) s ready.is_next is in
-        let sized : length actor.parts.stock ≡ length (permits_of hands) = ap (λ (parts : PartsOf B). length parts.stock) ready.parts in
+        let sized : length actor.parts.stock ≡ length (permits_of bindings) = ap (λ (parts : PartsOf B). length parts.stock) ready.parts in
         omega (arith, enough, one, sized)
 
-    draws_so : (name picture : ℕ) → first_met (tests_of pictures (holdings_of hands) (step.Draw name picture)) ≡ None → TakesPicture (pictures picture) (get_or hands.names name None)
+    draws_so : (name picture : ℕ) → first_met (tests_of pictures (holdings_of bindings) (step.Draw name picture)) ≡ None → TakesPicture (pictures picture) (get_or bindings.names name None)
     draws_so name picture e =
-        can_show pictures picture (get_or hands.names name None) (shown_there name)
-        (subst (λ (t : Option Token). first_met ((not (is_lent t || is_owing t), empty) ∷ (can_not_show pictures picture t, bad_value) ∷ []) ≡ None) (name_in-held hands name) e)
+        can_show pictures picture (get_or bindings.names name None) (shown_there name)
+        (subst (λ (t : Option Token). first_met ((not (is_lent t || is_owing t), empty) ∷ (can_not_show pictures picture t, bad_value) ∷ []) ≡ None) (name_in-held bindings name) e)
 
-    moves_so : (number layer name : ℕ) → first_met (tests_of pictures (holdings_of hands) (step.Buffer number layer name)) ≡ None → (is_some (get_or hands.transactions number None) ≡ true) × HoldsShown (get_or hands.names name None)
+    moves_so : (number layer name : ℕ) → first_met (tests_of pictures (holdings_of bindings) (step.Buffer number layer name)) ≡ None → (is_some (get_or bindings.transactions number None) ≡ true) × HoldsShown (get_or bindings.names name None)
     moves_so number layer name e =
-        let held = name_in (holdings_of hands) name in
-        let first = unmet (is_none (transaction_in (holdings_of hands) number) || not (is_frame held)) empty ((is_frameless held, bad_value) ∷ []) e in
-        let both = neither (is_none (transaction_in (holdings_of hands) number)) (not (is_frame held)) first.0 in
+        let held = name_in (holdings_of bindings) name in
+        let first = unmet (is_none (transaction_in (holdings_of bindings) number) || not (is_frame held)) empty ((is_frameless held, bad_value) ∷ []) e in
+        let both = neither (is_none (transaction_in (holdings_of bindings) number)) (not (is_frame held)) first.0 in
         let second = unmet (is_frameless held) bad_value [] first.1 in (
-          number_holds hands number both.0,
-          can_move (get_or hands.names name None)
-              (subst (λ (t : Option Token). is_frame t ≡ true) (name_in-held hands name) (holds_so (is_frame held) both.1))
-              (subst (λ (t : Option Token). is_frameless t ≡ false) (name_in-held hands name) second.0),
+          number_holds bindings number both.0,
+          can_move (get_or bindings.names name None)
+              (subst (λ (t : Option Token). is_frame t ≡ true) (name_in-held bindings name) (holds_so (is_frame held) both.1))
+              (subst (λ (t : Option Token). is_frameless t ≡ false) (name_in-held bindings name) second.0),
         )
 
-    merges_so : (number other : ℕ) → first_met (tests_of pictures (holdings_of hands) (step.Merge number other)) ≡ None → (is_some (get_or hands.transactions number None) ≡ true) × (is_some (get_or hands.transactions other None) ≡ true) × (other ≢ number)
+    merges_so : (number other : ℕ) → first_met (tests_of pictures (holdings_of bindings) (step.Merge number other)) ≡ None → (is_some (get_or bindings.transactions number None) ≡ true) × (is_some (get_or bindings.transactions other None) ≡ true) × (other ≢ number)
     merges_so number other e =
-        let first = unmet (is_none (transaction_in (holdings_of hands) number) || is_none (transaction_in (holdings_of hands) other)) empty ((number == other, bad_value) ∷ []) e in
-        let both = neither (is_none (transaction_in (holdings_of hands) number)) (is_none (transaction_in (holdings_of hands) other)) first.0 in
+        let first = unmet (is_none (transaction_in (holdings_of bindings) number) || is_none (transaction_in (holdings_of bindings) other)) empty ((number == other, bad_value) ∷ []) e in
+        let both = neither (is_none (transaction_in (holdings_of bindings) number)) (is_none (transaction_in (holdings_of bindings) other)) first.0 in
         let second = unmet (number == other) bad_value [] first.1 in
-        (number_holds hands number both.0, number_holds hands other both.1, λ (same : other ≡ number). false≢true (sym second.0 ∙ eq-eqb number other (sym same)))
+        (number_holds bindings number both.0, number_holds bindings other both.1, λ (same : other ≡ number). false≢true (sym second.0 ∙ eq-eqb number other (sym same)))
 
-  pub ready_may : (pictures : ℕ → Picture) (table : TableId) (home : DeskHome) (actor : ActorOf B) (hands : Hands B) (view : DeskView B) (s : Step) → IsReady pictures home actor hands view s → AreOfTable table hands → first_met (tests_of pictures (holdings_of hands) s) ≡ None → MayAct pictures table home s hands
-  ready_may pictures table home actor hands view (step.Connect queue) ready of_table e = ready.playable.queue
-  ready_may pictures table home actor hands view (step.Disconnect queue) ready of_table e = (ready.playable.queue, ready.names)
-  ready_may pictures table home actor hands view (step.MaxDequeued queue n) ready of_table e = ready.playable.queue
-  ready_may pictures table home actor hands view (step.Async queue on) ready of_table e = ready.playable.queue
-  ready_may pictures table home actor hands view (step.Dequeue queue name size) ready of_table e = (ready.playable.queue, permits_left pictures table home actor hands view (step.Dequeue queue name size) ready refl, of_table)
-  ready_may pictures table home actor hands view (step.DequeueWait queue name size) ready of_table e = (ready.playable.queue, permits_left pictures table home actor hands view (step.DequeueWait queue name size) ready refl, of_table)
-  ready_may pictures table home actor hands view (step.Request name) ready of_table e = (asked_for _ empty [] e, queue_there pictures table home actor hands view (step.Request name) ready name)
-  ready_may pictures table home actor hands view (step.Draw name picture) ready of_table e = draws_so pictures table home actor hands view (step.Draw name picture) ready name picture e
-  ready_may pictures table home actor hands view (step.Queue name picture time crop points) ready of_table e =
-      (asked_for _ empty ((shows_other picture (name_in (holdings_of hands) name), bad_value) ∷ []) e, queue_there pictures table home actor hands view (step.Queue name picture time crop points) ready name, points_are points ready.playable.timelines, crop_is crop ready.playable.ranges.2)
-  ready_may pictures table home actor hands view (step.Cancel name points) ready of_table e = (asked_for _ empty [] e, queue_there pictures table home actor hands view (step.Cancel name points) ready name, points_are points ready.playable.timelines)
-  ready_may pictures table home actor hands view (step.PDetach from to) ready of_table e = (asked_for _ empty ((is_taken (holdings_of hands) from to, occupied) ∷ []) e, queue_there pictures table home actor hands view (step.PDetach from to) ready from)
-  ready_may pictures table home actor hands view (step.PAttach queue from to) ready of_table e = (ready.playable.queue, asked_for _ empty ((is_taken (holdings_of hands) from to, occupied) ∷ []) e)
-  ready_may pictures table home actor hands view (step.MaxAcquired queue n) ready of_table e = ready.playable.queue
-  ready_may pictures table home actor hands view (step.Abandon queue) ready of_table e = ready.playable.queue
-  ready_may pictures table home actor hands view (step.Acquire queue name at) ready of_table e = ready.playable.queue
-  ready_may pictures table home actor hands view (step.Release name points) ready of_table e = (asked_for _ empty [] e, queue_there pictures table home actor hands view (step.Release name points) ready name, points_are points ready.playable.timelines)
-  ready_may pictures table home actor hands view (step.CDetach from to) ready of_table e = (asked_for _ empty ((is_taken (holdings_of hands) from to, occupied) ∷ []) e, queue_there pictures table home actor hands view (step.CDetach from to) ready from)
-  ready_may pictures table home actor hands view (step.CAttach queue from to) ready of_table e = (ready.playable.queue, asked_for _ empty ((is_taken (holdings_of hands) from to, occupied) ∷ []) e)
-  ready_may pictures table home actor hands view (step.Signal timeline value) ready of_table e = All-head IsTimeline timeline [] ready.playable.timelines
-  ready_may pictures table home actor hands view (step.Wait timeline value) ready of_table e = All-head IsTimeline timeline [] ready.playable.timelines
-  ready_may pictures table home actor hands view (step.Tx number) ready of_table e = tt
-  ready_may pictures table home actor hands view (step.Desire number time) ready of_table e = number_holds hands number (unmet _ empty [] e).0
-  ready_may pictures table home actor hands view (step.Barrier number layer frame) ready of_table e = number_holds hands number (unmet _ empty [] e).0
-  ready_may pictures table home actor hands view (step.Apply number token) ready of_table e = number_holds hands number (unmet _ empty [] e).0
-  ready_may pictures table home actor hands view (step.Set number layer change) ready of_table e = (number_holds hands number (unmet _ empty [] e).0, ready.playable.taken)
-  ready_may pictures table home actor hands view (step.Buffer number layer name) ready of_table e =
-      let so = moves_so pictures table home actor hands view (step.Buffer number layer name) ready number layer name e in
-      (so.0, so.1, ready.playable.ranges.1.low, frames_there pictures table home actor hands view (step.Buffer number layer name) ready number)
-  ready_may pictures table home actor hands view (step.Merge number other) ready of_table e =
-      let so = merges_so pictures table home actor hands view (step.Merge number other) ready number other e in
-      (so.0, so.1, so.2, frames_there pictures table home actor hands view (step.Merge number other) ready number, frames_there pictures table home actor hands view (step.Merge number other) ready other)
+  pub ready_may : (pictures : ℕ → Picture) (table : TableId) (home : DeskHome) (actor : ActorOf B) (bindings : Bindings B) (view : DeskView B) (s : Step) → IsReady pictures home actor bindings view s → AreOfTable table bindings → first_met (tests_of pictures (holdings_of bindings) s) ≡ None → MayAct pictures table home s bindings
+  ready_may pictures table home actor bindings view (step.Connect queue) ready of_table e = ready.playable.queue
+  ready_may pictures table home actor bindings view (step.Disconnect queue) ready of_table e = (ready.playable.queue, ready.names)
+  ready_may pictures table home actor bindings view (step.MaxDequeued queue n) ready of_table e = ready.playable.queue
+  ready_may pictures table home actor bindings view (step.Async queue on) ready of_table e = ready.playable.queue
+  ready_may pictures table home actor bindings view (step.Dequeue queue name size) ready of_table e = (ready.playable.queue, permits_left pictures table home actor bindings view (step.Dequeue queue name size) ready refl, of_table)
+  ready_may pictures table home actor bindings view (step.DequeueWait queue name size) ready of_table e = (ready.playable.queue, permits_left pictures table home actor bindings view (step.DequeueWait queue name size) ready refl, of_table)
+  ready_may pictures table home actor bindings view (step.Request name) ready of_table e = (asked_for _ empty [] e, queue_there pictures table home actor bindings view (step.Request name) ready name)
+  ready_may pictures table home actor bindings view (step.Draw name picture) ready of_table e = draws_so pictures table home actor bindings view (step.Draw name picture) ready name picture e
+  ready_may pictures table home actor bindings view (step.Queue name picture time crop points) ready of_table e =
+      (asked_for _ empty ((shows_other picture (name_in (holdings_of bindings) name), bad_value) ∷ []) e, queue_there pictures table home actor bindings view (step.Queue name picture time crop points) ready name, points_are points ready.playable.timelines, crop_is crop ready.playable.ranges.2)
+  ready_may pictures table home actor bindings view (step.Cancel name points) ready of_table e = (asked_for _ empty [] e, queue_there pictures table home actor bindings view (step.Cancel name points) ready name, points_are points ready.playable.timelines)
+  ready_may pictures table home actor bindings view (step.PDetach from to) ready of_table e = (asked_for _ empty ((is_taken (holdings_of bindings) from to, occupied) ∷ []) e, queue_there pictures table home actor bindings view (step.PDetach from to) ready from)
+  ready_may pictures table home actor bindings view (step.PAttach queue from to) ready of_table e = (ready.playable.queue, asked_for _ empty ((is_taken (holdings_of bindings) from to, occupied) ∷ []) e)
+  ready_may pictures table home actor bindings view (step.MaxAcquired queue n) ready of_table e = ready.playable.queue
+  ready_may pictures table home actor bindings view (step.Abandon queue) ready of_table e = ready.playable.queue
+  ready_may pictures table home actor bindings view (step.Acquire queue name at) ready of_table e = ready.playable.queue
+  ready_may pictures table home actor bindings view (step.Release name points) ready of_table e = (asked_for _ empty [] e, queue_there pictures table home actor bindings view (step.Release name points) ready name, points_are points ready.playable.timelines)
+  ready_may pictures table home actor bindings view (step.CDetach from to) ready of_table e = (asked_for _ empty ((is_taken (holdings_of bindings) from to, occupied) ∷ []) e, queue_there pictures table home actor bindings view (step.CDetach from to) ready from)
+  ready_may pictures table home actor bindings view (step.CAttach queue from to) ready of_table e = (ready.playable.queue, asked_for _ empty ((is_taken (holdings_of bindings) from to, occupied) ∷ []) e)
+  ready_may pictures table home actor bindings view (step.Signal timeline value) ready of_table e = All-head IsTimeline timeline [] ready.playable.timelines
+  ready_may pictures table home actor bindings view (step.Wait timeline value) ready of_table e = All-head IsTimeline timeline [] ready.playable.timelines
+  ready_may pictures table home actor bindings view (step.Tx number) ready of_table e = tt
+  ready_may pictures table home actor bindings view (step.Desire number time) ready of_table e = number_holds bindings number (unmet _ empty [] e).0
+  ready_may pictures table home actor bindings view (step.Barrier number layer frame) ready of_table e = number_holds bindings number (unmet _ empty [] e).0
+  ready_may pictures table home actor bindings view (step.Apply number token) ready of_table e = number_holds bindings number (unmet _ empty [] e).0
+  ready_may pictures table home actor bindings view (step.Set number layer change) ready of_table e = (number_holds bindings number (unmet _ empty [] e).0, ready.playable.taken)
+  ready_may pictures table home actor bindings view (step.Buffer number layer name) ready of_table e =
+      let so = moves_so pictures table home actor bindings view (step.Buffer number layer name) ready number layer name e in
+      (so.0, so.1, ready.playable.ranges.1.low, frames_there pictures table home actor bindings view (step.Buffer number layer name) ready number)
+  ready_may pictures table home actor bindings view (step.Merge number other) ready of_table e =
+      let so = merges_so pictures table home actor bindings view (step.Merge number other) ready number other e in
+      (so.0, so.1, so.2, frames_there pictures table home actor bindings view (step.Merge number other) ready number, frames_there pictures table home actor bindings view (step.Merge number other) ready other)
 
   -- and so a step may be tried
-  pub may_try : (pictures : ℕ → Picture) (table : TableId) (home : DeskHome) (actor : ActorOf B) (hands : Hands B) (view : DeskView B) (s : Step) → IsReady pictures home actor hands view s → AreOfTable table hands → refusal_of pictures (holdings_of hands) s ≡ None → MayAct pictures table home s hands
-  may_try pictures table home actor hands view s ready of_table e = ready_may pictures table home actor hands view s ready of_table (untested pictures (holdings_of hands) s e)
+  pub may_try : (pictures : ℕ → Picture) (table : TableId) (home : DeskHome) (actor : ActorOf B) (bindings : Bindings B) (view : DeskView B) (s : Step) → IsReady pictures home actor bindings view s → AreOfTable table bindings → refusal_of pictures (holdings_of bindings) s ≡ None → MayAct pictures table home s bindings
+  may_try pictures table home actor bindings view s ready of_table e = ready_may pictures table home actor bindings view s ready of_table (untested pictures (holdings_of bindings) s e)

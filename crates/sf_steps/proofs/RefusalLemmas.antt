@@ -8,7 +8,7 @@ use Rattle.sf_surface.specs.Tokens.{OwingOf, ReadLeaseOf, WriteLeaseOf, is_size_
 use Rattle.sf_slots.specs.declared.slot.Held.{Held}
 use Rattle.sf_actor.specs.Names.{Holdings, Token, is_frame, is_lent, is_owing, name_in, transaction_in}
 use Rattle.sf_actor.specs.Tests.{bad_value, empty, first_met, is_frameless, refusal_of}
-use Rattle.sf_steps.specs.Hands.{lent_of, owing_of, shown_of}
+use Rattle.sf_steps.specs.Bindings.{lent_of, owing_of, shown_of}
 
 -- drawing in a lent buffer
 pub draw_lent : (pictures : ℕ → Picture) (holdings : Holdings) (name picture : ℕ) (lease : WriteLeaseOf) → name_in holdings name ≡ Some (lent_of lease) → refusal_of pictures holdings (step.Draw name picture) ≡ cond (not (is_size_of (pictures picture) lease.held)) (Some 11) None

@@ -20,7 +20,7 @@ use Rattle.sf_actor.proofs.Forms.{IsQuiet, refused_keeps}
 use Rattle.sf_actor.proofs.Growing.{goes_same}
 use Rattle.sf_actor.proofs.Moving.{stepped}
 use Rattle.sf_steps.specs.Coming.{DoneWith, IsReady, after_step, reply_with}
-use Rattle.sf_steps.specs.declared.hands.Hands.{Hands}
+use Rattle.sf_steps.specs.declared.bindings.Bindings.{Bindings}
 
 none_some : {A : Type 0} (a : A) → None ≡ Some a → ⊥
 none_some a e = cc
@@ -112,15 +112,15 @@ quiet pictures place past (step.Apply n token) status failed e = record { signal
 quiet pictures place past (step.Set n layer change) status failed e = record { signals = refl; pays = refl; enters = refl; shows = refl }
 
 module _ {B : Type 0} where
-  pub refused_done : (pictures : ℕ → Picture) (home : DeskHome) (actor : ActorOf B) (hands : Hands B) (view : DeskView B) (s : Step) (status : ℕ) → IsReady pictures home actor hands view s → refusal_of pictures (past_of actor).holdings s ≡ Some status → DoneWith pictures home actor hands view view (reply_with actor.script.number (length actor.trace + 1) status [])
-  refused_done pictures home actor hands view s status ready refused =
+  pub refused_done : (pictures : ℕ → Picture) (home : DeskHome) (actor : ActorOf B) (bindings : Bindings B) (view : DeskView B) (s : Step) (status : ℕ) → IsReady pictures home actor bindings view s → refusal_of pictures (past_of actor).holdings s ≡ Some status → DoneWith pictures home actor bindings view view (reply_with actor.script.number (length actor.trace + 1) status [])
+  refused_done pictures home actor bindings view s status ready refused =
       let done : Done = record { step = s; answered = answered.Own status } in
       let test = tested pictures (past_of actor).holdings s status refused in
       let failed = failed_by (tests_of pictures (past_of actor).holdings s) status (all_fail pictures (past_of actor).holdings s) test in
       let still = quiet pictures (length actor.trace + 1) (past_of actor) s status failed test in
       let reply = reply_with actor.script.number (length actor.trace + 1) status [] in
       let kept = refused_keeps pictures actor s status (share_of actor.script.number (known_of home view)) ready.is_next refused failed still ready.keeps.kept in
-      let moved : ActorKept pictures (after_step actor hands done reply) (share_of actor.script.number (known_of home view)) =
+      let moved : ActorKept pictures (after_step actor bindings done reply) (share_of actor.script.number (known_of home view)) =
       subst (λ (parts : PartsOf B). ActorKept pictures (stepped actor done parts) (share_of actor.script.number (known_of home view))) ready.parts kept in
       record {
         done = done;

@@ -27,7 +27,7 @@ use Rattle.sf_steps.specs.Coming.{Comes, IsReady}
 use Rattle.sf_steps.specs.Forming.{named}
 use Rattle.sf_steps.specs.declared.asking.Asking.{Asking}
 use Rattle.sf_steps.specs.declared.asking.Homes.{Homes}
-use Rattle.sf_steps.specs.declared.hands.Hands.{Hands}
+use Rattle.sf_steps.specs.declared.bindings.Bindings.{Bindings}
 use Rattle.sf_steps.specs.declared.tried.Tried.{Tried}
 use Rattle.sf_steps.proofs.CallComings.{Came, call_comes, called, came_with, ended_turn, formed, none_ended, none_left, unlooked}
 
@@ -90,21 +90,21 @@ module _ {B : Type 0} where
   abandon_gives queue (plain.Attached slot held) reply is = absurd is
   abandon_gives queue (plain.Acquired item dropped) reply is = absurd is
 
-  received_none : (homes : Homes) (hands : Hands B) (reply : QReply B) → GivesNone reply → received homes hands reply ≡ hands
-  received_none homes hands reply none = λ i. with_spare (placed homes hands (none.gives i)) (none.spare i)
+  received_none : (homes : Homes) (bindings : Bindings B) (reply : QReply B) → GivesNone reply → received homes bindings reply ≡ bindings
+  received_none homes bindings reply none = λ i. with_spare (placed homes bindings (none.gives i)) (none.spare i)
 
   -- what the call of such a step came to
-  setting_came : (pictures : ℕ → Picture) (home : DeskHome) (actor : ActorOf B) (s : Step) (homes : Homes) (before after : Hands B) (old called_view new : DeskView B) (reply : QReply B) (told : PlainReply) → IsReady pictures home actor before old s → GivesNone reply → Tells (past_of actor).holdings s told reply → turn_ended actor.parts s ≡ [] → Ends reply.ends called_view new → after ≡ received homes before reply → ActorKept pictures (stepped actor (called s told) actor.parts) (share_of actor.script.number (known_of home called_view)) → Came pictures home actor s after new reply
-  setting_came pictures home actor s homes before after old called_view new reply told ready none tells unended ends hands keeps =
+  setting_came : (pictures : ℕ → Picture) (home : DeskHome) (actor : ActorOf B) (s : Step) (homes : Homes) (before after : Bindings B) (old called_view new : DeskView B) (reply : QReply B) (told : PlainReply) → IsReady pictures home actor before old s → GivesNone reply → Tells (past_of actor).holdings s told reply → turn_ended actor.parts s ≡ [] → Ends reply.ends called_view new → after ≡ received homes before reply → ActorKept pictures (stepped actor (called s told) actor.parts) (share_of actor.script.number (known_of home called_view)) → Came pictures home actor s after new reply
+  setting_came pictures home actor s homes before after old called_view new reply told ready none tells unended ends bindings keeps =
       came_with pictures home actor s after new reply told actor.parts
-      (ap (λ (h : Hands B). parts_of h) (hands ∙ received_none homes before reply none) ∙ sym ready.parts)
+      (ap (λ (h : Bindings B). parts_of h) (bindings ∙ received_none homes before reply none) ∙ sym ready.parts)
       tells
       (ap ended_turn none.ends ∙ sym (none_ended actor.parts s told unended))
       (subst (λ (view : DeskView B). ActorKept pictures (stepped actor (called s told) actor.parts) (share_of actor.script.number (known_of home view)))
       (sym (none_left reply called_view new none.ends ends)) keeps)
       ready.keeps.there
 
-  pub connect_comes : (pictures : ℕ → Picture) (home : DeskHome) (actor : ActorOf B) (before after : Hands B) (old new : DeskView B) (q : ℕ) (came_to : Tried) → IsReady pictures home actor before old (step.Connect q) → refusal_of pictures (past_of actor).holdings (step.Connect q) ≡ None → Acts pictures home actor.script.number (length actor.trace + 1) (step.Connect q) before after old new came_to → Comes pictures home actor after old new came_to
+  pub connect_comes : (pictures : ℕ → Picture) (home : DeskHome) (actor : ActorOf B) (before after : Bindings B) (old new : DeskView B) (q : ℕ) (came_to : Tried) → IsReady pictures home actor before old (step.Connect q) → refusal_of pictures (past_of actor).holdings (step.Connect q) ≡ None → Acts pictures home actor.script.number (length actor.trace + 1) (step.Connect q) before after old new came_to → Comes pictures home actor after old new came_to
   connect_comes pictures home actor before after old new q came_to ready unrefused makes =
       let by = actor.script.number in
       let s : Step = step.Connect q in
@@ -112,15 +112,15 @@ module _ {B : Type 0} where
       let asking : Asking B = named (queue_of q) 0 asked.1 in
       call_comes pictures home actor s before after after old old new asking came_to refl refl (unlooked home old)
       (formed home by asked.0 makes.asking asking makes.taken before after old new came_to makes.forms.0 makes.forms.1 makes.tries)
-      (λ reply called_view was made ends hands.
+      (λ reply called_view was made ends bindings.
       let queue = (mark_among home.marks q).queue in
       let told = (made_call home old called_view by q asked reply made).told.reply in
       let is = answer_told home old called_view by q asked reply made in
       setting_came pictures home actor s asking.homes before after old called_view new reply told ready
-      (connect_gives queue told reply is) (connect_tells queue q (past_of actor).holdings told reply is) refl ends hands
+      (connect_gives queue told reply is) (connect_tells queue q (past_of actor).holdings told reply is) refl ends bindings
       (connect_keeps pictures actor q home old called_view reply ready.is_next ready.keeps.kept made))
 
-  pub most_dequeued_comes : (pictures : ℕ → Picture) (home : DeskHome) (actor : ActorOf B) (before after : Hands B) (old new : DeskView B) (q n : ℕ) (came_to : Tried) → IsReady pictures home actor before old (step.MaxDequeued q n) → refusal_of pictures (past_of actor).holdings (step.MaxDequeued q n) ≡ None → Acts pictures home actor.script.number (length actor.trace + 1) (step.MaxDequeued q n) before after old new came_to → Comes pictures home actor after old new came_to
+  pub most_dequeued_comes : (pictures : ℕ → Picture) (home : DeskHome) (actor : ActorOf B) (before after : Bindings B) (old new : DeskView B) (q n : ℕ) (came_to : Tried) → IsReady pictures home actor before old (step.MaxDequeued q n) → refusal_of pictures (past_of actor).holdings (step.MaxDequeued q n) ≡ None → Acts pictures home actor.script.number (length actor.trace + 1) (step.MaxDequeued q n) before after old new came_to → Comes pictures home actor after old new came_to
   most_dequeued_comes pictures home actor before after old new q n came_to ready unrefused makes =
       let by = actor.script.number in
       let s : Step = step.MaxDequeued q n in
@@ -128,15 +128,15 @@ module _ {B : Type 0} where
       let asking : Asking B = named (queue_of q) 0 asked.1 in
       call_comes pictures home actor s before after after old old new asking came_to refl refl (unlooked home old)
       (formed home by asked.0 makes.asking asking makes.taken before after old new came_to makes.forms.0 makes.forms.1 makes.tries)
-      (λ reply called_view was made ends hands.
+      (λ reply called_view was made ends bindings.
       let queue = (mark_among home.marks q).queue in
       let told = (made_call home old called_view by q asked reply made).told.reply in
       let is = answer_told home old called_view by q asked reply made in
       setting_came pictures home actor s asking.homes before after old called_view new reply told ready
-      (most_dequeued_gives queue n told reply is) (most_dequeued_tells queue q n (past_of actor).holdings told reply is) refl ends hands
+      (most_dequeued_gives queue n told reply is) (most_dequeued_tells queue q n (past_of actor).holdings told reply is) refl ends bindings
       (most_dequeued_keeps pictures actor q n home old called_view reply ready.is_next ready.keeps.kept made))
 
-  pub async_comes : (pictures : ℕ → Picture) (home : DeskHome) (actor : ActorOf B) (before after : Hands B) (old new : DeskView B) (q : ℕ) (on : Bool) (came_to : Tried) → IsReady pictures home actor before old (step.Async q on) → refusal_of pictures (past_of actor).holdings (step.Async q on) ≡ None → Acts pictures home actor.script.number (length actor.trace + 1) (step.Async q on) before after old new came_to → Comes pictures home actor after old new came_to
+  pub async_comes : (pictures : ℕ → Picture) (home : DeskHome) (actor : ActorOf B) (before after : Bindings B) (old new : DeskView B) (q : ℕ) (on : Bool) (came_to : Tried) → IsReady pictures home actor before old (step.Async q on) → refusal_of pictures (past_of actor).holdings (step.Async q on) ≡ None → Acts pictures home actor.script.number (length actor.trace + 1) (step.Async q on) before after old new came_to → Comes pictures home actor after old new came_to
   async_comes pictures home actor before after old new q on came_to ready unrefused makes =
       let by = actor.script.number in
       let s : Step = step.Async q on in
@@ -144,15 +144,15 @@ module _ {B : Type 0} where
       let asking : Asking B = named (queue_of q) 0 asked.1 in
       call_comes pictures home actor s before after after old old new asking came_to refl refl (unlooked home old)
       (formed home by asked.0 makes.asking asking makes.taken before after old new came_to makes.forms.0 makes.forms.1 makes.tries)
-      (λ reply called_view was made ends hands.
+      (λ reply called_view was made ends bindings.
       let queue = (mark_among home.marks q).queue in
       let told = (made_call home old called_view by q asked reply made).told.reply in
       let is = answer_told home old called_view by q asked reply made in
       setting_came pictures home actor s asking.homes before after old called_view new reply told ready
-      (async_gives queue on told reply is) (async_tells queue q on (past_of actor).holdings told reply is) refl ends hands
+      (async_gives queue on told reply is) (async_tells queue q on (past_of actor).holdings told reply is) refl ends bindings
       (async_keeps pictures actor q on home old called_view reply ready.is_next ready.keeps.kept made))
 
-  pub most_acquired_comes : (pictures : ℕ → Picture) (home : DeskHome) (actor : ActorOf B) (before after : Hands B) (old new : DeskView B) (q n : ℕ) (came_to : Tried) → IsReady pictures home actor before old (step.MaxAcquired q n) → refusal_of pictures (past_of actor).holdings (step.MaxAcquired q n) ≡ None → Acts pictures home actor.script.number (length actor.trace + 1) (step.MaxAcquired q n) before after old new came_to → Comes pictures home actor after old new came_to
+  pub most_acquired_comes : (pictures : ℕ → Picture) (home : DeskHome) (actor : ActorOf B) (before after : Bindings B) (old new : DeskView B) (q n : ℕ) (came_to : Tried) → IsReady pictures home actor before old (step.MaxAcquired q n) → refusal_of pictures (past_of actor).holdings (step.MaxAcquired q n) ≡ None → Acts pictures home actor.script.number (length actor.trace + 1) (step.MaxAcquired q n) before after old new came_to → Comes pictures home actor after old new came_to
   most_acquired_comes pictures home actor before after old new q n came_to ready unrefused makes =
       let by = actor.script.number in
       let s : Step = step.MaxAcquired q n in
@@ -160,15 +160,15 @@ module _ {B : Type 0} where
       let asking : Asking B = named (queue_of q) 0 asked.1 in
       call_comes pictures home actor s before after after old old new asking came_to refl refl (unlooked home old)
       (formed home by asked.0 makes.asking asking makes.taken before after old new came_to makes.forms.0 makes.forms.1 makes.tries)
-      (λ reply called_view was made ends hands.
+      (λ reply called_view was made ends bindings.
       let queue = (mark_among home.marks q).queue in
       let told = (made_call home old called_view by q asked reply made).told.reply in
       let is = answer_told home old called_view by q asked reply made in
       setting_came pictures home actor s asking.homes before after old called_view new reply told ready
-      (most_acquired_gives queue n told reply is) (most_acquired_tells queue q n (past_of actor).holdings told reply is) refl ends hands
+      (most_acquired_gives queue n told reply is) (most_acquired_tells queue q n (past_of actor).holdings told reply is) refl ends bindings
       (most_acquired_keeps pictures actor q n home old called_view reply ready.is_next ready.keeps.kept made))
 
-  pub abandon_comes : (pictures : ℕ → Picture) (home : DeskHome) (actor : ActorOf B) (before after : Hands B) (old new : DeskView B) (q : ℕ) (came_to : Tried) → IsReady pictures home actor before old (step.Abandon q) → refusal_of pictures (past_of actor).holdings (step.Abandon q) ≡ None → Acts pictures home actor.script.number (length actor.trace + 1) (step.Abandon q) before after old new came_to → Comes pictures home actor after old new came_to
+  pub abandon_comes : (pictures : ℕ → Picture) (home : DeskHome) (actor : ActorOf B) (before after : Bindings B) (old new : DeskView B) (q : ℕ) (came_to : Tried) → IsReady pictures home actor before old (step.Abandon q) → refusal_of pictures (past_of actor).holdings (step.Abandon q) ≡ None → Acts pictures home actor.script.number (length actor.trace + 1) (step.Abandon q) before after old new came_to → Comes pictures home actor after old new came_to
   abandon_comes pictures home actor before after old new q came_to ready unrefused makes =
       let by = actor.script.number in
       let s : Step = step.Abandon q in
@@ -176,10 +176,10 @@ module _ {B : Type 0} where
       let asking : Asking B = named (queue_of q) 0 asked.1 in
       call_comes pictures home actor s before after after old old new asking came_to refl refl (unlooked home old)
       (formed home by asked.0 makes.asking asking makes.taken before after old new came_to makes.forms.0 makes.forms.1 makes.tries)
-      (λ reply called_view was made ends hands.
+      (λ reply called_view was made ends bindings.
       let queue = (mark_among home.marks q).queue in
       let told = (made_call home old called_view by q asked reply made).told.reply in
       let is = answer_told home old called_view by q asked reply made in
       setting_came pictures home actor s asking.homes before after old called_view new reply told ready
-      (abandon_gives queue told reply is) (abandon_tells queue q (past_of actor).holdings told reply is) refl ends hands
+      (abandon_gives queue told reply is) (abandon_tells queue q (past_of actor).holdings told reply is) refl ends bindings
       (abandon_keeps pictures actor q home old called_view reply ready.is_next ready.keeps.kept made))

@@ -1,4 +1,4 @@
--- What a step that edits transactions finds in the hands, and which queues are there.
+-- What a step that edits transactions finds in the bindings, and which queues are there.
 use Rattle.std.proofs.Common.{◌≡◌, ◌≢◌, ℕ, true, List, [], get_or, Option, Some, None, refl, ap, ◌∙◌, subst}
 use Rattle.std.specs.Prelude.{option_to_list}
 use Rattle.std.specs.Option.{option_map}
@@ -19,8 +19,8 @@ use Rattle.sf_actor.specs.Parts.{token_of}
 use Rattle.sf_actor.specs.Scripts.{op_of}
 use Rattle.sf_steps.specs.Editing.{AreThere, HoldsShown, IsThere, TakesTxn}
 use Rattle.sf_steps.specs.Forming.{Takes}
-use Rattle.sf_steps.specs.Hands.{holdings_of}
-use Rattle.sf_steps.specs.declared.hands.Hands.{Hands}
+use Rattle.sf_steps.specs.Bindings.{holdings_of}
+use Rattle.sf_steps.specs.declared.bindings.Bindings.{Bindings}
 use Rattle.sf_steps.proofs.EditingLemmas.{All-find, shows_none}
 use Rattle.sf_steps.proofs.HoldingLemmas.{name_in-held}
 
@@ -46,17 +46,17 @@ module _ {B : Type 0} where
   shown_held (Some (holding.Reads lease)) shown = refl
   shown_held (Some (holding.Frees queue loose)) shown = absurd shown
 
-  pub frame_there : (hands : Hands B) (name : ℕ) → HoldsShown (get_or hands.names name None) → is_frame (name_in (holdings_of hands) name) ≡ true
-  frame_there hands name shown = ap is_frame (name_in-held hands name) ∙ shown_held (get_or hands.names name None) shown
+  pub frame_there : (bindings : Bindings B) (name : ℕ) → HoldsShown (get_or bindings.names name None) → is_frame (name_in (holdings_of bindings) name) ≡ true
+  frame_there bindings name shown = ap is_frame (name_in-held bindings name) ∙ shown_held (get_or bindings.names name None) shown
 
-  pub frame_shown : (before taken : Hands B) (name : ℕ) (lease : ReadLeaseOf) → Takes before taken name (holding.Reads lease) → HoldsShown (get_or before.names name None) → lease.frame ≢ 0
+  pub frame_shown : (before taken : Bindings B) (name : ℕ) (lease : ReadLeaseOf) → Takes before taken name (holding.Reads lease) → HoldsShown (get_or before.names name None) → lease.frame ≢ 0
   frame_shown before taken name lease takes shown = subst HoldsShown takes.held_there shown
 
   -- a frame that is taken leaves the transactions
-  pub txns_left : (before taken : Hands B) (name : ℕ) (held : Holding B) → Takes before taken name held → taken.transactions ≡ before.transactions
-  txns_left before taken name held takes = ap (λ (hands : Hands B). hands.transactions) takes.rest
+  pub txns_left : (before taken : Bindings B) (name : ℕ) (held : Holding B) → Takes before taken name held → taken.transactions ≡ before.transactions
+  txns_left before taken name held takes = ap (λ (bindings : Bindings B). bindings.transactions) takes.rest
 
   -- a transaction that is taken leaves the others
-  pub other_left : (before taken : Hands B) (number other : ℕ) (txn : Contents ReadLeaseOf) → TakesTxn before taken number txn → other ≢ number → get_or taken.transactions other None ≡ get_or before.transactions other None
+  pub other_left : (before taken : Bindings B) (number other : ℕ) (txn : Contents ReadLeaseOf) → TakesTxn before taken number txn → other ≢ number → get_or taken.transactions other None ≡ get_or before.transactions other None
   other_left before taken number other txn takes apart =
-      ap (λ (hands : Hands B). get_or hands.transactions other None) takes.txn_rest ∙ get_or-set_other before.transactions number other None None apart
+      ap (λ (bindings : Bindings B). get_or bindings.transactions other None) takes.txn_rest ∙ get_or-set_other before.transactions number other None None apart

@@ -21,10 +21,10 @@ use Rattle.sf_actor.specs.Tries.{ActorOf, Keeps, next_step, past_of}
 use Rattle.sf_steps.specs.Acting.{Attempts, MayAct}
 use Rattle.sf_steps.specs.Actors.{Acts, IsActor, IsKept, Steps}
 use Rattle.sf_steps.specs.Coming.{Comes, DoneWith, IsReady, LeftWith, after_step, is_done, reply_told}
-use Rattle.sf_steps.specs.Hands.{holdings_of}
+use Rattle.sf_steps.specs.Bindings.{holdings_of}
 use Rattle.sf_steps.specs.Playable.{IsPlayable, MayPlay}
 use Rattle.sf_steps.specs.declared.actor.Actor.{Actor}
-use Rattle.sf_steps.specs.declared.hands.Hands.{Hands}
+use Rattle.sf_steps.specs.declared.bindings.Bindings.{Bindings}
 use Rattle.sf_steps.specs.declared.tried.Tried.{Tried}
 use Rattle.sf_steps.specs.declared.tried.Tried.TheVariants as tried
 use Rattle.sf_steps.proofs.Joining.{acts_comes}
@@ -59,28 +59,28 @@ numbered (p ∷ ps) number e = elim (cases_Bool (p.number == number)) [
 
 module _ {B : Type 0} where
   -- a step comes to this, whether a test refuses it or not
-  tries_come : (pictures : ℕ → Picture) (home : DeskHome) (actor : ActorOf B) (hands left : Hands B) (before after : DeskView B) (s : Step) (came_to : Tried) (refusal : Option ℕ) → refusal_of pictures (past_of actor).holdings s ≡ refusal → IsReady pictures home actor hands before s → Attempts refusal pictures home actor.script.number (length actor.trace + 1) s hands left before after came_to → Comes pictures home actor left before after came_to
-  tries_come pictures home actor hands left before after s came_to (Some status) refused ready attempts =
-      let done = refused_done pictures home actor hands before s status ready refused in
+  tries_come : (pictures : ℕ → Picture) (home : DeskHome) (actor : ActorOf B) (bindings left : Bindings B) (before after : DeskView B) (s : Step) (came_to : Tried) (refusal : Option ℕ) → refusal_of pictures (past_of actor).holdings s ≡ refusal → IsReady pictures home actor bindings before s → Attempts refusal pictures home actor.script.number (length actor.trace + 1) s bindings left before after came_to → Comes pictures home actor left before after came_to
+  tries_come pictures home actor bindings left before after s came_to (Some status) refused ready attempts =
+      let done = refused_done pictures home actor bindings before s status ready refused in
       subst (λ (came : Tried). Comes pictures home actor left before after came) (sym attempts.0)
-      (subst (λ (kept : Hands B). Comes pictures home actor kept before after (tried.Own status)) (sym attempts.1)
-      (subst (λ (view : DeskView B). Comes pictures home actor hands before view (tried.Own status)) (sym attempts.2) done))
-  tries_come pictures home actor hands left before after s came_to None refused ready attempts = acts_comes pictures home actor hands left before after s came_to ready refused attempts
+      (subst (λ (kept : Bindings B). Comes pictures home actor kept before after (tried.Own status)) (sym attempts.1)
+      (subst (λ (view : DeskView B). Comes pictures home actor bindings before view (tried.Own status)) (sym attempts.2) done))
+  tries_come pictures home actor bindings left before after s came_to None refused ready attempts = acts_comes pictures home actor bindings left before after s came_to ready refused attempts
 
-  done_so : (pictures : ℕ → Picture) (home : DeskHome) (actor : ActorOf B) (hands : Hands B) (before after : DeskView B) (came_to : Tried) → is_done came_to ≡ true → Comes pictures home actor hands before after came_to → DoneWith pictures home actor hands before after (reply_told actor.script.number (length actor.trace + 1) came_to)
-  done_so pictures home actor hands before after (tried.Own status) is comes = comes
-  done_so pictures home actor hands before after (tried.Called status values) is comes = comes
-  done_so pictures home actor hands before after (tried.Sent number) is comes = comes
-  done_so pictures home actor hands before after tried.NotYet is comes = absurd (false≢true is)
+  done_so : (pictures : ℕ → Picture) (home : DeskHome) (actor : ActorOf B) (bindings : Bindings B) (before after : DeskView B) (came_to : Tried) → is_done came_to ≡ true → Comes pictures home actor bindings before after came_to → DoneWith pictures home actor bindings before after (reply_told actor.script.number (length actor.trace + 1) came_to)
+  done_so pictures home actor bindings before after (tried.Own status) is comes = comes
+  done_so pictures home actor bindings before after (tried.Called status values) is comes = comes
+  done_so pictures home actor bindings before after (tried.Sent number) is comes = comes
+  done_so pictures home actor bindings before after tried.NotYet is comes = absurd (false≢true is)
 
-  left_so : (pictures : ℕ → Picture) (home : DeskHome) (actor : ActorOf B) (hands : Hands B) (before after : DeskView B) (came_to : Tried) → is_done came_to ≡ false → Comes pictures home actor hands before after came_to → LeftWith pictures home actor hands before after
-  left_so pictures home actor hands before after (tried.Own status) is comes = absurd (false≢true (sym is))
-  left_so pictures home actor hands before after (tried.Called status values) is comes = absurd (false≢true (sym is))
-  left_so pictures home actor hands before after (tried.Sent number) is comes = absurd (false≢true (sym is))
-  left_so pictures home actor hands before after tried.NotYet is comes = comes
+  left_so : (pictures : ℕ → Picture) (home : DeskHome) (actor : ActorOf B) (bindings : Bindings B) (before after : DeskView B) (came_to : Tried) → is_done came_to ≡ false → Comes pictures home actor bindings before after came_to → LeftWith pictures home actor bindings before after
+  left_so pictures home actor bindings before after (tried.Own status) is comes = absurd (false≢true (sym is))
+  left_so pictures home actor bindings before after (tried.Called status values) is comes = absurd (false≢true (sym is))
+  left_so pictures home actor bindings before after (tried.Sent number) is comes = absurd (false≢true (sym is))
+  left_so pictures home actor bindings before after tried.NotYet is comes = comes
 
   module _ (table : TableId) (pictures : List Picture) (home : DeskHome) (old : Actor B) (before : DeskView B) (s : Step) (plays : MayPlay home pictures old.script) (there : slice_get old.script.steps (length old.replies.items) ≡ Some s) where
-    ready_for : (actor : ActorOf B) → IsActor table old actor → Keeps (picture_at pictures) home actor before → IsReady (picture_at pictures) home actor old.hands before s
+    ready_for : (actor : ActorOf B) → IsActor table old actor → Keeps (picture_at pictures) home actor before → IsReady (picture_at pictures) home actor old.bindings before s
     ready_for actor is keeps = record {
       parts = is.parts;
       names = is.names;
@@ -91,35 +91,35 @@ module _ {B : Type 0} where
       keeps = keeps;
     }
 
-    pub may_be_tried : IsKept table (picture_at pictures) home old before → refusal_of (picture_at pictures) (holdings_of old.hands) s ≡ None → MayAct (picture_at pictures) table home s old.hands
-    may_be_tried kept unrefused = may_try (picture_at pictures) table home kept.of old.hands before s (ready_for kept.of kept.is kept.keeps) kept.is.of_table unrefused
+    pub may_be_tried : IsKept table (picture_at pictures) home old before → refusal_of (picture_at pictures) (holdings_of old.bindings) s ≡ None → MayAct (picture_at pictures) table home s old.bindings
+    may_be_tried kept unrefused = may_try (picture_at pictures) table home kept.of old.bindings before s (ready_for kept.of kept.is kept.keeps) kept.is.of_table unrefused
 
     -- what the step came to, for each actor that fits
-    comes_for : (actor : ActorOf B) → IsActor table old actor → Keeps (picture_at pictures) home actor before → (left : Hands B) (after : DeskView B) (place : ℕ) (came_to : Tried) → place ≡ length old.replies.items + 1 → Attempts (refusal_of (picture_at pictures) (holdings_of old.hands) s) (picture_at pictures) home old.hands.by.0 place s old.hands left before after came_to → Comes (picture_at pictures) home actor left before after came_to
+    comes_for : (actor : ActorOf B) → IsActor table old actor → Keeps (picture_at pictures) home actor before → (left : Bindings B) (after : DeskView B) (place : ℕ) (came_to : Tried) → place ≡ length old.replies.items + 1 → Attempts (refusal_of (picture_at pictures) (holdings_of old.bindings) s) (picture_at pictures) home old.bindings.by.0 place s old.bindings left before after came_to → Comes (picture_at pictures) home actor left before after came_to
     comes_for actor is keeps left after place came_to at attempts =
         let ready = ready_for actor is keeps in
-        let told : holdings_of old.hands ≡ (past_of actor).holdings = holds_told (picture_at pictures) table home actor old.hands before s ready in
-        let number : old.hands.by.0 ≡ actor.script.number = is.by_it ∙ sym (ap (λ (script : ActorScript). script.number) is.script) in
+        let told : holdings_of old.bindings ≡ (past_of actor).holdings = holds_told (picture_at pictures) table home actor old.bindings before s ready in
+        let number : old.bindings.by.0 ≡ actor.script.number = is.by_it ∙ sym (ap (λ (script : ActorScript). script.number) is.script) in
         let here : place ≡ length actor.trace + 1 = at ∙ ap (λ (n : ℕ). n + 1) (sym is.trace) in
-        tries_come (picture_at pictures) home actor old.hands left before after s came_to (refusal_of (picture_at pictures) (past_of actor).holdings s) refl ready
-        (subst (λ (holdings : Holdings). Attempts (refusal_of (picture_at pictures) holdings s) (picture_at pictures) home actor.script.number (length actor.trace + 1) s old.hands left before after came_to) told
-        (subst (λ (by : ℕ). Attempts (refusal_of (picture_at pictures) (holdings_of old.hands) s) (picture_at pictures) home by (length actor.trace + 1) s old.hands left before after came_to) number
-        (subst (λ (n : ℕ). Attempts (refusal_of (picture_at pictures) (holdings_of old.hands) s) (picture_at pictures) home old.hands.by.0 n s old.hands left before after came_to) here attempts)))
+        tries_come (picture_at pictures) home actor old.bindings left before after s came_to (refusal_of (picture_at pictures) (past_of actor).holdings s) refl ready
+        (subst (λ (holdings : Holdings). Attempts (refusal_of (picture_at pictures) holdings s) (picture_at pictures) home actor.script.number (length actor.trace + 1) s old.bindings left before after came_to) told
+        (subst (λ (by : ℕ). Attempts (refusal_of (picture_at pictures) (holdings_of old.bindings) s) (picture_at pictures) home by (length actor.trace + 1) s old.bindings left before after came_to) number
+        (subst (λ (n : ℕ). Attempts (refusal_of (picture_at pictures) (holdings_of old.bindings) s) (picture_at pictures) home old.bindings.by.0 n s old.bindings left before after came_to) here attempts)))
 
-    stays_for : (actor : ActorOf B) → IsActor table old actor → (left : Hands B) (after : DeskView B) (place : ℕ) (came_to : Tried) → Attempts (refusal_of (picture_at pictures) (holdings_of old.hands) s) (picture_at pictures) home old.hands.by.0 place s old.hands left before after came_to → Stays table old.hands left
+    stays_for : (actor : ActorOf B) → IsActor table old actor → (left : Bindings B) (after : DeskView B) (place : ℕ) (came_to : Tried) → Attempts (refusal_of (picture_at pictures) (holdings_of old.bindings) s) (picture_at pictures) home old.bindings.by.0 place s old.bindings left before after came_to → Stays table old.bindings left
     stays_for actor is left after place came_to attempts =
-        attempt_stays table (refusal_of (picture_at pictures) (holdings_of old.hands) s) (picture_at pictures) home old.hands.by.0 place s old.hands left before after came_to is.of_table attempts
+        attempt_stays table (refusal_of (picture_at pictures) (holdings_of old.bindings) s) (picture_at pictures) home old.bindings.by.0 place s old.bindings left before after came_to is.of_table attempts
 
     -- what the step did, for each actor that fits
-    acts_for : (actor : ActorOf B) → IsActor table old actor → (left : Hands B) (after : DeskView B) (place : ℕ) (came_to : Tried) → place ≡ length old.replies.items + 1 → Attempts (refusal_of (picture_at pictures) (holdings_of old.hands) s) (picture_at pictures) home old.hands.by.0 place s old.hands left before after came_to → (t : Step) → next_step actor ≡ Some t → Acts (picture_at pictures) home t (length actor.trace + 1) old.hands before left after
+    acts_for : (actor : ActorOf B) → IsActor table old actor → (left : Bindings B) (after : DeskView B) (place : ℕ) (came_to : Tried) → place ≡ length old.replies.items + 1 → Attempts (refusal_of (picture_at pictures) (holdings_of old.bindings) s) (picture_at pictures) home old.bindings.by.0 place s old.bindings left before after came_to → (t : Step) → next_step actor ≡ Some t → Acts (picture_at pictures) home t (length actor.trace + 1) old.bindings before left after
     acts_for actor is left after place came_to at attempts t next =
         let here : place ≡ length actor.trace + 1 = at ∙ ap (λ (n : ℕ). n + 1) (sym is.trace) in
         let same : s ≡ t = same_step s t (sym there ∙ sym (next_is actor is) ∙ next) in
         record {
           came_to = came_to;
           attempts =
-              subst (λ (u : Step). Attempts (refusal_of (picture_at pictures) (holdings_of old.hands) u) (picture_at pictures) home old.hands.by.0 (length actor.trace + 1) u old.hands left before after came_to) same
-              (subst (λ (n : ℕ). Attempts (refusal_of (picture_at pictures) (holdings_of old.hands) s) (picture_at pictures) home old.hands.by.0 n s old.hands left before after came_to) here attempts);
+              subst (λ (u : Step). Attempts (refusal_of (picture_at pictures) (holdings_of old.bindings) u) (picture_at pictures) home old.bindings.by.0 (length actor.trace + 1) u old.bindings left before after came_to) same
+              (subst (λ (n : ℕ). Attempts (refusal_of (picture_at pictures) (holdings_of old.bindings) s) (picture_at pictures) home old.bindings.by.0 n s old.bindings left before after came_to) here attempts);
         }
       where
         same_step : (a b : Step) → Some a ≡ Some b → a ≡ b
@@ -129,10 +129,10 @@ module _ {B : Type 0} where
         next_is actor is = ap (λ (script : ActorScript). slice_get script.steps (length actor.trace)) is.script ∙ ap (slice_get old.script.steps) is.trace
 
     -- the step is not done
-    pub is_left : (actor : ActorOf B) → IsActor table old actor → Keeps (picture_at pictures) home actor before → (new : Actor B) (after : DeskView B) (place : ℕ) (came_to : Tried) → place ≡ length old.replies.items + 1 → Attempts (refusal_of (picture_at pictures) (holdings_of old.hands) s) (picture_at pictures) home old.hands.by.0 place s old.hands new.hands before after came_to → is_done came_to ≡ false → new.script ≡ old.script → new.replies.items ≡ old.replies.items → new.is_spent ≡ old.is_spent → Steps table (picture_at pictures) home old.hands actor before new after stepped.NotYet
+    pub is_left : (actor : ActorOf B) → IsActor table old actor → Keeps (picture_at pictures) home actor before → (new : Actor B) (after : DeskView B) (place : ℕ) (came_to : Tried) → place ≡ length old.replies.items + 1 → Attempts (refusal_of (picture_at pictures) (holdings_of old.bindings) s) (picture_at pictures) home old.bindings.by.0 place s old.bindings new.bindings before after came_to → is_done came_to ≡ false → new.script ≡ old.script → new.replies.items ≡ old.replies.items → new.is_spent ≡ old.is_spent → Steps table (picture_at pictures) home old.bindings actor before new after stepped.NotYet
     is_left actor is keeps new after place came_to at attempts undone script replies spent =
-        let left = left_so (picture_at pictures) home actor new.hands before after came_to undone (comes_for actor is keeps new.hands after place came_to at attempts) in
-        let stays = stays_for actor is new.hands after place came_to attempts in
+        let left = left_so (picture_at pictures) home actor new.bindings before after came_to undone (comes_for actor is keeps new.bindings after place came_to at attempts) in
+        let stays = stays_for actor is new.bindings after place came_to attempts in
         record {
           new = actor;
           is = record {
@@ -148,19 +148,19 @@ module _ {B : Type 0} where
           };
           keeps = left.keeps;
           tries = left.leaves;
-          acts = acts_for actor is new.hands after place came_to at attempts;
+          acts = acts_for actor is new.bindings after place came_to at attempts;
         }
 
     -- the step is done
-    pub is_made : (actor : ActorOf B) → IsActor table old actor → Keeps (picture_at pictures) home actor before → (new : Actor B) (after : DeskView B) (place : ℕ) (came_to : Tried) (reply : Reply) → place ≡ length old.replies.items + 1 → Attempts (refusal_of (picture_at pictures) (holdings_of old.hands) s) (picture_at pictures) home old.hands.by.0 place s old.hands new.hands before after came_to → is_done came_to ≡ true → reply ≡ reply_told old.script.number place came_to → new.script ≡ old.script → new.replies.items ≡ old.replies.items ++ reply ∷ [] → new.is_spent ≡ old.is_spent → Steps table (picture_at pictures) home old.hands actor before new after stepped.Done
+    pub is_made : (actor : ActorOf B) → IsActor table old actor → Keeps (picture_at pictures) home actor before → (new : Actor B) (after : DeskView B) (place : ℕ) (came_to : Tried) (reply : Reply) → place ≡ length old.replies.items + 1 → Attempts (refusal_of (picture_at pictures) (holdings_of old.bindings) s) (picture_at pictures) home old.bindings.by.0 place s old.bindings new.bindings before after came_to → is_done came_to ≡ true → reply ≡ reply_told old.script.number place came_to → new.script ≡ old.script → new.replies.items ≡ old.replies.items ++ reply ∷ [] → new.is_spent ≡ old.is_spent → Steps table (picture_at pictures) home old.bindings actor before new after stepped.Done
     is_made actor is keeps new after place came_to reply at attempts done_now replied script replies spent =
-        let done = done_so (picture_at pictures) home actor new.hands before after came_to done_now (comes_for actor is keeps new.hands after place came_to at attempts) in
-        let stays = stays_for actor is new.hands after place came_to attempts in
+        let done = done_so (picture_at pictures) home actor new.bindings before after came_to done_now (comes_for actor is keeps new.bindings after place came_to at attempts) in
+        let stays = stays_for actor is new.bindings after place came_to attempts in
         let told = reply_told actor.script.number (length actor.trace + 1) came_to in
         let same : reply ≡ told = replied ∙ ap (λ (n : ℕ). reply_told n place came_to) (sym (ap (λ (all : ActorScript). all.number) is.script)) ∙ ap (λ (n : ℕ). reply_told actor.script.number n came_to) (at ∙ ap (λ (n : ℕ). n + 1) (sym is.trace)) in
         let joined : new.replies.items ≡ old.replies.items ++ told ∷ [] = replies ∙ ap (λ (r : Reply). old.replies.items ++ r ∷ []) same in
         record {
-          new = after_step actor new.hands done.done told;
+          new = after_step actor new.bindings done.done told;
           is = record {
             script = is.script ∙ sym script;
             by_it = ap (λ (by : ActorId). by.0) stays.by ∙ is.by_it ∙ sym (ap (λ (all : ActorScript). all.number) script);
@@ -179,11 +179,11 @@ module _ {B : Type 0} where
           };
           keeps = done.keeps;
           tries = (told, done.does);
-          acts = acts_for actor is new.hands after place came_to at attempts;
+          acts = acts_for actor is new.bindings after place came_to at attempts;
         }
 
   -- no step is left
-  pub is_over : (table : TableId) (pictures : ℕ → Picture) (home : DeskHome) (old : Actor B) (before : DeskView B) (actor : ActorOf B) → slice_get old.script.steps (length old.replies.items) ≡ None → IsActor table old actor → Keeps pictures home actor before → Steps table pictures home old.hands actor before old before stepped.Ended
+  pub is_over : (table : TableId) (pictures : ℕ → Picture) (home : DeskHome) (old : Actor B) (before : DeskView B) (actor : ActorOf B) → slice_get old.script.steps (length old.replies.items) ≡ None → IsActor table old actor → Keeps pictures home actor before → Steps table pictures home old.bindings actor before old before stepped.Ended
   is_over table pictures home old before actor none is keeps =
       let over : next_step actor ≡ None = ap (λ (script : ActorScript). slice_get script.steps (length actor.trace)) is.script ∙ ap (slice_get old.script.steps) is.trace ∙ none in
       record {

@@ -16,9 +16,9 @@ use Rattle.sf_actor.specs.Tests.{refusal_of}
 use Rattle.sf_actor.specs.Tries.{ActorOf, Keeps, Tries, dequeues_in, next_step}
 use Rattle.sf_steps.specs.Acting.{Attempts}
 use Rattle.sf_steps.specs.Forming.{AreOfTable, permits_of}
-use Rattle.sf_steps.specs.Hands.{holdings_of}
+use Rattle.sf_steps.specs.Bindings.{holdings_of}
 use Rattle.sf_steps.specs.declared.actor.Actor.{Actor}
-use Rattle.sf_steps.specs.declared.hands.Hands.{Hands}
+use Rattle.sf_steps.specs.declared.bindings.Bindings.{Bindings}
 use Rattle.sf_steps.specs.declared.tried.Tried.{Tried}
 
 -- whether there is a step and it sends a transaction
@@ -27,17 +27,17 @@ sends (Some (step.Apply _ _)) = true
 sends _ = false
 
 module _ {B : Type 0} where
-  -- what an actor has in its hands, with the numbers of the buffers that it may still open
-  abbrev pub parts_of : Hands B → PartsOf B
-  parts_of hands = record { names = hands.names; transactions = hands.transactions; stock = permits_of hands }
+  -- what an actor has in its bindings, with the numbers of the buffers that it may still open
+  abbrev pub parts_of : Bindings B → PartsOf B
+  parts_of bindings = record { names = bindings.names; transactions = bindings.transactions; stock = permits_of bindings }
 
-  -- hands that hold nothing but a stock
-  pub record HoldNothing (hands : Hands B) (by : ActorId) (stock : StockView) : Type 0 where
-    pub by_it : hands.by ≡ by
-    pub names : hands.names ≡ replicate 32 None
-    pub transactions : hands.transactions ≡ replicate 65 None
-    pub stock_whole : hands.stock ≡ stock
-    pub none_spare : hands.spare ≡ None
+  -- bindings that hold nothing but a stock
+  pub record HoldNothing (bindings : Bindings B) (by : ActorId) (stock : StockView) : Type 0 where
+    pub by_it : bindings.by ≡ by
+    pub names : bindings.names ≡ replicate 32 None
+    pub transactions : bindings.transactions ≡ replicate 65 None
+    pub stock_whole : bindings.stock ≡ stock
+    pub none_spare : bindings.spare ≡ None
 
   -- whether the step that an actor tries next sends a transaction
   abbrev pub sends_next : Actor B → Bool
@@ -64,14 +64,14 @@ module _ {B : Type 0} where
   -- an actor is what contracts see of it, with some trace of as many steps as it has replied to
   pub record IsActor (table : TableId) (actor : Actor B) (of : ActorOf B) : Type 0 where
     pub script : of.script ≡ actor.script
-    pub by_it : actor.hands.by.0 ≡ actor.script.number
-    pub parts : of.parts ≡ parts_of actor.hands
-    pub names : length actor.hands.names ≡ 32
-    pub numbers : length actor.hands.transactions ≡ 65
+    pub by_it : actor.bindings.by.0 ≡ actor.script.number
+    pub parts : of.parts ≡ parts_of actor.bindings
+    pub names : length actor.bindings.names ≡ 32
+    pub numbers : length actor.bindings.transactions ≡ 65
     pub replies : of.replies ≡ actor.replies.items
     pub trace : length of.trace ≡ length actor.replies.items
     pub spent : of.spent ≡ actor.is_spent
-    pub of_table : AreOfTable table actor.hands
+    pub of_table : AreOfTable table actor.bindings
 
   -- it keeps what it keeps, over what a desk has and knows
   pub record IsKept (table : TableId) (pictures : ℕ → Picture) (home : DeskHome) (actor : Actor B) (view : DeskView B) : Type 0 where
@@ -79,17 +79,17 @@ module _ {B : Type 0} where
     pub is : IsActor table actor of
     pub keeps : Keeps pictures home of view
 
-  -- what a try of a step did with the tokens in its actor's hands, with calls and with turns
+  -- what a try of a step did with the tokens in its actor's bindings, with calls and with turns
   pub record Acts (pictures : ℕ → Picture) (home : DeskHome) (next : Step) (place : ℕ)
-      (was : Hands B) (before : DeskView B) (hands : Hands B) (after : DeskView B) : Type 0 where
+      (was : Bindings B) (before : DeskView B) (bindings : Bindings B) (after : DeskView B) : Type 0 where
     pub came_to : Tried
-    pub attempts : Attempts (refusal_of pictures (holdings_of was) next) pictures home was.by.0 place next was hands before after came_to
+    pub attempts : Attempts (refusal_of pictures (holdings_of was) next) pictures home was.by.0 place next was bindings before after came_to
 
-  -- what a try of its next step comes to: it keeps what it keeps, and tells what it did; its hands were these before
-  pub record Steps (table : TableId) (pictures : ℕ → Picture) (home : DeskHome) (was : Hands B) (old : ActorOf B) (before : DeskView B)
+  -- what a try of its next step comes to: it keeps what it keeps, and tells what it did; its bindings were these before
+  pub record Steps (table : TableId) (pictures : ℕ → Picture) (home : DeskHome) (was : Bindings B) (old : ActorOf B) (before : DeskView B)
       (actor : Actor B) (after : DeskView B) (stepped : Stepped) : Type 0 where
     pub new : ActorOf B
     pub is : IsActor table actor new
     pub keeps : Keeps pictures home new after
     pub tries : Tries pictures home old before new after stepped
-    pub acts : (next : Step) → next_step old ≡ Some next → Acts pictures home next (length old.trace + 1) was before actor.hands after
+    pub acts : (next : Step) → next_step old ≡ Some next → Acts pictures home next (length old.trace + 1) was before actor.bindings after

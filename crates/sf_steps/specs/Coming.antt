@@ -10,7 +10,7 @@ use Rattle.sf_actor.specs.Desks.{DeskHome, DeskView}
 use Rattle.sf_actor.specs.Tries.{ActorOf, DoesStep, Keeps, LeavesStep, next_step}
 use Rattle.sf_steps.specs.Actors.{parts_of}
 use Rattle.sf_steps.specs.Playable.{IsPlayable}
-use Rattle.sf_steps.specs.declared.hands.Hands.{Hands}
+use Rattle.sf_steps.specs.declared.bindings.Bindings.{Bindings}
 use Rattle.sf_steps.specs.declared.tried.Tried.{Tried}
 use Rattle.sf_steps.specs.declared.tried.Tried.TheVariants as tried
 
@@ -30,32 +30,32 @@ is_done tried.NotYet = false
 is_done came_to = true
 
 module _ {B : Type 0} where
-  -- an actor whose next step is this one, with what it has in its hands
-  pub record IsReady (pictures : ℕ → Picture) (home : DeskHome) (actor : ActorOf B) (hands : Hands B) (view : DeskView B) (s : Step) : Type 0 where
-    pub parts : actor.parts ≡ parts_of hands
-    pub names : length hands.names ≡ 32
-    pub numbers : length hands.transactions ≡ 65
+  -- an actor whose next step is this one, with what it has in its bindings
+  pub record IsReady (pictures : ℕ → Picture) (home : DeskHome) (actor : ActorOf B) (bindings : Bindings B) (view : DeskView B) (s : Step) : Type 0 where
+    pub parts : actor.parts ≡ parts_of bindings
+    pub names : length bindings.names ≡ 32
+    pub numbers : length bindings.transactions ≡ 65
     pub is_next : next_step actor ≡ Some s
     pub playable : IsPlayable home s
     pub pictured : IfSome (picture_named s) (λ number. (pictures number).number ≡ number)
     pub keeps : Keeps pictures home actor view
 
-  -- the actor after one more step, with what is in its hands then
-  abbrev pub after_step : ActorOf B → Hands B → Done → Reply → ActorOf B
-  after_step actor hands done reply = record actor { parts = parts_of hands; trace = actor.trace ++ done ∷ []; replies = actor.replies ++ reply ∷ [] }
+  -- the actor after one more step, with what is in its bindings then
+  abbrev pub after_step : ActorOf B → Bindings B → Done → Reply → ActorOf B
+  after_step actor bindings done reply = record actor { parts = parts_of bindings; trace = actor.trace ++ done ∷ []; replies = actor.replies ++ reply ∷ [] }
 
   -- the step is done, and the actor keeps what it keeps
-  pub record DoneWith (pictures : ℕ → Picture) (home : DeskHome) (actor : ActorOf B) (hands : Hands B) (old new : DeskView B) (reply : Reply) : Type 0 where
+  pub record DoneWith (pictures : ℕ → Picture) (home : DeskHome) (actor : ActorOf B) (bindings : Bindings B) (old new : DeskView B) (reply : Reply) : Type 0 where
     pub done : Done
-    pub does : DoesStep pictures home actor old (after_step actor hands done reply) new reply
-    pub keeps : Keeps pictures home (after_step actor hands done reply) new
+    pub does : DoesStep pictures home actor old (after_step actor bindings done reply) new reply
+    pub keeps : Keeps pictures home (after_step actor bindings done reply) new
 
   -- the step is not done, and the actor keeps what it keeps
-  pub record LeftWith (pictures : ℕ → Picture) (home : DeskHome) (actor : ActorOf B) (hands : Hands B) (old new : DeskView B) : Type 0 where
+  pub record LeftWith (pictures : ℕ → Picture) (home : DeskHome) (actor : ActorOf B) (bindings : Bindings B) (old new : DeskView B) : Type 0 where
     pub leaves : LeavesStep pictures home actor old actor new
-    pub parts : parts_of hands ≡ actor.parts
+    pub parts : parts_of bindings ≡ actor.parts
     pub keeps : Keeps pictures home actor new
 
-  abbrev pub Comes : (ℕ → Picture) → DeskHome → ActorOf B → Hands B → DeskView B → DeskView B → Tried → Type 0
-  Comes pictures home actor hands old new tried.NotYet = LeftWith pictures home actor hands old new
-  Comes pictures home actor hands old new came_to = DoneWith pictures home actor hands old new (reply_told actor.script.number (length actor.trace + 1) came_to)
+  abbrev pub Comes : (ℕ → Picture) → DeskHome → ActorOf B → Bindings B → DeskView B → DeskView B → Tried → Type 0
+  Comes pictures home actor bindings old new tried.NotYet = LeftWith pictures home actor bindings old new
+  Comes pictures home actor bindings old new came_to = DoneWith pictures home actor bindings old new (reply_told actor.script.number (length actor.trace + 1) came_to)

@@ -7,13 +7,13 @@ use Rattle.sf_actor.specs.Names.{Frame, Lent, Token}
 use Rattle.sf_steps.specs.Calling.{TriesCall}
 use Rattle.sf_steps.specs.Forming.{FormsCall}
 use Rattle.sf_steps.specs.declared.asking.Asking.{Asking}
-use Rattle.sf_steps.specs.declared.hands.Hands.{Hands}
+use Rattle.sf_steps.specs.declared.bindings.Bindings.{Bindings}
 use Rattle.sf_steps.specs.declared.tried.Tried.{Tried}
 
--- it makes the step's call, with tokens out of the hands
+-- it makes the step's call, with tokens out of the bindings
 pub record MakesCall {B : Type 0} (pictures : ℕ → Picture) (home : DeskHome) (by place : ℕ) (s : Step)
-    (before after : Hands B) (old new : DeskView B) (tried : Tried) : Type 0 where
-  pub taken : Hands B
+    (before after : Bindings B) (old new : DeskView B) (tried : Tried) : Type 0 where
+  pub taken : Bindings B
   pub asking : Asking B
   pub forms : FormsCall pictures s before taken asking
   pub tries : TriesCall home by place asking taken after old new tried

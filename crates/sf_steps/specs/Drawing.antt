@@ -11,7 +11,7 @@ use Rattle.sf_actor.specs.declared.holding.Holding.TheVariants as holding
 use Rattle.sf_actor.specs.Desks.{ChangesTimes, ChangesTurns, DeskHome, DeskView}
 use Rattle.sf_actor.specs.Tries.{Sees}
 use Rattle.sf_steps.specs.Calling.{with_held}
-use Rattle.sf_steps.specs.declared.hands.Hands.{Hands}
+use Rattle.sf_steps.specs.declared.bindings.Bindings.{Bindings}
 use Rattle.sf_steps.specs.declared.tried.Tried.{Tried}
 use Rattle.sf_steps.specs.declared.tried.Tried.TheVariants as tried
 
@@ -36,18 +36,18 @@ module _ {B : Type 0} where
   WaitsToDraw picture seen other old new = ⊥
 
   -- a name that holds nothing holds this now
-  abbrev pub filled : Hands B → ℕ → Option (Holding B) → Hands B
+  abbrev pub filled : Bindings B → ℕ → Option (Holding B) → Bindings B
   filled taken name None = taken
   filled taken name (Some held) = with_held taken name (Some held)
 
-  abbrev pub TriesDraw : ℕ → Picture → Seen → Holding B → Hands B → Hands B → DeskView B → DeskView B → Tried → Type 0
+  abbrev pub TriesDraw : ℕ → Picture → Seen → Holding B → Bindings B → Bindings B → DeskView B → DeskView B → Tried → Type 0
   TriesDraw name picture seen held taken after old new (tried.Own status) =
       (status ≡ 0) × (left : Option (Holding B)) × DrawsHolding picture seen held left old.turns new.turns × (after ≡ filled taken name left)
   TriesDraw name picture seen held taken after old new tried.NotYet = WaitsToDraw picture seen held old.turns new.turns × (after ≡ filled taken name (Some held))
   TriesDraw name picture seen held taken after old new other = ⊥
 
   -- a look at the timelines, and then a try of drawing in what the name holds
-  pub record Draws (home : DeskHome) (name : ℕ) (picture : Picture) (before after : Hands B) (old new : DeskView B) (tried : Tried) : Type 0 where
+  pub record Draws (home : DeskHome) (name : ℕ) (picture : Picture) (before after : Bindings B) (old new : DeskView B) (tried : Tried) : Type 0 where
     pub seen : Seen
     pub looked : DeskView B
     pub sees : Sees home old looked seen

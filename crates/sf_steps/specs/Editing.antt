@@ -13,7 +13,7 @@ use Rattle.sf_actor.specs.Desks.{DeskHome, DeskView, MadeCall, MadeSend, has_que
 use Rattle.sf_actor.specs.Scripts.{layer_of}
 use Rattle.sf_steps.specs.Calling.{Ends}
 use Rattle.sf_steps.specs.Forming.{Takes}
-use Rattle.sf_steps.specs.declared.hands.Hands.{Hands}
+use Rattle.sf_steps.specs.declared.bindings.Bindings.{Bindings}
 use Rattle.sf_steps.specs.declared.tried.Tried.{Tried}
 use Rattle.sf_steps.specs.declared.tried.Tried.TheVariants as tried
 
@@ -37,18 +37,18 @@ AreThere home (Some txn) = All (IsThere home) txn.buffers
 
 module _ {B : Type 0} where
   -- a number holds this
-  abbrev pub with_txn : Hands B → ℕ → Option (Contents ReadLeaseOf) → Hands B
-  with_txn hands number held = record hands { transactions = slice_set hands.transactions number held }
+  abbrev pub with_txn : Bindings B → ℕ → Option (Contents ReadLeaseOf) → Bindings B
+  with_txn bindings number held = record bindings { transactions = slice_set bindings.transactions number held }
 
   -- the transaction that a number holds is taken out
-  pub record TakesTxn (before taken : Hands B) (number : ℕ) (txn : Contents ReadLeaseOf) : Type 0 where
+  pub record TakesTxn (before taken : Bindings B) (number : ℕ) (txn : Contents ReadLeaseOf) : Type 0 where
     pub txn_there : get_or before.transactions number None ≡ Some txn
     pub txn_rest : taken ≡ with_txn before number None
 
   -- the transaction that a number holds is changed
-  pub record Edits (before after : Hands B) (number : ℕ) (change : Contents ReadLeaseOf → Contents ReadLeaseOf) : Type 0 where
+  pub record Edits (before after : Bindings B) (number : ℕ) (change : Contents ReadLeaseOf → Contents ReadLeaseOf) : Type 0 where
     pub edited : Contents ReadLeaseOf
-    pub without : Hands B
+    pub without : Bindings B
     pub takes : TakesTxn before without number edited
     pub put_back : after ≡ with_txn without number (Some (change edited))
 
@@ -70,30 +70,30 @@ module _ {B : Type 0} where
   HoldsShown held = ⊥
 
   -- a frame goes from its name into a transaction, and the one whose place it takes is given back
-  pub record Shows (home : DeskHome) (by place number layer name : ℕ) (before after : Hands B) (old new : DeskView B) : Type 0 where
+  pub record Shows (home : DeskHome) (by place number layer name : ℕ) (before after : Bindings B) (old new : DeskView B) : Type 0 where
     pub lease : ReadLeaseOf
-    pub without_frame : Hands B
+    pub without_frame : Bindings B
     pub takes : Takes before without_frame name (holding.Reads lease)
     pub edits : Edits without_frame after number (λ txn. set_buffer txn (buffer_with layer lease))
     pub releases : ReleasesAll home by place (option_to_list (replaced_by edits.edited.buffers (buffer_with layer lease))) old new
 
   -- one transaction is merged into another and is empty then, and the frames whose places others take are given back
-  pub record Merges (home : DeskHome) (by place number other : ℕ) (before after : Hands B) (old new : DeskView B) : Type 0 where
+  pub record Merges (home : DeskHome) (by place number other : ℕ) (before after : Bindings B) (old new : DeskView B) : Type 0 where
     pub into : Contents ReadLeaseOf
     pub from : Contents ReadLeaseOf
-    pub without_into : Hands B
-    pub without_both : Hands B
+    pub without_into : Bindings B
+    pub without_both : Bindings B
     pub takes_into : TakesTxn before without_into number into
     pub takes_from : TakesTxn without_into without_both other from
     pub put_back : after ≡ with_txn (with_txn without_both number (Some (merged into from))) other (Some empty)
     pub releases : ReleasesAll home by place (all_replaced into.buffers from.buffers) old new
 
   -- a transaction is sent under an apply token
-  pub record Sends (home : DeskHome) (by place number token : ℕ) (before after : Hands B) (old new : DeskView B) (arrival : ℕ) : Type 0 where
+  pub record Sends (home : DeskHome) (by place number token : ℕ) (before after : Bindings B) (old new : DeskView B) (arrival : ℕ) : Type 0 where
     pub sent : Contents ReadLeaseOf
     pub takes : TakesTxn before after number sent
     pub made : MadeSend home old new by place (record sent { token = record { 0 = token } }) arrival
 
-  abbrev pub TriesSend : DeskHome → ℕ → ℕ → ℕ → ℕ → Hands B → Hands B → DeskView B → DeskView B → Tried → Type 0
+  abbrev pub TriesSend : DeskHome → ℕ → ℕ → ℕ → ℕ → Bindings B → Bindings B → DeskView B → DeskView B → Tried → Type 0
   TriesSend home by place number token before after old new (tried.Sent arrival) = Sends home by place number token before after old new arrival
   TriesSend home by place number token before after old new other = ⊥

@@ -1,4 +1,4 @@
--- The calls of steps with their tokens: what a step takes out of its actor's hands, and what it asks.
+-- The calls of steps with their tokens: what a step takes out of its actor's bindings, and what it asks.
 use Rattle.std.specs.Prelude.{◌≡◌, ℕ, ◌≤◌, ◌<◌, ◌^◌, true, false, List, ◌∷◌, ◌++◌, get_or, option_to_list, Option, Some, None, unwrap_or}
 use Rattle.std.specs.List.{All}
 use Rattle.atomic_table.specs.Seated.{TableId}
@@ -21,7 +21,7 @@ use Rattle.sf_actor.specs.declared.holding.Holding.TheVariants as holding
 use Rattle.sf_actor.specs.Scripts.{crop_of, fence_of, queue_of}
 use Rattle.sf_steps.specs.Calling.{with_held}
 use Rattle.sf_steps.specs.declared.asking.Asking.{Asking}
-use Rattle.sf_steps.specs.declared.hands.Hands.{Hands}
+use Rattle.sf_steps.specs.declared.bindings.Bindings.{Bindings}
 
 -- no buffer
 abbrev pub no_buffer : Held
@@ -59,27 +59,27 @@ module _ {B : Type 0} where
   joining queue free lease last asked = record { queue = queue; call = asked; homes = record { lent = lease; frame = lease; free = free; last = last; held = no_buffer } }
 
   -- what a name holds is taken out
-  pub record Takes (before taken : Hands B) (name : ℕ) (held : Holding B) : Type 0 where
+  pub record Takes (before taken : Bindings B) (name : ℕ) (held : Holding B) : Type 0 where
     pub held_there : get_or before.names name None ≡ Some held
     pub rest : taken ≡ with_held before name None
 
   -- the buffers that may still be opened
-  abbrev pub permits_of : Hands B → List ℕ
-  permits_of hands = option_to_list (option_map (λ (p : PermitView). p.buffer) hands.spare) ++ hands.stock.buffers
+  abbrev pub permits_of : Bindings B → List ℕ
+  permits_of bindings = option_to_list (option_map (λ (p : PermitView). p.buffer) bindings.spare) ++ bindings.stock.buffers
 
   -- the permits are of one table
-  abbrev pub AreOfTable : TableId → Hands B → Type 0
-  AreOfTable table hands = (hands.stock.table ≡ table) × IsOfTable table hands.spare
+  abbrev pub AreOfTable : TableId → Bindings B → Type 0
+  AreOfTable table bindings = (bindings.stock.table ≡ table) × IsOfTable table bindings.spare
 
   -- a permit is taken out
-  pub record TakesPermit (before taken : Hands B) (permit : PermitView) : Type 0 where
+  pub record TakesPermit (before taken : Bindings B) (permit : PermitView) : Type 0 where
     pub one : permits_of before ≡ permit.buffer ∷ permits_of taken
     pub none_spare : taken.spare ≡ None
     pub same : taken ≡ record before { stock = taken.stock; spare = taken.spare }
     pub table : (of : TableId) → AreOfTable of before → (permit.table ≡ of) × AreOfTable of taken
 
-  -- the call of a step, and what is left in the hands
-  abbrev pub FormsCall : (ℕ → Picture) → Step → Hands B → Hands B → Asking B → Type 0
+  -- the call of a step, and what is left in the bindings
+  abbrev pub FormsCall : (ℕ → Picture) → Step → Bindings B → Bindings B → Asking B → Type 0
   FormsCall pictures (step.Connect q) before taken asking = (taken ≡ before) × (asking ≡ named (queue_of q) 0 call.Connect)
   FormsCall pictures (step.Disconnect q) before taken asking = (taken ≡ before) × (asking ≡ named (queue_of q) 0 call.Disconnect)
   FormsCall pictures (step.MaxDequeued q n) before taken asking = (taken ≡ before) × (asking ≡ named (queue_of q) 0 (call.MaxDequeued n))

@@ -12,7 +12,7 @@ use Rattle.sf_actor.specs.declared.holding.Holding.TheVariants as holding
 use Rattle.sf_actor.specs.Desks.{ChangesTimes, DeskHome, DeskView}
 use Rattle.sf_actor.specs.Tries.{Sees}
 use Rattle.sf_steps.specs.Doing.{MakesCall}
-use Rattle.sf_steps.specs.declared.hands.Hands.{Hands}
+use Rattle.sf_steps.specs.declared.bindings.Bindings.{Bindings}
 use Rattle.sf_steps.specs.declared.tried.Tried.{Tried}
 use Rattle.sf_steps.specs.declared.tried.Tried.TheVariants as tried
 
@@ -38,7 +38,8 @@ module _ {B : Type 0} where
   Looks home fence old new false = LooksFor home fence old new
 
   -- the step is refused by its fence, or it makes its call
-  abbrev pub TriesToLeave : (ℕ → Picture) → DeskHome → ℕ → ℕ → Step → Option Fence → Hands B → Hands B → DeskView B → DeskView B → Tried → Type 0
+  abbrev pub TriesToLeave : (ℕ → Picture) → DeskHome → ℕ → ℕ → Step → Option Fence → Bindings B → Bindings B → DeskView B → DeskView B
+      → Tried → Type 0
   TriesToLeave pictures home by place s fence before after old new (tried.Own status) = (status ≡ 11) × (after ≡ before) × FindsOpen home fence old new
   TriesToLeave pictures home by place s fence before after old new other =
       (looked : DeskView B) × LooksFor home fence old looked × MakesCall pictures home by place s before after looked new other
@@ -58,16 +59,16 @@ module _ {B : Type 0} where
   holds_lent queue other = false
 
   -- the lent buffers of a queue are dropped
-  abbrev pub without_lent : ℕ → Hands B → Hands B
-  without_lent queue hands = record hands { names = map (let_go_of queue) hands.names }
+  abbrev pub without_lent : ℕ → Bindings B → Bindings B
+  without_lent queue bindings = record bindings { names = map (let_go_of queue) bindings.names }
 
   -- after a disconnect, which may have been refused
-  abbrev pub dropped_after : ℕ → Tried → Hands B → Hands B
-  dropped_after queue came_to hands = if was_ok came_to then without_lent queue hands else hands
+  abbrev pub dropped_after : ℕ → Tried → Bindings B → Bindings B
+  dropped_after queue came_to bindings = if was_ok came_to then without_lent queue bindings else bindings
 
   -- a disconnect makes its call, and drops what the queue lent where it is done
   pub record Disconnects (pictures : ℕ → Picture) (home : DeskHome) (by place : ℕ) (s : Step) (queue : ℕ)
-      (before after : Hands B) (old new : DeskView B) (tried : Tried) : Type 0 where
-    pub called : Hands B
+      (before after : Bindings B) (old new : DeskView B) (tried : Tried) : Type 0 where
+    pub called : Bindings B
     pub makes : MakesCall pictures home by place s before called old new tried
     pub drops : after ≡ dropped_after queue tried called

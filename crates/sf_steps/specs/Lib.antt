@@ -1,4 +1,4 @@
-pub mod Hands
+pub mod Bindings
 pub mod Calling
 pub mod Forming
 pub mod Doing

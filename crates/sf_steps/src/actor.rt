@@ -1,4 +1,4 @@
-use crate::hands::Hands;
+use crate::bindings::Bindings;
 use crate::tried::{Tried, reply_to};
 use sf_actor::{Desk, Reply, Stepped, TokensOf};
 use sf_base::{ActorId, NoMemory};
@@ -10,19 +10,19 @@ use std::alloc::Global;
 /// An actor: the steps of its script, of which the first are done, with its replies.
 pub struct Actor<B: TableName> {
     script: ActorScript,
-    hands: Hands<B>,
+    bindings: Bindings<B>,
     replies: Vec<Reply>,
     /// Whether it found no memory, after which it does no more steps.
     is_spent: bool,
 }
 
-impl<B: TableName> Hands<B> {
+impl<B: TableName> Bindings<B> {
     ghost use Rattle.std.specs.Prelude.{◌≡◌, true, None, IfOk};
     ghost use Rattle.sf_scene.specs.Named.{KnowsPicture};
     ghost use Rattle.sf_actor.specs.Scripts.{picture_at};
     ghost use Rattle.sf_actor.specs.Tests.{refusal_of};
     ghost use Rattle.sf_steps.specs.Acting.{Attempts, MayAct};
-    ghost use Rattle.sf_steps.specs.Hands.{holdings_of};
+    ghost use Rattle.sf_steps.specs.Bindings.{holdings_of};
 
     /// Tries a step: its own tests come first.
     fn attempt<D: Desk<TokensOf<B>>>(
@@ -64,10 +64,10 @@ impl<B: TableName> Actor<B> {
         ensures actor { IfOk result (λ actor. IsActor B.table actor (new_actor script stock.buffers)) }
         ensures back { IfErr result (λ back. (back.1 ≡ script) × (back.2 ≡ stock)) }
     {
-        match Hands::new(alloc, ActorId(script.number), stock) {
-            Ok(hands) => Ok(Actor {
+        match Bindings::new(alloc, ActorId(script.number), stock) {
+            Ok(bindings) => Ok(Actor {
                 script,
-                hands,
+                bindings,
                 replies: Vec::new(alloc),
                 is_spent: false,
             }),
@@ -113,7 +113,7 @@ impl<B: TableName> Actor<B> {
         requires plays { MayPlay (D.home desk.old) pictures.now self.old.script }
         requires kept { self.old.is_spent ≡ false → IsKept B.table (picture_at pictures.now) (D.home desk.old) self.old (D.view desk.old) }
         ensures steps { (actor : ActorOf B) → IsActor B.table self.old actor → Keeps (picture_at pictures.now) (D.home desk.old) actor (D.view desk.old)
-            → IfOk result (Steps B.table (picture_at pictures.now) (D.home desk.old) self.old.hands actor (D.view desk.old) self.new (D.view desk.new)) }
+            → IfOk result (Steps B.table (picture_at pictures.now) (D.home desk.old) self.old.bindings actor (D.view desk.old) self.new (D.view desk.new)) }
         ensures spent { self.old.is_spent ≡ true → IsErr result }
         ensures no_memory { IfErr result (λ _. self.new.is_spent ≡ true) }
         ensures script { self.new.script ≡ self.old.script }
@@ -136,7 +136,7 @@ impl<B: TableName> Actor<B> {
         requires plays { MayPlay (D.home desk.old) pictures.now self.old.script }
         requires kept { IsKept B.table (picture_at pictures.now) (D.home desk.old) self.old (D.view desk.old) }
         ensures steps { (actor : ActorOf B) → IsActor B.table self.old actor → Keeps (picture_at pictures.now) (D.home desk.old) actor (D.view desk.old)
-            → IfOk result (Steps B.table (picture_at pictures.now) (D.home desk.old) self.old.hands actor (D.view desk.old) self.new (D.view desk.new)) }
+            → IfOk result (Steps B.table (picture_at pictures.now) (D.home desk.old) self.old.bindings actor (D.view desk.old) self.new (D.view desk.new)) }
         ensures spent { self.new.is_spent ≡ self.old.is_spent }
         ensures script { self.new.script ≡ self.old.script }
         ensures home { D.home desk.new ≡ D.home desk.old }
@@ -146,9 +146,9 @@ impl<B: TableName> Actor<B> {
             return Ok(Stepped::Ended);
         };
         self.replies.reserve(1)?;
-        let room = Vec::with_capacity(self.hands.alloc, 1)?;
+        let room = Vec::with_capacity(self.bindings.alloc, 1)?;
         let place = done as u32 + 1;
-        let tried = self.hands.attempt(desk, pictures, place, step)?;
+        let tried = self.bindings.attempt(desk, pictures, place, step)?;
         if !tried.is_done() {
             return Ok(Stepped::NotYet);
         }
@@ -162,7 +162,7 @@ impl<B: TableName> Drop for Actor<B> {
     fn drop(self) {
         let Actor {
             script: _,
-            hands: _,
+            bindings: _,
             replies: _,
             is_spent: _,
         } = self;

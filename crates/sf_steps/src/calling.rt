@@ -3,7 +3,7 @@ ghost use Rattle.sf_surface.specs.Hands.{brought};
 ghost use Rattle.sf_steps.specs.Calling.{Ends};
 
 use crate::asking::{Asking, Homes};
-use crate::hands::Hands;
+use crate::bindings::Bindings;
 use crate::tried::Tried;
 use sf_actor::{Desk, Holding, TokensOf};
 use sf_base::NoMemory;
@@ -40,7 +40,7 @@ pub fn leave<B: TableName, D: Desk<TokensOf<B>>>(desk: &mut D, ends: Option<Endi
     }
 }
 
-impl<B: TableName> Hands<B> {
+impl<B: TableName> Bindings<B> {
     ghost use Rattle.std.specs.Prelude.{◌≡◌, true, IfOk};
     ghost use Rattle.sf_surface.specs.Marks.{PermitFits};
     ghost use Rattle.sf_actor.specs.Desks.{has_queue};
@@ -89,7 +89,7 @@ impl<B: TableName> Hands<B> {
         reply: QReply<B>,
     ) -> Tried
         ensures told { result ≡ tried.Called reply.status reply.values }
-        ensures hands { self.new ≡ received homes self.old reply }
+        ensures bindings { self.new ≡ received homes self.old reply }
         ensures ends { Ends reply.ends (D.view desk.old) (D.view desk.new) }
         ensures home { D.home desk.new ≡ D.home desk.old }
     {

@@ -1,5 +1,5 @@
 use crate::asking::{fence_of, joining, named, release};
-use crate::hands::Hands;
+use crate::bindings::Bindings;
 use crate::tried::Tried;
 use sf_actor::{Desk, TokensOf};
 use sf_base::{NoMemory, QueueId};
@@ -7,7 +7,7 @@ use sf_scene::Points;
 use sf_surface::QCall;
 use sf_turns::TableName;
 
-impl<B: TableName> Hands<B> {
+impl<B: TableName> Bindings<B> {
     ghost use Rattle.std.specs.Prelude.{◌≡◌, ℕ, true, IfOk};
     ghost use Rattle.sf_picture.specs.declared.picture.Picture.{Picture};
     ghost use Rattle.sf_scene.specs.declared.step.Step.TheVariants as step;
@@ -15,7 +15,7 @@ impl<B: TableName> Hands<B> {
     ghost use Rattle.sf_actor.specs.Names.{is_apart, is_frame, name_in};
     ghost use Rattle.sf_steps.specs.Doing.{HasQueueOf, MakesCall};
     ghost use Rattle.sf_steps.specs.Forming.{ArePoints};
-    ghost use Rattle.sf_steps.specs.Hands.{holdings_of};
+    ghost use Rattle.sf_steps.specs.Bindings.{holdings_of};
 
     /// Limits how many buffers a consumer may hold.
     pub fn limit_acquired<D: Desk<TokensOf<B>>>(

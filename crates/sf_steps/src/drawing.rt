@@ -3,7 +3,7 @@ ghost use Rattle.sf_actor.specs.Desks.{ChangesTimes};
 ghost use Rattle.sf_actor.specs.Tries.{Sees};
 ghost use Rattle.sf_times.specs.Seats.{raised};
 
-use crate::hands::Hands;
+use crate::bindings::Bindings;
 use crate::tried::Tried;
 use sf_actor::{Desk, Holding, TokensOf};
 use sf_base::{NoMemory, Seen, TimelineId};
@@ -41,7 +41,7 @@ pub fn is_below(seen: &Seen, timeline: u32, value: u64) -> bool
     seen.values[timeline as usize - 1] < value
 }
 
-impl<B: TableName> Hands<B> {
+impl<B: TableName> Bindings<B> {
     ghost use Rattle.std.specs.Prelude.{◌≡◌, IfOk, None, get_or};
     ghost use Rattle.sf_surface.specs.Tokens.{is_size_of};
     ghost use Rattle.std.specs.Prelude.{true};

@@ -4,8 +4,8 @@ ghost use Rattle.sf_actor.specs.Desks.{has_queue};
 ghost use Rattle.sf_actor.specs.Scripts.{op_of, parent_of};
 ghost use Rattle.sf_steps.specs.Editing.{IsThere, Releases, ReleasesAll, buffer_with};
 
+use crate::bindings::Bindings;
 use crate::calling::leave;
-use crate::hands::Hands;
 use crate::tried::Tried;
 use sf_actor::{Desk, TokensOf};
 use sf_base::{ActorId, Fence, LayerId, NoMemory, Rect, TokenId};
@@ -128,7 +128,7 @@ fn release_all<B: TableName, D: Desk<TokensOf<B>>>(
     Ok(())
 }
 
-impl<B: TableName> Hands<B> {
+impl<B: TableName> Bindings<B> {
     ghost use Rattle.std.specs.Prelude.{◌≡◌, ◌≢◌, ◌≤◌, ◌++◌, ◌∷◌, [], true, IfOk, None, Some, get_or, is_some};
     ghost use Rattle.sf_layer.specs.Ranges.{IsOperation};
     ghost use Rattle.sf_txn.specs.Transactions.{empty, set};

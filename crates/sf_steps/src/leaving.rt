@@ -2,8 +2,8 @@ ghost use Rattle.std.specs.Prelude.{◌≡◌};
 ghost use Rattle.sf_steps.specs.Leaving.{Looks, was_ok};
 
 use crate::asking::{moving, named};
+use crate::bindings::Bindings;
 use crate::drawing::look;
-use crate::hands::Hands;
 use crate::refusal::BAD_VALUE;
 use crate::tried::Tried;
 use sf_actor::{Desk, Holding, TokensOf};
@@ -32,7 +32,7 @@ fn was_ok(tried: &Tried) -> bool
     }
 }
 
-impl<B: TableName> Hands<B> {
+impl<B: TableName> Bindings<B> {
     ghost use Rattle.std.specs.Prelude.{◌≡◌, ℕ, true, IfOk, None, get_or, length};
     ghost use Rattle.sf_picture.specs.declared.picture.Picture.{Picture};
     ghost use Rattle.sf_scene.specs.declared.step.Step.TheVariants as step;
@@ -41,7 +41,7 @@ impl<B: TableName> Hands<B> {
     ghost use Rattle.sf_actor.specs.Points.{frame_fence, requested_fence};
     ghost use Rattle.sf_steps.specs.Calling.{with_held};
     ghost use Rattle.sf_steps.specs.Doing.{HasQueueOf, MakesCall};
-    ghost use Rattle.sf_steps.specs.Hands.{holdings_of};
+    ghost use Rattle.sf_steps.specs.Bindings.{holdings_of};
     ghost use Rattle.sf_steps.specs.Leaving.{Disconnects, TriesToLeave, holds_lent, let_go_of, without_lent};
 
     /// Drops what a name holds, if it is a lent buffer of a queue.

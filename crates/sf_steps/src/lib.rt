@@ -1,15 +1,15 @@
-//! An actor's steps, of all forms of a script, over any desk: what the actor has in its hands, its own
-//! tests, what each form asks and does, and the try of its next step. A try keeps what the actor
+//! An actor's steps, of all forms of a script, over any desk: what the actor has in its bindings, its
+//! own tests, what each form asks and does, and the try of its next step. A try keeps what the actor
 //! keeps, and tells what it did, or why it did nothing.
 #![tactic(auto)]
 
 mod actor;
 mod asking;
+mod bindings;
 mod calling;
 mod consuming;
 mod drawing;
 mod editing;
-mod hands;
 mod laws;
 mod leaving;
 mod producing;

@@ -1,5 +1,5 @@
 use crate::asking::{cancel, fence_of, joining, moving, named, queueing};
-use crate::hands::Hands;
+use crate::bindings::Bindings;
 use crate::tried::Tried;
 use sf_actor::{Desk, TokensOf};
 use sf_base::{NoMemory, QueueId};
@@ -8,7 +8,7 @@ use sf_scene::Points;
 use sf_surface::QCall;
 use sf_turns::TableName;
 
-impl<B: TableName> Hands<B> {
+impl<B: TableName> Bindings<B> {
     ghost use Rattle.std.specs.Prelude.{◌≡◌, ◌<◌, ℕ, true, length, IfOk};
     ghost use Rattle.sf_picture.specs.declared.picture.Picture.{Picture};
     ghost use Rattle.sf_scene.specs.declared.step.Step.TheVariants as step;
@@ -16,7 +16,7 @@ impl<B: TableName> Hands<B> {
     ghost use Rattle.sf_actor.specs.Names.{is_apart, is_lent, name_in};
     ghost use Rattle.sf_steps.specs.Doing.{HasQueueOf, MakesCall};
     ghost use Rattle.sf_steps.specs.Forming.{AreOfTable, ArePoints, IsCrop, permits_of};
-    ghost use Rattle.sf_steps.specs.Hands.{holdings_of};
+    ghost use Rattle.sf_steps.specs.Bindings.{holdings_of};
 
     /// Becomes a queue's producer.
     pub fn connect<D: Desk<TokensOf<B>>>(

@@ -5,9 +5,9 @@ ghost use Rattle.sf_surface.specs.Tokens.{is_size_of};
 ghost use Rattle.sf_actor.specs.Scripts.{picture_at};
 ghost use Rattle.sf_actor.specs.Tests.{shows_other};
 ghost use Rattle.sf_scene.specs.Scene.{has_picture};
-ghost use Rattle.sf_steps.specs.Hands.{is_numbered, lent_of};
+ghost use Rattle.sf_steps.specs.Bindings.{is_numbered, lent_of};
 
-use crate::hands::Hands;
+use crate::bindings::Bindings;
 use sf_actor::Holding;
 use sf_picture::Picture;
 use sf_scene::Step;
@@ -72,7 +72,7 @@ fn owes_other<B: TableName>(owing: &Owing<B>, picture: u32) -> bool
     owing.turn.promised().number != picture
 }
 
-impl<B: TableName> Hands<B> {
+impl<B: TableName> Bindings<B> {
     ghost use Rattle.std.specs.Prelude.{◌≡◌, ℕ, MatchOption, Some, None, false, true, is_some, not, ◌==◌, if◌then◌else◌};
     ghost use Rattle.sf_picture.specs.declared.picture.Picture.{Picture};
     ghost use Rattle.sf_scene.specs.declared.step.Step.TheVariants as step;
@@ -82,7 +82,7 @@ impl<B: TableName> Hands<B> {
     ghost use Rattle.sf_actor.specs.Tests.{is_taken, refusal_of};
     ghost use Rattle.sf_scene.specs.Named.{KnowsPicture};
     ghost use Rattle.sf_scene.specs.Scene.{has_picture};
-    ghost use Rattle.sf_steps.specs.Hands.{holdings_of, lent_of, owing_of, shown_of};
+    ghost use Rattle.sf_steps.specs.Bindings.{holdings_of, lent_of, owing_of, shown_of};
 
     /// Whether a name holds something.
     fn holds(&self, name: u32) -> bool

@@ -1,5 +1,5 @@
+use crate::bindings::Bindings;
 use crate::drawing::{is_below, look, signal};
-use crate::hands::Hands;
 use crate::refusal::picture_of;
 use crate::tried::Tried;
 use sf_actor::{Desk, TokensOf};
@@ -8,7 +8,7 @@ use sf_picture::Picture;
 use sf_scene::Step;
 use sf_turns::TableName;
 
-impl<B: TableName> Hands<B> {
+impl<B: TableName> Bindings<B> {
     ghost use Rattle.std.specs.Prelude.{◌≡◌, ◌≤◌, true, IfOk};
     ghost use Rattle.sf_actor.specs.Scripts.{picture_at};
     ghost use Rattle.sf_steps.specs.Acting.{Acts, MayAct, Signals, Waits};

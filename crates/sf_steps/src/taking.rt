@@ -1,16 +1,16 @@
-use crate::hands::Hands;
+use crate::bindings::Bindings;
 use sf_actor::Holding;
 use sf_base::{NoMemory, QueueId};
 use sf_picture::Painted;
 use sf_surface::{Loose, ReadLease, WriteLease};
 use sf_turns::{Permit, TableName};
 
-impl<B: TableName> Hands<B> {
+impl<B: TableName> Bindings<B> {
     ghost use Rattle.std.specs.Prelude.{◌≡◌, ◌<◌, true, length, IfOk};
     ghost use Rattle.sf_actor.specs.Names.{is_apart, is_frame, is_lent, name_in};
     ghost use Rattle.sf_actor.specs.declared.holding.Holding.TheVariants as holding;
     ghost use Rattle.sf_steps.specs.Forming.{Takes, TakesPermit, permits_of};
-    ghost use Rattle.sf_steps.specs.Hands.{holdings_of};
+    ghost use Rattle.sf_steps.specs.Bindings.{holdings_of};
 
     /// Takes the lent buffer that a name holds.
     #[tactic(auto, using(crate::proofs::HoldingLemmas::held))]

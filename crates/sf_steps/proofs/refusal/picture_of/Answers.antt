@@ -2,7 +2,7 @@ use Rattle.std.proofs.Common.{◌≡◌, sym, ◌∙◌, ap, Some, None}
 use Rattle.std.specs.Option.{option_copied}
 use Rattle.std.specs.List.{find}
 use Rattle.std.proofs.lemmas.Bool.{false≢true}
-use Rattle.sf_steps.specs.Hands.{is_numbered}
+use Rattle.sf_steps.specs.Bindings.{is_numbered}
 use Rattle.sf_steps.proofs.PictureLemmas.{found, not_found}
 use Rattle.sf_steps.proofs.refusal.picture_of.Goals as goal
 

@@ -29,7 +29,7 @@ returns-then-not-is_done-clause-steps g c = λ actor is keeps.
     let at = all_replied old c.len-done.result c.len-done.ensures in
     let there = next_read old.script.steps c.as_slice.result.now c.len-done.result (length old.replies.items) c.in-Some.step.now c.as_slice.ensures at c.in-Some.ensures.lookup.3.0 c.in-Some.ensures.lookup.1 in
     is_left g.B.TableName.table c.args.pictures.now (g.D.Desk.home c.args.desk.now) old (g.D.Desk.view c.args.desk.now) c.in-Some.step.now c.requires.plays there actor is keeps
-    (record old { hands = c.attempt.new.self; replies = c.reserve.new.self }) (g.D.Desk.view c.attempt.new.desk) (c.len-done.result + 1) c.in_ok-tried.tried
+    (record old { bindings = c.attempt.new.self; replies = c.reserve.new.self }) (g.D.Desk.view c.attempt.new.desk) (c.len-done.result + 1) c.in_ok-tried.tried
     (ap (λ (n : ℕ). n + 1) at) c.in_ok-tried.ensures.attempts (sym c.is_done.ensures ∙ c.if-not-is_done.true) refl c.reserve.ensures.items refl
 
 pub returns-clause-steps : goal.returns-clause-steps
@@ -38,6 +38,6 @@ returns-clause-steps g c = λ actor is keeps.
     let at = all_replied old c.len-done.result c.len-done.ensures in
     let there = next_read old.script.steps c.as_slice.result.now c.len-done.result (length old.replies.items) c.in-Some.step.now c.as_slice.ensures at c.in-Some.ensures.lookup.3.0 c.in-Some.ensures.lookup.1 in
     is_made g.B.TableName.table c.args.pictures.now (g.D.Desk.home c.args.desk.now) old (g.D.Desk.view c.args.desk.now) c.in-Some.step.now c.requires.plays there actor is keeps
-    (record old { hands = c.attempt.new.self; replies = c.push_reserved.new.self }) (g.D.Desk.view c.attempt.new.desk) (c.len-done.result + 1) c.in_ok-tried.tried c.reply_to-reply.result
+    (record old { bindings = c.attempt.new.self; replies = c.push_reserved.new.self }) (g.D.Desk.view c.attempt.new.desk) (c.len-done.result + 1) c.in_ok-tried.tried c.reply_to-reply.result
     (ap (λ (n : ℕ). n + 1) at) c.in_ok-tried.ensures.attempts (sym c.is_done.ensures ∙ c.if-not-is_done.false) c.reply_to-reply.ensures refl
     (c.push_reserved.ensures.items ∙ ap (λ (replies : List Reply). replies ++ c.reply_to-reply.result ∷ []) c.reserve.ensures.items) refl
