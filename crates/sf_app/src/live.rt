@@ -1,12 +1,12 @@
 ghost use Rattle.std.specs.Prelude.{◌≡◌, ◌≤◌, OnErr, OnOk, IsErrOf};
 ghost use Rattle.sf_io.specs.Causes.{Rose};
 ghost use Rattle.sf_record.specs.declared.encode.RunFault.TheVariants.{WriteFault};
-ghost use Rattle.sf_cast.specs.Scripts.{permits_of};
+ghost use Rattle.sf_actor_set.specs.Scripts.{permits_of};
 ghost use Rattle.sf_live.specs.Runs.{WroteLive};
 ghost use Rattle.sf_show.specs.Writing.{CutSome};
 
+use sf_actor_set::permits_for;
 use sf_base::NoMemory;
-use sf_cast::permits_for;
 use sf_io::{Gate, Sink};
 use sf_picture::Painted;
 use sf_record::RunFault;

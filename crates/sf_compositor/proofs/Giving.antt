@@ -11,7 +11,7 @@ use Rattle.sf_surface.specs.declared.call.QCall.TheVariants as call
 use Rattle.sf_surface.specs.declared.call.QReply.{QReply}
 use Rattle.sf_surface.specs.Tokens.{ReadLeaseOf}
 use Rattle.sf_actor.specs.Desks.{DeskHome, DeskView, MadeCall}
-use Rattle.sf_cast.proofs.CompositingLemmas.{ends_none}
+use Rattle.sf_actor_set.proofs.CompositingLemmas.{ends_none}
 use Rattle.sf_rights.specs.Standing.{GivesOne}
 
 module _ {B : Type 0} (home : DeskHome) (old new : DeskView B) (by step queue : ℕ) (lease : ReadLeaseOf) (fence : Fence) (first : by ≡ 0) where

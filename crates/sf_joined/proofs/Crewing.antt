@@ -13,7 +13,7 @@ use Rattle.sf_actor.specs.Known.{is_sent_by, own_calls}
 use Rattle.sf_actor.specs.Parts.{PartsOf}
 use Rattle.sf_actor.specs.Scripts.{picture_at}
 use Rattle.sf_actor.specs.Tries.{ActorOf, Keeps, dequeues_in}
-use Rattle.sf_cast.specs.Opening.{new_actors}
+use Rattle.sf_actor_set.specs.Opening.{new_actors}
 use Rattle.sf_steps.proofs.NewLemmas.{new_keeps}
 use Rattle.sf_steps.specs.Actors.{IsActor, IsNew, new_actor}
 use Rattle.sf_steps.specs.Playable.{MayPlay}

@@ -24,9 +24,9 @@ use Rattle.sf_actor.specs.Scripts.{picture_at}
 use Rattle.sf_actor.specs.Tries.{ActorOf, AreThere, Keeps, Tries, dequeues_in}
 use Rattle.sf_actor.specs.Written.{signals_of}
 use Rattle.sf_actor.proofs.GoingOn.{keeps_on}
-use Rattle.sf_cast.proofs.RisingLemmas.{sorted_rises}
-use Rattle.sf_cast.specs.Casts.{KeepAs, scripts_of}
-use Rattle.sf_cast.specs.Opening.{IsSortedFrom, new_actors}
+use Rattle.sf_actor_set.proofs.RisingLemmas.{sorted_rises}
+use Rattle.sf_actor_set.specs.ActorSets.{KeepAs, scripts_of}
+use Rattle.sf_actor_set.specs.Opening.{IsSortedFrom, new_actors}
 use Rattle.sf_steps.specs.Playable.{IsPlayable, MayPlay}
 use Rattle.sf_crew.specs.Walks.{Begin, Moment, More, Walk}
 use Rattle.sf_crew.proofs.Doing.{walk_signals}

@@ -38,7 +38,7 @@ use Rattle.sf_actor.specs.Written.{FrameNumber, signals_of}
 use Rattle.sf_actor.proofs.Growing.{value-values}
 use Rattle.sf_actor.specs.declared.done.Done.{Done}
 use Rattle.sf_actor.specs.Makers.{Run}
-use Rattle.sf_cast.specs.Casts.{KeepAs}
+use Rattle.sf_actor_set.specs.ActorSets.{KeepAs}
 use Rattle.sf_scene.specs.declared.step.ActorScript.{ActorScript}
 use Rattle.sf_run.specs.Frames.{ShowImages}
 use Rattle.sf_record.specs.declared.event.VsyncReport.{VsyncReport}

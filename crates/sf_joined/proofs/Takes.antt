@@ -17,7 +17,7 @@ use Rattle.sf_turns.specs.Views.{SeatView}
 use Rattle.sf_txn.specs.declared.lease.Lease.{Ghosts}
 use Rattle.sf_commit.specs.Handlers.{HandlerOf, last_of}
 use Rattle.sf_actor.specs.Plain.{taken_in}
-use Rattle.sf_cast.proofs.ArrivalLemmas.{sent_is, waiting_last, waiting_many, waiting_rises}
+use Rattle.sf_actor_set.proofs.ArrivalLemmas.{sent_is, waiting_last, waiting_many, waiting_rises}
 use Rattle.sf_run.proofs.Members.{has_here, has_later}
 use Rattle.sf_shared.specs.declared.locks.Locks.{Locks}
 use Rattle.sf_shared.specs.Arriving.{ArrivalCalls, ArrivalsPass, Arrived, Arriving}

@@ -12,7 +12,7 @@ use Rattle.sf_actor.specs.declared.tried.Reply.{Reply as Told}
 use Rattle.sf_actor.specs.Desks.{KnowsAll, mark_among}
 use Rattle.sf_actor.specs.Plain.{PlainOf, home_of as plain_home, view_of as plain_view}
 use Rattle.sf_actor.specs.Tries.{ActorOf}
-use Rattle.sf_cast.specs.Casts.{CastOf}
+use Rattle.sf_actor_set.specs.ActorSets.{ActorSetOf}
 use Rattle.sf_record.specs.declared.event.Event.{Event}
 use Rattle.sf_record.specs.declared.event.Event.TheVariants as event
 use Rattle.sf_record.specs.declared.event.VsyncReport.{VsyncReport}
@@ -35,12 +35,12 @@ module _ {B : Type 0} where
   events_of reports ofs = map event.Vsync reports ++ flat_map replies_told ofs
 
   -- the actors that came back, over the desk that is left
-  abbrev pub cast_joined : SceneValue → List (Moment B) → PlainOf B → CastOf B
-  cast_joined scene ends desk = record { pictures = scene.pictures; actors = map actor_at ends; desk = desk; is_spent = false }
+  abbrev pub actor_set_joined : SceneValue → List (Moment B) → PlainOf B → ActorSetOf B
+  actor_set_joined scene ends desk = record { pictures = scene.pictures; actors = map actor_at ends; desk = desk; is_spent = false }
 
   -- a player that goes on from there, with the compositor as it was after its last vsync
   abbrev pub player_joined : SceneValue → List (Moment B) → PlainOf B → Sitting B → PlayerOf B
-  player_joined scene ends desk last = before_round scene.period scene.order (cast_joined scene ends desk) last.handler last.number
+  player_joined scene ends desk last = before_round scene.period scene.order (actor_set_joined scene ends desk) last.handler last.number
 
 module _ {B : Type 0} (lease : Ghosts ReadLeaseOf SeatView ReadLeaseOf Issued) (scene : SceneValue) (table : TableId) (period most : ℕ)
     (locks : Locks B) (last : Sitting B) (ends : List (Moment B)) (desk : PlainOf B) where

@@ -19,7 +19,7 @@ ghost use Rattle.sf_shared.specs.Arriving.{ArrivalCalls};
 ghost use Rattle.sf_shared.specs.Seats.{view_of};
 ghost use Rattle.sf_shared.specs.declared.locks.Locks.{Locks};
 ghost use Rattle.sf_shared.specs.declared.seats.Seats.{Seats};
-ghost use Rattle.sf_cast.specs.Opening.{new_actors};
+ghost use Rattle.sf_actor_set.specs.Opening.{new_actors};
 ghost use Rattle.sf_steps.specs.declared.actor.Actor.{Actor};
 ghost use Rattle.sf_crew.specs.Walks.{Moment};
 ghost use Rattle.sf_crew.specs.declared.crew.Crew.{Crew};

@@ -14,7 +14,7 @@ use Rattle.sf_actor.specs.Tries.{ActorOf}
 use Rattle.sf_actor.specs.Values.{replies_of}
 use Rattle.sf_actor.specs.declared.done.Done.{Done}
 use Rattle.sf_steps.specs.declared.actor.Actor.{Actor}
-use Rattle.sf_cast.specs.Casts.{KeepAs}
+use Rattle.sf_actor_set.specs.ActorSets.{KeepAs}
 use Rattle.sf_record.specs.Events.{closing, event_records, events_records}
 use Rattle.sf_record.specs.declared.encode.RunFault.{RunFault}
 use Rattle.sf_record.specs.declared.event.Event.TheVariants as event
@@ -93,17 +93,17 @@ module _ {B : Type 0} where
       (λ i. map rec.Repl (sym due i) ++ later i) ∙ sym (events_more run of.script (map script_of ofs))
 
   module _ (table : TableId) (scene : SceneValue) (so : SoFar B) (player : PlayerOf B) (stands : StandsInRun table scene so player) where
-    replies_are : all_reply_records player.play.cast.actors ≡ events_records (flat_map (reply_events (run_so so player.play)) (rising_actors scene))
+    replies_are : all_reply_records player.play.actor_set.actors ≡ events_records (flat_map (reply_events (run_so so player.play)) (rising_actors scene))
     replies_are =
         let standing = stands.stands.stands in
         let actors = standing.tell.actors in
         let home = home_in player.play in
         let view = view_in player.play in
-        replies_kept table _ home view (run_so so player.play) player.play.cast.actors so.actors standing.keep (λ of there. trace_here so.actors of actors.apart there)
+        replies_kept table _ home view (run_so so player.play) player.play.actor_set.actors so.actors standing.keep (λ of there. trace_here so.actors of actors.apart there)
         ∙ ap (λ (scripts : List ActorScript). events_records (flat_map (reply_events (run_so so player.play)) scripts)) (sym (rising_actors_are scene so.actors home view standing.of_scene.limits actors))
 
     -- what is written at the end of a run is what is left of its records
-    all_records : (opening scene ∷ events_records (vsyncs_alone so.events)) ++ (all_reply_records player.play.cast.actors ++ closing_of player) ≡ records_of scene (shows_late scene so player)
+    all_records : (opening scene ∷ events_records (vsyncs_alone so.events)) ++ (all_reply_records player.play.actor_set.actors ++ closing_of player) ≡ records_of scene (shows_late scene so player)
     all_records =
         let run = run_so so player.play in
         let shows = shows_at_end scene so player in
@@ -114,16 +114,16 @@ module _ {B : Type 0} where
 
   module _ (table : TableId) (scene : SceneValue) (a b c : Option (List ℕ)) (player : PlayerOf B) (has : HasShownAll table scene a b player) where
     -- the rest of the records was written behind all others, or a part of it
-    pub live_written : (r : Result (Unit {0}) RunFault) → OnOk r (Writes b c (all_reply_records player.play.cast.actors ++ closing_of player)) → OnOk r (WroteLive scene a c)
+    pub live_written : (r : Result (Unit {0}) RunFault) → OnOk r (Writes b c (all_reply_records player.play.actor_set.actors ++ closing_of player)) → OnOk r (WroteLive scene a c)
     live_written (Ok u) rest =
         let written = subst (Writes a c) (all_records table scene has.so player has.stands)
-        (writes_more a b c (opening scene ∷ events_records (vsyncs_alone has.so.events)) (all_reply_records player.play.cast.actors ++ closing_of player) has.written rest) in
+        (writes_more a b c (opening scene ∷ events_records (vsyncs_alone has.so.events)) (all_reply_records player.play.actor_set.actors ++ closing_of player) has.written rest) in
         record { records = records_of scene (shows_late scene has.so player); means = played_live table scene has.so player has.stands has.ends written.fits; written = written }
     live_written (Err e) rest = tt
 
-    pub live_cut : (r : Result (Unit {0}) RunFault) → OnErr r (WritesPart b c (all_reply_records player.play.cast.actors ++ closing_of player)) → OnErr r (CutSome a c)
+    pub live_cut : (r : Result (Unit {0}) RunFault) → OnErr r (WritesPart b c (all_reply_records player.play.actor_set.actors ++ closing_of player)) → OnErr r (CutSome a c)
     live_cut (Ok u) rest = tt
     live_cut (Err e) rest =
         let before = opening scene ∷ events_records (vsyncs_alone has.so.events) in
-        let more = all_reply_records player.play.cast.actors ++ closing_of player in
+        let more = all_reply_records player.play.actor_set.actors ++ closing_of player in
         cut_part a c (before ++ more) (part_more a b c before more has.written rest)

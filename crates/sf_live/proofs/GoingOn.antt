@@ -33,10 +33,10 @@ use Rattle.sf_live.proofs.Frames.{all_found, log_records_are}
 module _ {B : Type 0} (lease : Ghosts ReadLeaseOf SeatView ReadLeaseOf Issued) (table : TableId) (run : RunOf B) (locks : Locks B) (joined : Joined B) (start : Option (List ℕ)) (period : ℕ) (order : List Pick)
     (handler : HandlerOf ReadLeaseOf) (vsyncs : ℕ) (t : IsTogether lease table run locks joined) (goes : GoesFrom run start period order handler vsyncs) where
   -- it is the player that the joins leave
-  pub same_player : before_round period order joined.cast handler vsyncs ≡ player_joined run.scene t.ends t.desk run.last
-  same_player = λ i. before_round (goes.same_period i) (goes.same_order i) (t.cast i) (goes.same_handler i) (goes.same_vsyncs i)
+  pub same_player : before_round period order joined.actor_set handler vsyncs ≡ player_joined run.scene t.ends t.desk run.last
+  same_player = λ i. before_round (goes.same_period i) (goes.same_order i) (t.actor_set i) (goes.same_handler i) (goes.same_vsyncs i)
 
-  module _ (find : AllFind lease table locks run.scene.period (picture_at run.scene.pictures) t.is.joins.log) (player : PlayerOf B) (is : player ≡ before_round period order joined.cast handler vsyncs)
+  module _ (find : AllFind lease table locks run.scene.period (picture_at run.scene.pictures) t.is.joins.log) (player : PlayerOf B) (is : player ≡ before_round period order joined.actor_set handler vsyncs)
       (stands : StandsInRun table run.scene (so_joined lease run.scene table run.scene.period (most_layers run.scene.version) locks run.last t.ends t.desk t.is) (player_joined run.scene t.ends t.desk run.last))
       (reports : vsyncs_in (so_joined lease run.scene table run.scene.period (most_layers run.scene.version) locks run.last t.ends t.desk t.is).events ≡ reports_of lease table locks run.scene.period run.scene t.is.joins.log) where
     pub has_shown : HasShown table run.scene (plan_of run.scene) run.timelines start run.now run.screens player

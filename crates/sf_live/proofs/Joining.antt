@@ -10,7 +10,7 @@ use Rattle.sf_commit.specs.Handlers.{new_handler}
 use Rattle.sf_scene.specs.Limits.{most_layers}
 use Rattle.sf_actor.specs.Plain.{PlainOf}
 use Rattle.sf_steps.specs.declared.actor.Actor.{Actor}
-use Rattle.sf_cast.specs.Opening.{new_actors}
+use Rattle.sf_actor_set.specs.Opening.{new_actors}
 use Rattle.sf_run.specs.Frames.{plan_of}
 use Rattle.sf_shared.specs.declared.first.FirstSeats.{FirstSeats}
 use Rattle.sf_shared.specs.declared.locks.Locks.{Locks}

@@ -3,7 +3,7 @@ pub mod Openings
 pub mod Joining
 pub mod Telling
 pub mod Frames
-pub mod Casting
+pub mod ActorSetLemmas
 pub mod Together
 pub mod GoingOn
 pub mod RunLemmas

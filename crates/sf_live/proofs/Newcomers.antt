@@ -23,8 +23,8 @@ use Rattle.sf_actor.specs.Tries.{dequeues_in}
 use Rattle.sf_steps.specs.Actors.{IsActor, new_actor}
 use Rattle.sf_steps.specs.Playable.{IsPlayable, MayPlay}
 use Rattle.sf_steps.specs.declared.actor.Actor.{Actor}
-use Rattle.sf_cast.specs.Casts.{KeepAs, KeepsAs, scripts_of}
-use Rattle.sf_cast.specs.Opening.{OpensQueues, new_actors, new_queue}
+use Rattle.sf_actor_set.specs.ActorSets.{KeepAs, KeepsAs, scripts_of}
+use Rattle.sf_actor_set.specs.Opening.{OpensQueues, new_actors, new_queue}
 use Rattle.sf_stamped.specs.Stamps.{unstamped}
 use Rattle.sf_shared.specs.Arriving.{ArrivalEntry}
 use Rattle.sf_shared.specs.Closing.{HasNoCalls}

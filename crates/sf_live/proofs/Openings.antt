@@ -13,9 +13,9 @@ use Rattle.sf_actor.specs.Desks.{DeskHome, DeskView}
 use Rattle.sf_actor.specs.Tries.{ActorOf}
 use Rattle.sf_steps.specs.Actors.{IsActor}
 use Rattle.sf_steps.specs.declared.actor.Actor.{Actor}
-use Rattle.sf_cast.specs.Casts.{KeepAs}
-use Rattle.sf_cast.specs.Opening.{OpensQueues, new_queue}
-use Rattle.sf_cast.proofs.RisingLemmas.{sorted_rises}
+use Rattle.sf_actor_set.specs.ActorSets.{KeepAs}
+use Rattle.sf_actor_set.specs.Opening.{OpensQueues, new_queue}
+use Rattle.sf_actor_set.proofs.RisingLemmas.{sorted_rises}
 use Rattle.sf_run.specs.Actors.{mark_declared}
 use Rattle.sf_run.specs.Histories.{queue_number, rising_queues}
 use Rattle.sf_run.proofs.Parts.{map_twice}

@@ -14,7 +14,7 @@ use Rattle.sf_commit.specs.declared.vsync.Commit.{Commit as Decided}
 use Rattle.sf_surface.specs.Tokens.{ReadLeaseOf}
 use Rattle.sf_scene.specs.Scene.{SceneValue}
 use Rattle.sf_actor.specs.Scripts.{picture_at}
-use Rattle.sf_cast.specs.Casts.{KeepsAs}
+use Rattle.sf_actor_set.specs.ActorSets.{KeepsAs}
 use Rattle.sf_record.specs.Events.{event_records, events_records, vsync_records}
 use Rattle.sf_record.specs.declared.event.Event.{Event}
 use Rattle.sf_record.specs.declared.event.Event.TheVariants as event
@@ -84,10 +84,10 @@ module _ {B : Type 0} where
   ]
 
   -- as many actors stand in a run as its scene has
-  pub as_many : (table : TableId) (scene : SceneValue) (so : SoFar B) (player : PlayerOf B) → StandsInRun table scene so player → length player.play.cast.actors ≡ length scene.actors
+  pub as_many : (table : TableId) (scene : SceneValue) (so : SoFar B) (player : PlayerOf B) → StandsInRun table scene so player → length player.play.actor_set.actors ≡ length scene.actors
   as_many table scene so player stands =
       let standing = stands.stands.stands in
-      sym (AllZip-long (KeepsAs table (picture_at scene.pictures) (home_in player.play) (view_in player.play)) player.play.cast.actors so.actors standing.keep)
+      sym (AllZip-long (KeepsAs table (picture_at scene.pictures) (home_in player.play) (view_in player.play)) player.play.actor_set.actors so.actors standing.keep)
       ∙ sym (length-map so.actors script_of)
       ∙ length_permutation scene.actors (map script_of so.actors) standing.tell.actors.scripts
 

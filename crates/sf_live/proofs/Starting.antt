@@ -7,7 +7,7 @@ use Rattle.sf_scene.specs.Limits.{IsWithinLimits, most_layers}
 use Rattle.sf_scene.specs.Scene.{SceneValue}
 use Rattle.sf_scene.specs.declared.declarations.QueueDecl.{QueueDecl}
 use Rattle.sf_surface.specs.Tokens.{ReadLeaseOf}
-use Rattle.sf_cast.specs.Scripts.{AreOfScene}
+use Rattle.sf_actor_set.specs.Scripts.{AreOfScene}
 use Rattle.sf_run.specs.Frames.{plan_of}
 use Rattle.sf_run.specs.Played.{opening}
 use Rattle.sf_run.specs.Vsyncs.{rising_timelines}

@@ -10,38 +10,38 @@ use Rattle.sf_txn.specs.declared.lease.Lease.{Ghosts}
 use Rattle.sf_actor.specs.Desks.{KnowsAll, mark_among}
 use Rattle.sf_actor.specs.Plain.{PlainOf, home_of as plain_home, view_of as plain_view}
 use Rattle.sf_steps.specs.declared.actor.Actor.{Actor}
-use Rattle.sf_cast.specs.Casts.{CastOf, IsCast}
+use Rattle.sf_actor_set.specs.ActorSets.{ActorSetOf, IsActorSet}
 use Rattle.sf_scene.specs.Limits.{most_layers}
 use Rattle.sf_shared.specs.declared.locks.Locks.{Locks}
 use Rattle.sf_crew.specs.declared.ashore.Ashore.{Ashore}
-use Rattle.sf_joined.specs.Joined.{IsJoined, cast_joined}
+use Rattle.sf_joined.specs.Joined.{IsJoined, actor_set_joined}
 use Rattle.sf_live.specs.declared.threads.Joined.{Joined}
 use Rattle.sf_live.specs.Threads.{AreClosedTo, HasRun, IsTogether, RunOf, landed_actor}
-use Rattle.sf_live.proofs.Casting.{is_cast}
+use Rattle.sf_live.proofs.ActorSetLemmas.{is_actor_set}
 
 module _ {B : Type 0} (lease : Ghosts ReadLeaseOf SeatView ReadLeaseOf Issued) (table : TableId) (run : RunOf B) (locks : Locks B) (pictures : List Picture) (ashore : Ashore B)
     (h : HasRun lease table run locks pictures ashore) (desk : PlainOf B) (closed : AreClosedTo locks ashore.first desk) (knows : KnowsAll (plain_view desk))
     (legal : (queue : ℕ) → IsLegal (Answers (mark_among (plain_home desk).marks queue)) ((plain_view desk).calls queue)) (actors : List (Actor B)) (are : actors ≡ map landed_actor ashore.landed.items) where
-  abbrev cast : CastOf B
-  cast = record { pictures = pictures; actors = actors; desk = desk; is_spent = false }
+  abbrev actor_set : ActorSetOf B
+  actor_set = record { pictures = pictures; actors = actors; desk = desk; is_spent = false }
 
   abbrev joined_is : IsJoined lease run.scene table run.scene.period (most_layers run.scene.version) locks run.last h.ends desk
   joined_is = record { joins = h.joins desk closed; knows = knows; legal = legal; same_period = refl; same_most = refl }
 
-  cast_is : cast ≡ cast_joined run.scene h.ends desk
-  cast_is = λ i. record { pictures = h.pictured i; actors = (are ∙ sym h.actors) i; desk = desk; is_spent = false }
+  actor_set_is : actor_set ≡ actor_set_joined run.scene h.ends desk
+  actor_set_is = λ i. record { pictures = h.pictured i; actors = (are ∙ sym h.actors) i; desk = desk; is_spent = false }
 
-  -- they are a cast
-  pub cast_there : IsCast table cast
-  cast_there = subst (IsCast table) (sym cast_is) (is_cast lease run.scene table run.scene.period (most_layers run.scene.version) locks run.last h.ends desk joined_is)
+  -- they are an actor set
+  pub actor_set_there : IsActorSet table actor_set
+  actor_set_there = subst (IsActorSet table) (sym actor_set_is) (is_actor_set lease run.scene table run.scene.period (most_layers run.scene.version) locks run.last h.ends desk joined_is)
 
-  pub together : (joined : Joined B) → joined.cast ≡ cast → length joined.gates.items ≡ length actors → IsTogether lease table run locks joined
+  pub together : (joined : Joined B) → joined.actor_set ≡ actor_set → length joined.gates.items ≡ length actors → IsTogether lease table run locks joined
   together joined is long = record {
     few = h.few;
     ends = h.ends;
     desk = desk;
     is = joined_is;
     shows = h.shows desk closed;
-    cast = is ∙ cast_is;
-    gates = long ∙ sym (ap (λ (c : CastOf B). length c.actors) is);
+    actor_set = is ∙ actor_set_is;
+    gates = long ∙ sym (ap (λ (c : ActorSetOf B). length c.actors) is);
   }

@@ -7,7 +7,7 @@ use Rattle.sf_scene.specs.Limits.{IsWithinLimits}
 use Rattle.sf_scene.specs.Scene.{SceneValue}
 use Rattle.sf_scene.specs.declared.step.ActorScript.{ActorScript}
 use Rattle.sf_steps.specs.Actors.{IsActor}
-use Rattle.sf_cast.specs.Opening.{IsSortedFrom, new_actors}
+use Rattle.sf_actor_set.specs.Opening.{IsSortedFrom, new_actors}
 use Rattle.sf_run.specs.Actors.{mark_declared}
 use Rattle.sf_run.specs.Histories.{rising_queues}
 use Rattle.sf_shared.specs.First.{took_of}

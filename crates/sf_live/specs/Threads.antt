@@ -27,7 +27,7 @@ use Rattle.sf_crew.specs.Walks.{Moment}
 use Rattle.sf_compositor.specs.Sitting.{AreFound, records_shown, showings_of}
 use Rattle.sf_compositor.specs.Vsyncs.{Sitting, Vsyncs}
 use Rattle.sf_replay.specs.Joining.{Joins, actor_at}
-use Rattle.sf_joined.specs.Joined.{IsJoined, cast_joined}
+use Rattle.sf_joined.specs.Joined.{IsJoined, actor_set_joined}
 use Rattle.sf_live.specs.declared.threads.Joined.{Joined}
 
 -- a run in threads: its scene, where its compositor came to, of which timelines it tells, what the sink had taken before the first vsync and what it
@@ -80,5 +80,5 @@ module _ {B : Type 0} where
       pub desk : PlainOf B
       pub is : IsJoined lease run.scene table run.scene.period (most_layers run.scene.version) locks run.last ends desk
       pub shows : HasWritten is.joins.begins is.joins.log
-      pub cast : joined.cast ≡ cast_joined run.scene ends desk
-      pub gates : length joined.gates.items ≡ length joined.cast.actors
+      pub actor_set : joined.actor_set ≡ actor_set_joined run.scene ends desk
+      pub gates : length joined.gates.items ≡ length joined.actor_set.actors

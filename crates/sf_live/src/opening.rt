@@ -3,15 +3,15 @@ ghost use Rattle.std.specs.List.{AllByRecursion};
 ghost use Rattle.std.specs.List.Sorted.{IsStrictlyIncreasing};
 ghost use Rattle.sf_scene.specs.declared.step.ActorScript.{ActorScript as ScriptValue};
 ghost use Rattle.sf_turns.specs.Counts.{range};
-ghost use Rattle.sf_cast.specs.Scripts.{AreOfScene, permits_of};
+ghost use Rattle.sf_actor_set.specs.Scripts.{AreOfScene, permits_of};
 ghost use Rattle.sf_shared.specs.Closing.{HasNoCalls, Opens};
 ghost use Rattle.sf_shared.specs.First.{IsFirst, KnowsNothing, gave_of};
 ghost use Rattle.sf_crew.specs.Boarding.{IsNewcomer, number_of};
 ghost use Rattle.sf_live.specs.Openings.{IsOpen};
 
 use sf_actor::PlainDesk;
+use sf_actor_set::ActorSet;
 use sf_base::{Items, NoMemory};
-use sf_cast::Cast;
 use sf_picture::{Painted, Picture};
 use sf_scene::{ActorScript, QueueDecl};
 use sf_shared::{FirstSeats, Locks};
@@ -72,8 +72,8 @@ pub fn open<B: TableName>(
     ensures rising { IfOk result (λ opened. IsStrictlyIncreasing (opened.first.seats.by ∷ map number_of opened.actors.items)) }
     ensures newcomers { IfOk result (λ opened. AllByRecursion (IsNewcomer B.table opened.locks opened.pictures opened.first.seats) opened.actors.items) }
 {
-    let cast = Cast::new(alloc, queues, pictures, scripts, seat, stock)?;
-    let (pictures, actors, desk) = cast.into_parts();
+    let actor_set = ActorSet::new(alloc, queues, pictures, scripts, seat, stock)?;
+    let (pictures, actors, desk) = actor_set.into_parts();
     let (locks, first) = share(alloc, desk)?;
     Ok(Opened {
         pictures,

@@ -33,12 +33,12 @@ pub(crate) fn go_on<B: TableName>(
         × (IsTogether ⟦<ReadLease<B> as Lease>⟧ B.table run locks joined × GoesFrom run start period order handler vsyncs) }
     ensures shown { (run : RunOf B) (locks : Locks B) (start : Option (List ℕ)) → IsTogether ⟦<ReadLease<B> as Lease>⟧ B.table run locks joined
         → GoesFrom run start period order handler vsyncs → HasShown B.table run.scene (plan_of run.scene) run.timelines start run.now run.screens result.0 }
-    ensures gates { length result.1.items ≡ length result.0.play.cast.actors }
+    ensures gates { length result.1.items ≡ length result.0.play.actor_set.actors }
 {
     a_run_in_threads_goes_on::<B>();
     buffers_among_threads_have_their_pictures::<B>();
     what_threads_did_is_played::<B>();
-    let Joined { cast, gates } = joined;
-    let player = Player::resume(alloc, period, order, cast, handler, vsyncs);
+    let Joined { actor_set, gates } = joined;
+    let player = Player::resume(alloc, period, order, actor_set, handler, vsyncs);
     (player, gates)
 }

@@ -36,13 +36,13 @@ fn pass_gate<R: Wait, G: Gate, B: TableName>(
     gates: &mut [Gates],
     player: &Player<B>,
 )
-    requires few { All (λ (actor : ActorIn B). length actor.script.steps ≤ 4294967295) player.now.play.cast.actors }
-    requires gates { length gates.old ≡ length player.now.play.cast.actors }
-    ensures passed { PassesFor (next_tried player.now) player.now.play.cast.actors gates.old gates.new }
+    requires few { All (λ (actor : ActorIn B). length actor.script.steps ≤ 4294967295) player.now.play.actor_set.actors }
+    requires gates { length gates.old ≡ length player.now.play.actor_set.actors }
+    ensures passed { PassesFor (next_tried player.now) player.now.play.actor_set.actors gates.old gates.new }
     ensures as_many { length gates.new ≡ length gates.old }
 {
     if let Some(place) = player.next_actor() {
-        gates[place] = gates[place].ready(rt, gate, &player.cast().actors()[place]);
+        gates[place] = gates[place].ready(rt, gate, &player.actor_set().actors()[place]);
     }
 }
 
@@ -111,13 +111,13 @@ fn show_turn<R: Threads + Wait + Sync, K: Sink, G: Gate, B: TableName>(
 ) -> Result<bool, RunFault>
     requires some { 1 ≤ workers }
     requires few { workers ≤ 16 }
-    requires gates { length gates.old ≡ length player.old.play.cast.actors }
+    requires gates { length gates.old ≡ length player.old.play.actor_set.actors }
     requires shown { (scene : SceneValue) × (start : Option (List ℕ)) × HasShown B.table scene plan.now timelines.now start (K.taken sink.old) screens.old player.old }
     ensures on { (scene : SceneValue) (start : Option (List ℕ)) → HasShown B.table scene plan.now timelines.now start (K.taken sink.old) screens.old player.old
         → IfOk result (λ goes_on. ShowsOn goes_on B.table scene plan.now timelines.now start (K.taken sink.new) screens.new player.new) }
     ensures err { (scene : SceneValue) (start : Option (List ℕ)) → HasShown B.table scene plan.now timelines.now start (K.taken sink.old) screens.old player.old
         → OnErr result (CutSome start (K.taken sink.new)) }
-    ensures gates { IfOk result (λ _. length gates.new ≡ length player.new.play.cast.actors) }
+    ensures gates { IfOk result (λ _. length gates.new ≡ length player.new.play.actor_set.actors) }
     ensures less { IfOk result (λ goes_on. goes_on ≡ true → fuel_of player.new < fuel_of player.old) }
     ensures later { K.faults sink.old ≤ K.faults sink.new }
     ensures failed { IsErrOf result RunFault.WriteFault → Rose (K.faults sink.old) (K.faults sink.new) }
@@ -151,7 +151,7 @@ fn show_rounds<R: Threads + Wait + Sync, K: Sink, G: Gate, B: TableName>(
 ) -> Result<(), RunFault>
     requires some { 1 ≤ workers }
     requires few { workers ≤ 16 }
-    requires gates { length gates.old ≡ length player.old.play.cast.actors }
+    requires gates { length gates.old ≡ length player.old.play.actor_set.actors }
     requires shown { (scene : SceneValue) × (start : Option (List ℕ)) × HasShown B.table scene plan.now timelines.now start (K.taken sink.old) screens.old player.old }
     ensures ok { (scene : SceneValue) (start : Option (List ℕ)) → HasShown B.table scene plan.now timelines.now start (K.taken sink.old) screens.old player.old
         → OnOk result (HasShownAll B.table scene start (K.taken sink.new) player.new) }
@@ -213,13 +213,13 @@ fn write_rest<K: Sink, B: TableName>(
     sink: &mut K,
     player: &Player<B>,
 ) -> Result<(), RunFault>
-    requires { All (λ (actor : ActorIn B). length actor.script.steps ≤ 4294967295) player.now.play.cast.actors }
-    ensures ok { OnOk result (Writes (K.taken sink.old) (K.taken sink.new) (all_reply_records player.now.play.cast.actors ++ closing_of player.now)) }
-    ensures err { OnErr result (WritesPart (K.taken sink.old) (K.taken sink.new) (all_reply_records player.now.play.cast.actors ++ closing_of player.now)) }
+    requires { All (λ (actor : ActorIn B). length actor.script.steps ≤ 4294967295) player.now.play.actor_set.actors }
+    ensures ok { OnOk result (Writes (K.taken sink.old) (K.taken sink.new) (all_reply_records player.now.play.actor_set.actors ++ closing_of player.now)) }
+    ensures err { OnErr result (WritesPart (K.taken sink.old) (K.taken sink.new) (all_reply_records player.now.play.actor_set.actors ++ closing_of player.now)) }
     ensures later { K.faults sink.old ≤ K.faults sink.new }
     ensures failed { IsErrOf result RunFault.WriteFault → Rose (K.faults sink.old) (K.faults sink.new) }
 {
-    match write_replies(alloc, sink, player.cast().actors()) {
+    match write_replies(alloc, sink, player.actor_set().actors()) {
         Ok(()) => {}
         Err(fault) => return Err(fault),
     }
@@ -244,7 +244,7 @@ pub(crate) fn write_rounds<R: Threads + Wait + Sync, K: Sink, G: Gate, B: TableN
 ) -> Result<(), RunFault>
     requires some { 1 ≤ workers }
     requires few { workers ≤ 16 }
-    requires gates { length gates.old ≡ length player.old.play.cast.actors }
+    requires gates { length gates.old ≡ length player.old.play.actor_set.actors }
     requires shown { (scene : SceneValue) × (start : Option (List ℕ)) × HasShown B.table scene plan.now timelines.now start (K.taken sink.old) screens.old player.old }
     ensures ok { (scene : SceneValue) (start : Option (List ℕ)) → HasShown B.table scene plan.now timelines.now start (K.taken sink.old) screens.old player.old
         → OnOk result (WroteLive scene start (K.taken sink.new)) }

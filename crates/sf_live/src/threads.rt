@@ -9,9 +9,9 @@ ghost use Rattle.sf_crew.specs.Meeting.{landed_of};
 ghost use Rattle.sf_live.specs.Threads.{HasRun, IsTogether, RunOf, landed_actor};
 
 use sf_actor::{Desk, PlainDesk};
+use sf_actor_set::ActorSet;
 use sf_base::{Items, NoMemory};
 use sf_calls::Object;
-use sf_cast::Cast;
 use sf_crew::{Ashore, Gates, Landed};
 use sf_picture::Picture;
 use sf_shared::Locks;
@@ -25,7 +25,7 @@ use std::alloc::Global;
 /// each passed, by rising number.
 #[derive(Drop)]
 pub(crate) struct Joined<B: TableName> {
-    pub(crate) cast: Cast<B>,
+    pub(crate) actor_set: ActorSet<B>,
     pub(crate) gates: Vec<Gates>,
 }
 
@@ -87,7 +87,7 @@ pub(crate) fn bring_together<B: TableName>(
     let desk = locks.close(alloc, first)?;
     tell(&desk);
     Ok(Joined {
-        cast: Cast::resume(pictures, actors, desk),
+        actor_set: ActorSet::resume(pictures, actors, desk),
         gates,
     })
 }

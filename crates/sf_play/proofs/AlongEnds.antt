@@ -14,8 +14,8 @@ use Rattle.sf_actor.specs.Desks.{mark_among}
 use Rattle.sf_actor.specs.Known.{plain_arrival}
 use Rattle.sf_actor.specs.Plain.{calls_among, home_of, is_queue}
 use Rattle.sf_actor.specs.Tries.{dequeues_in}
-use Rattle.sf_cast.specs.Casts.{Opens}
-use Rattle.sf_cast.specs.Opening.{new_actors, new_queue}
+use Rattle.sf_actor_set.specs.ActorSets.{Opens}
+use Rattle.sf_actor_set.specs.Opening.{new_actors, new_queue}
 use Rattle.sf_run.specs.Actors.{trace_among}
 use Rattle.sf_run.specs.Plays.{IsPlay}
 use Rattle.sf_run.specs.Vsyncs.{vsyncs_in}
@@ -43,7 +43,7 @@ none_among B (q ∷ queues) queue = elim (cases_Bool (is_queue queue (new_queue 
 
 module _ {B : Type 0} where
   -- nothing happened yet
-  module _ (table : TableId) (scene : SceneValue) (seat : SeatView) (stock : List ℕ) (play : PlayOf B) (opens : Opens table scene.queues scene.pictures scene.actors seat stock play.cast) (none : play.vsyncs ≡ 0) where
+  module _ (table : TableId) (scene : SceneValue) (seat : SeatView) (stock : List ℕ) (play : PlayOf B) (opens : Opens table scene.queues scene.pictures scene.actors seat stock play.actor_set) (none : play.vsyncs ≡ 0) where
     abbrev at_first : SoFar B
     at_first = record { actors = new_actors opens.declared stock; events = [] }
 
@@ -52,7 +52,7 @@ module _ {B : Type 0} where
     first_now = λ i. record {
       run = record {
         trace = λ actor. none_traced B opens.declared stock actor i;
-        calls = λ queue. told (mark_among (home_of play.cast.desk).marks queue)
+        calls = λ queue. told (mark_among (home_of play.actor_set.desk).marks queue)
             ((ap (λ (objects : List (ObjectOf B)). calls_among objects queue) opens.queues_opened.opened ∙ none_among B opens.queues_opened.declared queue) i);
       };
       arrivals = map plain_arrival (ap sent opens.none_arrived i);

@@ -30,7 +30,7 @@ use Rattle.sf_actor.specs.Known.{frame_of}
 use Rattle.sf_actor.specs.Plain.{home_of, view_of}
 use Rattle.sf_actor.specs.Scripts.{picture_at}
 use Rattle.sf_actor.specs.Tries.{ActorOf}
-use Rattle.sf_cast.specs.Casts.{KeepAs, StepsAt, number_of}
+use Rattle.sf_actor_set.specs.ActorSets.{KeepAs, StepsAt, number_of}
 use Rattle.sf_run.specs.Actors.{script_of}
 use Rattle.sf_run.specs.Ends.{held_in}
 use Rattle.sf_run.specs.Progress.{ShowsWhatIsWritten, is_time}
@@ -77,7 +77,7 @@ nowhere : {X : Type 0} (p : X → Bool) (n : ℕ) → position p [] ≡ Some n �
 nowhere p n e = cc
 
 module _ {B : Type 0} where
-  -- the actors of a cast have the numbers of those that contracts see
+  -- the actors of an actor set have the numbers of those that contracts see
   number_kept : (table : TableId) (pictures : ℕ → Picture) (home : DeskHome) (view : DeskView B) (actors : List (Actor B)) (ofs : List (ActorOf B)) (n : ℕ) (actor : Actor B) (of : ActorOf B)
       → KeepAs table pictures home view actors ofs → slice_get actors n ≡ Some actor → slice_get ofs n ≡ Some of → number_of actor ≡ of.script.number
   number_kept table pictures home view [] ofs n actor of keep one other = absurd (cc (one))
@@ -127,12 +127,12 @@ module _ {B : Type 0} where
   module _ (lease : Ghosts ReadLeaseOf SeatView ReadLeaseOf Issued) (frames : OfFrames lease) (of_turns : IsOfTurns lease) (tells : TellsAll lease) (table : TableId) (scene : SceneValue) (so : SoFar B)
       (old new : PlayerOf B) (came_to : Turn) (marks : List QueueMark) (stands : Stands table scene so old.play) (rights : KeepsRights table scene so old.play) (marked : (home_in old.play).marks ≡ marks)
       (keeps : KeepsItself lease table old.play) (keeps_now : KeepsItself lease table new.play) where
-    -- the play with the new cast
-    abbrev with_cast : PlayOf B
-    with_cast = record old.play { cast = new.play.cast }
+    -- the play with the new actor set
+    abbrev with_actor_set : PlayOf B
+    with_actor_set = record old.play { actor_set = new.play.actor_set }
 
-    known_cast : DeskKnows with_cast
-    known_cast = record { knows = keeps_now.desk.knows; legal = keeps_now.desk.legal }
+    known_actor_set : DeskKnows with_actor_set
+    known_actor_set = record { knows = keeps_now.desk.knows; legal = keeps_now.desk.legal }
 
     -- it stood along with the play
     abbrev pub WasAlong : Type 0
@@ -141,48 +141,48 @@ module _ {B : Type 0} where
     abbrev On : Place → Type 0
     On place = PlaysOn WasAlong table scene marks so came_to new place
 
-    firsts : (of : ActorOf B) → Contains so.actors of → TellsFirst scene (world_so so old.play).run of (view_of old.play.cast.desk)
+    firsts : (of : ActorOf B) → Contains so.actors of → TellsFirst scene (world_so so old.play).run of (view_of old.play.actor_set.desk)
     firsts = first_told table scene so old.play stands rights keeps.desk.legal keeps.desk.knows keeps.own
 
     -- what a try comes to is the same for the new player
-    comes : (came : Turn) (place next : Place) → came_to ≡ came → new.play ≡ with_cast → place ≡ next → PlaysOn WasAlong table scene marks so came (record new { play = with_cast }) place → On next
+    comes : (came : Turn) (place next : Place) → came_to ≡ came → new.play ≡ with_actor_set → place ≡ next → PlaysOn WasAlong table scene marks so came (record new { play = with_actor_set }) place → On next
     comes came place next is rest there on =
         subst On there
         (subst (λ (c : Turn). PlaysOn WasAlong table scene marks so c new place) (sym is) (subst (λ (p : PlayOf B). PlaysOn WasAlong table scene marks so came (record new { play = p }) place) (sym rest) on))
 
-    as_scene : (place : ℕ) (st : Stepped) → StepsAt table (picture_at old.play.cast.pictures) place old.play.cast.actors so.actors old.play.cast.desk new.play.cast.actors new.play.cast.desk st
-        → StepsAt table (picture_at scene.pictures) place old.play.cast.actors so.actors old.play.cast.desk new.play.cast.actors new.play.cast.desk st
-    as_scene place st = subst (λ (ps : List Picture). StepsAt table (picture_at ps) place old.play.cast.actors so.actors old.play.cast.desk new.play.cast.actors new.play.cast.desk st) stands.of_scene.pictures
+    as_scene : (place : ℕ) (st : Stepped) → StepsAt table (picture_at old.play.actor_set.pictures) place old.play.actor_set.actors so.actors old.play.actor_set.desk new.play.actor_set.actors new.play.actor_set.desk st
+        → StepsAt table (picture_at scene.pictures) place old.play.actor_set.actors so.actors old.play.actor_set.desk new.play.actor_set.actors new.play.actor_set.desk st
+    as_scene place st = subst (λ (ps : List Picture). StepsAt table (picture_at ps) place old.play.actor_set.actors so.actors old.play.actor_set.desk new.play.actor_set.actors new.play.actor_set.desk st) stands.of_scene.pictures
 
     -- the actor at a place was tried
     module _ (place : ℕ) (t : TriesStep table place so.actors old.play new.play came_to) where
-      abbrev did : (s : StepsAt table (picture_at scene.pictures) place old.play.cast.actors so.actors old.play.cast.desk new.play.cast.actors new.play.cast.desk stepped.Done) → StandsWith table scene marks so (turn.Step place) with_cast
-      did s = done_with table scene marks so old.play stands rights marked keeps.desk.legal keeps.desk.knows keeps.own new.play.cast place t.same t.acts s
+      abbrev did : (s : StepsAt table (picture_at scene.pictures) place old.play.actor_set.actors so.actors old.play.actor_set.desk new.play.actor_set.actors new.play.actor_set.desk stepped.Done) → StandsWith table scene marks so (turn.Step place) with_actor_set
+      did s = done_with table scene marks so old.play stands rights marked keeps.desk.legal keeps.desk.knows keeps.own new.play.actor_set place t.same t.acts s
 
-      abbrev left : (s : StepsAt table (picture_at scene.pictures) place old.play.cast.actors so.actors old.play.cast.desk new.play.cast.actors new.play.cast.desk stepped.NotYet) → StandsWith table scene marks so turn.Idle with_cast
-      left s = left_with table scene marks so old.play stands rights marked keeps.desk.legal keeps.desk.knows keeps.own new.play.cast place t.same t.acts s
+      abbrev left : (s : StepsAt table (picture_at scene.pictures) place old.play.actor_set.actors so.actors old.play.actor_set.desk new.play.actor_set.actors new.play.actor_set.desk stepped.NotYet) → StandsWith table scene marks so turn.Idle with_actor_set
+      left s = left_with table scene marks so old.play stands rights marked keeps.desk.legal keeps.desk.knows keeps.own new.play.actor_set place t.same t.acts s
 
-      abbrev ended : (s : StepsAt table (picture_at scene.pictures) place old.play.cast.actors so.actors old.play.cast.desk new.play.cast.actors new.play.cast.desk stepped.Ended) → StandsWith table scene marks so turn.Idle with_cast
-      ended s = ended_with table scene marks so old.play stands rights marked keeps.desk.legal keeps.desk.knows keeps.own new.play.cast place t.same t.acts s
+      abbrev ended : (s : StepsAt table (picture_at scene.pictures) place old.play.actor_set.actors so.actors old.play.actor_set.desk new.play.actor_set.actors new.play.actor_set.desk stepped.Ended) → StandsWith table scene marks so turn.Idle with_actor_set
+      ended s = ended_with table scene marks so old.play stands rights marked keeps.desk.legal keeps.desk.knows keeps.own new.play.actor_set place t.same t.acts s
 
       -- an earlier turn that it waits for is an older draw
-      older : (s : StepsAt table (picture_at scene.pictures) place old.play.cast.actors so.actors old.play.cast.desk new.play.cast.actors new.play.cast.desk stepped.NotYet)
-          → TellsOlder scene (run_so so with_cast) s.old (view_in old.play) (view_in with_cast)
+      older : (s : StepsAt table (picture_at scene.pictures) place old.play.actor_set.actors so.actors old.play.actor_set.desk new.play.actor_set.actors new.play.actor_set.desk stepped.NotYet)
+          → TellsOlder scene (run_so so with_actor_set) s.old (view_in old.play) (view_in with_actor_set)
       older s =
           let kept = left s in
-          older_told table scene so old.play stands rights keeps.desk.legal keeps.desk.knows keeps.own with_cast kept.stands kept.rights s.old (got_has so.actors place s.old s.here)
+          older_told table scene so old.play stands rights keeps.desk.legal keeps.desk.knows keeps.own with_actor_set kept.stands kept.rights s.old (got_has so.actors place s.old s.here)
 
       tried_round : (was : Bool) → (WasAlong → PlaysSo scene so old.play (at.Round place was)) → On (at.Round (place + 1) (was || is_step came_to))
       tried_round was plays = by_stepped t.stepped t.is (as_scene place t.stepped t.steps)
         where
           by_stepped : (st : Stepped) → came_to ≡ turn_by place st
-              → StepsAt table (picture_at scene.pictures) place old.play.cast.actors so.actors old.play.cast.desk new.play.cast.actors new.play.cast.desk st → On (at.Round (place + 1) (was || is_step came_to))
+              → StepsAt table (picture_at scene.pictures) place old.play.actor_set.actors so.actors old.play.actor_set.desk new.play.actor_set.actors new.play.actor_set.desk st → On (at.Round (place + 1) (was || is_step came_to))
           by_stepped stepped.Done is s =
               comes (turn.Step place) (at.Round (place + 1) true) (at.Round (place + 1) (was || is_step came_to)) is t.rest
               (ap (λ (b : Bool). at.Round (place + 1) b) (sym (or_true was) ∙ ap (λ (x : Turn). was || is_step x) (sym is)))
               (record {
                 kept = did s;
-                along = λ w. round_done table scene so old.play stands place new.play.cast t.same t.acts s keeps.desk known_cast (firsts s.old (got_has so.actors place s.old s.here)) was (plays w);
+                along = λ w. round_done table scene so old.play stands place new.play.actor_set t.same t.acts s keeps.desk known_actor_set (firsts s.old (got_has so.actors place s.old s.here)) was (plays w);
                 holds = λ w. tt;
                 stage = tt;
               })
@@ -191,26 +191,26 @@ module _ {B : Type 0} where
               (ap (λ (b : Bool). at.Round (place + 1) b) (sym (or_none was) ∙ ap (λ (x : Turn). was || is_step x) (sym is)))
               (record {
                 kept = left s;
-                along = λ w. round_waits table scene so old.play stands place new.play.cast t.same t.acts s known_cast (older s) was (plays w);
+                along = λ w. round_waits table scene so old.play stands place new.play.actor_set t.same t.acts s known_actor_set (older s) was (plays w);
                 holds = λ w. tt;
                 stage = tt;
               })
           by_stepped stepped.Ended is s =
               comes turn.Idle (at.Round (place + 1) was) (at.Round (place + 1) (was || is_step came_to)) is t.rest
               (ap (λ (b : Bool). at.Round (place + 1) b) (sym (or_none was) ∙ ap (λ (x : Turn). was || is_step x) (sym is)))
-              (record { kept = ended s; along = λ w. round_ended table scene so old.play stands place new.play.cast t.same t.acts s was (plays w); holds = λ w. tt; stage = tt })
+              (record { kept = ended s; along = λ w. round_ended table scene so old.play stands place new.play.actor_set t.same t.acts s was (plays w); holds = λ w. tt; stage = tt })
 
       tried_pick : (at' done : ℕ) (pick : Pick) → (WasAlong → PlaysSo scene so old.play (at.Order at' done)) → slice_get scene.order at' ≡ Some pick → done < pick.times
           → ((of : ActorOf B) → slice_get so.actors place ≡ Some of → pick.actor ≡ of.script.number) → On (at.Order at' (done + 1))
       tried_pick at' done pick plays there less number = by_stepped t.stepped t.is (as_scene place t.stepped t.steps)
         where
           by_stepped : (st : Stepped) → came_to ≡ turn_by place st
-              → StepsAt table (picture_at scene.pictures) place old.play.cast.actors so.actors old.play.cast.desk new.play.cast.actors new.play.cast.desk st → On (at.Order at' (done + 1))
+              → StepsAt table (picture_at scene.pictures) place old.play.actor_set.actors so.actors old.play.actor_set.desk new.play.actor_set.actors new.play.actor_set.desk st → On (at.Order at' (done + 1))
           by_stepped stepped.Done is s =
               comes (turn.Step place) (at.Order at' (done + 1)) (at.Order at' (done + 1)) is t.rest refl
               (record {
                 kept = did s;
-                along = λ w. pick_done table scene so old.play stands place new.play.cast t.same t.acts s keeps.desk known_cast (firsts s.old (got_has so.actors place s.old s.here)) at' done pick (plays w) there less
+                along = λ w. pick_done table scene so old.play stands place new.play.actor_set t.same t.acts s keeps.desk known_actor_set (firsts s.old (got_has so.actors place s.old s.here)) at' done pick (plays w) there less
                     (number s.old s.here);
                 holds = λ w. tt;
                 stage = tt;
@@ -219,7 +219,7 @@ module _ {B : Type 0} where
               comes turn.Idle (at.Order at' (done + 1)) (at.Order at' (done + 1)) is t.rest refl
               (record {
                 kept = left s;
-                along = λ w. pick_waits table scene so old.play stands place new.play.cast t.same t.acts s known_cast (older s) at' done pick (plays w) there less (number s.old s.here);
+                along = λ w. pick_waits table scene so old.play stands place new.play.actor_set t.same t.acts s known_actor_set (older s) at' done pick (plays w) there less (number s.old s.here);
                 holds = λ w. tt;
                 stage = tt;
               })
@@ -227,7 +227,7 @@ module _ {B : Type 0} where
               comes turn.Idle (at.Order at' (done + 1)) (at.Order at' (done + 1)) is t.rest refl
               (record {
                 kept = ended s;
-                along = λ w. pick_ended table scene so old.play stands place new.play.cast t.same t.acts s at' done pick (plays w) there less (number s.old s.here);
+                along = λ w. pick_ended table scene so old.play stands place new.play.actor_set t.same t.acts s at' done pick (plays w) there less (number s.old s.here);
                 holds = λ w. tt;
                 stage = tt;
               })
@@ -278,7 +278,7 @@ module _ {B : Type 0} where
             stage = staged (some c cs e).later (some c cs e).stands;
           }
 
-      vsync_round : (place : ℕ) (was : Bool) → (WasAlong → PlaysSo scene so old.play (at.Round place was)) → nat_lt place (length old.play.cast.actors) ≡ false → On (behind_round was report.commits new.held)
+      vsync_round : (place : ℕ) (was : Bool) → (WasAlong → PlaysSo scene so old.play (at.Round place was)) → nat_lt place (length old.play.actor_set.actors) ≡ false → On (behind_round was report.commits new.held)
       vsync_round place was plays past =
           subst (λ (c : Turn). PlaysOn WasAlong table scene marks so c new (behind_round was report.commits new.held)) (sym v.is)
           (subst (PlaysOn WasAlong table scene marks so (turn.Vsync report) new) (λ i. behind_round was (sym v.makes.commits i) (sym v.makes.held i)) (by_commits told.commits refl))
@@ -314,7 +314,7 @@ module _ {B : Type 0} where
     picks_on : (place done : ℕ) (pick : Pick) → (WasAlong → PlaysSo scene so old.play (at.Order place done)) → slice_get scene.order place ≡ Some pick → done < pick.times → (n : ℕ) → pick.actor ≡ n
         → Picks lease table so.actors n old new came_to → On (at.Order place (done + 1))
     picks_on place done pick plays there less zero is picks = vsync_pick picks place done pick plays there less is
-    picks_on place done pick plays there less (suc n) is picks = by_place (position is_it old.play.cast.actors) refl picks.0
+    picks_on place done pick plays there less (suc n) is picks = by_place (position is_it old.play.actor_set.actors) refl picks.0
       where
         is_it : Actor B → Bool
         is_it actor = number_of actor == suc n
@@ -327,25 +327,25 @@ module _ {B : Type 0} where
                 let apart : (suc n == 0) ≡ false = ne_eqb (suc n) 0 (λ z. omega (arith, z)) in
                 ap (λ (b : Bool). b || has_actor scene.actors (suc n)) (sym apart) ∙ subst (λ (k : ℕ). (k == 0 || has_actor scene.actors k) ≡ true) is e
 
-        by_place : (o : Option ℕ) → position is_it old.play.cast.actors ≡ o → TriesIf lease table so.actors o old.play new.play came_to → On (at.Order place (done + 1))
+        by_place : (o : Option ℕ) → position is_it old.play.actor_set.actors ≡ o → TriesIf lease table so.actors o old.play new.play came_to → On (at.Order place (done + 1))
         by_place None e tries =
             let script = one_passes (λ (s : ActorScript). s.number == suc n) scene.actors declared in
             let of = map_has script_of so.actors script.0 (Contains-permutation scene.actors (map script_of so.actors) script.0 stands.tell.actors.scripts script.1) in
-            let there' = number_there table (picture_at scene.pictures) (home_of old.play.cast.desk) (view_of old.play.cast.desk) old.play.cast.actors so.actors of.0 stands.keep of.1 in
-            absurd (no_position is_it old.play.cast.actors there'.actor there'.there
+            let there' = number_there table (picture_at scene.pictures) (home_of old.play.actor_set.desk) (view_of old.play.actor_set.desk) old.play.actor_set.actors so.actors of.0 stands.keep of.1 in
+            absurd (no_position is_it old.play.actor_set.actors there'.actor there'.there
             (eq-eqb (number_of there'.actor) (suc n) (there'.is ∙ (ap (λ (s : ActorScript). s.number) of.2 ∙ eqb-true script.0.number (suc n) script.2))) e)
         by_place (Some at') e tries = tried_pick at' tries place done pick plays there less number
           where
             number : (of : ActorOf B) → slice_get so.actors at' ≡ Some of → pick.actor ≡ of.script.number
-            number of here = by_actors old.play.cast.actors refl
+            number of here = by_actors old.play.actor_set.actors refl
               where
-                by_actors : (actors : List (Actor B)) → old.play.cast.actors ≡ actors → pick.actor ≡ of.script.number
+                by_actors : (actors : List (Actor B)) → old.play.actor_set.actors ≡ actors → pick.actor ≡ of.script.number
                 by_actors [] none = absurd (nowhere is_it at' (ap (position is_it) (sym none) ∙ e))
                 by_actors (d ∷ later) some =
-                    let found = position-Some is_it old.play.cast.actors at' d e in
-                    is ∙ (sym (eqb-true (number_of (get_or old.play.cast.actors at' d)) (suc n) found.1)
-                    ∙ number_kept table (picture_at scene.pictures) (home_of old.play.cast.desk) (view_of old.play.cast.desk) old.play.cast.actors so.actors at' (get_or old.play.cast.actors at' d) of stands.keep
-                    (slice_get-get_or old.play.cast.actors at' d found.0) here)
+                    let found = position-Some is_it old.play.actor_set.actors at' d e in
+                    is ∙ (sym (eqb-true (number_of (get_or old.play.actor_set.actors at' d)) (suc n) found.1)
+                    ∙ number_kept table (picture_at scene.pictures) (home_of old.play.actor_set.desk) (view_of old.play.actor_set.desk) old.play.actor_set.actors so.actors at' (get_or old.play.actor_set.actors at' d) of stands.keep
+                    (slice_get-get_or old.play.actor_set.actors at' d found.0) here)
 
     turn_on : (from : Place) → settled old.play.order old.place ≡ from → TurnsAt lease table so.actors from old new came_to → (WasAlong → PlaysSo scene so old.play from) → On new.place
     turn_on (at.Order place done) e turns plays =
@@ -360,9 +360,9 @@ module _ {B : Type 0} where
       where
         one_pick : (a b : Pick) → Some a ≡ Some b → a ≡ b
         one_pick a b e = cc
-    turn_on (at.Round place was) e turns plays = by_test (nat_lt place (length old.play.cast.actors)) refl turns
+    turn_on (at.Round place was) e turns plays = by_test (nat_lt place (length old.play.actor_set.actors)) refl turns
       where
-        by_test : (b : Bool) → nat_lt place (length old.play.cast.actors) ≡ b → RoundsIf lease table so.actors b place was old new came_to → On new.place
+        by_test : (b : Bool) → nat_lt place (length old.play.actor_set.actors) ≡ b → RoundsIf lease table so.actors b place was old new came_to → On new.place
         by_test true low goes = subst On (sym goes.next) (tried_round place goes.tries was plays)
         by_test false past ends = subst On (sym ends.next) (vsync_round ends.vsync place was plays past)
     turn_on at.End e turns plays =

@@ -20,7 +20,7 @@ use Rattle.sf_actor.specs.Known.{plain_arrival}
 use Rattle.sf_actor.specs.Plain.{home_of, view_of}
 use Rattle.sf_actor.specs.Scripts.{picture_at}
 use Rattle.sf_actor.specs.Tries.{ActorOf, DoesStep, LeavesStep}
-use Rattle.sf_cast.specs.Casts.{CastOf, IsSameCast, StepsAt}
+use Rattle.sf_actor_set.specs.ActorSets.{ActorSetOf, IsSameActorSet, StepsAt}
 use Rattle.sf_record.specs.declared.event.Event.{Event}
 use Rattle.sf_record.specs.declared.event.Event.TheVariants as event
 use Rattle.sf_record.specs.declared.event.VsyncReport.{VsyncReport}
@@ -80,15 +80,15 @@ reply_no_vsync events e none = flat_map-append vsync_in events (e ∷ []) ∙ ap
 module _ {B : Type 0} where
   module _ (table : TableId) (scene : SceneValue) (so : SoFar B) (play : PlayOf B) (stands : Stands table scene so play) where
     abbrev home : DeskHome
-    home = home_of play.cast.desk
+    home = home_of play.actor_set.desk
 
     abbrev view : DeskView B
-    view = view_of play.cast.desk
+    view = view_of play.actor_set.desk
 
     -- what was called is a queue of the scene
     pub calls_declared : (queue : ℕ) (made : Made B) → Contains (view.calls queue) made → has_queue scene.queues queue ≡ true
     calls_declared queue made there =
-        let mark = one_passes (λ (mark : QueueMark). mark.queue.0 == queue) home.marks (desk_called play.cast.desk queue made there) in
+        let mark = one_passes (λ (mark : QueueMark). mark.queue.0 == queue) home.marks (desk_called play.actor_set.desk queue made there) in
         subst (λ (n : ℕ). has_queue scene.queues n ≡ true) (eqb-true mark.0.queue.0 queue mark.2)
         (All-contains (λ (mark : QueueMark). has_queue scene.queues mark.queue.0 ≡ true) home.marks mark.0 stands.desk.declared mark.1)
 
@@ -118,17 +118,17 @@ module _ {B : Type 0} where
       its_trace : trace_among so.actors old.script.number ≡ old.trace
       its_trace = trace_here so.actors old stands.tell.actors.apart (got_has so.actors place old here)
 
-      module _ (cast : CastOf B) (same : IsSameCast play.cast cast) where
+      module _ (actor_set : ActorSetOf B) (same : IsSameActorSet play.actor_set actor_set) where
         abbrev later_play : PlayOf B
-        later_play = record play { cast = cast }
+        later_play = record play { actor_set = actor_set }
 
         abbrev after : DeskView B
-        after = view_of cast.desk
+        after = view_of actor_set.desk
 
         -- nothing was called or sent: the world is as it was
         left_world : ((queue : ℕ) → after.calls queue ≡ view.calls queue) → after.arrivals ≡ view.arrivals → world_so so later_play ≡ world_so so play
         left_world calls arrivals = λ i. record {
-          run = run_stays so.actors home (home_of cast.desk) view after (ap (λ (h : DeskHome). h.marks) same.home) calls i;
+          run = run_stays so.actors home (home_of actor_set.desk) view after (ap (λ (h : DeskHome). h.marks) same.home) calls i;
           arrivals = map plain_arrival (arrivals i);
           reports = vsyncs_in so.events;
           vsyncs = play.vsyncs;
@@ -150,43 +150,43 @@ module _ {B : Type 0} where
               (plays_idle scene so.events (world_so so play) place stepped old.script (idle (world_so so play)) plays script_at
               (takes_actor scene old.script.number (world_so so play) (idle (world_so so play)) is_some (sym nothing)) refl)
 
-  module _ (table : TableId) (scene : SceneValue) (so : SoFar B) (play : PlayOf B) (stands : Stands table scene so play) (place : ℕ) (cast : CastOf B)
-      (same : IsSameCast play.cast cast) (acts : cast.is_spent ≡ false) where
+  module _ (table : TableId) (scene : SceneValue) (so : SoFar B) (play : PlayOf B) (stands : Stands table scene so play) (place : ℕ) (actor_set : ActorSetOf B)
+      (same : IsSameActorSet play.actor_set actor_set) (acts : actor_set.is_spent ≡ false) where
     abbrev new_play : PlayOf B
-    new_play = record play { cast = cast }
+    new_play = record play { actor_set = actor_set }
 
     -- no step is left
-    module _ (s : StepsAt table (picture_at scene.pictures) place play.cast.actors so.actors play.cast.desk cast.actors cast.desk stepped.Ended) where
+    module _ (s : StepsAt table (picture_at scene.pictures) place play.actor_set.actors so.actors play.actor_set.desk actor_set.actors actor_set.desk stepped.Ended) where
       nothing_ended : actor_turn scene s.old.script.number (world_so so play) ≡ idle (world_so so play)
       nothing_ended = idle_ended scene (world_so so play) s.old.script (is_found table scene so play stands place s.old s.here)
           (ap (λ (t : List Done). slice_get s.old.script.steps (length t)) (its_trace table scene so play stands place s.old s.here) ∙ s.tries.2)
 
       left_ended : world_so so new_play ≡ world_so so play
-      left_ended = left_world table scene so play stands place s.old s.here cast same (λ queue. ap (λ (v : DeskView B). v.calls queue) s.tries.1) (ap (λ (v : DeskView B). v.arrivals) s.tries.1)
+      left_ended = left_world table scene so play stands place s.old s.here actor_set same (λ queue. ap (λ (v : DeskView B). v.calls queue) s.tries.1) (ap (λ (v : DeskView B). v.arrivals) s.tries.1)
 
       pub pick_ended : (at' done : ℕ) (pick : Pick) → PlaysSo scene so play (at.Order at' done) → slice_get scene.order at' ≡ Some pick → done < pick.times → pick.actor ≡ s.old.script.number
           → PlaysSo scene so new_play (at.Order at' (done + 1))
-      pick_ended = idle_pick table scene so play stands place s.old s.here cast same nothing_ended left_ended
+      pick_ended = idle_pick table scene so play stands place s.old s.here actor_set same nothing_ended left_ended
 
       pub round_ended : (stepped : Bool) → PlaysSo scene so play (at.Round place stepped) → PlaysSo scene so new_play (at.Round (place + 1) stepped)
-      round_ended = idle_round table scene so play stands place s.old s.here cast same nothing_ended left_ended
+      round_ended = idle_round table scene so play stands place s.old s.here actor_set same nothing_ended left_ended
 
     -- the step is not done
-    module _ (s : StepsAt table (picture_at scene.pictures) place play.cast.actors so.actors play.cast.desk cast.actors cast.desk stepped.NotYet) (knows : DeskKnows new_play)
-        (older : TellsOlder scene (run_of so.actors (home_of cast.desk) (view_of cast.desk)) s.old (view_of play.cast.desk) (view_of cast.desk)) where
-      leaves : LeavesStep (picture_at scene.pictures) (home_of play.cast.desk) s.old (view_of play.cast.desk) s.new (view_of cast.desk)
+    module _ (s : StepsAt table (picture_at scene.pictures) place play.actor_set.actors so.actors play.actor_set.desk actor_set.actors actor_set.desk stepped.NotYet) (knows : DeskKnows new_play)
+        (older : TellsOlder scene (run_of so.actors (home_of actor_set.desk) (view_of actor_set.desk)) s.old (view_of play.actor_set.desk) (view_of actor_set.desk)) where
+      leaves : LeavesStep (picture_at scene.pictures) (home_of play.actor_set.desk) s.old (view_of play.actor_set.desk) s.new (view_of actor_set.desk)
       leaves = s.tries
 
       is_now : Stands table scene so new_play
-      is_now = stands_waiting table scene so play place cast stands same acts s
+      is_now = stands_waiting table scene so play place actor_set stands same acts s
 
       left_waits : world_so so new_play ≡ world_so so play
-      left_waits = left_world table scene so play stands place s.old s.here cast same (leaves.calls refl) leaves.arrivals
+      left_waits = left_world table scene so play stands place s.old s.here actor_set same (leaves.calls refl) leaves.arrivals
 
       not_ready : IsNotReady scene (world_so so new_play).run s.old.script (next_step (world_so so new_play).run s.old.script)
-      not_ready = left_not_ready scene so.actors (home_of cast.desk) (view_of play.cast.desk) (view_of cast.desk) s.old s.new stands.of_scene.limits refl is_now.tell.actors
+      not_ready = left_not_ready scene so.actors (home_of actor_set.desk) (view_of play.actor_set.desk) (view_of actor_set.desk) s.old s.new stands.of_scene.limits refl is_now.tell.actors
           (calls_so table scene so new_play is_now knows) is_now.tell.signals (got_has so.actors place s.old s.here) older
-          (subst (λ (h : DeskHome). LeavesStep (picture_at scene.pictures) h s.old (view_of play.cast.desk) s.new (view_of cast.desk)) (sym same.home) leaves)
+          (subst (λ (h : DeskHome). LeavesStep (picture_at scene.pictures) h s.old (view_of play.actor_set.desk) s.new (view_of actor_set.desk)) (sym same.home) leaves)
 
       next_is : next_step (world_so so play).run s.old.script ≡ Some leaves.next
       next_is = ap (λ (t : List Done). slice_get s.old.script.steps (length t)) (its_trace table scene so play stands place s.old s.here) ∙ leaves.step
@@ -198,28 +198,28 @@ module _ {B : Type 0} where
 
       pub pick_waits : (at' done : ℕ) (pick : Pick) → PlaysSo scene so play (at.Order at' done) → slice_get scene.order at' ≡ Some pick → done < pick.times → pick.actor ≡ s.old.script.number
           → PlaysSo scene so new_play (at.Order at' (done + 1))
-      pick_waits = idle_pick table scene so play stands place s.old s.here cast same nothing_yet left_waits
+      pick_waits = idle_pick table scene so play stands place s.old s.here actor_set same nothing_yet left_waits
 
       pub round_waits : (stepped : Bool) → PlaysSo scene so play (at.Round place stepped) → PlaysSo scene so new_play (at.Round (place + 1) stepped)
-      round_waits = idle_round table scene so play stands place s.old s.here cast same nothing_yet left_waits
+      round_waits = idle_round table scene so play stands place s.old s.here actor_set same nothing_yet left_waits
 
     -- the step is done
-    module _ (s : StepsAt table (picture_at scene.pictures) place play.cast.actors so.actors play.cast.desk cast.actors cast.desk stepped.Done) (knows : DeskKnows play) (known : DeskKnows new_play)
-        (first : TellsFirst scene (world_so so play).run s.old (view_of play.cast.desk)) where
+    module _ (s : StepsAt table (picture_at scene.pictures) place play.actor_set.actors so.actors play.actor_set.desk actor_set.actors actor_set.desk stepped.Done) (knows : DeskKnows play) (known : DeskKnows new_play)
+        (first : TellsFirst scene (world_so so play).run s.old (view_of play.actor_set.desk)) where
       abbrev later_so : SoFar B
       later_so = record { actors = set so.actors place s.new; events = so.events ++ event.Reply (reply_shown s.tries.0) ∷ [] }
 
-      does : DoesStep (picture_at scene.pictures) (home_of play.cast.desk) s.old (view_of play.cast.desk) s.new (view_of cast.desk) s.tries.0
+      does : DoesStep (picture_at scene.pictures) (home_of play.actor_set.desk) s.old (view_of play.actor_set.desk) s.new (view_of actor_set.desk) s.tries.0
       does = s.tries.1
 
       stands_now : Stands table scene later_so new_play
-      stands_now = stands_done table scene so play place cast stands same acts s
+      stands_now = stands_done table scene so play place actor_set stands same acts s
 
-      runs_now : KnowsRun scene later_so.actors (home_of play.cast.desk) (view_of cast.desk)
-      runs_now = subst (λ (h : DeskHome). KnowsRun scene later_so.actors h (view_of cast.desk)) same.home (knows_so table scene later_so new_play stands_now known)
+      runs_now : KnowsRun scene later_so.actors (home_of play.actor_set.desk) (view_of actor_set.desk)
+      runs_now = subst (λ (h : DeskHome). KnowsRun scene later_so.actors h (view_of actor_set.desk)) same.home (knows_so table scene later_so new_play stands_now known)
 
-      calls_now : AreCalls scene later_so.actors (home_of play.cast.desk) (view_of cast.desk)
-      calls_now = subst (λ (h : DeskHome). AreCalls scene later_so.actors h (view_of cast.desk)) same.home (calls_so table scene later_so new_play stands_now known)
+      calls_now : AreCalls scene later_so.actors (home_of play.actor_set.desk) (view_of actor_set.desk)
+      calls_now = subst (λ (h : DeskHome). AreCalls scene later_so.actors h (view_of actor_set.desk)) same.home (calls_so table scene later_so new_play stands_now known)
 
       same_vsyncs : vsyncs_in later_so.events ≡ vsyncs_in so.events
       same_vsyncs = reply_no_vsync so.events (event.Reply (reply_shown s.tries.0)) refl
@@ -229,13 +229,13 @@ module _ {B : Type 0} where
 
       turn_now : actor_turn scene s.old.script.number (world_so so play) ≡ turn
       turn_now =
-          desk_turn scene so.actors (home_of play.cast.desk) (view_of play.cast.desk) (view_of cast.desk) place s.old s.new s.tries.0 (vsyncs_in so.events) play.vsyncs stands.of_scene.limits refl s.here s.tries.1
-          (knows_so table scene so play stands knows) runs_now calls_now (sent_numbered cast.desk.arrivals) first
+          desk_turn scene so.actors (home_of play.actor_set.desk) (view_of play.actor_set.desk) (view_of actor_set.desk) place s.old s.new s.tries.0 (vsyncs_in so.events) play.vsyncs stands.of_scene.limits refl s.here s.tries.1
+          (knows_so table scene so play stands knows) runs_now calls_now (sent_numbered actor_set.desk.arrivals) first
           ∙ (λ i. record {
             events = event.Reply (reply_shown s.tries.0) ∷ [];
             world = record {
-              run = run_of later_so.actors (sym same.home i) (view_of cast.desk);
-              arrivals = arrivals_of (view_of cast.desk);
+              run = run_of later_so.actors (sym same.home i) (view_of actor_set.desk);
+              arrivals = arrivals_of (view_of actor_set.desk);
               reports = sym same_vsyncs i;
               vsyncs = play.vsyncs;
             };
@@ -243,8 +243,8 @@ module _ {B : Type 0} where
 
       traces_now : (actor : ℕ) → trace_among later_so.actors actor ≡ with_list (trace_among so.actors) s.old.script.number (trace_among so.actors s.old.script.number ++ s.tries.1.done ∷ []) actor
       traces_now =
-          traces scene so.actors (home_of play.cast.desk) (view_of play.cast.desk) (view_of cast.desk) place s.old s.new s.tries.0 (vsyncs_in so.events) play.vsyncs stands.of_scene.limits refl s.here s.tries.1
-          (knows_so table scene so play stands knows) runs_now calls_now (sent_numbered cast.desk.arrivals)
+          traces scene so.actors (home_of play.actor_set.desk) (view_of play.actor_set.desk) (view_of actor_set.desk) place s.old s.new s.tries.0 (vsyncs_in so.events) play.vsyncs stands.of_scene.limits refl s.here s.tries.1
+          (knows_so table scene so play stands knows) runs_now calls_now (sent_numbered actor_set.desk.arrivals)
 
       takes_now : TakesTurn scene s.old.script.number (world_so so play) turn
       takes_now = takes_actor scene s.old.script.number (world_so so play) turn (is_some table scene so play stands place s.old s.here) (sym turn_now)

@@ -33,8 +33,8 @@ use Rattle.sf_actor.specs.Names.{FrameOf}
 use Rattle.sf_actor.specs.Plain.{home_of, taken_in, view_of}
 use Rattle.sf_actor.specs.Tries.{ActorOf}
 use Rattle.sf_steps.specs.declared.actor.Actor.{Actor}
-use Rattle.sf_cast.proofs.ArrivalLemmas.{sent_is}
-use Rattle.sf_cast.specs.Casts.{KeepAs}
+use Rattle.sf_actor_set.proofs.ArrivalLemmas.{sent_is}
+use Rattle.sf_actor_set.specs.ActorSets.{KeepAs}
 use Rattle.sf_record.specs.declared.event.Event.{Event}
 use Rattle.sf_record.specs.declared.event.Event.TheVariants as event
 use Rattle.sf_record.specs.declared.event.VsyncReport.{VsyncReport}
@@ -72,7 +72,7 @@ abbrev released_then : ℕ → List (OnLayer FrameOf) → List Released
 released_then number gone = map (λ (on : OnLayer FrameOf). record { vsync = number; on = on }) gone
 
 module _ {B : Type 0} where
-  -- as many actors as the cast has
+  -- as many actors as the actor set has
   keep_length : (table : TableId) (pictures : ℕ → Picture) (home : DeskHome) (view : DeskView B) (actors : List (Actor B)) (ofs : List (ActorOf B)) → KeepAs table pictures home view actors ofs → length actors ≡ length ofs
   keep_length table pictures home view [] [] keep = refl
   keep_length table pictures home view [] (of ∷ ofs) keep = absurd keep
@@ -113,11 +113,11 @@ module _ {B : Type 0} where
       (stands : Stands table scene so old) (v : MakesVsync lease table old seen told new) where
     -- it saw what was signalled so far
     final_now : final_values scene (run_so so old) ≡ seen
-    final_now = final_is scene so.actors (home_of old.cast.desk) (view_of old.cast.desk) seen stands.of_scene.limits stands.tell.actors stands.tell.signals v.sees.all (v.sees.exact refl)
+    final_now = final_is scene so.actors (home_of old.actor_set.desk) (view_of old.actor_set.desk) seen stands.of_scene.limits stands.tell.actors stands.tell.signals v.sees.all (v.sees.exact refl)
 
     -- all that has arrived is taken
     abbrev arrivals : Calls ReadLeaseOf SeatView ReadLeaseOf Issued
-    arrivals = old.cast.desk.arrivals
+    arrivals = old.actor_set.desk.arrivals
 
     all_arrived : taken_at old ++ map (framed_arrival frame_of) v.arrived ≡ arrived_at old
     all_arrived =
@@ -130,12 +130,12 @@ module _ {B : Type 0} where
     period_now = ap (λ (n : ℕ). (old.vsyncs + 1) * n) (sym stands.of_scene.period)
 
     -- the number of actors
-    pub all_had : (place : ℕ) → nat_lt place (length old.cast.actors) ≡ false → length (rising_actors scene) ≤ place
+    pub all_had : (place : ℕ) → nat_lt place (length old.actor_set.actors) ≡ false → length (rising_actors scene) ≤ place
     all_had place past =
-        let most = ltb-false place (length old.cast.actors) past in
-        let rising = ap (λ (scripts : List ActorScript). length scripts) (rising_actors_are scene so.actors (home_of old.cast.desk) (view_of old.cast.desk) stands.of_scene.limits stands.tell.actors) in
+        let most = ltb-false place (length old.actor_set.actors) past in
+        let rising = ap (λ (scripts : List ActorScript). length scripts) (rising_actors_are scene so.actors (home_of old.actor_set.desk) (view_of old.actor_set.desk) stands.of_scene.limits stands.tell.actors) in
         let mapped = length-map so.actors script_of in
-        let same = keep_length table _ (home_of old.cast.desk) (view_of old.cast.desk) old.cast.actors so.actors stands.keep in
+        let same = keep_length table _ (home_of old.actor_set.desk) (view_of old.actor_set.desk) old.actor_set.actors so.actors stands.keep in
         omega (arith, most, rising, mapped, same)
 
     module _ (shows : ShowsWhatIsWritten frame_of lease.shown (written_so scene so old) v.decides.looked) where
@@ -158,13 +158,13 @@ module _ {B : Type 0} where
       -- the calls that give frames back
       run_now : turn.world.run ≡ run_so so new
       run_now =
-          let home : DeskHome = record (home_of old.cast.desk) { taken = taken_in v.took.desk.arrivals } in
+          let home : DeskHome = record (home_of old.actor_set.desk) { taken = taken_in v.took.desk.arrivals } in
           ap (λ (ones : List (OnLayer FrameOf)). with_calls scene 0 (old.vsyncs + 1) (run_so so old) (map release_asked (released_then (old.vsyncs + 1) ones))) next_vsync.goes
           ∙ ap (λ (run : Run). with_calls scene 0 (old.vsyncs + 1) run (map release_asked (released_then (old.vsyncs + 1) gone)))
-          (λ i. record { trace = trace_among so.actors; calls = λ queue. told_by (mark_among (home_of old.cast.desk).marks queue) (sym (calls_same lease frames table scene so old new seen told stands v) i queue) })
-          ∙ sym (gives_run lease frames home refl (old.vsyncs + 1) (view_of old.cast.desk) scene so.actors stands.desk.marks (calls_declared table scene so old stands) v.decides.end.stage.gone told.releases
-          (view_of v.decided.desk) (view_of new.cast.desk) v.decides.settled.releases (goes lease frames table scene so old new seen told stands v) (gives_now lease frames table scene so old new seen told stands v))
-          ∙ ap (λ (h : DeskHome). run_of so.actors h (view_of new.cast.desk)) (sym (home_now lease frames table scene so old new seen told stands v))
+          (λ i. record { trace = trace_among so.actors; calls = λ queue. told_by (mark_among (home_of old.actor_set.desk).marks queue) (sym (calls_same lease frames table scene so old new seen told stands v) i queue) })
+          ∙ sym (gives_run lease frames home refl (old.vsyncs + 1) (view_of old.actor_set.desk) scene so.actors stands.desk.marks (calls_declared table scene so old stands) v.decides.end.stage.gone told.releases
+          (view_of v.decided.desk) (view_of new.actor_set.desk) v.decides.settled.releases (goes lease frames table scene so old new seen told stands v) (gives_now lease frames table scene so old new seen told stands v))
+          ∙ ap (λ (h : DeskHome). run_of so.actors h (view_of new.actor_set.desk)) (sym (home_now lease frames table scene so old new seen told stands v))
 
       world_now : turn.world ≡ record { run = run_so so new; arrivals = arrived_at new; reports = turn.world.reports; vsyncs = new.vsyncs }
       world_now = λ i. record {

@@ -29,10 +29,10 @@ use Rattle.sf_actor.specs.Names.{FrameOf}
 use Rattle.sf_actor.specs.Plain.{PlainOf, calls_among, home_of, taken_in, view_of}
 use Rattle.sf_actor.specs.Scripts.{picture_at}
 use Rattle.sf_actor.specs.Tries.{ActorOf, dequeues_in}
-use Rattle.sf_cast.proofs.OpeningLemmas.{none_called}
-use Rattle.sf_cast.proofs.RisingLemmas.{rising_differ, sorted_rises}
-use Rattle.sf_cast.specs.Casts.{KeepAs, Opens}
-use Rattle.sf_cast.specs.Opening.{new_actors, new_queue}
+use Rattle.sf_actor_set.proofs.OpeningLemmas.{none_called}
+use Rattle.sf_actor_set.proofs.RisingLemmas.{rising_differ, sorted_rises}
+use Rattle.sf_actor_set.specs.ActorSets.{KeepAs, Opens}
+use Rattle.sf_actor_set.specs.Opening.{new_actors, new_queue}
 use Rattle.sf_record.specs.declared.event.VsyncReport.{VsyncReport}
 use Rattle.sf_record.specs.declared.record.Reply.{Reply}
 use Rattle.sf_run.proofs.Keeping.{of_all}
@@ -71,10 +71,10 @@ marks_known B known (q ∷ queues) all =
     All-cons (λ (mark : QueueMark). has_queue known mark.queue.0 ≡ true) (mark_declared q) (map mark_of (map (new_queue {B = B}) queues)) (All-head (λ (q : QueueDecl). has_queue known q.number ≡ true) q queues all)
     (marks_known B known queues (All-tail (λ (q : QueueDecl). has_queue known q.number ≡ true) q queues all))
 
-module _ {B : Type 0} (table : TableId) (scene : SceneValue) (limits : IsWithinLimits scene) (seat : SeatView) (stock : List ℕ) (play : PlayOf B) (opens : Opens table scene.queues scene.pictures scene.actors seat stock play.cast)
+module _ {B : Type 0} (table : TableId) (scene : SceneValue) (limits : IsWithinLimits scene) (seat : SeatView) (stock : List ℕ) (play : PlayOf B) (opens : Opens table scene.queues scene.pictures scene.actors seat stock play.actor_set)
     (period : play.period ≡ scene.period) (order : play.order ≡ scene.order) (handler : play.handler ≡ new_handler scene.width scene.height (most_layers scene.version)) (none : play.vsyncs ≡ 0) where
   abbrev desk : PlainOf B
-  desk = play.cast.desk
+  desk = play.actor_set.desk
 
   abbrev ofs : List (ActorOf B)
   ofs = new_actors opens.declared stock
@@ -168,7 +168,7 @@ module _ {B : Type 0} (table : TableId) (scene : SceneValue) (limits : IsWithinL
       actors = record {
         scripts = subst (IsPermutation scene.actors) (sym (scripts_are opens.declared stock)) opens.sorted.permutation;
         apart = subst IsStrictlyIncreasing (sym (numbers_are opens.declared stock)) (sorted_rises (λ (s : ActorScript). s.number) scene.actors opens.declared limits.actors.differ opens.sorted);
-        keep = keeps_all table (picture_at scene.pictures) (home_of desk) (view_of desk) play.cast.actors ofs keep_first;
+        keep = keeps_all table (picture_at scene.pictures) (home_of desk) (view_of desk) play.actor_set.actors ofs keep_first;
       };
       signals = λ p there. has_none p (subst (λ (xs : List (ℕ × ℕ)). Contains xs p) signals_none there);
       callers = λ queue. subst (All (IsCallBy ofs)) (sym (calls_none queue)) (All-nil (IsCallBy ofs));
@@ -192,8 +192,8 @@ module _ {B : Type 0} (table : TableId) (scene : SceneValue) (limits : IsWithinL
     };
   }
     where
-      keep_first : KeepAs table (picture_at scene.pictures) (home_of desk) (view_of desk) play.cast.actors ofs
-      keep_first = subst (λ (ps : List Picture). KeepAs table (picture_at ps) (home_of desk) (view_of desk) play.cast.actors ofs) opens.same_pictures opens.keep
+      keep_first : KeepAs table (picture_at scene.pictures) (home_of desk) (view_of desk) play.actor_set.actors ofs
+      keep_first = subst (λ (ps : List Picture). KeepAs table (picture_at ps) (home_of desk) (view_of desk) play.actor_set.actors ofs) opens.same_pictures opens.keep
 
       low : (home_of desk).taken ≡ 0 → (home_of desk).taken ≤ length (map plain_arrival (view_of desk).arrivals)
       low e = omega (arith, e)

@@ -80,7 +80,7 @@ module _ {B : Type 0} where
   calls_are table scene so play stands legal = record {
     marks = stands.desk.marks;
     declared = λ queue made there.
-        let mark = one_passes (λ (mark : QueueMark). mark.queue.0 == queue) (home_in play).marks (desk_called play.cast.desk queue made there) in
+        let mark = one_passes (λ (mark : QueueMark). mark.queue.0 == queue) (home_in play).marks (desk_called play.actor_set.desk queue made there) in
         subst (λ (q : ℕ). has_queue scene.queues q ≡ true) (eqb-true mark.0.queue.0 queue mark.2) (All-contains (λ (m : QueueMark). has_queue scene.queues m.queue.0 ≡ true) (home_in play).marks mark.0 stands.desk.declared mark.1);
     legal = legal;
     callers = stands.tell.callers;

@@ -30,9 +30,9 @@ use Rattle.sf_actor.specs.Plain.{PlainOf, calls_among, home_of, taken_in, view_o
 use Rattle.sf_actor.specs.Scripts.{picture_at}
 use Rattle.sf_actor.specs.Tries.{ActorOf, Keeps}
 use Rattle.sf_steps.specs.declared.actor.Actor.{Actor}
-use Rattle.sf_cast.proofs.ArrivalLemmas.{sent_is, waiting_last, waiting_rises}
-use Rattle.sf_cast.specs.Casts.{CastOf, KeepAs}
-use Rattle.sf_cast.specs.Compositing.{OnlyDesk}
+use Rattle.sf_actor_set.proofs.ArrivalLemmas.{sent_is, waiting_last, waiting_rises}
+use Rattle.sf_actor_set.specs.ActorSets.{ActorSetOf, KeepAs}
+use Rattle.sf_actor_set.specs.Compositing.{OnlyDesk}
 use Rattle.sf_record.specs.declared.event.Event.{Event}
 use Rattle.sf_record.specs.declared.event.Event.TheVariants as event
 use Rattle.sf_record.specs.declared.event.VsyncReport.{VsyncReport}
@@ -67,9 +67,9 @@ back_all P (x ∷ xs) ys all = back_all P xs ys (All-tail P x (xs ++ ys) all)
 
 module _ {B : Type 0} where
   -- two changes of the desk alone
-  pub only_twice : (table : TableId) (one two : ℕ) (a b c : CastOf B) → OnlyDesk table one a b → OnlyDesk table two b c → OnlyDesk table two a c
+  pub only_twice : (table : TableId) (one two : ℕ) (a b c : ActorSetOf B) → OnlyDesk table one a b → OnlyDesk table two b c → OnlyDesk table two a c
   only_twice table one two a b c first second = record {
-    same = second.same ∙ ap (λ (x : CastOf B). record x { desk = c.desk }) first.same;
+    same = second.same ∙ ap (λ (x : ActorSetOf B). record x { desk = c.desk }) first.same;
     home = second.home ∙ ap (λ (h : DeskHome). record h { taken = two }) first.home;
     keep = λ ofs keep. second.keep ofs (first.keep ofs keep);
   }
@@ -97,17 +97,17 @@ module _ {B : Type 0} where
   }
 
   -- what was taken of the arrivals: it rises behind what was taken before, and shows frames that calls gave
-  module _ (table : TableId) (scene : SceneValue) (so : SoFar B) (play : PlayOf B) (stands : Stands table scene so play) (arrived : List (Arrival ReadLeaseOf)) (all : arrived ≡ waiting play.cast.desk.arrivals) where
+  module _ (table : TableId) (scene : SceneValue) (so : SoFar B) (play : PlayOf B) (stands : Stands table scene so play) (arrived : List (Arrival ReadLeaseOf)) (all : arrived ≡ waiting play.actor_set.desk.arrivals) where
     pub arrived_rises : IsRisingFrom play.handler.last arrived (last_of play.handler.last arrived)
     arrived_rises =
         subst (λ (n : ℕ). IsRisingFrom n arrived (last_of n arrived)) (sym stands.vsyncs.last)
-        (subst (λ (xs : List (Arrival ReadLeaseOf)). IsRisingFrom (taken_in play.cast.desk.arrivals) xs (last_of (taken_in play.cast.desk.arrivals) xs)) (sym all) (waiting_rises play.cast.desk.arrivals))
+        (subst (λ (xs : List (Arrival ReadLeaseOf)). IsRisingFrom (taken_in play.actor_set.desk.arrivals) xs (last_of (taken_in play.actor_set.desk.arrivals) xs)) (sym all) (waiting_rises play.actor_set.desk.arrivals))
 
-    pub arrived_lent : All (IsArrivedLent (view_of play.cast.desk)) arrived
-    arrived_lent = subst (All (IsArrivedLent (view_of play.cast.desk))) (sym all)
-        (back_all (IsArrivedLent (view_of play.cast.desk)) (take (taken_in play.cast.desk.arrivals) (sent play.cast.desk.arrivals)) (waiting play.cast.desk.arrivals)
-        (subst (All (IsArrivedLent (view_of play.cast.desk))) (sent_is play.cast.desk.arrivals)
-        (arrivals_lent scene so.actors (home_of play.cast.desk) (view_of play.cast.desk) stands.tell.actors stands.tell.senders)))
+    pub arrived_lent : All (IsArrivedLent (view_of play.actor_set.desk)) arrived
+    arrived_lent = subst (All (IsArrivedLent (view_of play.actor_set.desk))) (sym all)
+        (back_all (IsArrivedLent (view_of play.actor_set.desk)) (take (taken_in play.actor_set.desk.arrivals) (sent play.actor_set.desk.arrivals)) (waiting play.actor_set.desk.arrivals)
+        (subst (All (IsArrivedLent (view_of play.actor_set.desk))) (sent_is play.actor_set.desk.arrivals)
+        (arrivals_lent scene so.actors (home_of play.actor_set.desk) (view_of play.actor_set.desk) stands.tell.actors stands.tell.senders)))
 
   module _ {R C : Type 0} (lease : Ghosts ReadLeaseOf SeatView R C) (frames : OfFrames lease) (table : TableId) (scene : SceneValue) (so : SoFar B) (old new : PlayOf B) (seen : Seen) (told : VsyncOf ReadLeaseOf)
       (stands : Stands table scene so old) (v : MakesVsync lease table old seen told new) where
@@ -115,10 +115,10 @@ module _ {B : Type 0} where
     number = old.vsyncs + 1
 
     abbrev before : PlainOf B
-    before = old.cast.desk
+    before = old.actor_set.desk
 
     abbrev after : PlainOf B
-    after = new.cast.desk
+    after = new.actor_set.desk
 
     abbrev middle : PlainOf B
     middle = v.decided.desk
@@ -152,12 +152,12 @@ module _ {B : Type 0} where
     signals_same =
         ap (λ (d : PlainOf B). d.times.knows.signals) (v.turns ∙ (λ i. record (v.arrivals i) { turns = middle.turns })) ∙ ap (λ (k : Knows). k.signals) v.sees.shown
 
-    part : OnlyDesk table (taken_in v.took.desk.arrivals) old.cast v.decided
-    part = only_twice table (taken_in v.took.desk.arrivals) (taken_in v.took.desk.arrivals) old.cast v.took v.decided
-        (only_twice table (taken_in arrivals) (taken_in v.took.desk.arrivals) old.cast v.looked v.took v.only_looks v.only_takes) v.only_decides
+    part : OnlyDesk table (taken_in v.took.desk.arrivals) old.actor_set v.decided
+    part = only_twice table (taken_in v.took.desk.arrivals) (taken_in v.took.desk.arrivals) old.actor_set v.took v.decided
+        (only_twice table (taken_in arrivals) (taken_in v.took.desk.arrivals) old.actor_set v.looked v.took v.only_looks v.only_takes) v.only_decides
 
-    pub whole : OnlyDesk table (taken_in middle.arrivals) old.cast new.cast
-    whole = only_twice table (taken_in v.took.desk.arrivals) (taken_in middle.arrivals) old.cast v.decided new.cast part v.only_gives
+    pub whole : OnlyDesk table (taken_in middle.arrivals) old.actor_set new.actor_set
+    whole = only_twice table (taken_in v.took.desk.arrivals) (taken_in middle.arrivals) old.actor_set v.decided new.actor_set part v.only_gives
 
     abbrev home : DeskHome
     home = record (home_of before) { taken = taken_in v.took.desk.arrivals }
@@ -165,19 +165,19 @@ module _ {B : Type 0} where
     pub home_now : home_of after ≡ home
     home_now = whole.home ∙ ap (λ (a : Calls ReadLeaseOf SeatView ReadLeaseOf Issued). record (home_of before) { taken = taken_in a }) arrivals_decided
 
-    as_scene : (cast : CastOf B) → cast.pictures ≡ old.cast.pictures → (home : DeskHome) (view : DeskView B) → KeepAs table (picture_at cast.pictures) home view cast.actors so.actors → KeepAs table (picture_at scene.pictures) home view cast.actors so.actors
-    as_scene cast same home view = subst (λ (ps : List Picture). KeepAs table (picture_at ps) home view cast.actors so.actors) (same ∙ stands.of_scene.pictures)
+    as_scene : (actor_set : ActorSetOf B) → actor_set.pictures ≡ old.actor_set.pictures → (home : DeskHome) (view : DeskView B) → KeepAs table (picture_at actor_set.pictures) home view actor_set.actors so.actors → KeepAs table (picture_at scene.pictures) home view actor_set.actors so.actors
+    as_scene actor_set same home view = subst (λ (ps : List Picture). KeepAs table (picture_at ps) home view actor_set.actors so.actors) (same ∙ stands.of_scene.pictures)
 
-    keep_before : KeepAs table (picture_at old.cast.pictures) (home_of before) (view_of before) old.cast.actors so.actors
-    keep_before = subst (λ (ps : List Picture). KeepAs table (picture_at ps) (home_of before) (view_of before) old.cast.actors so.actors) (sym stands.of_scene.pictures) stands.keep
+    keep_before : KeepAs table (picture_at old.actor_set.pictures) (home_of before) (view_of before) old.actor_set.actors so.actors
+    keep_before = subst (λ (ps : List Picture). KeepAs table (picture_at ps) (home_of before) (view_of before) old.actor_set.actors so.actors) (sym stands.of_scene.pictures) stands.keep
 
     keep_middle : All (λ (of : ActorOf B). Keeps (picture_at scene.pictures) home of (view_of middle)) so.actors
     keep_middle = subst (λ (h : DeskHome). All (λ (of : ActorOf B). Keeps (picture_at scene.pictures) h of (view_of middle)) so.actors) part.home
         (keeps_all table (picture_at scene.pictures) (home_of middle) (view_of middle) v.decided.actors so.actors
-        (as_scene v.decided (ap (λ (c : CastOf B). c.pictures) part.same) (home_of middle) (view_of middle) (part.keep so.actors keep_before)))
+        (as_scene v.decided (ap (λ (c : ActorSetOf B). c.pictures) part.same) (home_of middle) (view_of middle) (part.keep so.actors keep_before)))
 
-    keep_after : KeepAs table (picture_at scene.pictures) (home_of after) (view_of after) new.cast.actors so.actors
-    keep_after = as_scene new.cast (ap (λ (c : CastOf B). c.pictures) whole.same) (home_of after) (view_of after) (whole.keep so.actors keep_before)
+    keep_after : KeepAs table (picture_at scene.pictures) (home_of after) (view_of after) new.actor_set.actors so.actors
+    keep_after = as_scene new.actor_set (ap (λ (c : ActorSetOf B). c.pictures) whole.same) (home_of after) (view_of after) (whole.keep so.actors keep_before)
 
     -- the frames that a vsync leaves and lets go
     abbrev lent : DeskView B
@@ -240,12 +240,12 @@ module _ {B : Type 0} where
       limits = stands.of_scene.limits;
       period = ap (λ (p : PlayOf B). p.period) v.rest ∙ stands.of_scene.period;
       order = ap (λ (p : PlayOf B). p.order) v.rest ∙ stands.of_scene.order;
-      pictures = ap (λ (c : CastOf B). c.pictures) whole.same ∙ stands.of_scene.pictures;
+      pictures = ap (λ (c : ActorSetOf B). c.pictures) whole.same ∙ stands.of_scene.pictures;
       width = ap (λ (h : HandlerOf ReadLeaseOf). h.width) v.decides.settled.state ∙ stands.of_scene.width;
       height = ap (λ (h : HandlerOf ReadLeaseOf). h.height) v.decides.settled.state ∙ stands.of_scene.height;
       unlent = ap (λ (h : HandlerOf ReadLeaseOf). h.lent) v.decides.settled.state ∙ stands.of_scene.unlent;
       decides = ap (λ (h : HandlerOf ReadLeaseOf). h.is_spent) v.decides.settled.state ∙ stands.of_scene.decides;
-      acts = ap (λ (c : CastOf B). c.is_spent) whole.same ∙ stands.of_scene.acts;
+      acts = ap (λ (c : ActorSetOf B). c.is_spent) whole.same ∙ stands.of_scene.acts;
     }
 
     desk_now : DeskStands scene new

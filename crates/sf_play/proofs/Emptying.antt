@@ -13,8 +13,8 @@ use Rattle.sf_commit.specs.Handlers.{Decides}
 use Rattle.sf_commit.specs.Releases.{ReleaseOf, VsyncOf}
 use Rattle.sf_actor.specs.Desks.{DeskHome, DeskView}
 use Rattle.sf_actor.specs.Plain.{PlainOf, home_of, taken_in, view_of}
-use Rattle.sf_cast.specs.Casts.{CastOf}
-use Rattle.sf_cast.proofs.ArrivalLemmas.{sent_is}
+use Rattle.sf_actor_set.specs.ActorSets.{ActorSetOf}
+use Rattle.sf_actor_set.proofs.ArrivalLemmas.{sent_is}
 use Rattle.sf_run.specs.Progress.{is_time}
 use Rattle.sf_play.specs.Fuel.{now_in, steps_left, to_commit, untaken, work_left}
 use Rattle.sf_play.specs.Giving.{GivesFrames}
@@ -50,10 +50,10 @@ module _ {B : Type 0} where
       gives_none home number later gives.0 new gives.2 ∙ ap (λ (v : DeskView B). v.arrivals) gives.1.made.changes.same
 
   module _ {R C : Type 0} (lease : Ghosts ReadLeaseOf SeatView R C) (table : TableId) (old new : PlayOf B) (seen : Seen) (told : VsyncOf ReadLeaseOf) (makes : MakesVsync lease table old seen told new) where
-    pub same_actors : new.cast.actors ≡ old.cast.actors
+    pub same_actors : new.actor_set.actors ≡ old.actor_set.actors
     same_actors =
-        ap (λ (c : CastOf B). c.actors) makes.only_gives.same ∙ ap (λ (c : CastOf B). c.actors) makes.only_decides.same
-        ∙ ap (λ (c : CastOf B). c.actors) makes.only_takes.same ∙ ap (λ (c : CastOf B). c.actors) makes.only_looks.same
+        ap (λ (c : ActorSetOf B). c.actors) makes.only_gives.same ∙ ap (λ (c : ActorSetOf B). c.actors) makes.only_decides.same
+        ∙ ap (λ (c : ActorSetOf B). c.actors) makes.only_takes.same ∙ ap (λ (c : ActorSetOf B). c.actors) makes.only_looks.same
 
     later : now_in new ≡ now_in old + old.period
     later = ap now_in makes.rest ∙ next_time old.vsyncs old.period
@@ -61,7 +61,7 @@ module _ {B : Type 0} where
     -- what was taken is what waited
     arrived_is : makes.arrived ≡ untaken old
     arrived_is =
-        makes.takes.all ∙ ap (λ (d : PlainOf B). waiting d.arrivals) makes.times ∙ waiting_is old.cast.desk.arrivals
+        makes.takes.all ∙ ap (λ (d : PlainOf B). waiting d.arrivals) makes.times ∙ waiting_is old.actor_set.desk.arrivals
 
     -- and nothing waits then
     none_untaken : untaken new ≡ []

@@ -49,11 +49,11 @@ use Rattle.sf_play.specs.Vsyncing.{MakesVsync}
 module _ {B : Type 0} where
   module _ (table : TableId) (scene : SceneValue) (so : SoFar B) (play : PlayOf B) (stands : Stands table scene so play) where
     -- the calls that a play's desk knows are those of its queues
-    pub calls_stand : IsLegalDesk play.cast.desk → AreCalls scene so.actors (home_in play) (view_in play)
+    pub calls_stand : IsLegalDesk play.actor_set.desk → AreCalls scene so.actors (home_in play) (view_in play)
     calls_stand legal = record {
       marks = stands.desk.marks;
       declared = λ queue made there.
-          let mark = one_passes (λ (mark : QueueMark). mark.queue.0 == queue) (home_in play).marks (desk_called play.cast.desk queue made there) in
+          let mark = one_passes (λ (mark : QueueMark). mark.queue.0 == queue) (home_in play).marks (desk_called play.actor_set.desk queue made there) in
           subst (λ (n : ℕ). has_queue scene.queues n ≡ true) (eqb-true mark.0.queue.0 queue mark.2)
           (All-contains (λ (mark : QueueMark). has_queue scene.queues mark.queue.0 ≡ true) (home_in play).marks mark.0 stands.desk.declared mark.1);
       legal = legal;
@@ -70,7 +70,7 @@ module _ {B : Type 0} where
     pub held_at_end : told.commits ≡ [] → All (λ (h : ℕ × Hold). is_time h.1 ≡ false) told.held → ShowsWhatIsWritten frame_of lease.shown (written_so scene so old) v.decides.looked
         → AreHeld (end_of scene (run_so so new) (told_at scene so new)) (uncommitted (taken_at new) (commits_in (vsyncs_in so.events))) (map held_shown told.held)
     held_at_end none no_time shows =
-        let arrived_is : v.arrived ≡ waiting old.cast.desk.arrivals =
+        let arrived_is : v.arrived ≡ waiting old.actor_set.desk.arrivals =
         v.takes.all ∙ ap (λ (a : Calls ReadLeaseOf SeatView ReadLeaseOf Issued). waiting a) (ap (λ (d : PlainOf B). d.arrivals) v.times) in
         let all = taken_at old ++ map (framed_arrival frame_of) v.arrived in
         let vsyncs = vsyncs_in so.events in
@@ -80,10 +80,10 @@ module _ {B : Type 0} where
         (sym (taken_now lease frames table scene so old new seen told stands v))
         (subst (λ (values : Seen). AreHeld (record { written = written_so scene so old; frames = (round_at_end (bare_round scene) (told_of scene all vsyncs)).frames; values = values })
         (uncommitted all (commits_in vsyncs)) (map held_shown told.held))
-        (sym (saw_final table scene so old stands (view_in (record old { cast = v.looked })) seen v.sees)) is_held)
+        (sym (saw_final table scene so old stands (view_in (record old { actor_set = v.looked })) seen v.sees)) is_held)
 
   -- At its end what a play shows fits the run that its actors tell.
-  pub fits_at_end : (table : TableId) (scene : SceneValue) (so : SoFar B) (player : PlayerOf B) → Stands table scene so player.play → KnowsAll (view_in player.play) → IsLegalDesk player.play.cast.desk
+  pub fits_at_end : (table : TableId) (scene : SceneValue) (so : SoFar B) (player : PlayerOf B) → Stands table scene so player.play → KnowsAll (view_in player.play) → IsLegalDesk player.play.actor_set.desk
       → DrawAfterOwed scene (run_so so player.play) → IsAtEnd scene so player → Fits scene (shows_at_end scene so player) (run_so so player.play) (arrived_at player.play)
   fits_at_end table scene so player stands knows legal turns end =
       let play = player.play in
@@ -98,7 +98,7 @@ module _ {B : Type 0} where
       (record {
         replies = stands.tell.replies;
         arrived = refl;
-        numbered = sent_numbered play.cast.desk.arrivals;
+        numbered = sent_numbered play.actor_set.desk.arrivals;
         histories = refl;
         releases = subst (λ (arrivals : List (Arrival FrameOf)). AreReleases scene so.actors home view (released_in (told_of scene arrivals vsyncs))) is_all stands.tell.releases;
       })

@@ -26,7 +26,7 @@ use Rattle.sf_actor.specs.Tales.{sent_as, step_done}
 use Rattle.sf_actor.specs.Traces.{DoneAt, Past, SentStep, next, no_past, places_from, places_of, sends_of, sent_at, sent_with}
 use Rattle.sf_actor.specs.Tries.{ActorOf, Keeps}
 use Rattle.sf_steps.specs.declared.actor.Actor.{Actor}
-use Rattle.sf_cast.specs.Casts.{KeepAs, StepsAt}
+use Rattle.sf_actor_set.specs.ActorSets.{KeepAs, StepsAt}
 use Rattle.sf_run.proofs.Members.{has_first, has_later}
 use Rattle.sf_run.proofs.Bringing.{any_passes}
 use Rattle.sf_play.specs.Fuel.{now_in, steps_left, to_commit, untaken, wait_left, work_left}
@@ -196,29 +196,29 @@ module _ {B : Type 0} where
   same_length table pictures home view (actor ∷ actors) [] keep = absurd keep
   same_length table pictures home view (actor ∷ actors) (of ∷ ofs) keep = (let rest = same_length table pictures home view actors ofs keep.1 in omega (arith, rest))
 
-  -- a play whose cast alone changed by a try
+  -- a play whose actor set alone changed by a try
   pub record TriesIn (table : TableId) (pictures : ℕ → Picture) (place : ℕ) (ofs : List (ActorOf B)) (old new : PlayOf B) : Type 0 where
-    pub same : new ≡ record old { cast = new.cast }
+    pub same : new ≡ record old { actor_set = new.actor_set }
     pub home : home_in new ≡ home_in old
     pub exact : (home_in old).is_exact ≡ true
     pub taken : (home_in old).taken ≤ length (view_in old).arrivals
-    pub keep : KeepAs table pictures (home_in old) (view_in old) old.cast.actors ofs
+    pub keep : KeepAs table pictures (home_in old) (view_in old) old.actor_set.actors ofs
 
-  now_same : (old new : PlayOf B) → new ≡ record old { cast = new.cast } → now_in new ≡ now_in old
+  now_same : (old new : PlayOf B) → new ≡ record old { actor_set = new.actor_set } → now_in new ≡ now_in old
   now_same old new same = ap now_in same
 
   -- a step that is done lessens the work that is left by more than the round that it was done in adds
   pub work_less : (table : TableId) (pictures : ℕ → Picture) (place : ℕ) (ofs : List (ActorOf B)) (old new : PlayOf B) → TriesIn table pictures place ofs old new
-      → StepsAt table pictures place old.cast.actors ofs old.cast.desk new.cast.actors new.cast.desk stepped.Done → work_left new + 2 ≤ work_left old
+      → StepsAt table pictures place old.actor_set.actors ofs old.actor_set.desk new.actor_set.actors new.actor_set.desk stepped.Done → work_left new + 2 ≤ work_left old
   work_less table pictures place ofs old new tries steps =
       let does = steps.tries.1 in
-      let before = keeps_at table pictures (home_in old) (view_in old) old.cast.actors ofs place steps.old tries.keep steps.here in
-      let after = keeps_at table pictures (home_in new) (view_in new) new.cast.actors (set ofs place steps.new) place steps.new steps.keep (set_here ofs place steps.old steps.new steps.here) in
+      let before = keeps_at table pictures (home_in old) (view_in old) old.actor_set.actors ofs place steps.old tries.keep steps.here in
+      let after = keeps_at table pictures (home_in new) (view_in new) new.actor_set.actors (set ofs place steps.new) place steps.new steps.keep (set_here ofs place steps.old steps.new steps.here) in
       let keeps = subst (λ (home : DeskHome). Keeps pictures home steps.new (view_in new)) tries.home after in
       let script = ap (λ (of : ActorOf B). of.script) does.same in
       let more = arrivals_more pictures (home_in old) (view_in old) (view_in new) steps.old steps.new does.done before keeps script does.trace (does.alone tries.exact) in
-      let was = steps_same table pictures (home_in old) (view_in old) old.cast.actors ofs tries.keep in
-      let is = steps_same table pictures (home_in new) (view_in new) new.cast.actors (set ofs place steps.new) steps.keep in
+      let was = steps_same table pictures (home_in old) (view_in old) old.actor_set.actors ofs tries.keep in
+      let is = steps_same table pictures (home_in new) (view_in new) new.actor_set.actors (set ofs place steps.new) steps.keep in
       let long = short_trace pictures (home_in new) (view_in new) steps.new after in
       let traced = ap (λ (t : List Done). length t) does.trace in
       let one = length-append steps.old.trace (does.done ∷ []) in
@@ -238,11 +238,11 @@ module _ {B : Type 0} where
 
   -- a try that does nothing leaves the work
   pub work_stays : (table : TableId) (pictures : ℕ → Picture) (place : ℕ) (ofs : List (ActorOf B)) (old new : PlayOf B) → TriesIn table pictures place ofs old new
-      → (one next : ActorOf B) → slice_get ofs place ≡ Some one → next ≡ one → KeepAs table pictures (home_in new) (view_in new) new.cast.actors (set ofs place next)
+      → (one next : ActorOf B) → slice_get ofs place ≡ Some one → next ≡ one → KeepAs table pictures (home_in new) (view_in new) new.actor_set.actors (set ofs place next)
       → (view_in new).arrivals ≡ (view_in old).arrivals → work_left new ≡ work_left old
   work_stays table pictures place ofs old new tries one next here same keep arrivals =
-      let was = steps_same table pictures (home_in old) (view_in old) old.cast.actors ofs tries.keep in
-      let is = steps_same table pictures (home_in new) (view_in new) new.cast.actors (set ofs place next) keep in
+      let was = steps_same table pictures (home_in old) (view_in old) old.actor_set.actors ofs tries.keep in
+      let is = steps_same table pictures (home_in new) (view_in new) new.actor_set.actors (set ofs place next) keep in
       let steps_now = steps_as ofs place one next here same in
       let handler = ap (λ (p : PlayOf B). p.handler) tries.same in
       let now = now_same old new tries.same in
@@ -253,9 +253,9 @@ module _ {B : Type 0} where
 
   -- there are as many actors as before
   pub turns_same : (table : TableId) (pictures : ℕ → Picture) (place : ℕ) (ofs : List (ActorOf B)) (old new : PlayOf B) → TriesIn table pictures place ofs old new
-      → (next : ActorOf B) → KeepAs table pictures (home_in new) (view_in new) new.cast.actors (set ofs place next) → length new.cast.actors ≡ length old.cast.actors
+      → (next : ActorOf B) → KeepAs table pictures (home_in new) (view_in new) new.actor_set.actors (set ofs place next) → length new.actor_set.actors ≡ length old.actor_set.actors
   turns_same table pictures place ofs old new tries next keep =
-      let was = same_length table pictures (home_in old) (view_in old) old.cast.actors ofs tries.keep in
-      let is = same_length table pictures (home_in new) (view_in new) new.cast.actors (set ofs place next) keep in
+      let was = same_length table pictures (home_in old) (view_in old) old.actor_set.actors ofs tries.keep in
+      let is = same_length table pictures (home_in new) (view_in new) new.actor_set.actors (set ofs place next) keep in
       let sets = length-set ofs place next in
       omega (arith, was, is, sets)

@@ -11,7 +11,7 @@ use Rattle.sf_scene.specs.declared.declarations.Pick.{Pick}
 use Rattle.sf_actor.specs.declared.tried.Stepped.{Stepped}
 use Rattle.sf_actor.specs.declared.tried.Stepped.TheVariants as stepped
 use Rattle.sf_actor.specs.Tries.{ActorOf}
-use Rattle.sf_cast.specs.Casts.{number_of}
+use Rattle.sf_actor_set.specs.ActorSets.{number_of}
 use Rattle.sf_steps.specs.declared.actor.Actor.{Actor}
 use Rattle.sf_run.proofs.Stopping.{are_stuck}
 use Rattle.sf_run.specs.Actors.{mark_declared}
@@ -82,7 +82,7 @@ module _ {B : Type 0} {R C : Type 0} (lease : Ghosts ReadLeaseOf SeatView R C) (
 
   picked_on : (number : ℕ) → Picks lease table ofs number old new came_to → came_to ≡ turn.End → ⊥
   picked_on zero t e = not_vsync came_to t.report t.is e
-  picked_on (suc n) t e = tried_on (position (λ (actor : Actor B). number_of actor == suc n) old.play.cast.actors) t.0 e
+  picked_on (suc n) t e = tried_on (position (λ (actor : Actor B). number_of actor == suc n) old.play.actor_set.actors) t.0 e
 
   round_on : (more : Bool) (place : ℕ) (was : Bool) → RoundsIf lease table ofs more place was old new came_to → came_to ≡ turn.End → ⊥
   round_on true place was t e = not_end place t.tries.stepped (sym t.tries.is ∙ e)
@@ -91,7 +91,7 @@ module _ {B : Type 0} {R C : Type 0} (lease : Ghosts ReadLeaseOf SeatView R C) (
   -- a turn at the end does nothing
   ended : (from : Place) → settled old.play.order old.place ≡ from → TurnsAt lease table ofs from old new came_to → came_to ≡ turn.End → (new ≡ old) × (new.place ≡ at.End)
   ended (at.Order place done) is t e = absurd (picked_on t.pick.actor t.picks e)
-  ended (at.Round place was) is t e = absurd (round_on (nat_lt place (length old.play.cast.actors)) place was t e)
+  ended (at.Round place was) is t e = absurd (round_on (nat_lt place (length old.play.actor_set.actors)) place was t e)
   ended at.End is t e = (t.1, ap (λ (p : PlayerOf B). p.place) t.1 ∙ settled_end old.play.order old.place is)
 
   pub ends_there : Turns lease table ofs old new came_to → came_to ≡ turn.End → (new ≡ old) × (new.place ≡ at.End)

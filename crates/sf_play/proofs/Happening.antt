@@ -22,7 +22,7 @@ use Rattle.sf_actor.specs.Known.{plain_arrival}
 use Rattle.sf_actor.specs.Plain.{taken_in}
 use Rattle.sf_actor.specs.Tries.{ActorOf}
 use Rattle.sf_actor.specs.Scripts.{picture_at}
-use Rattle.sf_cast.specs.Casts.{KeepAs}
+use Rattle.sf_actor_set.specs.ActorSets.{KeepAs}
 use Rattle.sf_steps.specs.declared.actor.Actor.{Actor}
 use Rattle.sf_run.proofs.Keeping.{of_all}
 use Rattle.sf_run.proofs.Members.{has_map}
@@ -65,7 +65,7 @@ module _ {B : Type 0} where
         let few = stands.desk.taken in
         let many = length-map (view_in play).arrivals plain_arrival in
         record {
-          keep = subst (λ (ps : List Picture). KeepAs table (picture_at ps) (home_in play) (view_in play) play.cast.actors so.actors) (sym stands.of_scene.pictures) stands.keep;
+          keep = subst (λ (ps : List Picture). KeepAs table (picture_at ps) (home_in play) (view_in play) play.actor_set.actors so.actors) (sym stands.of_scene.pictures) stands.keep;
           taken = omega (arith, few, many);
           times = subst (All (λ (pick : Pick). 1 ≤ pick.times)) (sym stands.of_scene.order)
               (All-weaker (IsPick scene.actors) (λ (pick : Pick). 1 ≤ pick.times) (λ pick is. is.low) scene.order stands.of_scene.limits.order.picks);
@@ -74,13 +74,13 @@ module _ {B : Type 0} where
         }
 
   -- A player that stands at its end shows what fits the run that was told.
-  pub shows_fit : (table : TableId) (scene : SceneValue) (so : SoFar B) (player : PlayerOf B) → StandsAt table scene so player → player.place ≡ at.End → KnowsAll (view_in player.play) → IsLegalDesk player.play.cast.desk
+  pub shows_fit : (table : TableId) (scene : SceneValue) (so : SoFar B) (player : PlayerOf B) → StandsAt table scene so player → player.place ≡ at.End → KnowsAll (view_in player.play) → IsLegalDesk player.play.actor_set.desk
       → DrawAfterOwed scene (run_so so player.play) → Fits scene (shows_at_end scene so player) (run_so so player.play) (arrived_at player.play)
   shows_fit table scene so player was ended knows legal turns = fits_at_end table scene so player was.stands knows legal turns (subst (RestsAt scene so player) ended was.rests)
 
   -- whoever did its steps
   pub ends_run : (table : TableId) (scene : SceneValue) (so : SoFar B) (player : PlayerOf B) → StandsInRun table scene so player → player.place ≡ at.End → DeskKnows player.play
-      → player.play.cast.desk.turns.table ≡ table → EndsRun scene so player
+      → player.play.actor_set.desk.turns.table ≡ table → EndsRun scene so player
   ends_run table scene so player is ended desk own =
       shows_fit table scene so player is.stands ended desk.knows desk.legal (draws_came table scene so player.play is.stands.stands is.rights desk.legal desk.knows own)
 
@@ -94,20 +94,20 @@ module _ {B : Type 0} where
 
   -- one that begins stands
   pub begins_stand : (table : TableId) (scene : SceneValue) (so : SoFar B) (player : PlayerOf B) → Stands table scene so player.play → player.place ≡ at.Order 0 0 → player.play.vsyncs ≡ 0
-      → player.play.handler.pending ≡ [] → player.play.cast.desk.arrivals ≡ [] → StandsAt table scene so player
+      → player.play.handler.pending ≡ [] → player.play.actor_set.desk.arrivals ≡ [] → StandsAt table scene so player
   begins_stand table scene so player stands first none_made none_pending none_arrived =
       let play = player.play in
       let limits = stands.of_scene.limits in
-      let scripts = scripts_are table (picture_at scene.pictures) (home_in play) (view_in play) play.cast.actors so.actors stands.keep in
+      let scripts = scripts_are table (picture_at scene.pictures) (home_in play) (view_in play) play.actor_set.actors so.actors stands.keep in
       let most = few_actors scene.version in
       let fits : vsyncs_left play.order play (at.Order 0 0) < 4294967295 =
       vsyncs_fit play.order play
       (subst (λ (order : List Pick). length order ≤ 1048576) (sym stands.of_scene.order) limits.order.few)
       (subst (All (λ (pick : Pick). pick.times ≤ 256)) (sym stands.of_scene.order) (All-weaker (IsPick scene.actors) (λ (pick : Pick). pick.times ≤ 256) (λ pick is. is.high) scene.order limits.order.picks))
-      (subst IsStrictlyIncreasing (sym (sym (map_twice (λ (actor : Actor B). actor.script) (λ (script : ActorScript). script.number) play.cast.actors) ∙ ap (map (λ (script : ActorScript). script.number)) scripts
+      (subst IsStrictlyIncreasing (sym (sym (map_twice (λ (actor : Actor B). actor.script) (λ (script : ActorScript). script.number) play.actor_set.actors) ∙ ap (map (λ (script : ActorScript). script.number)) scripts
       ∙ map_twice script_of (λ (script : ActorScript). script.number) so.actors)) stands.tell.actors.apart)
-      (of_all (λ (actor : Actor B). ((1 ≤ actor.script.number) × (actor.script.number ≤ 64)) × (length actor.script.steps ≤ 4096)) play.cast.actors (λ actor there.
-      let has = subst (λ (ss : List ActorScript). Contains ss actor.script) scripts (has_map (λ (a : Actor B). a.script) play.cast.actors actor there) in
+      (of_all (λ (actor : Actor B). ((1 ≤ actor.script.number) × (actor.script.number ≤ 64)) × (length actor.script.steps ≤ 4096)) play.actor_set.actors (λ actor there.
+      let has = subst (λ (ss : List ActorScript). Contains ss actor.script) scripts (has_map (λ (a : Actor B). a.script) play.actor_set.actors actor there) in
       let declared = Contains-permutation (map script_of so.actors) scene.actors actor.script (IsPermutation-sym scene.actors (map script_of so.actors) stands.tell.actors.scripts) has in
       let is = All-contains (IsActor (most_actors scene.version)) scene.actors actor.script limits.actors.each declared in
       let high = is.high in

@@ -89,28 +89,28 @@ module _ {B : Type 0} (order : List Pick) where
 
   -- a turn of the order
   pub order_less : (old new : PlayOf B) (place done : ℕ) (pick : Pick) → slice_get order place ≡ Some pick → done < pick.times → work_left new ≤ work_left old
-      → length new.cast.actors ≡ length old.cast.actors → fuel order new (at.Order place (done + 1)) < fuel order old (at.Order place done)
+      → length new.actor_set.actors ≡ length old.actor_set.actors → fuel order new (at.Order place (done + 1)) < fuel order old (at.Order place done)
   order_less old new place done pick here left work many =
       let now = ap (λ (later : List Pick). turns_of later (done + 1)) (from_here order place pick here) in
       let was = ap (λ (later : List Pick). turns_of later done) (from_here order place pick here) in
       let rounds : rounds_left new false ≤ rounds_left old false = omega (arith, work) in
-      let rest = no_more (rounds_left new false) (rounds_left old false) (length new.cast.actors) (length old.cast.actors) 0 0 rounds many (omega arith) in
+      let rest = no_more (rounds_left new false) (rounds_left old false) (length new.actor_set.actors) (length old.actor_set.actors) 0 0 rounds many (omega arith) in
       omega (arith, now, was, left, rest)
 
   -- a turn of an actor in a round
-  pub round_less : (old new : PlayOf B) (place : ℕ) (was did : Bool) → place < length old.cast.actors → rounds_left new did ≤ rounds_left old was
-      → length new.cast.actors ≡ length old.cast.actors → fuel order new (at.Round (place + 1) did) < fuel order old (at.Round place was)
+  pub round_less : (old new : PlayOf B) (place : ℕ) (was did : Bool) → place < length old.actor_set.actors → rounds_left new did ≤ rounds_left old was
+      → length new.actor_set.actors ≡ length old.actor_set.actors → fuel order new (at.Round (place + 1) did) < fuel order old (at.Round place was)
   round_less old new place was did low rounds many =
-      let product = mul-le-mul_right (length old.cast.actors + 2) rounds in
+      let product = mul-le-mul_right (length old.actor_set.actors + 2) rounds in
       let same = ap (λ (n : ℕ). rounds_left new did * (n + 2)) many in
       omega (arith, product, same, many, low)
 
   -- a vsync after which a round begins again
-  pub again_less : (old new : PlayOf B) (place : ℕ) (was : Bool) → rounds_left new false + 1 ≤ rounds_left old was → length new.cast.actors ≡ length old.cast.actors
+  pub again_less : (old new : PlayOf B) (place : ℕ) (was : Bool) → rounds_left new false + 1 ≤ rounds_left old was → length new.actor_set.actors ≡ length old.actor_set.actors
       → fuel order new (at.Round 0 false) < fuel order old (at.Round place was)
   again_less old new place was rounds many =
-      let product = mul-le-mul_right (length old.cast.actors + 2) rounds in
-      let more : (rounds_left new false + 1) * (length old.cast.actors + 2) ≡ rounds_left new false * (length old.cast.actors + 2) + (length old.cast.actors + 2) = grind arith in
+      let product = mul-le-mul_right (length old.actor_set.actors + 2) rounds in
+      let more : (rounds_left new false + 1) * (length old.actor_set.actors + 2) ≡ rounds_left new false * (length old.actor_set.actors + 2) + (length old.actor_set.actors + 2) = grind arith in
       let same = ap (λ (n : ℕ). rounds_left new false * (n + 2)) many in
       omega (arith, product, more, same, many)
 
@@ -225,11 +225,11 @@ module _ {B : Type 0} where
 
   -- at the start of a play of at most 64 actors all its vsyncs fit 32 bits
   pub vsyncs_fit : (order : List Pick) (play : PlayOf B) → length order ≤ 1048576 → All (λ (pick : Pick). pick.times ≤ 256) order
-      → IsStrictlyIncreasing (map (λ (actor : Actor B). actor.script.number) play.cast.actors)
-      → All (λ (actor : Actor B). ((1 ≤ actor.script.number) × (actor.script.number ≤ 64)) × (length actor.script.steps ≤ 4096)) play.cast.actors
+      → IsStrictlyIncreasing (map (λ (actor : Actor B). actor.script.number) play.actor_set.actors)
+      → All (λ (actor : Actor B). ((1 ≤ actor.script.number) × (actor.script.number ≤ 64)) × (length actor.script.steps ≤ 4096)) play.actor_set.actors
       → play.handler.pending ≡ [] → untaken play ≡ [] → vsyncs_left order play (at.Order 0 0) < 4294967295
   vsyncs_fit order play few times up each pending none =
-      let actors = play.cast.actors in
+      let actors = play.actor_set.actors in
       let numbers = map (λ (actor : Actor B). actor.script.number) actors in
       let within = All-map (λ (n : ℕ). (1 ≤ n) × (n ≤ 64)) (λ (actor : Actor B). actor.script.number) actors
       (All-weaker (λ (actor : Actor B). ((1 ≤ actor.script.number) × (actor.script.number ≤ 64)) × (length actor.script.steps ≤ 4096))

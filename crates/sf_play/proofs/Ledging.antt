@@ -31,7 +31,7 @@ use Rattle.sf_actor.specs.Rights.{turn_by}
 use Rattle.sf_actor.specs.Scripts.{picture_at}
 use Rattle.sf_actor.specs.Tries.{ActorOf}
 use Rattle.sf_actor.specs.Written as written
-use Rattle.sf_cast.proofs.ArrivalLemmas.{sent_is, waiting_many}
+use Rattle.sf_actor_set.proofs.ArrivalLemmas.{sent_is, waiting_many}
 use Rattle.sf_run.proofs.LeaseLemmas.{looks_tell_all}
 use Rattle.sf_run.proofs.Members.{has_here, has_later, has_none}
 use Rattle.sf_run.proofs.Rising.{rising_actors_are}
@@ -121,7 +121,7 @@ pub record TellsAll (lease : Ghosts ReadLeaseOf SeatView ReadLeaseOf Issued) : T
   pub tells : (eye : SeatView) (l : ReadLeaseOf) → lease.tells (lease.ends eye) (lease.end l) ≡ has_left eye.leaves (turn_by l.turn)
 
 module _ {B : Type 0} (table : TableId) (scene : SceneValue) (so : SoFar B) (play : PlayOf B) (stands : Stands table scene so play) (ledger : LedgerStands table.slots (home_in play) (view_in play) so.actors play.handler)
-    (legal : IsLegalDesk play.cast.desk) where
+    (legal : IsLegalDesk play.actor_set.desk) where
   pub are_over : AreOver (picture_at scene.pictures) (home_in play) (view_in play) so.actors
   are_over = record { keep = stands.tell.actors.keep; apart = ledger.apart; legal = legal; callers = stands.tell.callers }
 
@@ -130,13 +130,13 @@ module _ {B : Type 0} (table : TableId) (scene : SceneValue) (so : SoFar B) (pla
     pub tells_written : (lease : ReadLeaseOf) → WasLent (view_in play) lease → has_left (view_in play).turns.leaves (turn_by lease.turn) ≡ is_written (written_so scene so play) (frame_of lease)
     tells_written lease was =
         stands_look (picture_at scene.pictures) table.slots (home_in play) (view_in play) so.actors play.handler ledger are_over
-        (subst (λ (t : TableId). IsExact t.slots (view_in play).turns.leaves (view_in play).turns.seen) own knows.leaves) lease (lent_acquired play.cast.desk legal lease was)
+        (subst (λ (t : TableId). IsExact t.slots (view_in play).turns.leaves (view_in play).turns.seen) own knows.leaves) lease (lent_acquired play.actor_set.desk legal lease was)
         ∙ ap (λ (ws : List written.FrameNumber). is_written ws (frame_of lease)) (sym (wrote_so scene so.actors (home_in play) (view_in play) stands.of_scene.limits stands.tell.actors))
 
 module _ {B : Type 0} (lease : Ghosts ReadLeaseOf SeatView ReadLeaseOf Issued) (frames : OfFrames lease) (of_turns : IsOfTurns lease) (tells : TellsAll lease) (table : TableId) (scene : SceneValue) (so : SoFar B) (old new : PlayOf B) (seen : Seen)
     (told : VsyncOf ReadLeaseOf) (stands : Stands table scene so old) (ledger : LedgerStands table.slots (home_in old) (view_in old) so.actors old.handler) (v : MakesVsync lease table old seen told new) where
   abbrev before : PlainOf B
-  before = old.cast.desk
+  before = old.actor_set.desk
 
   abbrev arrivals : Calls ReadLeaseOf SeatView ReadLeaseOf Issued
   arrivals = before.arrivals
@@ -171,10 +171,10 @@ module _ {B : Type 0} (lease : Ghosts ReadLeaseOf SeatView ReadLeaseOf Issued) (
       low : taken_in arrivals ≤ length (sent arrivals)
       low = let many = waiting_many arrivals in omega (arith, many)
 
-  pub home_then : home_of new.cast.desk ≡ home_taken (home_of before) (view_of before)
+  pub home_then : home_of new.actor_set.desk ≡ home_taken (home_of before) (view_of before)
   home_then = home_now lease frames table scene so old new seen told stands v ∙ ap (λ (n : ℕ). record (home_of before) { taken = n }) (taken_all lease frames table scene so old new seen told stands v)
 
-  pub vsync_in : VsyncIn lease (home_of before) (view_of before) old.handler (view_of new.cast.desk) new.handler
+  pub vsync_in : VsyncIn lease (home_of before) (view_of before) old.handler (view_of new.actor_set.desk) new.handler
   vsync_in = record {
     of_turns = of_turns;
     unlent = stands.of_scene.unlent;
@@ -188,14 +188,14 @@ module _ {B : Type 0} (lease : Ghosts ReadLeaseOf SeatView ReadLeaseOf Issued) (
     arrivals = sent_same lease frames table scene so old new seen told stands v;
     decides = subst (λ (eye : SeatView). Decides lease old.handler eye v.arrived seen ((old.vsyncs + 1) * old.period) told new.handler v.decided.desk.turns) turns_same v.decides;
     number = old.vsyncs + 1;
-    gives = gives_all (home_taken (home_of before) (view_of before)) (old.vsyncs + 1) told.releases (view_of v.decided.desk) (view_of new.cast.desk)
-        (subst (λ (n : ℕ). GivesFrames (record (home_of before) { taken = n }) (old.vsyncs + 1) told.releases (view_of v.decided.desk) (view_of new.cast.desk)) (taken_all lease frames table scene so old new seen told stands v)
+    gives = gives_all (home_taken (home_of before) (view_of before)) (old.vsyncs + 1) told.releases (view_of v.decided.desk) (view_of new.actor_set.desk)
+        (subst (λ (n : ℕ). GivesFrames (record (home_of before) { taken = n }) (old.vsyncs + 1) told.releases (view_of v.decided.desk) (view_of new.actor_set.desk)) (taken_all lease frames table scene so old new seen told stands v)
         (gives_now lease frames table scene so old new seen told stands v));
-    not_called = λ queue none. none_absent new.cast.desk.queues queue
+    not_called = λ queue none. none_absent new.actor_set.desk.queues queue
         (subst (λ (h : DeskHome). has_queue h queue ≡ false) (sym home_then) none);
   }
 
   pub ledger_vsync : LedgerStands table.slots (home_in new) (view_in new) so.actors new.handler
   ledger_vsync =
       subst (λ (h : DeskHome). LedgerStands table.slots h (view_in new) so.actors new.handler) (sym home_then)
-      (vsync_stands lease table.slots (home_of before) so.actors (view_of before) (view_of new.cast.desk) old.handler new.handler vsync_in ledger)
+      (vsync_stands lease table.slots (home_of before) so.actors (view_of before) (view_of new.actor_set.desk) old.handler new.handler vsync_in ledger)

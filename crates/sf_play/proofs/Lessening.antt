@@ -16,13 +16,13 @@ use Rattle.sf_actor.specs.declared.tried.Stepped.TheVariants as stepped
 use Rattle.sf_actor.specs.Desks.{DeskView}
 use Rattle.sf_actor.specs.Scripts.{picture_at}
 use Rattle.sf_actor.specs.Tries.{ActorOf}
-use Rattle.sf_cast.specs.Casts.{StepsAt, number_of}
+use Rattle.sf_actor_set.specs.ActorSets.{StepsAt, number_of}
 use Rattle.sf_run.specs.Progress.{is_time}
 use Rattle.sf_play.specs.Fuel.{fuel, rounds_left, vsyncs_left, work_left}
 use Rattle.sf_play.specs.Places.{settled}
 use Rattle.sf_play.specs.Players.{PlayOf, PlayerOf, home_in, view_in}
 use Rattle.sf_report.specs.Reports.{has_commits}
-use Rattle.sf_play.specs.Turning.{EndsRound, GoesRound, KeepsCast, Picks, Rounds, RoundsIf, TakesPick, TriesIf, TriesStep, Turns, TurnsAt, TurnsVsync, goes_on, is_step, turn_by}
+use Rattle.sf_play.specs.Turning.{EndsRound, GoesRound, KeepsActorSet, Picks, Rounds, RoundsIf, TakesPick, TriesIf, TriesStep, Turns, TurnsAt, TurnsVsync, goes_on, is_step, turn_by}
 use Rattle.sf_play.specs.declared.place.Place.{Place}
 use Rattle.sf_play.specs.declared.place.Place.TheVariants as at
 use Rattle.sf_play.specs.declared.turn.Turn.{Turn}
@@ -35,7 +35,7 @@ use Rattle.sf_play.proofs.Lasting.{again_less, again_vsyncs, end_less, end_vsync
 module _ {B : Type 0} {R C : Type 0} (lease : Ghosts ReadLeaseOf SeatView R C) (table : TableId) (ofs : List (ActorOf B)) where
   -- what the turns of a play rest on
   pub record MayTurn (play : PlayOf B) : Type 0 where
-    pub keep : KeepsCast table play ofs
+    pub keep : KeepsActorSet table play ofs
     pub taken : (home_in play).taken ≤ length (view_in play).arrivals
     pub times : All (λ (pick : Pick). 1 ≤ pick.times) play.order
     pub low : 1000000 ≤ play.period
@@ -45,33 +45,33 @@ module _ {B : Type 0} {R C : Type 0} (lease : Ghosts ReadLeaseOf SeatView R C) (
   record Tried (old new : PlayOf B) (came_to : Turn) : Type 0 where
     work : work_left new ≤ work_left old
     did : is_step came_to ≡ true → work_left new + 2 ≤ work_left old
-    many : length new.cast.actors ≡ length old.cast.actors
+    many : length new.actor_set.actors ≡ length old.actor_set.actors
     vsyncs : new.vsyncs ≡ old.vsyncs
 
-  tried_by : (place : ℕ) (old new : PlayOf B) (came_to : Turn) (stepped : Stepped) → TriesIn table (picture_at old.cast.pictures) place ofs old new → came_to ≡ turn_by place stepped
-      → StepsAt table (picture_at old.cast.pictures) place old.cast.actors ofs old.cast.desk new.cast.actors new.cast.desk stepped → new.vsyncs ≡ old.vsyncs → Tried old new came_to
+  tried_by : (place : ℕ) (old new : PlayOf B) (came_to : Turn) (stepped : Stepped) → TriesIn table (picture_at old.actor_set.pictures) place ofs old new → came_to ≡ turn_by place stepped
+      → StepsAt table (picture_at old.actor_set.pictures) place old.actor_set.actors ofs old.actor_set.desk new.actor_set.actors new.actor_set.desk stepped → new.vsyncs ≡ old.vsyncs → Tried old new came_to
   tried_by place old new came_to stepped.Done tries is steps vsyncs =
-      let less = work_less table (picture_at old.cast.pictures) place ofs old new tries steps in
+      let less = work_less table (picture_at old.actor_set.pictures) place ofs old new tries steps in
       record {
         work = omega (arith, less);
         did = λ done. less;
-        many = turns_same table (picture_at old.cast.pictures) place ofs old new tries steps.new steps.keep;
+        many = turns_same table (picture_at old.actor_set.pictures) place ofs old new tries steps.new steps.keep;
         vsyncs = vsyncs;
       }
   tried_by place old new came_to stepped.NotYet tries is steps vsyncs =
-      let same = work_stays table (picture_at old.cast.pictures) place ofs old new tries steps.old steps.new steps.here steps.tries.same steps.keep steps.tries.arrivals in
+      let same = work_stays table (picture_at old.actor_set.pictures) place ofs old new tries steps.old steps.new steps.here steps.tries.same steps.keep steps.tries.arrivals in
       record {
         work = omega (arith, same);
         did = λ done. absurd (cc (ap is_step is, done));
-        many = turns_same table (picture_at old.cast.pictures) place ofs old new tries steps.new steps.keep;
+        many = turns_same table (picture_at old.actor_set.pictures) place ofs old new tries steps.new steps.keep;
         vsyncs = vsyncs;
       }
   tried_by place old new came_to stepped.Ended tries is steps vsyncs =
-      let same = work_stays table (picture_at old.cast.pictures) place ofs old new tries steps.old steps.new steps.here steps.tries.0 steps.keep (ap (λ (v : DeskView B). v.arrivals) steps.tries.1) in
+      let same = work_stays table (picture_at old.actor_set.pictures) place ofs old new tries steps.old steps.new steps.here steps.tries.0 steps.keep (ap (λ (v : DeskView B). v.arrivals) steps.tries.1) in
       record {
         work = omega (arith, same);
         did = λ done. absurd (cc (ap is_step is, done));
-        many = turns_same table (picture_at old.cast.pictures) place ofs old new tries steps.new steps.keep;
+        many = turns_same table (picture_at old.actor_set.pictures) place ofs old new tries steps.new steps.keep;
         vsyncs = vsyncs;
       }
 
@@ -86,7 +86,7 @@ module _ {B : Type 0} {R C : Type 0} (lease : Ghosts ReadLeaseOf SeatView R C) (
       record {
         work = omega (arith, same);
         did = λ done. absurd (cc (ap is_step tries.0, done));
-        many = ap (λ (p : PlayOf B). length p.cast.actors) tries.1;
+        many = ap (λ (p : PlayOf B). length p.actor_set.actors) tries.1;
         vsyncs = ap (λ (p : PlayOf B). p.vsyncs) tries.1;
       }
   tried_if (Some place) old new came_to may tries = tried place old new came_to may tries
@@ -94,7 +94,7 @@ module _ {B : Type 0} {R C : Type 0} (lease : Ghosts ReadLeaseOf SeatView R C) (
   -- a turn of the order leaves as much work at most, and makes one vsync at most
   record Picked (old new : PlayOf B) : Type 0 where
     work : work_left new ≤ work_left old
-    many : length new.cast.actors ≡ length old.cast.actors
+    many : length new.actor_set.actors ≡ length old.actor_set.actors
     vsyncs : new.vsyncs ≤ old.vsyncs + 1
 
   made_vsync : (old new : PlayerOf B) (came_to : Turn) → TurnsVsync lease table ofs old new came_to → Picked old.play new.play
@@ -110,7 +110,7 @@ module _ {B : Type 0} {R C : Type 0} (lease : Ghosts ReadLeaseOf SeatView R C) (
   picked : (number : ℕ) (old new : PlayerOf B) (came_to : Turn) → MayTurn old.play → Picks lease table ofs number old new came_to → Picked old.play new.play
   picked zero old new came_to may picks = made_vsync old new came_to picks
   picked (suc n) old new came_to may picks =
-      let it = tried_if (position (λ (actor : Actor B). number_of actor == suc n) old.play.cast.actors) old.play new.play came_to may picks.0 in
+      let it = tried_if (position (λ (actor : Actor B). number_of actor == suc n) old.play.actor_set.actors) old.play new.play came_to may picks.0 in
       let vsyncs = it.vsyncs in
       record { work = it.work; many = it.many; vsyncs = omega (arith, vsyncs) }
 
@@ -128,7 +128,7 @@ module _ {B : Type 0} {R C : Type 0} (lease : Ghosts ReadLeaseOf SeatView R C) (
         vsyncs = order_vsyncs order old.play new.play place done has.pick has.here has.left it.work it.vsyncs;
       })
 
-  round_lessens : (order : List Pick) (place : ℕ) (was : Bool) (old new : PlayerOf B) (came_to : Turn) → MayTurn old.play → place < length old.play.cast.actors → GoesRound lease table ofs place was old new came_to
+  round_lessens : (order : List Pick) (place : ℕ) (was : Bool) (old new : PlayerOf B) (came_to : Turn) → MayTurn old.play → place < length old.play.actor_set.actors → GoesRound lease table ofs place was old new came_to
       → Lessens order old.play new.play (at.Round place was) new.place
   round_lessens order place was old new came_to may low goes =
       let it = tried place old.play new.play came_to may goes.tries in
@@ -181,10 +181,10 @@ module _ {B : Type 0} {R C : Type 0} (lease : Ghosts ReadLeaseOf SeatView R C) (
 
   rounds_lessen : (order : List Pick) (place : ℕ) (was : Bool) (old new : PlayerOf B) (came_to : Turn) → MayTurn old.play → Rounds lease table ofs place was old new came_to
       → Lessens order old.play new.play (at.Round place was) new.place
-  rounds_lessen order place was old new came_to may rounds = by_test (nat_lt place (length old.play.cast.actors)) refl rounds
+  rounds_lessen order place was old new came_to may rounds = by_test (nat_lt place (length old.play.actor_set.actors)) refl rounds
     where
-      by_test : (low : Bool) → nat_lt place (length old.play.cast.actors) ≡ low → RoundsIf lease table ofs low place was old new came_to → Lessens order old.play new.play (at.Round place was) new.place
-      by_test true e goes = round_lessens order place was old new came_to may (ltb-true place (length old.play.cast.actors) e) goes
+      by_test : (low : Bool) → nat_lt place (length old.play.actor_set.actors) ≡ low → RoundsIf lease table ofs low place was old new came_to → Lessens order old.play new.play (at.Round place was) new.place
+      by_test true e goes = round_lessens order place was old new came_to may (ltb-true place (length old.play.actor_set.actors) e) goes
       by_test false e ends = vsync_lessens order place was old new came_to may ends
 
   turn_lessens : (from : Place) (old new : PlayerOf B) (came_to : Turn) → MayTurn old.play → came_to ≢ turn.End → settled old.play.order old.place ≡ from → TurnsAt lease table ofs from old new came_to

@@ -15,7 +15,7 @@ use Rattle.sf_actor.specs.Desks.{DeskHome, KnowsAll}
 use Rattle.sf_actor.specs.Plain.{home_of, view_of}
 use Rattle.sf_actor.specs.Scripts.{picture_at}
 use Rattle.sf_actor.specs.Tries.{ActorOf}
-use Rattle.sf_cast.specs.Casts.{CastOf, IsSameCast, StepsAt}
+use Rattle.sf_actor_set.specs.ActorSets.{ActorSetOf, IsSameActorSet, StepsAt}
 use Rattle.sf_run.specs.Stepping.{TellsFirst}
 use Rattle.sf_run.specs.Stopping.{TellsOlder}
 use Rattle.sf_run.specs.Turns.{DrawAfterOwed, calls_in}
@@ -35,22 +35,22 @@ use Rattle.sf_play.specs.Players.{PlayOf, SoFar, Stands, home_in, run_so, view_i
 use Rattle.sf_play.specs.Playing.{KeepsRights}
 use Rattle.sf_play.specs.Vsyncing.{MakesVsync}
 
-module _ {B : Type 0} (table : TableId) (scene : SceneValue) (so : SoFar B) (old : PlayOf B) (stands : Stands table scene so old) (rights : KeepsRights table scene so old) (legal : IsLegalDesk old.cast.desk)
-    (knows : KnowsAll (view_in old)) (own : old.cast.desk.turns.table ≡ table) where
+module _ {B : Type 0} (table : TableId) (scene : SceneValue) (so : SoFar B) (old : PlayOf B) (stands : Stands table scene so old) (rights : KeepsRights table scene so old) (legal : IsLegalDesk old.actor_set.desk)
+    (knows : KnowsAll (view_in old)) (own : old.actor_set.desk.turns.table ≡ table) where
   exact : IsExact table.slots (view_in old).turns.leaves (view_in old).turns.seen
   exact = subst (λ (t : TableId). IsExact t.slots (view_in old).turns.leaves (view_in old).turns.seen) own knows.leaves
 
   -- after a try of an actor's next step
-  pub makers_tried : (place : ℕ) (cast : CastOf B) (same : IsSameCast old.cast cast) (st : Stepped) (s : StepsAt table (picture_at scene.pictures) place old.cast.actors so.actors old.cast.desk cast.actors cast.desk st)
-      → MakersPlay scene (home_of cast.desk) (view_of cast.desk) (set so.actors place s.new) old.handler
-  makers_tried place cast same st s =
-      step_makers scene table table.slots place scene.pictures so.actors old.cast.actors cast.actors old.cast.desk cast.desk st old.handler s stands.keep rights.plays same.home
+  pub makers_tried : (place : ℕ) (actor_set : ActorSetOf B) (same : IsSameActorSet old.actor_set actor_set) (st : Stepped) (s : StepsAt table (picture_at scene.pictures) place old.actor_set.actors so.actors old.actor_set.desk actor_set.actors actor_set.desk st)
+      → MakersPlay scene (home_of actor_set.desk) (view_of actor_set.desk) (set so.actors place s.new) old.handler
+  makers_tried place actor_set same st s =
+      step_makers scene table table.slots place scene.pictures so.actors old.actor_set.actors actor_set.actors old.actor_set.desk actor_set.desk st old.handler s stands.keep rights.plays same.home
       (are_over table scene so old stands rights.ledger legal) rights.ledger stands.desk.declared stands.tell.actors.apart rights.makers
 
-  pub draws_tried : (place : ℕ) (cast : CastOf B) (same : IsSameCast old.cast cast) (st : Stepped) (s : StepsAt table (picture_at scene.pictures) place old.cast.actors so.actors old.cast.desk cast.actors cast.desk st)
-      → DrawsStand scene (home_of cast.desk) (view_of cast.desk) (set so.actors place s.new) old.handler
-  draws_tried place cast same st s =
-      step_in_turn scene table table.slots place scene.pictures so.actors old.cast.actors cast.actors old.cast.desk cast.desk st old.handler s stands.keep rights.plays same.home
+  pub draws_tried : (place : ℕ) (actor_set : ActorSetOf B) (same : IsSameActorSet old.actor_set actor_set) (st : Stepped) (s : StepsAt table (picture_at scene.pictures) place old.actor_set.actors so.actors old.actor_set.desk actor_set.actors actor_set.desk st)
+      → DrawsStand scene (home_of actor_set.desk) (view_of actor_set.desk) (set so.actors place s.new) old.handler
+  draws_tried place actor_set same st s =
+      step_in_turn scene table table.slots place scene.pictures so.actors old.actor_set.actors actor_set.actors old.actor_set.desk actor_set.desk st old.handler s stands.keep rights.plays same.home
       (are_over table scene so old stands rights.ledger legal) rights.ledger stands.desk.declared stands.of_scene.limits stands.tell.actors exact knows.first knows.none_out rights.makers rights.draws
 
   -- after a vsync
@@ -83,4 +83,4 @@ module _ {B : Type 0} (table : TableId) (scene : SceneValue) (so : SoFar B) (old
   -- each draw came after those that were owed before it
   pub draws_came : DrawAfterOwed scene (run_so so old)
   draws_came =
-      draw_after_owed scene so.actors (home_in old) (view_in old) old.handler stands.of_scene.limits stands.tell.actors (λ queue none. none_absent old.cast.desk.queues queue none) rights.draws
+      draw_after_owed scene so.actors (home_in old) (view_in old) old.handler stands.of_scene.limits stands.tell.actors (λ queue none. none_absent old.actor_set.desk.queues queue none) rights.draws

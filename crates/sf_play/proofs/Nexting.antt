@@ -9,7 +9,7 @@ use Rattle.sf_scene.specs.Scene.{SceneValue}
 use Rattle.sf_actor.specs.Plain.{home_of, view_of}
 use Rattle.sf_actor.specs.Scripts.{picture_at}
 use Rattle.sf_actor.specs.Tries.{ActorOf}
-use Rattle.sf_cast.specs.Casts.{KeepAs}
+use Rattle.sf_actor_set.specs.ActorSets.{KeepAs}
 use Rattle.sf_rights.specs.Vsyncs.{IsOfTurns}
 use Rattle.sf_play.proofs.Going.{goes_along, goes_on, leaves_less, same_order}
 use Rattle.sf_play.proofs.Leasing.{OfFrames}
@@ -20,7 +20,7 @@ use Rattle.sf_play.specs.Places.{settled}
 use Rattle.sf_play.specs.Players.{PlayerOf, SoFar}
 use Rattle.sf_play.specs.Playing.{KeepsItself, MayMakeVsync}
 use Rattle.sf_play.specs.Standing.{IsPlayer, IsStanding, StandsAlong, StandsInRun}
-use Rattle.sf_play.specs.Turning.{KeepsCast, Turns, TurnsAt}
+use Rattle.sf_play.specs.Turning.{KeepsActorSet, Turns, TurnsAt}
 use Rattle.sf_play.specs.declared.place.Place.{Place}
 use Rattle.sf_play.specs.declared.turn.Turn.{Turn}
 
@@ -35,12 +35,12 @@ module _ {B : Type 0} (table : TableId) (player : PlayerOf B) where
   may_make is = record { scene = is.scene; so = is.so; stands = is.stands.stands.stands; early = (let early = is.stands.stands.early in omega (arith, early)) }
 
 module _ {B : Type 0} (lease : Ghosts ReadLeaseOf SeatView ReadLeaseOf Issued) (table : TableId) (inside later : PlayerOf B) (came_to : Turn) (place : Place) (there : place ≡ settled inside.play.order inside.place) (free : inside.is_spent ≡ false)
-    (turns : (ofs : List (ActorOf B)) → KeepsCast table inside.play ofs → TurnsAt lease table ofs place (record inside { is_spent = true }) later came_to) where
+    (turns : (ofs : List (ActorOf B)) → KeepsActorSet table inside.play ofs → TurnsAt lease table ofs place (record inside { is_spent = true }) later came_to) where
   abbrev pub freed : PlayerOf B
   freed = record later { is_spent = false }
 
   -- it was not spent, and is not
-  pub turned : (ofs : List (ActorOf B)) → KeepsCast table inside.play ofs → Turns lease table ofs inside freed came_to
+  pub turned : (ofs : List (ActorOf B)) → KeepsActorSet table inside.play ofs → Turns lease table ofs inside freed came_to
   turned ofs keep =
       turns_freed lease table ofs (settled inside.play.order inside.place) inside later true false came_to free
       (subst (λ (p : Place). TurnsAt lease table ofs p (record inside { is_spent = true }) later came_to) there (turns ofs keep))
@@ -48,7 +48,7 @@ module _ {B : Type 0} (lease : Ghosts ReadLeaseOf SeatView ReadLeaseOf Issued) (
   module _ (frames : OfFrames lease) (of_turns : IsOfTurns lease) (tells : TellsAll lease) (keeps : KeepsItself lease table inside.play) (keeps_now : KeepsItself lease table later.play) where
     turn_of : (scene : SceneValue) (so : SoFar B) → StandsInRun table scene so inside → Turns lease table so.actors inside freed came_to
     turn_of scene so was =
-        turned so.actors (subst (λ (pictures : List Picture). KeepAs table (picture_at pictures) (home_of inside.play.cast.desk) (view_of inside.play.cast.desk) inside.play.cast.actors so.actors)
+        turned so.actors (subst (λ (pictures : List Picture). KeepAs table (picture_at pictures) (home_of inside.play.actor_set.desk) (view_of inside.play.actor_set.desk) inside.play.actor_set.actors so.actors)
         (sym was.stands.stands.of_scene.pictures) was.stands.stands.keep)
 
     pub goes : (scene : SceneValue) (so : SoFar B) → StandsInRun table scene so inside → GoesOn table scene so came_to freed

@@ -25,7 +25,7 @@ use Rattle.sf_actor.specs.Steps.{sent_by}
 use Rattle.sf_actor.specs.Tales.{step_done}
 use Rattle.sf_actor.specs.Traces.{Past, next, no_past, places_from, sent_at}
 use Rattle.sf_actor.specs.Tries.{ActorOf, Keeps}
-use Rattle.sf_cast.specs.Casts.{KeepAs}
+use Rattle.sf_actor_set.specs.ActorSets.{KeepAs}
 use Rattle.sf_run.proofs.Keeping.{of_all}
 use Rattle.sf_run.proofs.Members.{has_cases, has_map, has_none, map_has}
 use Rattle.sf_run.specs.Actors.{number_of, script_of}
@@ -162,7 +162,7 @@ module _ {B : Type 0} where
     pub rounds_numbered : play.vsyncs ≤ 2147483648 → play.vsyncs + vsyncs_left play.order play (at.Round 0 false) < 4294967295
     rounds_numbered made =
         let few = few_here in
-        let steps = both_few table (picture_at scene.pictures) (home_in play) (view_in play) play.cast.actors so.actors stands.keep
+        let steps = both_few table (picture_at scene.pictures) (home_in play) (view_in play) play.actor_set.actors so.actors stands.keep
         (of_all (λ (of : ActorOf B). length of.script.steps ≤ 4096) so.actors (λ of there. (scripts_within of there).few_steps)) in
         let counted = all_counted so.actors (view_in play).arrivals stands.tell.senders in
         let traced = all_traced (picture_at scene.pictures) (home_in play) (view_in play) so.actors stands.tell.actors.keep in

@@ -13,7 +13,7 @@ use Rattle.sf_ready.specs.declared.hold.Hold.{Hold}
 use Rattle.sf_run.specs.Progress.{is_time}
 use Rattle.sf_steps.specs.declared.actor.Actor.{Actor}
 use Rattle.sf_actor.specs.Tries.{ActorOf}
-use Rattle.sf_cast.specs.Casts.{number_of}
+use Rattle.sf_actor_set.specs.ActorSets.{number_of}
 use Rattle.sf_scene.specs.declared.declarations.Pick.{Pick}
 use Rattle.sf_play.specs.Places.{behind, settled, settled_at}
 use Rattle.sf_play.specs.Players.{PlayerOf}
@@ -33,7 +33,7 @@ picked_there actors (suc n) unmet = refl
 
 module _ {B : Type 0} {R C : Type 0} (lease : Ghosts ReadLeaseOf SeatView R C) (table : TableId) (ofs : List (ActorOf B)) where
   -- a pick of an actor tries its next step
-  pub picks_step : (number place : ℕ) (old new : PlayerOf B) (result : Result Turn NoMemory) → (number ≡ 0 → ⊥) → position (λ (actor : Actor B). number_of actor == number) old.play.cast.actors ≡ Some place
+  pub picks_step : (number place : ℕ) (old new : PlayerOf B) (result : Result Turn NoMemory) → (number ≡ 0 → ⊥) → position (λ (actor : Actor B). number_of actor == number) old.play.actor_set.actors ≡ Some place
       → IfOk result (TriesStep table place ofs old.play new.play) → new.held ≡ old.held → IfOk result (Picks lease table ofs number old new)
   picks_step zero place old new result unmet there tries held = absurd (unmet refl)
   picks_step (suc n) place old new (Err e) unmet there tries held = tt
@@ -41,11 +41,11 @@ module _ {B : Type 0} {R C : Type 0} (lease : Ghosts ReadLeaseOf SeatView R C) (
 
   -- behind the actors of a round comes its vsync
   pub ends_round : (place : ℕ) (stepped : Bool) (old mid inside : PlayerOf B) (next : Place) (report : VsyncReport) (commits waits : Bool) (held : List (ℕ × Hold)) (actors : List (Actor B)) → inside ≡ mid
-      → actors ≡ old.play.cast.actors → length actors ≤ place → MakesReport lease table old mid report → commits ≡ has_commits report.commits → held ≡ inside.held → waits ≡ list_any (λ (h : ℕ × Hold). is_time h.1) held
+      → actors ≡ old.play.actor_set.actors → length actors ≤ place → MakesReport lease table old mid report → commits ≡ has_commits report.commits → held ≡ inside.held → waits ≡ list_any (λ (h : ℕ × Hold). is_time h.1) held
       → next ≡ (if stepped || (commits || waits) then at.Round 0 false else at.End) → Rounds lease table ofs place stepped old (record inside { place = next }) (turn.Vsync report)
   ends_round place stepped old mid inside next report commits waits held actors same of_old past makes commits_are held_are waits_are next_is =
       let made : MakesReport lease table old inside report = subst (λ (p : PlayerOf B). MakesReport lease table old p report) (sym same) makes in
-      let behind : nat_lt place (length old.play.cast.actors) ≡ false = le-ltb place (length old.play.cast.actors) (subst (λ (xs : List (Actor B)). length xs ≤ place) of_old past) in
+      let behind : nat_lt place (length old.play.actor_set.actors) ≡ false = le-ltb place (length old.play.actor_set.actors) (subst (λ (xs : List (Actor B)). length xs ≤ place) of_old past) in
       rw behind (record {
         vsync = record {
           report = report;
@@ -103,7 +103,7 @@ module _ {B : Type 0} {R C : Type 0} (lease : Ghosts ReadLeaseOf SeatView R C) (
       → TurnsAt lease table ofs at_place old (record new { is_spent = free }) came_to
   turns_freed (at.Order place done) old new spent free came_to was turns =
       record { pick = turns.pick; there = turns.there; picks = picks_freed turns.pick.actor old new spent free came_to turns.picks; next = turns.next }
-  turns_freed (at.Round place stepped) old new spent free came_to was turns = rounds_freed (nat_lt place (length old.play.cast.actors)) place stepped old new spent free came_to turns
+  turns_freed (at.Round place stepped) old new spent free came_to was turns = rounds_freed (nat_lt place (length old.play.actor_set.actors)) place stepped old new spent free came_to turns
   turns_freed at.End old new spent free came_to was turns = (turns.0, ap (λ (p : PlayerOf B). record p { is_spent = free }) turns.1 ∙ (λ i. record old { is_spent = sym was i }))
 
 -- a place in the order is that of a pick

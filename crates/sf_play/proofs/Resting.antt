@@ -26,7 +26,7 @@ use Rattle.sf_actor.specs.Scripts.{picture_at}
 use Rattle.sf_actor.specs.Tries.{ActorOf, LeavesStep}
 use Rattle.sf_actor.specs.declared.tried.Stepped.{Stepped}
 use Rattle.sf_actor.specs.declared.tried.Stepped.TheVariants as stepped
-use Rattle.sf_cast.specs.Casts.{KeepAs, StepsAt}
+use Rattle.sf_actor_set.specs.ActorSets.{KeepAs, StepsAt}
 use Rattle.sf_steps.specs.declared.actor.Actor.{Actor}
 use Rattle.sf_run.proofs.Keeping.{got_has}
 use Rattle.sf_run.proofs.LeaseLemmas.{plain_frame}
@@ -83,8 +83,8 @@ module _ {B : Type 0} where
   as_many table pictures home view (actor ∷ actors) (of ∷ ofs) keep = ap suc (as_many table pictures home view actors ofs keep.1)
 
   -- the actor at a place was left, or has ended
-  module _ (table : TableId) (scene : SceneValue) (so : SoFar B) (old new : PlayOf B) (stands : Stands table scene so old) (now : Stands table scene so new) (legal : IsLegalDesk new.cast.desk)
-      (place : ℕ) (home : home_of new.cast.desk ≡ home_of old.cast.desk) (older : (of : ActorOf B) → Contains so.actors of → TellsOlder scene (run_so so new) of (view_in old) (view_in new)) where
+  module _ (table : TableId) (scene : SceneValue) (so : SoFar B) (old new : PlayOf B) (stands : Stands table scene so old) (now : Stands table scene so new) (legal : IsLegalDesk new.actor_set.desk)
+      (place : ℕ) (home : home_of new.actor_set.desk ≡ home_of old.actor_set.desk) (older : (of : ActorOf B) → Contains so.actors of → TellsOlder scene (run_so so new) of (view_in old) (view_in new)) where
     and_one : (of : ActorOf B) → slice_get so.actors place ≡ Some of → run_so so new ≡ run_so so old → Rests scene (run_so so new) of
         → All (Rests scene (run_so so old)) (take place so.actors) → All (Rests scene (run_so so new)) (take (place + 1) so.actors)
     and_one of here same rests all =
@@ -92,7 +92,7 @@ module _ {B : Type 0} where
         (All-append (Rests scene (run_so so new)) (take place so.actors) (of ∷ []) (subst (λ (run : Run). All (Rests scene run) (take place so.actors)) (sym same) all)
         (All-cons (Rests scene (run_so so new)) of [] rests (All-nil (Rests scene (run_so so new)))))
 
-    pub tried_rests : (tries : Stepped) → tries ≢ stepped.Done → StepsAt table (picture_at old.cast.pictures) place old.cast.actors so.actors old.cast.desk new.cast.actors new.cast.desk tries
+    pub tried_rests : (tries : Stepped) → tries ≢ stepped.Done → StepsAt table (picture_at old.actor_set.pictures) place old.actor_set.actors so.actors old.actor_set.desk new.actor_set.actors new.actor_set.desk tries
         → All (Rests scene (run_so so old)) (take place so.actors) → All (Rests scene (run_so so new)) (take (place + 1) so.actors)
     tried_rests stepped.Done left steps all = absurd (left refl)
     tried_rests stepped.NotYet left steps all =
@@ -119,7 +119,7 @@ module _ {B : Type 0} where
         let seen = vsync.report.seen in
         let v = makes.makes in
         let none : told.commits ≡ [] = sym makes.commits ∙ no_commits vsync.report.commits quiet in
-        let arrived_is : v.arrived ≡ waiting old.play.cast.desk.arrivals =
+        let arrived_is : v.arrived ≡ waiting old.play.actor_set.desk.arrivals =
         v.takes.all ∙ ap (λ (a : Calls ReadLeaseOf SeatView ReadLeaseOf Issued). waiting a) (ap (λ (d : PlainOf B). d.arrivals) v.times) in
         let no_releases : told.releases ≡ [] =
         releases_nothing lease frame_of (λ a b same. plain_frame a b (frames.plain a b same)) scene (written_so scene so old.play) (taken_at old.play) (vsyncs_in so.events) old.play.handler new.play.handler
@@ -132,7 +132,7 @@ module _ {B : Type 0} where
         let arrivals = arrivals_now lease frames table scene so old.play new.play seen told stands v in
         record {
           taken = ap (λ (h : DeskHome). h.taken) home ∙ taken_all lease frames table scene so old.play new.play seen told stands v
-              ∙ sym (length-map (sent old.play.cast.desk.arrivals) plain_arrival) ∙ ap (λ (xs : List (Arrival ReadLeaseOf)). length (map plain_arrival xs)) (sym arrivals);
+              ∙ sym (length-map (sent old.play.actor_set.desk.arrivals) plain_arrival) ∙ ap (λ (xs : List (Arrival ReadLeaseOf)). length (map plain_arrival xs)) (sym arrivals);
           held = subst (λ (hs : List (ℕ × Hold)). AreHeld (end_of scene (run_so so new.play) (told_at scene so new.play)) (uncommitted (taken_at new.play) (commits_in (vsyncs_in so.events))) (map held_shown hs))
               (sym makes.held)
               (held_at_end lease frames table scene so old.play new.play seen told stands v none
@@ -156,7 +156,7 @@ module _ {B : Type 0} where
     settled_rests order (at.Round place was) rests = rests
     settled_rests order at.End rests = rests
 
-    module _ (later : SoFar B) (came_to : Turn) (stands : Stands table scene so old.play) (now : Stands table scene later new.play) (legal : IsLegalDesk new.play.cast.desk)
+    module _ (later : SoFar B) (came_to : Turn) (stands : Stands table scene so old.play) (now : Stands table scene later new.play) (legal : IsLegalDesk new.play.actor_set.desk)
         (same : has_shown came_to ≡ false → later ≡ so) (looks : has_shown came_to ≡ false → LooksTell lease table scene so old.play new.play) where
       as_before : (place : Place) → has_shown came_to ≡ false → RestsAt scene so new place → RestsAt scene later new place
       as_before place none = subst (λ (s : SoFar B). RestsAt scene s new place) (sym (same none))
@@ -164,8 +164,8 @@ module _ {B : Type 0} where
       still_stands : has_shown came_to ≡ false → Stands table scene so new.play
       still_stands none = subst (λ (s : SoFar B). Stands table scene s new.play) (same none) now
 
-      tried_at : (place : ℕ) (tries : Stepped) → came_to ≡ turn_by place tries → home_of new.play.cast.desk ≡ home_of old.play.cast.desk
-          → StepsAt table (picture_at old.play.cast.pictures) place old.play.cast.actors so.actors old.play.cast.desk new.play.cast.actors new.play.cast.desk tries
+      tried_at : (place : ℕ) (tries : Stepped) → came_to ≡ turn_by place tries → home_of new.play.actor_set.desk ≡ home_of old.play.actor_set.desk
+          → StepsAt table (picture_at old.play.actor_set.pictures) place old.play.actor_set.actors so.actors old.play.actor_set.desk new.play.actor_set.actors new.play.actor_set.desk tries
           → All (Rests scene (run_so so old.play)) (take place so.actors) → RestsAt scene later new (at.Round (place + 1) (is_step came_to))
       tried_at place stepped.Done is home steps rests = subst (λ (b : Bool). RestsAt scene later new (at.Round (place + 1) b)) (sym (ap is_step is)) tt
       tried_at place stepped.NotYet is home steps rests =
@@ -190,16 +190,16 @@ module _ {B : Type 0} where
           ]
 
       round_rests : (place : ℕ) (was : Bool) → Rounds lease table so.actors place was old new came_to → RestsAt scene so old (at.Round place was) → RestsAt scene later new new.place
-      round_rests place was rounds rests = by_test was (nat_lt place (length old.play.cast.actors)) refl rounds rests
+      round_rests place was rounds rests = by_test was (nat_lt place (length old.play.actor_set.actors)) refl rounds rests
         where
-          by_test : (was low : Bool) → nat_lt place (length old.play.cast.actors) ≡ low → RoundsIf lease table so.actors low place was old new came_to → RestsAt scene so old (at.Round place was)
+          by_test : (was low : Bool) → nat_lt place (length old.play.actor_set.actors) ≡ low → RoundsIf lease table so.actors low place was old new came_to → RestsAt scene so old (at.Round place was)
               → RestsAt scene later new new.place
           by_test true true e goes rests = subst (RestsAt scene later new) (sym goes.next) tt
           by_test true false e ends rests = subst (RestsAt scene later new) (sym ends.next) (none_tried new later)
           by_test false true e goes rests = subst (RestsAt scene later new) (sym goes.next) (tried_at place goes.tries.stepped goes.tries.is goes.tries.same.home goes.tries.steps rests)
           by_test false false e ends rests =
-              let many = as_many table (picture_at scene.pictures) (home_in old.play) (view_in old.play) old.play.cast.actors so.actors stands.keep in
-              let high = ltb-false place (length old.play.cast.actors) e in
+              let many = as_many table (picture_at scene.pictures) (home_in old.play) (view_in old.play) old.play.actor_set.actors so.actors stands.keep in
+              let high = ltb-false place (length old.play.actor_set.actors) e in
               ends_round ends (subst (All (Rests scene (run_so so old.play))) (take_all place so.actors (omega (arith, many, high))) rests)
 
       turn_rests : (from : Place) → TurnsAt lease table so.actors from old new came_to → RestsAt scene so old old.place → RestsAt scene so old from → RestsAt scene later new new.place

@@ -22,12 +22,12 @@ use Rattle.sf_actor.specs.Tries.{ActorOf}
 use Rattle.sf_steps.specs.Actors.{IsActor}
 use Rattle.sf_steps.specs.Playable.{MayPlay}
 use Rattle.sf_steps.specs.declared.actor.Actor.{Actor}
-use Rattle.sf_cast.proofs.OpeningLemmas.{news_scripts}
-use Rattle.sf_cast.proofs.PlayingLemmas.{has_opened, may_play}
-use Rattle.sf_cast.proofs.RisingLemmas.{rising_differ, sorted_rises}
-use Rattle.sf_cast.specs.Casts.{CastOf, KeepAs, Opens}
-use Rattle.sf_cast.specs.Opening.{new_actors, new_queue}
-use Rattle.sf_cast.specs.Scripts.{permits_of}
+use Rattle.sf_actor_set.proofs.OpeningLemmas.{news_scripts}
+use Rattle.sf_actor_set.proofs.PlayingLemmas.{has_opened, may_play}
+use Rattle.sf_actor_set.proofs.RisingLemmas.{rising_differ, sorted_rises}
+use Rattle.sf_actor_set.specs.ActorSets.{ActorSetOf, KeepAs, Opens}
+use Rattle.sf_actor_set.specs.Opening.{new_actors, new_queue}
+use Rattle.sf_actor_set.specs.Scripts.{permits_of}
 use Rattle.sf_run.proofs.Parts.{map_twice}
 use Rattle.sf_run.proofs.Rising.{rising_queues_are}
 use Rattle.sf_run.specs.Actors.{mark_declared}
@@ -51,7 +51,7 @@ use Rattle.sf_play.specs.declared.place.Place.{Place}
 use Rattle.sf_play.specs.declared.place.Place.TheVariants as at
 
 -- before the first turn
-module _ {B : Type 0} (table : TableId) (scene : SceneValue) (limits : IsWithinLimits scene) (seat : SeatView) (stock : List ℕ) (play : PlayOf B) (opens : Opens table scene.queues scene.pictures scene.actors seat stock play.cast)
+module _ {B : Type 0} (table : TableId) (scene : SceneValue) (limits : IsWithinLimits scene) (seat : SeatView) (stock : List ℕ) (play : PlayOf B) (opens : Opens table scene.queues scene.pictures scene.actors seat stock play.actor_set)
     (period : play.period ≡ scene.period) (order : play.order ≡ scene.order) (handler : play.handler ≡ new_handler scene.width scene.height (most_layers scene.version)) (none : play.vsyncs ≡ 0) where
   opened_are : (home : DeskHome) (view : DeskView B) (pictures : ℕ → Picture) (actors : List (Actor B)) (ofs : List (ActorOf B)) → KeepAs table pictures home view actors ofs → AllZip (IsActor table) actors ofs
   opened_are home view pictures [] [] keep = tt
@@ -59,7 +59,7 @@ module _ {B : Type 0} (table : TableId) (scene : SceneValue) (limits : IsWithinL
   opened_are home view pictures (actor ∷ actors) [] keep = absurd keep
   opened_are home view pictures (actor ∷ actors) (of ∷ ofs) keep = (keep.0.is, opened_are home view pictures actors ofs keep.1)
 
-  marks_opened : (home_of play.cast.desk).marks ≡ map mark_of (map (new_queue {B = B}) opens.queues_opened.declared)
+  marks_opened : (home_of play.actor_set.desk).marks ≡ map mark_of (map (new_queue {B = B}) opens.queues_opened.declared)
   marks_opened = ap (map mark_of) opens.queues_opened.opened
 
   module _ (fresh : seat.leaves ≡ []) (whole : stock ≡ range 0 (permits_of scene.actors)) (sized : permits_of scene.actors ≤ table.slots) where
@@ -91,12 +91,12 @@ module _ {B : Type 0} (table : TableId) (scene : SceneValue) (limits : IsWithinL
       makers = makers_begin table.slots (home_in play) (view_in play) (new_actors opens.declared stock) play.handler begins_bare (run_so so play) (calls_in scene (run_so so play));
       draws = draws_begin scene table.slots (home_in play) (view_in play) (new_actors opens.declared stock) play.handler begins_bare;
       plays = subst (λ (ss : List ActorScript). All (MayPlay (home_in play) scene.pictures) ss)
-          (sym (news_scripts table play.cast.actors opens.declared stock (opened_are (home_in play) (view_in play) (picture_at play.cast.pictures) play.cast.actors (new_actors opens.declared stock) opens.keep)))
+          (sym (news_scripts table play.actor_set.actors opens.declared stock (opened_are (home_in play) (view_in play) (picture_at play.actor_set.pictures) play.actor_set.actors (new_actors opens.declared stock) opens.keep)))
           (All-permutation (MayPlay (home_in play) scene.pictures) scene.actors opens.declared opens.sorted.permutation (may_play scene (home_in play) limits has (λ n. refl)));
     }
       where
         has : (n : ℕ) → has_declared scene.queues n ≡ true → has_queue (home_in play) n ≡ true
-        has n known = subst (λ (os : List (ObjectOf B)). has_queue (home_of (record play.cast.desk { queues = os })) n ≡ true) (sym opens.queues_opened.opened) (has_opened B scene.queues opens.queues_opened.declared n opens.queues_opened.sorted.permutation known)
+        has n known = subst (λ (os : List (ObjectOf B)). has_queue (home_of (record play.actor_set.desk { queues = os })) n ≡ true) (sym opens.queues_opened.opened) (has_opened B scene.queues opens.queues_opened.declared n opens.queues_opened.sorted.permutation known)
 
     -- its queues are by rising number
     marks_first : (home_in play).marks ≡ map mark_declared (rising_queues scene)
@@ -122,15 +122,15 @@ module _ {B : Type 0} (table : TableId) (scene : SceneValue) (limits : IsWithinL
         }
 
 -- a player that did nothing yet
-module _ {B : Type 0} (table : TableId) (scene : SceneValue) (limits : IsWithinLimits scene) (seat : SeatView) (stock : List ℕ) (cast : CastOf B) (handler : HandlerOf ReadLeaseOf)
-    (held : List (ℕ × Hold)) (queues : List QueueDecl) (same : queues ≡ scene.queues) (opens : Opens table queues scene.pictures scene.actors seat stock cast) (is_new : handler ≡ new_handler scene.width scene.height (most_layers scene.version))
+module _ {B : Type 0} (table : TableId) (scene : SceneValue) (limits : IsWithinLimits scene) (seat : SeatView) (stock : List ℕ) (actor_set : ActorSetOf B) (handler : HandlerOf ReadLeaseOf)
+    (held : List (ℕ × Hold)) (queues : List QueueDecl) (same : queues ≡ scene.queues) (opens : Opens table queues scene.pictures scene.actors seat stock actor_set) (is_new : handler ≡ new_handler scene.width scene.height (most_layers scene.version))
     (none : held ≡ []) (fresh : seat.leaves ≡ []) (whole : stock ≡ range 0 (permits_of scene.actors)) (sized : permits_of scene.actors ≤ table.slots) where
   abbrev pub player : PlayerOf B
-  player = record { play = record { period = scene.period; order = scene.order; cast = cast; handler = handler; vsyncs = 0 }; place = at.Order 0 0; held = held; is_spent = false }
+  player = record { play = record { period = scene.period; order = scene.order; actor_set = actor_set; handler = handler; vsyncs = 0 }; place = at.Order 0 0; held = held; is_spent = false }
 
   pub begins : Begins table scene player
   begins =
-      let opened = subst (λ (qs : List QueueDecl). Opens table qs scene.pictures scene.actors seat stock cast) same opens in
+      let opened = subst (λ (qs : List QueueDecl). Opens table qs scene.pictures scene.actors seat stock actor_set) same opens in
       record {
         so = nothing table scene limits seat stock player.play opened refl refl is_new refl;
         nothing = refl;

@@ -22,7 +22,7 @@ use Rattle.sf_actor.specs.Names.{FrameOf}
 use Rattle.sf_actor.specs.Plain.{home_of, view_of}
 use Rattle.sf_actor.specs.Scripts.{picture_at}
 use Rattle.sf_actor.specs.Tries.{ActorOf, DoesStep, Keeps, LeavesStep}
-use Rattle.sf_cast.specs.Casts.{CastOf, IsSameCast, KeepAs, StepsAt}
+use Rattle.sf_actor_set.specs.ActorSets.{ActorSetOf, IsSameActorSet, KeepAs, StepsAt}
 use Rattle.sf_steps.specs.declared.actor.Actor.{Actor}
 use Rattle.sf_record.specs.declared.event.Event.{Event}
 use Rattle.sf_record.specs.declared.event.Event.TheVariants as event
@@ -89,7 +89,7 @@ still_vsyncs scene xs ys vsyncs more are = record {
 }
 
 module _ {B : Type 0} where
-  -- each actor of a cast keeps what it keeps
+  -- each actor of an actor set keeps what it keeps
   pub all_keep : (table : TableId) (pictures : ℕ → Picture) (home : DeskHome) (view : DeskView B) (actors : List (Actor B)) (ofs : List (ActorOf B))
       → KeepAs table pictures home view actors ofs → All (λ (of : ActorOf B). Keeps pictures home of view) ofs
   all_keep table pictures home view [] [] keep = All-nil (λ (of : ActorOf B). Keeps pictures home of view)
@@ -112,10 +112,10 @@ module _ {B : Type 0} where
       let begins = (goes.calls queue).begins in
       subst (λ (xs : List (Made B)). Contains xs made) (sym begins.1) (Contains-append_right begins.0 (old.calls queue) made there)
 
-  module _ (table : TableId) (scene : SceneValue) (so : SoFar B) (play : PlayOf B) (place : ℕ) (cast : CastOf B) (stands : Stands table scene so play)
-      (same : IsSameCast play.cast cast) (acts : cast.is_spent ≡ false) where
+  module _ (table : TableId) (scene : SceneValue) (so : SoFar B) (play : PlayOf B) (place : ℕ) (actor_set : ActorSetOf B) (stands : Stands table scene so play)
+      (same : IsSameActorSet play.actor_set actor_set) (acts : actor_set.is_spent ≡ false) where
     abbrev later_play : PlayOf B
-    later_play = record play { cast = cast }
+    later_play = record play { actor_set = actor_set }
 
     of_scene : IsOfScene scene later_play
     of_scene = record {
@@ -131,7 +131,7 @@ module _ {B : Type 0} where
     }
 
     -- the step is done
-    module _ (s : StepsAt table (picture_at scene.pictures) place play.cast.actors so.actors play.cast.desk cast.actors cast.desk stepped.Done) where
+    module _ (s : StepsAt table (picture_at scene.pictures) place play.actor_set.actors so.actors play.actor_set.desk actor_set.actors actor_set.desk stepped.Done) where
       abbrev reply : Reply
       reply = s.tries.0
 
@@ -139,19 +139,19 @@ module _ {B : Type 0} where
       later_so = record { actors = set so.actors place s.new; events = so.events ++ event.Reply (reply_shown reply) ∷ [] }
 
       abbrev before : DeskView B
-      before = view_of play.cast.desk
+      before = view_of play.actor_set.desk
 
       abbrev after : DeskView B
-      after = view_of cast.desk
+      after = view_of actor_set.desk
 
-      does : DoesStep (picture_at scene.pictures) (home_of play.cast.desk) s.old before s.new after reply
+      does : DoesStep (picture_at scene.pictures) (home_of play.actor_set.desk) s.old before s.new after reply
       does = s.tries.1
 
       by : Replaces so.actors place s.old s.new
       by = record { here = s.here; script = ap (λ (of : ActorOf B). of.script) does.same; more = does.done ∷ []; trace = does.trace }
 
-      alone : GoesOn 0 (known_of (home_of play.cast.desk) before) (known_of (home_of play.cast.desk) after)
-      alone = does.alone refl 0 (not_none scene so.actors (home_of play.cast.desk) before s.old.script.number stands.of_scene.limits stands.tell.actors (has_map number_of so.actors s.old (got_has so.actors place s.old s.here)))
+      alone : GoesOn 0 (known_of (home_of play.actor_set.desk) before) (known_of (home_of play.actor_set.desk) after)
+      alone = does.alone refl 0 (not_none scene so.actors (home_of play.actor_set.desk) before s.old.script.number stands.of_scene.limits stands.tell.actors (has_map number_of so.actors s.old (got_has so.actors place s.old s.here)))
 
       same_vsyncs : vsyncs_in later_so.events ≡ vsyncs_in so.events
       same_vsyncs = no_vsync so.events (event.Reply (reply_shown reply)) refl
@@ -159,34 +159,34 @@ module _ {B : Type 0} where
       same_taken : taken_at later_play ≡ taken_at play
       same_taken =
           ap (λ (h : DeskHome). take h.taken (arrivals_of after)) same.home
-          ∙ taken_stays (home_of play.cast.desk) before after alone.arrivals.later stands.desk.taken alone.arrivals.joined
+          ∙ taken_stays (home_of play.actor_set.desk) before after alone.arrivals.later stands.desk.taken alone.arrivals.joined
 
       same_told : told_at scene later_so later_play ≡ told_at scene so play
       same_told = λ i. told_of scene (same_taken i) (same_vsyncs i)
 
-      tells : TellRun scene later_so.actors (home_of play.cast.desk) after later_so.events (released_in (told_at scene so play))
-      tells = does_step scene so.actors (home_of play.cast.desk) before after so.events (released_in (told_at scene so play)) place s.old s.new reply
+      tells : TellRun scene later_so.actors (home_of play.actor_set.desk) after later_so.events (released_in (told_at scene so play))
+      tells = does_step scene so.actors (home_of play.actor_set.desk) before after so.events (released_in (told_at scene so play)) place s.old s.new reply
           stands.of_scene.limits refl s.here does
           (subst (λ (h : DeskHome). All (λ (of : ActorOf B). Keeps (picture_at scene.pictures) h of after) (set so.actors place s.new)) same.home
-          (all_keep table (picture_at scene.pictures) (home_of cast.desk) after cast.actors (set so.actors place s.new) s.keep))
+          (all_keep table (picture_at scene.pictures) (home_of actor_set.desk) after actor_set.actors (set so.actors place s.new) s.keep))
           stands.tell
 
       signals : AreAmong (signals_so scene so play) (signals_so scene later_so later_play)
       signals = subst (λ (h : DeskHome). AreAmong (signals_so scene so play) (signals_in scene (run_of later_so.actors h after))) (sym same.home)
-          (signals_more scene so.actors (home_of play.cast.desk) before after place s.old s.new by)
+          (signals_more scene so.actors (home_of play.actor_set.desk) before after place s.old s.new by)
 
       written : AreWrittenToo (written_so scene so play) (written_so scene later_so later_play)
-      written = written_kept scene so.actors (home_of play.cast.desk) (home_of cast.desk) before after place s.old s.new by
+      written = written_kept scene so.actors (home_of play.actor_set.desk) (home_of actor_set.desk) before after place s.old s.new by
 
       still : (queue : ℕ) (made : Made B) → Contains (before.calls queue) made → Contains (after.calls queue) made
-      still = calls_last 0 (home_of play.cast.desk) before after alone
+      still = calls_last 0 (home_of play.actor_set.desk) before after alone
 
       pub stands_done : Stands table scene later_so later_play
       stands_done = record {
         of_scene = of_scene;
         keep = s.keep;
         tell = subst (λ (h : DeskHome). TellRun scene later_so.actors h after later_so.events (released_in (told_at scene later_so later_play))) (sym same.home)
-            (subst (λ (told : List VsyncAt). TellRun scene later_so.actors (home_of play.cast.desk) after later_so.events (released_in told)) (sym same_told) tells);
+            (subst (λ (told : List VsyncAt). TellRun scene later_so.actors (home_of play.actor_set.desk) after later_so.events (released_in told)) (sym same_told) tells);
         desk = record {
           marks = subst (λ (h : DeskHome). All (λ (queue : QueueDecl). mark_among h.marks queue.number ≡ mark_declared queue) scene.queues) (sym same.home) stands.desk.marks;
           declared = subst (λ (h : DeskHome). All (λ (mark : QueueMark). has_queue scene.queues mark.queue.0 ≡ true) h.marks) (sym same.home) stands.desk.declared;
@@ -215,26 +215,26 @@ module _ {B : Type 0} where
       }
 
     -- nothing was done: no call, no arrival and no signal is new
-    module _ (tells : TellRun scene so.actors (home_of play.cast.desk) (view_of cast.desk) so.events (released_in (told_at scene so play)))
-        (keep : KeepAs table (picture_at scene.pictures) (home_of cast.desk) (view_of cast.desk) cast.actors so.actors)
-        (calls : (queue : ℕ) → (view_of cast.desk).calls queue ≡ (view_of play.cast.desk).calls queue) (arrivals : (view_of cast.desk).arrivals ≡ (view_of play.cast.desk).arrivals) where
+    module _ (tells : TellRun scene so.actors (home_of play.actor_set.desk) (view_of actor_set.desk) so.events (released_in (told_at scene so play)))
+        (keep : KeepAs table (picture_at scene.pictures) (home_of actor_set.desk) (view_of actor_set.desk) actor_set.actors so.actors)
+        (calls : (queue : ℕ) → (view_of actor_set.desk).calls queue ≡ (view_of play.actor_set.desk).calls queue) (arrivals : (view_of actor_set.desk).arrivals ≡ (view_of play.actor_set.desk).arrivals) where
       left_taken : taken_at later_play ≡ taken_at play
       left_taken =
-          ap (λ (h : DeskHome). take h.taken (arrivals_of (view_of cast.desk))) same.home
-          ∙ ap (λ (xs : List (Arrival ReadLeaseOf)). take (home_of play.cast.desk).taken (map plain_arrival xs)) arrivals
+          ap (λ (h : DeskHome). take h.taken (arrivals_of (view_of actor_set.desk))) same.home
+          ∙ ap (λ (xs : List (Arrival ReadLeaseOf)). take (home_of play.actor_set.desk).taken (map plain_arrival xs)) arrivals
 
       left_told : told_at scene so later_play ≡ told_at scene so play
       left_told = ap (λ (taken : List (Arrival FrameOf)). told_of scene taken (vsyncs_in so.events)) left_taken
 
-      left_calls : (queue : ℕ) (made : Made B) → Contains ((view_of play.cast.desk).calls queue) made → Contains ((view_of cast.desk).calls queue) made
+      left_calls : (queue : ℕ) (made : Made B) → Contains ((view_of play.actor_set.desk).calls queue) made → Contains ((view_of actor_set.desk).calls queue) made
       left_calls queue made there = subst (λ (xs : List (Made B)). Contains xs made) (sym (calls queue)) there
 
       pub stands_left : Stands table scene so later_play
       stands_left = record {
         of_scene = of_scene;
         keep = keep;
-        tell = subst (λ (h : DeskHome). TellRun scene so.actors h (view_of cast.desk) so.events (released_in (told_at scene so later_play))) (sym same.home)
-            (subst (λ (told : List VsyncAt). TellRun scene so.actors (home_of play.cast.desk) (view_of cast.desk) so.events (released_in told)) (sym left_told) tells);
+        tell = subst (λ (h : DeskHome). TellRun scene so.actors h (view_of actor_set.desk) so.events (released_in (told_at scene so later_play))) (sym same.home)
+            (subst (λ (told : List VsyncAt). TellRun scene so.actors (home_of play.actor_set.desk) (view_of actor_set.desk) so.events (released_in told)) (sym left_told) tells);
         desk = record {
           marks = subst (λ (h : DeskHome). All (λ (queue : QueueDecl). mark_among h.marks queue.number ≡ mark_declared queue) scene.queues) (sym same.home) stands.desk.marks;
           declared = subst (λ (h : DeskHome). All (λ (mark : QueueMark). has_queue scene.queues mark.queue.0 ≡ true) h.marks) (sym same.home) stands.desk.declared;
@@ -252,8 +252,8 @@ module _ {B : Type 0} where
           frames = subst (ShowImages scene) (sym left_told) stands.vsyncs.frames;
         };
         leases = record {
-          pending = arrived_lent_on (view_of play.cast.desk) (view_of cast.desk) left_calls play.handler.pending stands.leases.pending;
-          on = on_lent_on (view_of play.cast.desk) (view_of cast.desk) left_calls play.handler.on stands.leases.on;
+          pending = arrived_lent_on (view_of play.actor_set.desk) (view_of actor_set.desk) left_calls play.handler.pending stands.leases.pending;
+          on = on_lent_on (view_of play.actor_set.desk) (view_of actor_set.desk) left_calls play.handler.on stands.leases.on;
         };
       }
 
@@ -267,8 +267,8 @@ module _ {B : Type 0} where
     in_place (of ∷ ofs) (suc n) old new here is = ap (λ (rest : List (ActorOf B)). of ∷ rest) (in_place ofs n old new here is)
 
     -- the step is not done
-    module _ (s : StepsAt table (picture_at scene.pictures) place play.cast.actors so.actors play.cast.desk cast.actors cast.desk stepped.NotYet) where
-      leaves : LeavesStep (picture_at scene.pictures) (home_of play.cast.desk) s.old (view_of play.cast.desk) s.new (view_of cast.desk)
+    module _ (s : StepsAt table (picture_at scene.pictures) place play.actor_set.actors so.actors play.actor_set.desk actor_set.actors actor_set.desk stepped.NotYet) where
+      leaves : LeavesStep (picture_at scene.pictures) (home_of play.actor_set.desk) s.old (view_of play.actor_set.desk) s.new (view_of actor_set.desk)
       leaves = s.tries
 
       pub same_left : set so.actors place s.new ≡ so.actors
@@ -276,23 +276,23 @@ module _ {B : Type 0} where
 
       pub stands_waiting : Stands table scene so later_play
       stands_waiting =
-          let keep = subst (KeepAs table (picture_at scene.pictures) (home_of cast.desk) (view_of cast.desk) cast.actors) same_left s.keep in
-          let all = subst (λ (h : DeskHome). All (λ (of : ActorOf B). Keeps (picture_at scene.pictures) h of (view_of cast.desk)) (set so.actors place s.new)) same.home
-          (all_keep table (picture_at scene.pictures) (home_of cast.desk) (view_of cast.desk) cast.actors (set so.actors place s.new) s.keep) in
+          let keep = subst (KeepAs table (picture_at scene.pictures) (home_of actor_set.desk) (view_of actor_set.desk) actor_set.actors) same_left s.keep in
+          let all = subst (λ (h : DeskHome). All (λ (of : ActorOf B). Keeps (picture_at scene.pictures) h of (view_of actor_set.desk)) (set so.actors place s.new)) same.home
+          (all_keep table (picture_at scene.pictures) (home_of actor_set.desk) (view_of actor_set.desk) actor_set.actors (set so.actors place s.new) s.keep) in
           stands_left
-          (subst (λ (ofs : List (ActorOf B)). TellRun scene ofs (home_of play.cast.desk) (view_of cast.desk) so.events (released_in (told_at scene so play))) same_left
-          (leaves_step scene so.actors (home_of play.cast.desk) (view_of play.cast.desk) (view_of cast.desk) so.events (released_in (told_at scene so play)) place s.old s.new refl s.here leaves all stands.tell))
+          (subst (λ (ofs : List (ActorOf B)). TellRun scene ofs (home_of play.actor_set.desk) (view_of actor_set.desk) so.events (released_in (told_at scene so play))) same_left
+          (leaves_step scene so.actors (home_of play.actor_set.desk) (view_of play.actor_set.desk) (view_of actor_set.desk) so.events (released_in (told_at scene so play)) place s.old s.new refl s.here leaves all stands.tell))
           keep (leaves.calls refl) leaves.arrivals
 
     -- no step is left
-    module _ (s : StepsAt table (picture_at scene.pictures) place play.cast.actors so.actors play.cast.desk cast.actors cast.desk stepped.Ended) where
+    module _ (s : StepsAt table (picture_at scene.pictures) place play.actor_set.actors so.actors play.actor_set.desk actor_set.actors actor_set.desk stepped.Ended) where
       pub same_ended : set so.actors place s.new ≡ so.actors
       same_ended = in_place so.actors place s.old s.new s.here s.tries.0
 
       pub stands_ended : Stands table scene so later_play
       stands_ended =
-          let view : view_of cast.desk ≡ view_of play.cast.desk = s.tries.1 in
+          let view : view_of actor_set.desk ≡ view_of play.actor_set.desk = s.tries.1 in
           stands_left
-          (subst (λ (v : DeskView B). TellRun scene so.actors (home_of play.cast.desk) v so.events (released_in (told_at scene so play))) (sym view) stands.tell)
-          (subst (KeepAs table (picture_at scene.pictures) (home_of cast.desk) (view_of cast.desk) cast.actors) same_ended s.keep)
+          (subst (λ (v : DeskView B). TellRun scene so.actors (home_of play.actor_set.desk) v so.events (released_in (told_at scene so play))) (sym view) stands.tell)
+          (subst (KeepAs table (picture_at scene.pictures) (home_of actor_set.desk) (view_of actor_set.desk) actor_set.actors) same_ended s.keep)
           (λ queue. ap (λ (v : DeskView B). v.calls queue) view) (ap (λ (v : DeskView B). v.arrivals) view)

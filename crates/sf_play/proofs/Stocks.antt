@@ -9,7 +9,7 @@ use Rattle.sf_turns.specs.Counts.{range, stock_at}
 use Rattle.sf_scene.specs.declared.declarations.QueueDecl.{QueueDecl}
 use Rattle.sf_scene.specs.declared.step.ActorScript.{ActorScript}
 use Rattle.sf_actor.specs.Tries.{dequeues_in}
-use Rattle.sf_cast.specs.Opening.{new_actors, new_queue}
+use Rattle.sf_actor_set.specs.Opening.{new_actors, new_queue}
 use Rattle.sf_run.proofs.Members.{has_cases, has_none}
 use Rattle.sf_run.specs.Histories.{queue_number}
 use Rattle.sf_rights.specs.Standing.{IsFresh, stock_of}

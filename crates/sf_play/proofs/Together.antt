@@ -24,8 +24,8 @@ use Rattle.sf_actor.specs.Tries.{ActorOf}
 use Rattle.sf_steps.specs.Actors.{IsActor}
 use Rattle.sf_steps.specs.Playable.{MayPlay}
 use Rattle.sf_steps.specs.declared.actor.Actor.{Actor}
-use Rattle.sf_cast.proofs.CompositingLemmas.{taken_plays}
-use Rattle.sf_cast.specs.Casts.{CastOf, IsSameCast, KeepAs, StepsAt, scripts_of}
+use Rattle.sf_actor_set.proofs.CompositingLemmas.{taken_plays}
+use Rattle.sf_actor_set.specs.ActorSets.{ActorSetOf, IsSameActorSet, KeepAs, StepsAt, scripts_of}
 use Rattle.sf_record.specs.declared.event.Event.TheVariants as event
 use Rattle.sf_run.specs.Progress.{ShowsWhatIsWritten, WroteWhatShows}
 use Rattle.sf_rights.proofs.Played.{step_stands}
@@ -73,33 +73,33 @@ module _ {B : Type 0} where
   kept_at table pictures home view (a ∷ actors) (of ∷ ofs) (suc place) actor old new keep was now = kept_at table pictures home view actors ofs place actor old new keep.1 was now
 
 module _ {B : Type 0} (table : TableId) (scene : SceneValue) (marks : List QueueMark) (so : SoFar B) (old : PlayOf B) (stands : Stands table scene so old) (rights : KeepsRights table scene so old) (marked : (home_in old).marks ≡ marks)
-    (legal : IsLegalDesk old.cast.desk) (knows : KnowsAll (view_in old)) (own : old.cast.desk.turns.table ≡ table) where
+    (legal : IsLegalDesk old.actor_set.desk) (knows : KnowsAll (view_in old)) (own : old.actor_set.desk.turns.table ≡ table) where
   -- nothing was done
   abbrev pub nothing_with : (came_to : Turn) → Happens scene came_to old so so → StandsWith table scene marks so came_to old
   nothing_with came_to happens = record { later = so; happens = happens; stands = stands; rights = record { ledger = rights.ledger; makers = rights.makers; draws = rights.draws; plays = rights.plays }; queues = marked }
 
   -- an actor's next step was tried
-  module _ (cast : CastOf B) (place : ℕ) (same : IsSameCast old.cast cast) (acts : cast.is_spent ≡ false) where
+  module _ (actor_set : ActorSetOf B) (place : ℕ) (same : IsSameActorSet old.actor_set actor_set) (acts : actor_set.is_spent ≡ false) where
     abbrev pub then : PlayOf B
-    then = record old { cast = cast }
+    then = record old { actor_set = actor_set }
 
-    plays_then : All (MayPlay (home_in then) scene.pictures) (scripts_of cast.actors)
-    plays_then = subst (λ (h : DeskHome). All (MayPlay h scene.pictures) (scripts_of cast.actors)) (sym same.home)
+    plays_then : All (MayPlay (home_in then) scene.pictures) (scripts_of actor_set.actors)
+    plays_then = subst (λ (h : DeskHome). All (MayPlay h scene.pictures) (scripts_of actor_set.actors)) (sym same.home)
         (subst (λ (ss : List ActorScript). All (MayPlay (home_in old) scene.pictures) ss) (sym same.scripts) rights.plays)
 
     pub marks_then : (home_in then).marks ≡ marks
     marks_then = ap (λ (h : DeskHome). h.marks) same.home ∙ marked
 
-    module _ (st : Stepped) (s : StepsAt table (picture_at scene.pictures) place old.cast.actors so.actors old.cast.desk cast.actors cast.desk st) where
+    module _ (st : Stepped) (s : StepsAt table (picture_at scene.pictures) place old.actor_set.actors so.actors old.actor_set.desk actor_set.actors actor_set.desk st) where
       ledger_then : LedgerStands table.slots (home_in then) (view_in then) (set so.actors place s.new) old.handler
-      ledger_then = step_stands table table.slots place scene.pictures so.actors old.cast.actors cast.actors old.cast.desk cast.desk st old.handler s stands.keep rights.plays same.home
+      ledger_then = step_stands table table.slots place scene.pictures so.actors old.actor_set.actors actor_set.actors old.actor_set.desk actor_set.desk st old.handler s stands.keep rights.plays same.home
           (are_over table scene so old stands rights.ledger legal) rights.ledger
 
       draws_then : DrawsStand scene (home_in then) (view_in then) (set so.actors place s.new) old.handler
-      draws_then = draws_tried table scene so old stands rights legal knows own place cast same st s
+      draws_then = draws_tried table scene so old stands rights legal knows own place actor_set same st s
 
       makers_then : MakersPlay scene (home_in then) (view_in then) (set so.actors place s.new) old.handler
-      makers_then = makers_tried table scene so old stands rights legal knows own place cast same st s
+      makers_then = makers_tried table scene so old stands rights legal knows own place actor_set same st s
 
       pub rights_then : (ofs : List (ActorOf B)) → set so.actors place s.new ≡ ofs → (later : SoFar B) → later.actors ≡ ofs → KeepsRights table scene later then
       rights_then ofs is later are =
@@ -111,50 +111,50 @@ module _ {B : Type 0} (table : TableId) (scene : SceneValue) (marks : List Queue
             plays = plays_then;
           }
 
-    abbrev pub done_with : (s : StepsAt table (picture_at scene.pictures) place old.cast.actors so.actors old.cast.desk cast.actors cast.desk stepped.Done) → StandsWith table scene marks so (turn.Step place) then
+    abbrev pub done_with : (s : StepsAt table (picture_at scene.pictures) place old.actor_set.actors so.actors old.actor_set.desk actor_set.actors actor_set.desk stepped.Done) → StandsWith table scene marks so (turn.Step place) then
     done_with s = record {
-      later = later_so table scene so old place cast stands same acts s;
+      later = later_so table scene so old place actor_set stands same acts s;
       happens = record {
         of = s.new;
         reply = s.tries.0;
         actor = s.now_here;
         there = s.now_at;
         earlier = s.old.replies;
-        replies = sym (kept_at table (picture_at scene.pictures) (home_in then) (view_in then) cast.actors so.actors place s.now_here s.old s.new s.keep s.here s.now_at).replies ∙ s.tries.1.replies;
+        replies = sym (kept_at table (picture_at scene.pictures) (home_in then) (view_in then) actor_set.actors so.actors place s.now_here s.old s.new s.keep s.here s.now_at).replies ∙ s.tries.1.replies;
         is = refl;
       };
-      stands = stands_done table scene so old place cast stands same acts s;
-      rights = rights_then stepped.Done s (set so.actors place s.new) refl (later_so table scene so old place cast stands same acts s) refl;
+      stands = stands_done table scene so old place actor_set stands same acts s;
+      rights = rights_then stepped.Done s (set so.actors place s.new) refl (later_so table scene so old place actor_set stands same acts s) refl;
       queues = marks_then;
     }
 
-    abbrev pub left_with : (s : StepsAt table (picture_at scene.pictures) place old.cast.actors so.actors old.cast.desk cast.actors cast.desk stepped.NotYet) → StandsWith table scene marks so turn.Idle then
+    abbrev pub left_with : (s : StepsAt table (picture_at scene.pictures) place old.actor_set.actors so.actors old.actor_set.desk actor_set.actors actor_set.desk stepped.NotYet) → StandsWith table scene marks so turn.Idle then
     left_with s = record {
       later = so;
       happens = refl;
-      stands = stands_waiting table scene so old place cast stands same acts s;
-      rights = rights_then stepped.NotYet s so.actors (same_left table scene so old place cast stands same acts s) so refl;
+      stands = stands_waiting table scene so old place actor_set stands same acts s;
+      rights = rights_then stepped.NotYet s so.actors (same_left table scene so old place actor_set stands same acts s) so refl;
       queues = marks_then;
     }
 
-    abbrev pub ended_with : (s : StepsAt table (picture_at scene.pictures) place old.cast.actors so.actors old.cast.desk cast.actors cast.desk stepped.Ended) → StandsWith table scene marks so turn.Idle then
+    abbrev pub ended_with : (s : StepsAt table (picture_at scene.pictures) place old.actor_set.actors so.actors old.actor_set.desk actor_set.actors actor_set.desk stepped.Ended) → StandsWith table scene marks so turn.Idle then
     ended_with s = record {
       later = so;
       happens = refl;
-      stands = stands_ended table scene so old place cast stands same acts s;
-      rights = rights_then stepped.Ended s so.actors (same_ended table scene so old place cast stands same acts s) so refl;
+      stands = stands_ended table scene so old place actor_set stands same acts s;
+      rights = rights_then stepped.Ended s so.actors (same_ended table scene so old place actor_set stands same acts s) so refl;
       queues = marks_then;
     }
 
   -- a vsync was made
   module _ (lease : Ghosts ReadLeaseOf SeatView ReadLeaseOf Issued) (frames : OfFrames lease) (of_turns : IsOfTurns lease) (tells : TellsAll lease) (new : PlayOf B) (report : VsyncReport) (told : VsyncOf ReadLeaseOf)
       (v : MakesVsync lease table old report.seen told new) (commits : report.commits ≡ told.commits) where
-    plays_now : All (MayPlay (home_in new) scene.pictures) (scripts_of new.cast.actors)
-    plays_now = subst (λ (h : DeskHome). All (MayPlay h scene.pictures) (scripts_of new.cast.actors)) (sym (home_now lease frames table scene so old new report.seen told stands v))
+    plays_now : All (MayPlay (home_in new) scene.pictures) (scripts_of new.actor_set.actors)
+    plays_now = subst (λ (h : DeskHome). All (MayPlay h scene.pictures) (scripts_of new.actor_set.actors)) (sym (home_now lease frames table scene so old new report.seen told stands v))
         (subst (λ (actors : List (Actor B)). All (MayPlay (record (home_in old) { taken = taken_in v.took.desk.arrivals }) scene.pictures) (scripts_of actors))
-        (sym (ap (λ (c : CastOf B). c.actors) (whole lease frames table scene so old new report.seen told stands v).same))
+        (sym (ap (λ (c : ActorSetOf B). c.actors) (whole lease frames table scene so old new report.seen told stands v).same))
         (All-weaker (MayPlay (home_in old) scene.pictures) (MayPlay (record (home_in old) { taken = taken_in v.took.desk.arrivals }) scene.pictures)
-        (taken_plays (home_in old) (taken_in v.took.desk.arrivals) scene.pictures) (scripts_of old.cast.actors) rights.plays))
+        (taken_plays (home_in old) (taken_in v.took.desk.arrivals) scene.pictures) (scripts_of old.actor_set.actors) rights.plays))
 
     pub marks_now : (home_in new).marks ≡ marks
     marks_now = ap (λ (h : DeskHome). h.marks) (home_now lease frames table scene so old new report.seen told stands v) ∙ marked

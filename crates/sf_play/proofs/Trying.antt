@@ -10,7 +10,7 @@ use Rattle.sf_steps.specs.declared.actor.Actor.{Actor}
 use Rattle.sf_actor.specs.declared.tried.Stepped.{Stepped}
 use Rattle.sf_actor.specs.declared.tried.Stepped.TheVariants as stepped
 use Rattle.sf_actor.specs.Tries.{ActorOf}
-use Rattle.sf_cast.specs.Casts.{number_of}
+use Rattle.sf_actor_set.specs.ActorSets.{number_of}
 use Rattle.sf_play.specs.Places.{settled}
 use Rattle.sf_play.specs.Players.{PlayerOf}
 use Rattle.sf_play.specs.Turning.{Picks, RoundsIf, TriesIf, TriesStep, Turns, TurnsAt, next_tried, picked_place, place_by, tried_from, turn_by}
@@ -30,17 +30,17 @@ module _ {B : Type 0} {R C : Type 0} (lease : Ghosts ReadLeaseOf SeatView R C) (
   tried_if : (found : Option ℕ) → TriesIf lease table ofs found old.play new.play came_to → found ≡ Some place → TriesStep table place ofs old.play new.play came_to
   tried_if found tries is = subst (λ (o : Option ℕ). TriesIf lease table ofs o old.play new.play came_to) is tries
 
-  picked_tried : (number : ℕ) → Picks lease table ofs number old new came_to → picked_place old.play.cast.actors number ≡ Some place → TriesStep table place ofs old.play new.play came_to
+  picked_tried : (number : ℕ) → Picks lease table ofs number old new came_to → picked_place old.play.actor_set.actors number ≡ Some place → TriesStep table place ofs old.play new.play came_to
   picked_tried zero picks is = absurd (cc (is))
-  picked_tried (suc n) picks is = tried_if (position (λ (actor : Actor B). number_of actor == suc n) old.play.cast.actors) picks.0 is
+  picked_tried (suc n) picks is = tried_if (position (λ (actor : Actor B). number_of actor == suc n) old.play.actor_set.actors) picks.0 is
 
   round_tried : (more : Bool) (at' : ℕ) (was : Bool) → RoundsIf lease table ofs more at' was old new came_to → (if more then Some at' else None) ≡ Some place → TriesStep table place ofs old.play new.play came_to
   round_tried true at' was goes is = (let same : at' ≡ place = cc in subst (λ (n : ℕ). TriesStep table n ofs old.play new.play came_to) same goes.tries)
   round_tried false at' was ends is = absurd (cc (is))
 
   turn_tried : (from : Place) → TurnsAt lease table ofs from old new came_to → tried_from old.play from ≡ Some place → TriesStep table place ofs old.play new.play came_to
-  turn_tried (at.Order at' done) takes is = picked_tried takes.pick.actor takes.picks (ap (place_by old.play.cast.actors) (sym takes.there) ∙ is)
-  turn_tried (at.Round at' was) rounds is = round_tried (nat_lt at' (length old.play.cast.actors)) at' was rounds is
+  turn_tried (at.Order at' done) takes is = picked_tried takes.pick.actor takes.picks (ap (place_by old.play.actor_set.actors) (sym takes.there) ∙ is)
+  turn_tried (at.Round at' was) rounds is = round_tried (nat_lt at' (length old.play.actor_set.actors)) at' was rounds is
   turn_tried at.End turns is = absurd (cc (is))
 
   pub next_is_tried : Turns lease table ofs old new came_to → next_tried old ≡ Some place → TriesStep table place ofs old.play new.play came_to
@@ -51,17 +51,17 @@ module _ {B : Type 0} {R C : Type 0} (lease : Ghosts ReadLeaseOf SeatView R C) (
   stepped_if None tries e = absurd (cc (tries.0, e))
   stepped_if (Some at') tries e = ap (λ (n : ℕ). Some n) (step_by at' place tries.stepped (sym tries.is ∙ e))
 
-  picked_stepped : (number : ℕ) → Picks lease table ofs number old new came_to → came_to ≡ turn.Step place → picked_place old.play.cast.actors number ≡ Some place
+  picked_stepped : (number : ℕ) → Picks lease table ofs number old new came_to → came_to ≡ turn.Step place → picked_place old.play.actor_set.actors number ≡ Some place
   picked_stepped zero picks e = absurd (let is = picks.is in cc (is, e))
-  picked_stepped (suc n) picks e = stepped_if (position (λ (actor : Actor B). number_of actor == suc n) old.play.cast.actors) picks.0 e
+  picked_stepped (suc n) picks e = stepped_if (position (λ (actor : Actor B). number_of actor == suc n) old.play.actor_set.actors) picks.0 e
 
   round_stepped : (more : Bool) (at' : ℕ) (was : Bool) → RoundsIf lease table ofs more at' was old new came_to → came_to ≡ turn.Step place → (if more then Some at' else None) ≡ Some place
   round_stepped true at' was goes e = ap (λ (n : ℕ). Some n) (step_by at' place goes.tries.stepped (sym goes.tries.is ∙ e))
   round_stepped false at' was ends e = absurd (let is = ends.vsync.is in cc (is, e))
 
   turn_stepped : (from : Place) → TurnsAt lease table ofs from old new came_to → came_to ≡ turn.Step place → tried_from old.play from ≡ Some place
-  turn_stepped (at.Order at' done) takes e = ap (place_by old.play.cast.actors) takes.there ∙ picked_stepped takes.pick.actor takes.picks e
-  turn_stepped (at.Round at' was) rounds e = round_stepped (nat_lt at' (length old.play.cast.actors)) at' was rounds e
+  turn_stepped (at.Order at' done) takes e = ap (place_by old.play.actor_set.actors) takes.there ∙ picked_stepped takes.pick.actor takes.picks e
+  turn_stepped (at.Round at' was) rounds e = round_stepped (nat_lt at' (length old.play.actor_set.actors)) at' was rounds e
   turn_stepped at.End turns e = absurd (let is = turns.0 in cc (is, e))
 
   pub no_other_steps : Turns lease table ofs old new came_to → came_to ≡ turn.Step place → next_tried old ≡ Some place

@@ -25,8 +25,8 @@ use Rattle.sf_commit.specs.Releases.{ReleaseOf, VsyncOf}
 use Rattle.sf_scene.specs.Scene.{SceneValue}
 use Rattle.sf_actor.specs.Desks.{DeskHome, MadeCall, has_queue}
 use Rattle.sf_actor.specs.Plain.{PlainOf, calls_among, home_of, taken_in, view_of}
-use Rattle.sf_cast.specs.Casts.{CastOf}
-use Rattle.sf_cast.specs.Compositing.{OnlyDesk, Takes}
+use Rattle.sf_actor_set.specs.ActorSets.{ActorSetOf}
+use Rattle.sf_actor_set.specs.Compositing.{OnlyDesk, Takes}
 use Rattle.sf_run.proofs.Members.{has_none}
 use Rattle.sf_play.specs.Giving.{GivesFrames}
 use Rattle.sf_play.specs.Players.{PlayOf, SoFar, Stands}
@@ -40,22 +40,22 @@ map_same (x ∷ xs) = ap (λ ys. x ∷ ys) (map_same xs)
 
 module _ {B : Type 0} where
   -- frames that went back so far
-  pub record IsGiving (table : TableId) (number : ℕ) (releases : List (ReleaseOf ReadLeaseOf)) (old now : CastOf B) : Type 0 where
+  pub record IsGiving (table : TableId) (number : ℕ) (releases : List (ReleaseOf ReadLeaseOf)) (old now : ActorSetOf B) : Type 0 where
     pub gives : GivesFrames (home_of old.desk) number releases (view_of old.desk) (view_of now.desk)
     pub only : OnlyDesk table (taken_in old.desk.arrivals) old now
 
-  pub giving_none : (table : TableId) (number : ℕ) (cast : CastOf B) → IsGiving table number [] cast cast
-  giving_none table number cast = record { gives = refl; only = record { same = refl; home = refl; keep = λ ofs keep. keep } }
+  pub giving_none : (table : TableId) (number : ℕ) (actor_set : ActorSetOf B) → IsGiving table number [] actor_set actor_set
+  giving_none table number actor_set = record { gives = refl; only = record { same = refl; home = refl; keep = λ ofs keep. keep } }
 
   -- the desk has the queue of the next one
-  pub next_there : (table : TableId) (number : ℕ) (all : List (ReleaseOf ReadLeaseOf)) (done : List (ReleaseOf ReadLeaseOf)) (old now : CastOf B) (release : ReleaseOf ReadLeaseOf)
+  pub next_there : (table : TableId) (number : ℕ) (all : List (ReleaseOf ReadLeaseOf)) (done : List (ReleaseOf ReadLeaseOf)) (old now : ActorSetOf B) (release : ReleaseOf ReadLeaseOf)
       → All (λ (r : ReleaseOf ReadLeaseOf). has_queue (home_of old.desk) r.queue.0 ≡ true) all → (length done < length all) × (release ≡ get_or all (length done) release) → IsGiving table number done old now
       → has_queue (home_of now.desk) release.queue.0 ≡ true
   next_there table number all done old now release there at is =
       subst (λ (h : DeskHome). has_queue h release.queue.0 ≡ true) (sym is.only.home)
       (subst (λ (r : ReleaseOf ReadLeaseOf). has_queue (home_of old.desk) r.queue.0 ≡ true) (sym at.1) (there (length done) release at.0))
 
-  pub giving_more : (table : TableId) (number : ℕ) (done : List (ReleaseOf ReadLeaseOf)) (old now next : CastOf B) (release : ReleaseOf ReadLeaseOf) → IsGiving table number done old now
+  pub giving_more : (table : TableId) (number : ℕ) (done : List (ReleaseOf ReadLeaseOf)) (old now next : ActorSetOf B) (release : ReleaseOf ReadLeaseOf) → IsGiving table number done old now
       → (reply : QReply B) × MadeCall (home_of now.desk) (view_of now.desk) (view_of next.desk) 0 release.queue.0 (number, call.Release release.lease release.fence) reply → OnlyDesk table (taken_in now.desk.arrivals) now next
       → IsGiving table number (done ++ release ∷ []) old next
   giving_more table number done old now next release is made only =
@@ -66,7 +66,7 @@ module _ {B : Type 0} where
         only = subst (λ (taken : ℕ). OnlyDesk table taken old next) (ap (λ (h : DeskHome). h.taken) home) (only_twice table (taken_in old.desk.arrivals) (taken_in now.desk.arrivals) old now next is.only only);
       }
 
-  pub giving_all : (table : TableId) (number : ℕ) (all done : List (ReleaseOf ReadLeaseOf)) (old now : CastOf B) → map (λ (r : ReleaseOf ReadLeaseOf). r) done ≡ all → IsGiving table number done old now → IsGiving table number all old now
+  pub giving_all : (table : TableId) (number : ℕ) (all done : List (ReleaseOf ReadLeaseOf)) (old now : ActorSetOf B) → map (λ (r : ReleaseOf ReadLeaseOf). r) done ≡ all → IsGiving table number done old now → IsGiving table number all old now
   giving_all table number all done old now same is = subst (λ (rs : List (ReleaseOf ReadLeaseOf)). IsGiving table number rs old now) (sym (map_same done) ∙ same) is
 
   -- a desk has each queue that was called
@@ -77,9 +77,9 @@ module _ {B : Type 0} where
     | inr unmet ↦ rw unmet (called_there objects queue made (rw unmet at there))
   ]
 
-  module _ (table : TableId) (scene : SceneValue) (so : SoFar B) (play : PlayOf B) (stands : Stands table scene so play) (looked : CastOf B) (times : looked.desk ≡ record play.cast.desk { times = looked.desk.times })
+  module _ (table : TableId) (scene : SceneValue) (so : SoFar B) (play : PlayOf B) (stands : Stands table scene so play) (looked : ActorSetOf B) (times : looked.desk ≡ record play.actor_set.desk { times = looked.desk.times })
       (arrived : List (Arrival ReadLeaseOf)) (took : Calls ReadLeaseOf SeatView ReadLeaseOf Issued) (takes : Takes looked.desk.arrivals took arrived) where
-    all_taken : arrived ≡ waiting play.cast.desk.arrivals
+    all_taken : arrived ≡ waiting play.actor_set.desk.arrivals
     all_taken = takes.all ∙ ap (λ (d : PlainOf B). waiting d.arrivals) times
 
     -- what arrived rises behind what was taken before
@@ -88,21 +88,21 @@ module _ {B : Type 0} where
 
     module _ {R C : Type 0} (lease : Ghosts ReadLeaseOf SeatView R C) (handler : HandlerOf ReadLeaseOf) (eye after : SeatView) (seen : Seen) (expected : ℕ) (told : VsyncOf ReadLeaseOf)
         (d : Decides lease play.handler eye arrived seen expected told handler after) (frames : OfFrames lease) where
-      goes : All (IsOnLent (view_of play.cast.desk)) d.end.stage.gone
-      goes = gone_lent lease frames (view_of play.cast.desk) play.handler handler eye after arrived seen expected told d stands.leases.pending (arrived_lent table scene so play stands arrived all_taken) stands.leases.on
+      goes : All (IsOnLent (view_of play.actor_set.desk)) d.end.stage.gone
+      goes = gone_lent lease frames (view_of play.actor_set.desk) play.handler handler eye after arrived seen expected told d stands.leases.pending (arrived_lent table scene so play stands arrived all_taken) stands.leases.on
 
       -- the desk has the queue of each frame that goes
-      releases_there : (gone : List (OnLayer ReadLeaseOf)) (releases : List (ReleaseOf ReadLeaseOf)) → AllZip (IsReleaseOf lease) gone releases → All (IsOnLent (view_of play.cast.desk)) gone
-          → All (λ (r : ReleaseOf ReadLeaseOf). has_queue (home_of play.cast.desk) r.queue.0 ≡ true) releases
-      releases_there [] [] zip lent = All-nil (λ (r : ReleaseOf ReadLeaseOf). has_queue (home_of play.cast.desk) r.queue.0 ≡ true)
+      releases_there : (gone : List (OnLayer ReadLeaseOf)) (releases : List (ReleaseOf ReadLeaseOf)) → AllZip (IsReleaseOf lease) gone releases → All (IsOnLent (view_of play.actor_set.desk)) gone
+          → All (λ (r : ReleaseOf ReadLeaseOf). has_queue (home_of play.actor_set.desk) r.queue.0 ≡ true) releases
+      releases_there [] [] zip lent = All-nil (λ (r : ReleaseOf ReadLeaseOf). has_queue (home_of play.actor_set.desk) r.queue.0 ≡ true)
       releases_there [] (release ∷ releases) zip lent = absurd zip
       releases_there (on ∷ gone) [] zip lent = absurd zip
       releases_there (on ∷ gone) (release ∷ releases) zip lent =
-          let is = All-head (IsOnLent (view_of play.cast.desk)) on gone lent in
+          let is = All-head (IsOnLent (view_of play.actor_set.desk)) on gone lent in
           let same : release.queue.0 ≡ on.lease.queue.0 = ap (λ (q : QueueId). q.0) zip.0.queue ∙ ap (λ (s : Shown). s.queue.0) is.shows in
-          All-cons (λ (r : ReleaseOf ReadLeaseOf). has_queue (home_of play.cast.desk) r.queue.0 ≡ true) release releases
-          (subst (λ (q : ℕ). has_queue (home_of play.cast.desk) q ≡ true) (sym same) (called_there play.cast.desk.queues on.lease.queue.0 is.lent.made is.lent.there))
-          (releases_there gone releases zip.1 (All-tail (IsOnLent (view_of play.cast.desk)) on gone lent))
+          All-cons (λ (r : ReleaseOf ReadLeaseOf). has_queue (home_of play.actor_set.desk) r.queue.0 ≡ true) release releases
+          (subst (λ (q : ℕ). has_queue (home_of play.actor_set.desk) q ≡ true) (sym same) (called_there play.actor_set.desk.queues on.lease.queue.0 is.lent.made is.lent.there))
+          (releases_there gone releases zip.1 (All-tail (IsOnLent (view_of play.actor_set.desk)) on gone lent))
 
-      pub queues_there : (taken : ℕ) (home : DeskHome) → home ≡ record (home_of play.cast.desk) { taken = taken } → All (λ (r : ReleaseOf ReadLeaseOf). has_queue home r.queue.0 ≡ true) told.releases
+      pub queues_there : (taken : ℕ) (home : DeskHome) → home ≡ record (home_of play.actor_set.desk) { taken = taken } → All (λ (r : ReleaseOf ReadLeaseOf). has_queue home r.queue.0 ≡ true) told.releases
       queues_there taken home same = subst (λ (h : DeskHome). All (λ (r : ReleaseOf ReadLeaseOf). has_queue h r.queue.0 ≡ true) told.releases) (sym same) (releases_there d.end.stage.gone told.releases d.settled.releases goes)

@@ -65,8 +65,8 @@ behind_round stepped commits holds = if stepped || (has_commits commits || list_
 module _ {B : Type 0} where
   -- what a desk of one thread keeps: all is known, and the calls on its queues are legal
   pub record DeskKnows (play : PlayOf B) : Type 0 where
-    pub knows : KnowsAll (view_of play.cast.desk)
-    pub legal : (queue : ℕ) → IsLegal (Answers (mark_among (home_of play.cast.desk).marks queue)) ((view_of play.cast.desk).calls queue)
+    pub knows : KnowsAll (view_of play.actor_set.desk)
+    pub legal : (queue : ℕ) → IsLegal (Answers (mark_among (home_of play.actor_set.desk).marks queue)) ((view_of play.actor_set.desk).calls queue)
 
   -- the world that a player has come to
   abbrev pub world_so : SoFar B → PlayOf B → World

@@ -43,7 +43,7 @@ module _ {B : Type 0} where
 
   -- The work that is left: steps, each of which may send a transaction, and transactions that are not committed.
   abbrev pub work_left : PlayOf B → ℕ
-  work_left play = 2003 * steps_left play.cast.actors + (to_commit (now_in play) play.handler.pending + to_commit (now_in play) (untaken play))
+  work_left play = 2003 * steps_left play.actor_set.actors + (to_commit (now_in play) play.handler.pending + to_commit (now_in play) (untaken play))
 
   -- the rounds that are left at most: one in which a step was done is followed by another
   abbrev pub rounds_left : PlayOf B → Bool → ℕ
@@ -51,7 +51,7 @@ module _ {B : Type 0} where
 
   -- what is left in rounds, each of which has a turn of each actor and one of the compositor
   abbrev pub round_fuel : PlayOf B → ℕ → Bool → ℕ
-  round_fuel play place stepped = rounds_left play stepped * (length play.cast.actors + 2) + ((length play.cast.actors + 1) - place) + 1
+  round_fuel play place stepped = rounds_left play stepped * (length play.actor_set.actors + 2) + ((length play.actor_set.actors + 1) - place) + 1
 
   -- what is left of a play whose next turn is at a place
   abbrev pub fuel : List Pick → PlayOf B → Place → ℕ

@@ -22,7 +22,7 @@ module _ {B : Type 0} where
     pub of : ActorOf B
     pub reply : Reply
     pub actor : Actor B
-    pub there : slice_get play.cast.actors place ≡ Some actor
+    pub there : slice_get play.actor_set.actors place ≡ Some actor
     pub earlier : List Reply
     pub replies : actor.replies.items ≡ earlier ++ reply ∷ []
     pub is : later ≡ record { actors = slice_set so.actors place of; events = so.events ++ event.Reply (reply_shown reply) ∷ [] }

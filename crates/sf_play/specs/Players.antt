@@ -23,7 +23,7 @@ use Rattle.sf_actor.specs.Plain.{home_of, view_of}
 use Rattle.sf_actor.specs.Scripts.{picture_at}
 use Rattle.sf_actor.specs.Tries.{ActorOf}
 use Rattle.sf_actor.specs.Written.{FrameNumber}
-use Rattle.sf_cast.specs.Casts.{CastOf, KeepAs}
+use Rattle.sf_actor_set.specs.ActorSets.{ActorSetOf, KeepAs}
 use Rattle.sf_record.specs.declared.event.Event.{Event}
 use Rattle.sf_record.specs.declared.event.VsyncReport.{VsyncReport}
 use Rattle.sf_run.specs.Acquired.{TakesFrame}
@@ -42,7 +42,7 @@ use Rattle.sf_play.specs.declared.place.Place.TheVariants as at
 pub record PlayOf (B : Type 0) : Type 0 where
   pub period : ℕ
   pub order : List Pick
-  pub cast : CastOf B
+  pub actor_set : ActorSetOf B
   pub handler : HandlerOf ReadLeaseOf
   pub vsyncs : ℕ
 
@@ -54,9 +54,9 @@ pub record PlayerOf (B : Type 0) : Type 0 where
   pub is_spent : Bool
 
 -- a player that begins with a round, where so many vsyncs were made and nothing is held yet
-abbrev pub before_round : {B : Type 0} → ℕ → List Pick → CastOf B → HandlerOf ReadLeaseOf → ℕ → PlayerOf B
-before_round {B} period order cast handler vsyncs = record {
-  play = record { period = period; order = order; cast = cast; handler = handler; vsyncs = vsyncs };
+abbrev pub before_round : {B : Type 0} → ℕ → List Pick → ActorSetOf B → HandlerOf ReadLeaseOf → ℕ → PlayerOf B
+before_round {B} period order actor_set handler vsyncs = record {
+  play = record { period = period; order = order; actor_set = actor_set; handler = handler; vsyncs = vsyncs };
   place = at.Round 0 false;
   held = [];
   is_spent = false;
@@ -73,10 +73,10 @@ ShowsFrameOf lease shown = shown ≡ record { queue = lease.queue; frame = lease
 
 module _ {B : Type 0} where
   abbrev pub home_in : PlayOf B → DeskHome
-  home_in play = home_of play.cast.desk
+  home_in play = home_of play.actor_set.desk
 
   abbrev pub view_in : PlayOf B → DeskView B
-  view_in play = view_of play.cast.desk
+  view_in play = view_of play.actor_set.desk
 
   -- the run that the actors and the desk tell
   abbrev pub run_so : SoFar B → PlayOf B → Run
@@ -103,12 +103,12 @@ module _ {B : Type 0} where
     pub limits : IsWithinLimits scene
     pub period : play.period ≡ scene.period
     pub order : play.order ≡ scene.order
-    pub pictures : play.cast.pictures ≡ scene.pictures
+    pub pictures : play.actor_set.pictures ≡ scene.pictures
     pub width : play.handler.width ≡ scene.width
     pub height : play.handler.height ≡ scene.height
     pub unlent : play.handler.lent ≡ None
     pub decides : play.handler.is_spent ≡ false
-    pub acts : play.cast.is_spent ≡ false
+    pub acts : play.actor_set.is_spent ≡ false
 
   -- the desk has the queues as they are declared, and no other; and so many of the arrivals are there as were taken, at least
   pub record DeskStands (scene : SceneValue) (play : PlayOf B) : Type 0 where
@@ -150,7 +150,7 @@ module _ {B : Type 0} where
   -- What a player keeps: what it has shown so far is the beginning of a played run.
   pub record Stands (table : TableId) (scene : SceneValue) (so : SoFar B) (play : PlayOf B) : Type 0 where
     pub of_scene : IsOfScene scene play
-    pub keep : KeepAs table (picture_at scene.pictures) (home_in play) (view_in play) play.cast.actors so.actors
+    pub keep : KeepAs table (picture_at scene.pictures) (home_in play) (view_in play) play.actor_set.actors so.actors
     pub tell : TellRun scene so.actors (home_in play) (view_in play) so.events (released_in (told_at scene so play))
     pub desk : DeskStands scene play
     pub vsyncs : VsyncsStand scene so play

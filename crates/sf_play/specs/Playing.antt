@@ -10,7 +10,7 @@ use Rattle.sf_turns.specs.Views.{SeatView}
 use Rattle.sf_txn.specs.declared.lease.Lease.{Ghosts}
 use Rattle.sf_scene.specs.Scene.{SceneValue}
 use Rattle.sf_steps.specs.Playable.{MayPlay}
-use Rattle.sf_cast.specs.Casts.{scripts_of}
+use Rattle.sf_actor_set.specs.ActorSets.{scripts_of}
 use Rattle.sf_rights.specs.InTurn.{DrawsStand}
 use Rattle.sf_rights.specs.MakerRuns.{MakersPlay}
 use Rattle.sf_rights.specs.Standing.{LedgerStands}
@@ -30,7 +30,7 @@ module _ {B : Type 0} where
     pub ledger : LedgerStands table.slots (home_in play) (view_in play) so.actors play.handler
     pub makers : MakersPlay scene (home_in play) (view_in play) so.actors play.handler
     pub draws : DrawsStand scene (home_in play) (view_in play) so.actors play.handler
-    pub plays : All (MayPlay (home_in play) scene.pictures) (scripts_of play.cast.actors)
+    pub plays : All (MayPlay (home_in play) scene.pictures) (scripts_of play.actor_set.actors)
 
   -- a play that stands, of some scene, and the number of its next vsync fits its field
   pub record MayMakeVsync (table : TableId) (play : PlayOf B) : Type 0 where
@@ -44,7 +44,7 @@ module _ {B : Type 0} {R C : Type 0} (lease : Ghosts ReadLeaseOf SeatView R C) w
   -- more layers than it can have
   pub record KeepsItself (table : TableId) (play : PlayOf B) : Type 0 where
     pub desk : DeskKnows play
-    pub own : play.cast.desk.turns.table ≡ table
+    pub own : play.actor_set.desk.turns.table ≡ table
     pub handler : play.handler.is_spent ≡ false → IsHandler lease play.handler
     pub few : length play.handler.tree.layers ≤ play.handler.tree.most
 

@@ -15,7 +15,7 @@ use Rattle.sf_actor.specs.declared.tried.Stepped.TheVariants as stepped
 use Rattle.sf_actor.specs.Scripts.{picture_at}
 use Rattle.sf_actor.specs.Tries.{ActorOf}
 use Rattle.sf_actor.specs.Plain.{home_of, view_of}
-use Rattle.sf_cast.specs.Casts.{IsSameCast, KeepAs, StepsAt, number_of}
+use Rattle.sf_actor_set.specs.ActorSets.{IsSameActorSet, KeepAs, StepsAt, number_of}
 use Rattle.sf_run.specs.Progress.{is_time}
 use Rattle.sf_play.specs.Places.{settled}
 use Rattle.sf_play.specs.Players.{PlayOf, PlayerOf}
@@ -38,17 +38,17 @@ is_step other = false
 
 module _ {B : Type 0} where
   -- these actors keep what they keep
-  abbrev pub KeepsCast : TableId → PlayOf B → List (ActorOf B) → Type 0
-  KeepsCast table play ofs = KeepAs table (picture_at play.cast.pictures) (home_of play.cast.desk) (view_of play.cast.desk) play.cast.actors ofs
+  abbrev pub KeepsActorSet : TableId → PlayOf B → List (ActorOf B) → Type 0
+  KeepsActorSet table play ofs = KeepAs table (picture_at play.actor_set.pictures) (home_of play.actor_set.desk) (view_of play.actor_set.desk) play.actor_set.actors ofs
 
   -- the next step of the actor at a place was tried
   pub record TriesStep (table : TableId) (place : ℕ) (ofs : List (ActorOf B)) (old new : PlayOf B) (came_to : Turn) : Type 0 where
     pub stepped : Stepped
     pub is : came_to ≡ turn_by place stepped
-    pub steps : StepsAt table (picture_at old.cast.pictures) place old.cast.actors ofs old.cast.desk new.cast.actors new.cast.desk stepped
-    pub same : IsSameCast old.cast new.cast
-    pub acts : new.cast.is_spent ≡ false
-    pub rest : new ≡ record old { cast = new.cast }
+    pub steps : StepsAt table (picture_at old.actor_set.pictures) place old.actor_set.actors ofs old.actor_set.desk new.actor_set.actors new.actor_set.desk stepped
+    pub same : IsSameActorSet old.actor_set new.actor_set
+    pub acts : new.actor_set.is_spent ≡ false
+    pub rest : new ≡ record old { actor_set = new.actor_set }
 
   -- the place of the actor whose next step a pick tries: a pick of 0 is a vsync
   abbrev pub picked_place : List (Actor B) → ℕ → Option ℕ
@@ -61,8 +61,8 @@ module _ {B : Type 0} where
 
   -- that of the turn at a place, if it tries one
   abbrev pub tried_from : PlayOf B → Place → Option ℕ
-  tried_from play (at.Order place done) = place_by play.cast.actors (slice_get play.order place)
-  tried_from play (at.Round place stepped) = if nat_lt place (length play.cast.actors) then Some place else None
+  tried_from play (at.Order place done) = place_by play.actor_set.actors (slice_get play.order place)
+  tried_from play (at.Round place stepped) = if nat_lt place (length play.actor_set.actors) then Some place else None
   tried_from play at.End = None
 
   -- that of the next turn of a player
@@ -84,7 +84,7 @@ module _ {B : Type 0} {R C : Type 0} (lease : Ghosts ReadLeaseOf SeatView R C) (
   abbrev pub Picks : ℕ → PlayerOf B → PlayerOf B → Turn → Type 0
   Picks zero old new came_to = TurnsVsync old new came_to
   Picks (suc n) old new came_to =
-      TriesIf (position (λ (actor : Actor B). number_of actor == suc n) old.play.cast.actors) old.play new.play came_to × (new.held ≡ old.held)
+      TriesIf (position (λ (actor : Actor B). number_of actor == suc n) old.play.actor_set.actors) old.play new.play came_to × (new.held ≡ old.held)
 
   -- a round goes on: a step was done in it, something was committed, or something is held until its time
   abbrev pub goes_on : Bool → List Commit → List (ℕ × Hold) → Bool
@@ -106,7 +106,7 @@ module _ {B : Type 0} {R C : Type 0} (lease : Ghosts ReadLeaseOf SeatView R C) (
   RoundsIf false place stepped old new came_to = EndsRound stepped old new came_to
 
   abbrev pub Rounds : ℕ → Bool → PlayerOf B → PlayerOf B → Turn → Type 0
-  Rounds place stepped old new came_to = RoundsIf (nat_lt place (length old.play.cast.actors)) place stepped old new came_to
+  Rounds place stepped old new came_to = RoundsIf (nat_lt place (length old.play.actor_set.actors)) place stepped old new came_to
 
   -- a turn of a pick of the order
   pub record TakesPick (place done : ℕ) (old new : PlayerOf B) (came_to : Turn) : Type 0 where

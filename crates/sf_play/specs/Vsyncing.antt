@@ -10,27 +10,27 @@ use Rattle.sf_turns.specs.Views.{SeatView}
 use Rattle.sf_txn.specs.declared.lease.Lease.{Ghosts}
 use Rattle.sf_actor.specs.Plain.{home_of, taken_in, view_of}
 use Rattle.sf_actor.specs.Tries.{Sees}
-use Rattle.sf_cast.specs.Casts.{CastOf}
-use Rattle.sf_cast.specs.Compositing.{OnlyDesk, Takes}
+use Rattle.sf_actor_set.specs.ActorSets.{ActorSetOf}
+use Rattle.sf_actor_set.specs.Compositing.{OnlyDesk, Takes}
 use Rattle.sf_play.specs.Giving.{GivesFrames}
 use Rattle.sf_play.specs.Players.{PlayOf}
 
 -- It looks at the timelines, takes what arrived, decides, and gives back the frames that go. Each part changes the desk alone.
 module _ {B : Type 0} {R C : Type 0} (lease : Ghosts ReadLeaseOf SeatView R C) where
   pub record MakesVsync (table : TableId) (old : PlayOf B) (seen : Seen) (told : VsyncOf ReadLeaseOf) (new : PlayOf B) : Type 0 where
-    pub looked : CastOf B
-    pub sees : Sees (home_of old.cast.desk) (view_of old.cast.desk) (view_of looked.desk) seen
-    pub times : looked.desk ≡ record old.cast.desk { times = looked.desk.times }
-    pub only_looks : OnlyDesk table (taken_in old.cast.desk.arrivals) old.cast looked
-    pub took : CastOf B
+    pub looked : ActorSetOf B
+    pub sees : Sees (home_of old.actor_set.desk) (view_of old.actor_set.desk) (view_of looked.desk) seen
+    pub times : looked.desk ≡ record old.actor_set.desk { times = looked.desk.times }
+    pub only_looks : OnlyDesk table (taken_in old.actor_set.desk.arrivals) old.actor_set looked
+    pub took : ActorSetOf B
     pub arrived : List (Arrival ReadLeaseOf)
     pub takes : Takes looked.desk.arrivals took.desk.arrivals arrived
     pub arrivals : took.desk ≡ record looked.desk { arrivals = took.desk.arrivals }
     pub only_takes : OnlyDesk table (taken_in took.desk.arrivals) looked took
-    pub decided : CastOf B
+    pub decided : ActorSetOf B
     pub decides : Decides lease old.handler took.desk.turns arrived seen ((old.vsyncs + 1) * old.period) told new.handler decided.desk.turns
     pub turns : decided.desk ≡ record took.desk { turns = decided.desk.turns }
     pub only_decides : OnlyDesk table (taken_in took.desk.arrivals) took decided
-    pub gives : GivesFrames (home_of decided.desk) (old.vsyncs + 1) told.releases (view_of decided.desk) (view_of new.cast.desk)
-    pub only_gives : OnlyDesk table (taken_in decided.desk.arrivals) decided new.cast
-    pub rest : new ≡ record old { cast = new.cast; handler = new.handler; vsyncs = old.vsyncs + 1 }
+    pub gives : GivesFrames (home_of decided.desk) (old.vsyncs + 1) told.releases (view_of decided.desk) (view_of new.actor_set.desk)
+    pub only_gives : OnlyDesk table (taken_in decided.desk.arrivals) decided new.actor_set
+    pub rest : new ≡ record old { actor_set = new.actor_set; handler = new.handler; vsyncs = old.vsyncs + 1 }

@@ -39,7 +39,7 @@ pub fn the_next_actor_is_the_one_that_is_tried<B: TableName>()
 /// fits the run that the actors tell.
 pub fn what_stands_at_its_end_fits<B: TableName>()
     ensures { (table : TableId) (scene : SceneValue) (so : SoFar B) (player : PlayerOf B) → StandsInRun table scene so player → player.place ≡ at.End
-        → DeskKnows player.play → player.play.cast.desk.turns.table ≡ table → EndsRun scene so player }
+        → DeskKnows player.play → player.play.actor_set.desk.turns.table ≡ table → EndsRun scene so player }
 {}
 
 /// So it does where the replies are shown behind the last vsync, by actor and step; these are the

@@ -1,8 +1,8 @@
 ghost use Rattle.std.specs.Prelude.{◌≡◌, ◌+◌, ◌<◌, ◌≤◌, true, [], All, IfOk, None, OnOk, map};
 ghost use Rattle.sf_actor.specs.Desks.{has_queue};
 ghost use Rattle.sf_actor.specs.Plain.{home_of, taken_in, view_of};
-ghost use Rattle.sf_cast.specs.Compositing.{OnlyDesk};
-ghost use Rattle.sf_cast.specs.Scripts.{permits_of};
+ghost use Rattle.sf_actor_set.specs.Compositing.{OnlyDesk};
+ghost use Rattle.sf_actor_set.specs.Scripts.{permits_of};
 ghost use Rattle.sf_commit.specs.Releases.{ReleaseOf};
 ghost use Rattle.sf_surface.specs.Tokens.{ReadLeaseOf};
 ghost use Rattle.sf_turns.specs.Counts.{range};
@@ -12,8 +12,8 @@ ghost use Rattle.sf_play.specs.Players.{before_round};
 ghost use Rattle.sf_play.specs.Standing.{Begins, IsStanding};
 
 use crate::place::Place;
+use sf_actor_set::ActorSet;
 use sf_base::{Items, NoMemory};
-use sf_cast::Cast;
 use sf_commit::{Handler, Release, Vsync};
 use sf_picture::Painted;
 use sf_ready::Hold;
@@ -29,7 +29,7 @@ use std::marker::Model;
 pub struct Player<B: TableName> {
     pub(crate) period: u64,
     pub(crate) order: Items<Pick>,
-    pub(crate) cast: Cast<B>,
+    pub(crate) actor_set: ActorSet<B>,
     pub(crate) handler: Handler<ReadLease<B>>,
     /// How many vsyncs there were.
     pub(crate) vsyncs: u32,
@@ -47,14 +47,14 @@ impl<B: TableName> Model for Player<B> {
     ghost Value = { PlayerOf B };
 
     ghost view = { λ p. record {
-      play = record { period = p.period; order = p.order; cast = p.cast; handler = p.handler; vsyncs = p.vsyncs };
+      play = record { period = p.period; order = p.order; actor_set = p.actor_set; handler = p.handler; vsyncs = p.vsyncs };
       place = p.place;
       held = p.held;
       is_spent = p.is_spent;
     } };
 
     ghost invariant = { λ p. IsPlayer B.table (record {
-      play = record { period = p.period; order = p.order; cast = p.cast; handler = p.handler; vsyncs = p.vsyncs };
+      play = record { period = p.period; order = p.order; actor_set = p.actor_set; handler = p.handler; vsyncs = p.vsyncs };
       place = p.place;
       held = p.held;
       is_spent = p.is_spent;
@@ -63,16 +63,16 @@ impl<B: TableName> Model for Player<B> {
 
 /// Gives frames back to their queues, in order, for the vsync of this number.
 fn release_all<B: TableName>(
-    cast: &mut Cast<B>,
+    actor_set: &mut ActorSet<B>,
     number: u32,
     releases: Vec<Release<ReadLease<B>>>,
 ) -> Result<(), NoMemory>
-    requires there { All (λ (release : ReleaseOf ReadLeaseOf). has_queue (home_of cast.old.desk) release.queue.0 ≡ true) releases.items }
-    ensures gives { OnOk result (GivesFrames (home_of cast.old.desk) number releases.items (view_of cast.old.desk) (view_of cast.new.desk)) }
-    ensures only { OnOk result (OnlyDesk B.table (taken_in cast.old.desk.arrivals) cast.old cast.new) }
+    requires there { All (λ (release : ReleaseOf ReadLeaseOf). has_queue (home_of actor_set.old.desk) release.queue.0 ≡ true) releases.items }
+    ensures gives { OnOk result (GivesFrames (home_of actor_set.old.desk) number releases.items (view_of actor_set.old.desk) (view_of actor_set.new.desk)) }
+    ensures only { OnOk result (OnlyDesk B.table (taken_in actor_set.old.desk.arrivals) actor_set.old actor_set.new) }
 {
     for release in releases {
-        cast.release(number, release)?;
+        actor_set.release(number, release)?;
     }
     Ok(())
 }
@@ -104,12 +104,12 @@ impl<B: TableName> Player<B> {
             order,
             ..
         } = scene;
-        let cast = Cast::new(alloc, queues.as_slice(), pictures, actors, seat, stock)?;
+        let actor_set = ActorSet::new(alloc, queues.as_slice(), pictures, actors, seat, stock)?;
         let handler = Handler::with_limit(alloc, width, height, most_layers(version))?;
         Ok(Player {
             period,
             order,
-            cast,
+            actor_set,
             handler,
             vsyncs: 0,
             place: Place::Order(0, 0),
@@ -125,17 +125,17 @@ impl<B: TableName> Player<B> {
         alloc: Global,
         period: u64,
         order: Items<Pick>,
-        cast: Cast<B>,
+        actor_set: ActorSet<B>,
         handler: Handler<ReadLease<B>>,
         vsyncs: u32,
     ) -> Player<B>
-        requires { IsStanding B.table (before_round period order cast handler vsyncs) }
-        ensures { result ≡ before_round period order cast handler vsyncs }
+        requires { IsStanding B.table (before_round period order actor_set handler vsyncs) }
+        ensures { result ≡ before_round period order actor_set handler vsyncs }
     {
         Player {
             period,
             order,
-            cast,
+            actor_set,
             handler,
             vsyncs,
             place: Place::Round(0, false),
@@ -145,10 +145,10 @@ impl<B: TableName> Player<B> {
     }
 
     /// The actors and their desk.
-    pub fn cast(&self) -> &Cast<B>
-        ensures { result.now ≡ self.now.play.cast }
+    pub fn actor_set(&self) -> &ActorSet<B>
+        ensures { result.now ≡ self.now.play.actor_set }
     {
-        &self.cast
+        &self.actor_set
     }
 
     /// The compositor: the layers and the buffers on them as the last vsync left them. Nothing is lent.
@@ -185,7 +185,7 @@ impl<B: TableName> Player<B> {
         let Player {
             period: _,
             order: _,
-            cast: _,
+            actor_set: _,
             handler,
             vsyncs: _,
             place: _,
@@ -199,9 +199,9 @@ impl<B: TableName> Player<B> {
     pub(crate) fn tells(&self)
         ensures { KeepsItself ⟦<ReadLease<B> as Lease>⟧ B.table self.now.play }
     {
-        self.cast.exact();
-        self.cast.legal();
-        self.cast.owns();
+        self.actor_set.exact();
+        self.actor_set.legal();
+        self.actor_set.owns();
         self.handler.contents();
         self.handler.tree().layers();
     }
@@ -217,8 +217,8 @@ impl<B: TableName> Player<B> {
         let number = self.vsyncs + 1;
         self.vsyncs = number;
         let expected = u64::from(number) * self.period;
-        let seen = self.cast.see();
-        let arrived = self.cast.take()?;
+        let seen = self.actor_set.see();
+        let arrived = self.actor_set.take()?;
         let Vsync {
             commits,
             view,
@@ -226,9 +226,9 @@ impl<B: TableName> Player<B> {
             releases,
             held,
         } = self
-            .cast
+            .actor_set
             .vsync(&mut self.handler, arrived, &seen, expected)?;
-        release_all(&mut self.cast, number, releases.into_vec())?;
+        release_all(&mut self.actor_set, number, releases.into_vec())?;
         self.held = held;
         Ok(VsyncReport {
             number,

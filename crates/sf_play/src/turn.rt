@@ -11,7 +11,7 @@ ghost use Rattle.sf_play.specs.Playing.{MayMakeVsync};
 ghost use Rattle.sf_play.specs.Standing.{StandsAlong, StandsInRun};
 ghost use Rattle.sf_play.specs.declared.place.Place.TheVariants as at;
 ghost use Rattle.sf_report.specs.Reports.{has_commits};
-ghost use Rattle.sf_play.specs.Turning.{KeepsCast, Picks, Rounds, TriesStep, Turns, TurnsAt, is_step, next_tried, picked_place, turn_by};
+ghost use Rattle.sf_play.specs.Turning.{KeepsActorSet, Picks, Rounds, TriesStep, Turns, TurnsAt, is_step, next_tried, picked_place, turn_by};
 
 use crate::place::Place;
 use crate::player::Player;
@@ -90,12 +90,12 @@ impl<B: TableName> Player<B> {
     /// Tries the next step of the actor at a place.
     fn step(&mut self, place: usize) -> Result<Turn, NoMemory>
         requires spent { self.old.is_spent ≡ true }
-        requires there { place < length self.old.play.cast.actors }
-        ensures tries { (ofs : List (ActorOf B)) → KeepsCast B.table self.old.play ofs
+        requires there { place < length self.old.play.actor_set.actors }
+        ensures tries { (ofs : List (ActorOf B)) → KeepsActorSet B.table self.old.play ofs
             → IfOk result (TriesStep B.table place ofs self.old.play self.new.play) }
-        ensures rest { self.new ≡ record self.old { play = record self.old.play { cast = self.new.play.cast } } }
+        ensures rest { self.new ≡ record self.old { play = record self.old.play { actor_set = self.new.play.actor_set } } }
     {
-        let stepped = self.cast.try_step(place)?;
+        let stepped = self.actor_set.try_step(place)?;
         Ok(turn_by(place, stepped))
     }
 
@@ -103,7 +103,7 @@ impl<B: TableName> Player<B> {
     fn pick(&mut self, number: u32) -> Result<Turn, NoMemory>
         requires spent { self.old.is_spent ≡ true }
         requires may { MayMakeVsync B.table self.old.play }
-        ensures picks { (ofs : List (ActorOf B)) → KeepsCast B.table self.old.play ofs
+        ensures picks { (ofs : List (ActorOf B)) → KeepsActorSet B.table self.old.play ofs
             → IfOk result (Picks ⟦<ReadLease<B> as Lease>⟧ B.table ofs number self.old self.new) }
         ensures spent { self.new.is_spent ≡ true }
         ensures place { self.new.place ≡ self.old.place }
@@ -111,7 +111,7 @@ impl<B: TableName> Player<B> {
         if number == 0 {
             return Ok(Turn::Vsync(self.vsync()?));
         }
-        match self.cast.place_of(number) {
+        match self.actor_set.place_of(number) {
             Some(place) => self.step(place),
             None => Ok(Turn::Idle),
         }
@@ -121,11 +121,11 @@ impl<B: TableName> Player<B> {
     fn round(&mut self, place: usize, stepped: bool) -> Result<Turn, NoMemory>
         requires spent { self.old.is_spent ≡ true }
         requires may { MayMakeVsync B.table self.old.play }
-        ensures rounds { (ofs : List (ActorOf B)) → KeepsCast B.table self.old.play ofs
+        ensures rounds { (ofs : List (ActorOf B)) → KeepsActorSet B.table self.old.play ofs
             → IfOk result (Rounds ⟦<ReadLease<B> as Lease>⟧ B.table ofs place stepped self.old self.new) }
         ensures spent { self.new.is_spent ≡ true }
     {
-        if place < self.cast.actors().len() {
+        if place < self.actor_set.actors().len() {
             let turn = self.step(place)?;
             self.place = Place::Round(place + 1, stepped || turn.is_step());
             return Ok(turn);
@@ -142,7 +142,7 @@ impl<B: TableName> Player<B> {
         requires spent { self.old.is_spent ≡ true }
         requires may { MayMakeVsync B.table self.old.play }
         requires settled { place ≡ settled self.old.play.order self.old.place }
-        ensures turns { (ofs : List (ActorOf B)) → KeepsCast B.table self.old.play ofs
+        ensures turns { (ofs : List (ActorOf B)) → KeepsActorSet B.table self.old.play ofs
             → IfOk result (TurnsAt ⟦<ReadLease<B> as Lease>⟧ B.table ofs place self.old self.new) }
         ensures spent { self.new.is_spent ≡ true }
     {
@@ -159,33 +159,33 @@ impl<B: TableName> Player<B> {
 
     /// The place of the actor whose next step a pick of this number tries: a pick of 0 is a vsync.
     fn picked_place(&self, number: u32) -> Option<usize>
-        ensures names { result ≡ picked_place self.now.play.cast.actors number }
-        ensures there { IfSome result (λ place. place < length self.now.play.cast.actors) }
+        ensures names { result ≡ picked_place self.now.play.actor_set.actors number }
+        ensures there { IfSome result (λ place. place < length self.now.play.actor_set.actors) }
     {
         if number == 0 {
             return None;
         }
-        self.cast.place_of(number)
+        self.actor_set.place_of(number)
     }
 
     /// The place, from 0, of the actor whose next step the next turn tries, if it tries one.
     pub fn next_actor(&self) -> Option<usize>
         ensures names { result ≡ next_tried self.now }
-        ensures there { IfSome result (λ place. place < length self.now.play.cast.actors) }
+        ensures there { IfSome result (λ place. place < length self.now.play.actor_set.actors) }
     {
         match self.place.settled(self.order.as_slice()) {
             Place::Order(place, _) => match self.order.as_slice().get(place) {
                 Some(pick) => self.picked_place(pick.actor),
                 None => None,
             },
-            Place::Round(place, _) if place < self.cast.actors().len() => Some(place),
+            Place::Round(place, _) if place < self.actor_set.actors().len() => Some(place),
             _ => None,
         }
     }
 
     /// Does the next turn of the play. A player that found no memory does nothing any more.
     pub fn next(&mut self) -> Result<Turn, NoMemory>
-        ensures turns { (ofs : List (ActorOf B)) → KeepsCast B.table self.old.play ofs
+        ensures turns { (ofs : List (ActorOf B)) → KeepsActorSet B.table self.old.play ofs
             → IfOk result (Turns ⟦<ReadLease<B> as Lease>⟧ B.table ofs self.old self.new) }
         ensures on { (scene : SceneValue) (so : SoFar B) → StandsInRun B.table scene so self.old
             → IfOk result (λ turn. GoesOn B.table scene so turn self.new) }

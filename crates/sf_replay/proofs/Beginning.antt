@@ -12,7 +12,7 @@ use Rattle.sf_turns.specs.Counts.{stock_at}
 use Rattle.sf_actor.specs.Desks.{DeskHome, DeskView}
 use Rattle.sf_actor.specs.Tries.{dequeues_in}
 use Rattle.sf_steps.specs.Actors.{new_actor}
-use Rattle.sf_cast.specs.Opening.{new_actors}
+use Rattle.sf_actor_set.specs.Opening.{new_actors}
 use Rattle.sf_run.proofs.Members.{has_cases, has_first, has_later}
 use Rattle.sf_rights.specs.Standing.{Begins, IsFresh, state_of, stock_of}
 use Rattle.sf_rights.specs.States.{AreApart, State}

@@ -13,8 +13,8 @@ use Rattle.sf_scene.specs.Limits.{IsActor as IsScript, IsWithinLimits, most_acto
 use Rattle.sf_scene.specs.Scene.{SceneValue}
 use Rattle.sf_scene.specs.declared.step.ActorScript.{ActorScript}
 use Rattle.sf_actor.specs.Tries.{ActorOf, dequeues_in}
-use Rattle.sf_cast.proofs.RisingLemmas.{sorted_rises}
-use Rattle.sf_cast.specs.Opening.{IsSortedFrom, new_actors}
+use Rattle.sf_actor_set.proofs.RisingLemmas.{sorted_rises}
+use Rattle.sf_actor_set.specs.Opening.{IsSortedFrom, new_actors}
 use Rattle.sf_run.proofs.Members.{has_cases, has_here, has_later}
 use Rattle.sf_run.proofs.Rising.{above, later_rises}
 use Rattle.sf_shared.specs.declared.first.FirstSeats.{FirstSeats}

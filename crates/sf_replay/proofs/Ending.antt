@@ -12,7 +12,7 @@ use Rattle.sf_commit.specs.Handlers.{HandlerOf}
 use Rattle.sf_actor.specs.Plain.{PlainOf, calls_among, home_of, is_queue, taken_in, view_of}
 use Rattle.sf_actor.specs.Rights.{Turn}
 use Rattle.sf_actor.specs.Tries.{ActorOf}
-use Rattle.sf_cast.proofs.ArrivalLemmas.{sent_is, waiting_many}
+use Rattle.sf_actor_set.proofs.ArrivalLemmas.{sent_is, waiting_many}
 use Rattle.sf_rights.specs.Standing.{state_of}
 use Rattle.sf_rights.specs.Vsyncs.{lease_on}
 use Rattle.sf_replay.specs.Cuts.{Local, front, many_of, state_at}

@@ -17,8 +17,8 @@ use Rattle.sf_actor.specs.Desks.{DeskHome, DeskView}
 use Rattle.sf_actor.specs.Plain.{PlainOf, home_of as plain_home, view_of as plain_view}
 use Rattle.sf_actor.specs.Scripts.{picture_at}
 use Rattle.sf_actor.specs.Tries.{dequeues_in}
-use Rattle.sf_cast.specs.Opening.{new_actors}
-use Rattle.sf_cast.proofs.RisingLemmas.{sorted_rises}
+use Rattle.sf_actor_set.specs.Opening.{new_actors}
+use Rattle.sf_actor_set.proofs.RisingLemmas.{sorted_rises}
 use Rattle.sf_run.specs.Actors.{mark_declared, number_of}
 use Rattle.sf_run.specs.Histories.{queue_number, rising_queues}
 use Rattle.sf_run.proofs.Bringing.{any_passes}

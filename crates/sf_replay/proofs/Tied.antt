@@ -16,7 +16,7 @@ use Rattle.sf_actor.specs.Rights.{Turn}
 use Rattle.sf_actor.specs.Scripts.{picture_at}
 use Rattle.sf_actor.specs.Desks.{DeskHome, DeskView, mark_among}
 use Rattle.sf_actor.specs.Tries.{ActorOf}
-use Rattle.sf_cast.specs.Opening.{new_actors}
+use Rattle.sf_actor_set.specs.Opening.{new_actors}
 use Rattle.sf_rights.specs.States.{AreApart, State, ledger_of, is_queue}
 use Rattle.sf_rights.specs.Standing.{Begins, LedgerStands, state_of, stock_of}
 use Rattle.sf_rights.specs.Vsyncs.{lease_on, IsOfTurns}

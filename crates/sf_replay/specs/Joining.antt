@@ -17,7 +17,7 @@ use Rattle.sf_actor.specs.Scripts.{picture_at}
 use Rattle.sf_actor.specs.Tries.{ActorOf}
 use Rattle.sf_steps.specs.Playable.{MayPlay}
 use Rattle.sf_steps.specs.declared.actor.Actor.{Actor}
-use Rattle.sf_cast.specs.Opening.{IsSortedFrom, new_actors}
+use Rattle.sf_actor_set.specs.Opening.{IsSortedFrom, new_actors}
 use Rattle.sf_run.specs.Actors.{mark_declared}
 use Rattle.sf_run.specs.Histories.{rising_queues}
 use Rattle.sf_shared.specs.declared.first.FirstSeats.{FirstSeats}

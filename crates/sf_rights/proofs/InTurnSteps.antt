@@ -48,7 +48,7 @@ use Rattle.sf_actor.specs.Tries.{ActorOf, DoesStep, DrawsHeld, DrawsIn, Tries}
 use Rattle.sf_steps.specs.declared.actor.Actor.{Actor}
 use Rattle.sf_steps.specs.Bindings.{holdings_of}
 use Rattle.sf_steps.specs.Playable.{MayPlay}
-use Rattle.sf_cast.specs.Casts.{KeepAs, StepsAt, scripts_of}
+use Rattle.sf_actor_set.specs.ActorSets.{KeepAs, StepsAt, scripts_of}
 use Rattle.sf_run.specs.Actors.{AreActors, trace_among}
 use Rattle.sf_run.specs.Runs.{StepBy, rising_actors, steps_by, steps_in}
 use Rattle.sf_run.specs.Turns.{calls_in, entered_by, token_in}
@@ -199,7 +199,7 @@ module _ {B : Type 0} (scene : SceneValue) (table : TableId) (buffers place : �
     (steps : StepsAt table (picture_at pictures) place actors ofs before nows after st) (keep : KeepAs table (picture_at pictures) (home_of before) (view_of before) actors ofs)
     (plays : All (MayPlay (home_of before) pictures) (scripts_of actors)) (same_home : home_of after ≡ home_of before)
     (over : AreOver (picture_at pictures) (home_of before) (view_of before) ofs) (stands : LedgerStands buffers (home_of before) (view_of before) ofs handler)
-    (declared : AreDeclared scene (home_of before).marks) (limits : IsWithinLimits scene) (cast : AreActors scene ofs (home_of before) (view_of before))
+    (declared : AreDeclared scene (home_of before).marks) (limits : IsWithinLimits scene) (actor_set : AreActors scene ofs (home_of before) (view_of before))
     (exact : IsExact buffers (view_of before).turns.leaves (view_of before).turns.seen) (is_first : (view_of before).turns.is_first ≡ true) (alone : (view_of before).turns.out ≡ 0)
     (makers : MakersPlay scene (home_of before) (view_of before) ofs handler) (draws : DrawsStand scene (home_of before) (view_of before) ofs handler) where
   abbrev next_ofs : List (ActorOf B)
@@ -221,26 +221,26 @@ module _ {B : Type 0} (scene : SceneValue) (table : TableId) (buffers place : �
   there_is = got_has ofs place steps.old steps.here
 
   was_trace : trace_among ofs steps.old.script.number ≡ steps.old.trace
-  was_trace = trace_here ofs steps.old cast.apart there_is
+  was_trace = trace_here ofs steps.old actor_set.apart there_is
 
   live_known : (right : RightAt) → Contains (places_of old).live right → Contains (places_of old).made right.turn.0
   live_known right held = stands.ledger.live_made right.turn (live_turn old right held)
 
   by_number : by ≡ steps.old.script.number
-  by_number = by_it scene table buffers place pictures ofs actors nows before after st handler steps keep plays same_home over stands declared cast.apart
+  by_number = by_it scene table buffers place pictures ofs actors nows before after st handler steps keep plays same_home over stands declared actor_set.apart
 
   module _ (reply : Reply) (does : DoesStep (picture_at pictures) (home_of before) steps.old (view_of before) steps.new (view_of after) reply) where
     same : steps.new.script.number ≡ steps.old.script.number
-    same = same_number scene table buffers place pictures ofs actors nows before after st handler steps keep plays same_home over stands declared cast.apart reply does
+    same = same_number scene table buffers place pictures ofs actors nows before after st handler steps keep plays same_home over stands declared actor_set.apart reply does
 
     others : (other : ℕ) → (other ≡ steps.old.script.number → ⊥) → trace_among next_ofs other ≡ trace_among ofs other
     others other apart = trace_other ofs place other steps.old steps.new steps.here same apart
 
     trace_grows : trace_among next_ofs steps.old.script.number ≡ trace_among ofs steps.old.script.number ++ does.done ∷ []
-    trace_grows = grows scene table buffers place pictures ofs actors nows before after st handler steps keep plays same_home over stands declared cast.apart reply does
+    trace_grows = grows scene table buffers place pictures ofs actors nows before after st handler steps keep plays same_home over stands declared actor_set.apart reply does
 
     goes : GoesOn (run_in (trace_among ofs) old) (run_in (trace_among next_ofs) old)
-    goes = on scene table buffers place pictures ofs actors nows before after st handler steps keep plays same_home over stands declared cast.apart reply does
+    goes = on scene table buffers place pictures ofs actors nows before after st handler steps keep plays same_home over stands declared actor_set.apart reply does
 
     abbrev last : DoneAt
     last = at_end steps.old.trace does.done
@@ -252,14 +252,14 @@ module _ {B : Type 0} (scene : SceneValue) (table : TableId) (buffers place : �
     entered_now : (token : Token) → Contains (entered_by (at_end steps.old.trace does.done)) token → IsInTurn scene (run_in (trace_among ofs) old) (places_of old) now token
     entered_now token entered =
         let enters = entered_is (past_after steps.old.trace).holdings does.done.step does.done.answered token entered in
-        let has = (kept scene table buffers place pictures ofs actors nows before after st handler steps keep plays same_home over stands declared cast.apart).keeps.kept.has in
+        let has = (kept scene table buffers place pictures ofs actors nows before after st handler steps keep plays same_home over stands declared actor_set.apart).keeps.kept.has in
         let name : get_or (map (option_map token_of) steps.old.parts.names) enters.name None ≡ Some token = ap (λ (h : Holdings). name_in h enters.name) has ∙ enters.held in
         let held = held_of steps.old.parts.names enters.name token name in
         let draws : DrawsHeld (home_of before) (view_of before) (view_of after) (Some held.0) =
         subst (DrawsHeld (home_of before) (view_of before) (view_of after)) held.1 (does.entered enters.name enters.picture enters.is enters.answers) in
         let may = may_enter (home_of before) (view_of before) (view_of after) held.0 draws (subst (λ (t : Token). is_some (undrawn_fence (Some t)) ≡ true) (sym held.2) enters.undrawn) in
         subst (IsInTurn scene (run_in (trace_among ofs) old) (places_of old) now) held.2
-        (enters_in_turn scene ofs (home_of before) (view_of before) limits cast (picture_at pictures) buffers handler stands over exact makers steps.old there_is held.0
+        (enters_in_turn scene ofs (home_of before) (view_of before) limits actor_set (picture_at pictures) buffers handler stands over exact makers steps.old there_is held.0
         (get_there steps.old.parts.names enters.name held.0 held.1) may.0 last (omega arith) is_first alone may.1.0 may.1.1)
 
     was_or_now : (s : StepBy) → Contains (steps_in scene (run_in (trace_among ofs) old)) s ⊎ (record { actor = steps.old.script.number; at = at_end (trace_among ofs steps.old.script.number) does.done } ≡ s)
@@ -279,13 +279,13 @@ module _ {B : Type 0} (scene : SceneValue) (table : TableId) (buffers place : �
         (λ right held. inl (right, held, refl, refl)) (λ write queued. inl queued)
 
     makers_now : MakersStand (run_in (trace_among next_ofs) old) (calls_in scene (run_in (trace_among next_ofs) old)) old
-    makers_now = grown scene table buffers place pictures ofs actors nows before after st handler steps keep plays same_home over stands declared cast.apart reply does makers
+    makers_now = grown scene table buffers place pictures ofs actors nows before after st handler steps keep plays same_home over stands declared actor_set.apart reply does makers
 
     did_in_turn : PlacesGo (holdings_of steps.was_here.bindings) does.done.step by number old new → AreInTurn scene (run_in (trace_among next_ofs) new) (places_of new)
     did_in_turn (inl calls) =
         late_in_turn (trace_among next_ofs) old new by calls.queue number calls.asked calls.reply calls.from calls.made scene declared stands.ledger
         (λ stay attaches.
-        attached_is scene table buffers place pictures ofs actors nows before after st handler steps keep plays same_home over stands declared cast.apart reply does stay ∙ calls.attached stay attaches)
+        attached_is scene table buffers place pictures ofs actors nows before after st handler steps keep plays same_home over stands declared actor_set.apart reply does stay ∙ calls.attached stay attaches)
         makers_now
         (λ s there own.
         let within = steps_within scene (run_in (trace_among ofs) old).calls (trace_among ofs) (trace_among next_ofs) steps.old.script.number does.done others trace_grows s there (sym by_number ∙ own) in
@@ -297,7 +297,7 @@ module _ {B : Type 0} (scene : SceneValue) (table : TableId) (buffers place : �
   -- a step that is not done
   module _ (same : steps.new ≡ steps.old) where
     stay_ofs : ofs ≡ next_ofs
-    stay_ofs = same_ofs scene table buffers place pictures ofs actors nows before after st handler steps keep plays same_home over stands declared cast.apart same
+    stay_ofs = same_ofs scene table buffers place pictures ofs actors nows before after st handler steps keep plays same_home over stands declared actor_set.apart same
 
     left_in_turn : (next : Step) → ((queue : ℕ) → (view_of after).calls queue ≡ (view_of before).calls queue) → PlacesGo (holdings_of steps.was_here.bindings) next by number old new → AreInTurn scene (run_in (trace_among next_ofs) new) (places_of new)
     left_in_turn next none (inl calls) =

@@ -32,7 +32,7 @@ use Rattle.sf_actor.specs.Tries.{ActorOf, DoesStep, Tries, next_step}
 use Rattle.sf_steps.specs.declared.actor.Actor.{Actor}
 use Rattle.sf_steps.specs.Bindings.{holdings_of}
 use Rattle.sf_steps.specs.Playable.{MayPlay}
-use Rattle.sf_cast.specs.Casts.{KeepAs, KeepsAs, StepsAt, scripts_of}
+use Rattle.sf_actor_set.specs.ActorSets.{KeepAs, KeepsAs, StepsAt, scripts_of}
 use Rattle.sf_run.specs.Actors.{AreActors, number_of, run_of, told_on, trace_among}
 use Rattle.sf_run.specs.Stopping.{TellsOlder}
 use Rattle.sf_run.specs.Turns.{calls_in, maker_at}

@@ -34,8 +34,8 @@ use Rattle.sf_steps.specs.Acting.{Acts as StepActs, Attempts}
 use Rattle.sf_steps.specs.Actors.{Acts}
 use Rattle.sf_steps.specs.Bindings.{holdings_of}
 use Rattle.sf_steps.specs.Playable.{IsPlayable, MayPlay}
-use Rattle.sf_cast.specs.Casts.{KeepAs, KeepsAs, StepsAt, script_of, scripts_of}
-use Rattle.sf_cast.proofs.ArrivalLemmas.{waiting_many}
+use Rattle.sf_actor_set.specs.ActorSets.{KeepAs, KeepsAs, StepsAt, script_of, scripts_of}
+use Rattle.sf_actor_set.proofs.ArrivalLemmas.{waiting_many}
 use Rattle.sf_run.proofs.Members.{has_map}
 use Rattle.sf_rights.specs.Actors.{AreOver}
 use Rattle.sf_rights.specs.Ledgers.{IsLedger}

@@ -13,7 +13,7 @@ ghost use Rattle.sf_actor.specs.Scripts.{picture_at};
 ghost use Rattle.sf_actor.specs.Tries.{ActorOf};
 ghost use Rattle.sf_steps.specs.declared.actor.Actor.{Actor};
 ghost use Rattle.sf_steps.specs.Playable.{MayPlay};
-ghost use Rattle.sf_cast.specs.Casts.{KeepAs, StepsAt, scripts_of};
+ghost use Rattle.sf_actor_set.specs.ActorSets.{KeepAs, StepsAt, scripts_of};
 ghost use Rattle.sf_run.specs.Actors.{AreActors, number_of, run_of};
 ghost use Rattle.sf_run.specs.Stopping.{TellsOlder};
 ghost use Rattle.sf_run.specs.Turns.{maker_at};

@@ -5,7 +5,7 @@ ghost use Rattle.sf_actor.specs.Plain.{PlainOf, home_of, view_of};
 ghost use Rattle.sf_actor.specs.Scripts.{picture_at};
 ghost use Rattle.sf_steps.specs.declared.actor.Actor.{Actor};
 ghost use Rattle.sf_steps.specs.Playable.{MayPlay};
-ghost use Rattle.sf_cast.specs.Casts.{KeepAs, StepsAt, scripts_of};
+ghost use Rattle.sf_actor_set.specs.ActorSets.{KeepAs, StepsAt, scripts_of};
 ghost use Rattle.sf_commit.specs.Handlers.{HandlerOf};
 ghost use Rattle.sf_picture.specs.declared.picture.Picture.{Picture};
 ghost use Rattle.sf_scene.specs.Limits.{IsWithinLimits};

@@ -21,7 +21,7 @@ use Rattle.sf_actor.specs.Plain.{calls_among}
 use Rattle.sf_actor.specs.Tries.{ActorOf}
 use Rattle.sf_steps.specs.Playable.{MayPlay}
 use Rattle.sf_steps.specs.declared.actor.Actor.{Actor}
-use Rattle.sf_cast.specs.Casts.{KeepAs, script_of, scripts_of}
+use Rattle.sf_actor_set.specs.ActorSets.{KeepAs, script_of, scripts_of}
 use Rattle.sf_record.specs.Events.{closing}
 use Rattle.sf_record.specs.declared.record.Record.{Record}
 use Rattle.sf_record.specs.declared.record.Record.TheVariants as rec
@@ -148,10 +148,10 @@ later_marks (mark ∷ marks) = marks
 module _ {B : Type 0} where
   -- the records of what arrived and of what follows the histories
   abbrev pub arrived_of : PlayerOf B → Record
-  arrived_of player = rec.Arrv (map arrival_recorded (map entry_of (sent player.play.cast.desk.arrivals)))
+  arrived_of player = rec.Arrv (map arrival_recorded (map entry_of (sent player.play.actor_set.desk.arrivals)))
 
   abbrev pub rest_of : PlayerOf B → List Record
-  rest_of player = rec.Hold (map held_shown player.held) ∷ rec.Stuk (stuck_at player.play.cast.actors) ∷ rec.Done ∷ []
+  rest_of player = rec.Hold (map held_shown player.held) ∷ rec.Stuk (stuck_at player.play.actor_set.actors) ∷ rec.Done ∷ []
 
   -- one more actor
   pub stuck_more : (actors : List (Actor B)) (i : ℕ) (actor : Actor B) (list later : List StuckEntry) → i < length actors → actor ≡ get_or actors i actor
@@ -178,10 +178,10 @@ module _ {B : Type 0} where
 
   -- a script is short enough for the numbers of its steps
   pub few_steps : (table : TableId) (scene : SceneValue) (so : SoFar B) (player : PlayerOf B) → StandsInRun table scene so player
-      → All (λ (actor : Actor B). length actor.script.steps ≤ 4294967295) player.play.cast.actors
+      → All (λ (actor : Actor B). length actor.script.steps ≤ 4294967295) player.play.actor_set.actors
   few_steps table scene so player stands =
-      of_all (λ (actor : Actor B). length actor.script.steps ≤ 4294967295) player.play.cast.actors (λ actor there.
-      (All-contains (MayPlay (home_in player.play) scene.pictures) (scripts_of player.play.cast.actors) actor.script stands.rights.plays (has_map script_of player.play.cast.actors actor there)).few)
+      of_all (λ (actor : Actor B). length actor.script.steps ≤ 4294967295) player.play.actor_set.actors (λ actor there.
+      (All-contains (MayPlay (home_in player.play) scene.pictures) (scripts_of player.play.actor_set.actors) actor.script stands.rights.plays (has_map script_of player.play.actor_set.actors actor there)).few)
 
   abbrev object_number : ObjectOf B → ℕ
   object_number object = object.queue.number.0
@@ -222,7 +222,7 @@ module _ {B : Type 0} where
   pub closing_is : (table : TableId) (scene : SceneValue) (so : SoFar B) (player : PlayerOf B) → StandsInRun table scene so player
       → let shows = shows_at_end scene so player in closing_of player ≡ closing shows.arrived shows.histories shows.held shows.stuck
   closing_is table scene so player stands =
-      let desk = player.play.cast.desk in
+      let desk = player.play.actor_set.desk in
       let run = run_so so player.play in
       let numbers : map object_number desk.queues ≡ map queue_number (rising_queues scene) =
       sym (map_twice mark_of (λ (m : QueueMark). m.queue.0) desk.queues)
@@ -233,5 +233,5 @@ module _ {B : Type 0} where
       let histories = histories_are run desk.queues (rising_queues scene) stands.marks (λ object there.
       let found = is_found desk.queues object apart there in
       (λ i. told (found.mark i) (found.calls i))) in
-      let stuck = stuck_kept table _ _ _ player.play.cast.actors so.actors stands.stands.stands.keep in
+      let stuck = stuck_kept table _ _ _ player.play.actor_set.actors so.actors stands.stands.stands.keep in
       (λ i. closing (arrived i) (histories i) (map held_shown player.held) (stuck i))

@@ -8,7 +8,7 @@ use Rattle.sf_screen.specs.Screens.{IsShown}
 use Rattle.sf_screen.specs.declared.screens.OutputScreen.{OutputScreen}
 use Rattle.sf_scene.specs.Limits.{IsWithinLimits}
 use Rattle.sf_scene.specs.Scene.{SceneValue}
-use Rattle.sf_cast.specs.Opening.{IsSortedFrom}
+use Rattle.sf_actor_set.specs.Opening.{IsSortedFrom}
 use Rattle.sf_record.specs.Events.{events_records}
 use Rattle.sf_record.specs.declared.encode.RunFault.{RunFault}
 use Rattle.sf_record.specs.declared.event.Event.{Event}

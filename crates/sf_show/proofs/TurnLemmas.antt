@@ -15,8 +15,8 @@ use Rattle.sf_scene.specs.Scene.{SceneValue}
 use Rattle.sf_actor.specs.Scripts.{picture_at}
 use Rattle.sf_actor.specs.declared.tried.Reply.{Reply}
 use Rattle.sf_steps.specs.declared.actor.Actor.{Actor}
-use Rattle.sf_cast.specs.Opening.{IsSortedFrom}
-use Rattle.sf_cast.proofs.RisingLemmas.{sorted_rises}
+use Rattle.sf_actor_set.specs.Opening.{IsSortedFrom}
+use Rattle.sf_actor_set.proofs.RisingLemmas.{sorted_rises}
 use Rattle.sf_record.specs.Events.{event_records, events_records, vsync_records}
 use Rattle.sf_record.specs.declared.event.Event.{Event}
 use Rattle.sf_record.specs.declared.event.Event.TheVariants as event
@@ -130,7 +130,7 @@ module _ {B : Type 0} where
       → events_records so.events ++ turn_shown (picture_at scene.pictures) plan timelines player.play came_to ≡ events_records goes.later.events
   turn_records table scene plan timelines so (turn.Step place) player planned rising goes =
       let did = goes.happens in
-      ap (λ (rs : List Record). events_records so.events ++ rs) (step_shown place player.play.cast.actors did.actor did.earlier did.reply did.there did.replies)
+      ap (λ (rs : List Record). events_records so.events ++ rs) (step_shown place player.play.actor_set.actors did.actor did.earlier did.reply did.there did.replies)
       ∙ sym (more_records so.events (event.Reply (reply_shown did.reply)))
       ∙ sym (ap (λ (s : SoFar B). events_records s.events) did.is)
   turn_records table scene plan timelines so (turn.Vsync report) player planned rising goes =
@@ -139,7 +139,7 @@ module _ {B : Type 0} where
   turn_records table scene plan timelines so turn.End player planned rising goes = append-nil (events_records so.events) ∙ sym (ap (λ (s : SoFar B). events_records s.events) goes.happens)
 
   pub may_show : (table : TableId) (scene : SceneValue) (so : SoFar B) (came_to : Turn) (player : PlayerOf B) → GoesAlong table scene so came_to player → MayShowTurn scene came_to player
-  may_show table scene so (turn.Step place) player goes = slice_get_within player.play.cast.actors place goes.happens.actor goes.happens.there
+  may_show table scene so (turn.Step place) player goes = slice_get_within player.play.actor_set.actors place goes.happens.actor goes.happens.there
   may_show table scene so (turn.Vsync report) player goes = goes.tells
   may_show table scene so turn.Idle player goes = tt
   may_show table scene so turn.End player goes = tt

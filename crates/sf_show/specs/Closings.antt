@@ -30,5 +30,5 @@ module _ {B : Type 0} where
   -- the records that end a play: what arrived, the history of each queue, what is held and who is stuck
   abbrev pub closing_of : PlayerOf B → List Record
   closing_of player =
-      let desk = player.play.cast.desk in
-      closing (map arrival_recorded (map entry_of (sent desk.arrivals))) (map history_of desk.queues) (map held_shown player.held) (stuck_at player.play.cast.actors)
+      let desk = player.play.actor_set.desk in
+      closing (map arrival_recorded (map entry_of (sent desk.arrivals))) (map history_of desk.queues) (map held_shown player.held) (stuck_at player.play.actor_set.actors)

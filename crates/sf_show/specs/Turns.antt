@@ -41,13 +41,13 @@ module _ {B : Type 0} where
 
   -- the records of a turn that a play of this plan comes to, after which it stands so
   abbrev pub turn_shown : (ℕ → Picture) → Plan → List ℕ → PlayOf B → Turn → List Record
-  turn_shown pictures plan timelines play (turn.Step place) = newest_of (slice_get play.cast.actors place)
+  turn_shown pictures plan timelines play (turn.Step place) = newest_of (slice_get play.actor_set.actors place)
   turn_shown pictures plan timelines play (turn.Vsync report) = vsync_shown pictures plan timelines report play.handler.tree.layers
   turn_shown pictures plan timelines play other = []
 
   -- a turn can be shown: its actor is there, and its vsync left what is to be shown
   abbrev pub MayShowTurn : SceneValue → Turn → PlayerOf B → Type 0
-  MayShowTurn scene (turn.Step place) player = place < length player.play.cast.actors
+  MayShowTurn scene (turn.Step place) player = place < length player.play.actor_set.actors
   MayShowTurn scene (turn.Vsync report) player = TellsStage scene report player.play
   MayShowTurn scene other player = Unit {0}
 

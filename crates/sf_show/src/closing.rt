@@ -110,14 +110,14 @@ pub fn write_closing<K: Sink, B: TableName>(
     sink: &mut K,
     player: &Player<B>,
 ) -> Result<(), RunFault>
-    requires { All (λ (actor : ActorIn B). length actor.script.steps ≤ 4294967295) player.now.play.cast.actors }
+    requires { All (λ (actor : ActorIn B). length actor.script.steps ≤ 4294967295) player.now.play.actor_set.actors }
     ensures ok { OnOk result (Writes (K.taken sink.old) (K.taken sink.new) (closing_of player.now)) }
     ensures err { OnErr result (WritesPart (K.taken sink.old) (K.taken sink.new) (closing_of player.now)) }
     ensures later { K.faults sink.old ≤ K.faults sink.new }
     ensures failed { IsErrOf result RunFault.WriteFault → Rose (K.faults sink.old) (K.faults sink.new) }
 {
-    let cast = player.cast();
-    let desk = cast.desk();
+    let actor_set = player.actor_set();
+    let desk = actor_set.desk();
     match write_made(alloc, sink, arrivals_record(alloc, desk.arrivals.entries())) {
         Ok(()) => {}
         Err(fault) => return Err(fault),
@@ -126,5 +126,5 @@ pub fn write_closing<K: Sink, B: TableName>(
         Ok(()) => {}
         Err(fault) => return Err(fault),
     }
-    write_rest(alloc, sink, player.held(), cast.actors())
+    write_rest(alloc, sink, player.held(), actor_set.actors())
 }

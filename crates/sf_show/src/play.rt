@@ -1,7 +1,7 @@
 ghost use Rattle.std.specs.Prelude.{◌≡◌, ◌∷◌, ◌+◌, ◌<◌, ◌≤◌, [], ℕ, All, IfErr, IfOk, IsErrOf, List, OnErr, OnOk, Option, true};
 ghost use Rattle.sf_actor.specs.Scripts.{picture_at};
-ghost use Rattle.sf_cast.specs.Opening.{IsSortedFrom};
-ghost use Rattle.sf_cast.specs.Scripts.{permits_of};
+ghost use Rattle.sf_actor_set.specs.Opening.{IsSortedFrom};
+ghost use Rattle.sf_actor_set.specs.Scripts.{permits_of};
 ghost use Rattle.sf_io.specs.Causes.{Rose};
 ghost use Rattle.sf_play.specs.Going.{fuel_of};
 ghost use Rattle.sf_run.specs.Frames.{plan_of};
@@ -99,7 +99,11 @@ fn write_turn<R: Threads + Sync, K: Sink, B: TableName>(
     ensures failed { IsErrOf result RunFault.WriteFault → Rose (K.faults sink.old) (K.faults sink.new) }
 {
     match turn {
-        Turn::Step(place) => write_newest(alloc, sink, player.cast().actors()[place].replies()),
+        Turn::Step(place) => write_newest(
+            alloc,
+            sink,
+            player.actor_set().actors()[place].replies(),
+        ),
         Turn::Vsync(report) => show_vsync(
             rt,
             alloc,

@@ -11,8 +11,8 @@ use Rattle.sf_actor.specs.Plain.{PlainOf, home_of, view_of}
 use Rattle.sf_actor.specs.Scripts.{picture_at}
 use Rattle.sf_steps.specs.Actors.{IsActor}
 use Rattle.sf_steps.specs.declared.actor.Actor.{Actor}
-use Rattle.sf_cast.specs.Opening.{IsSortedFrom, OpensQueues, new_actors}
-use Rattle.sf_cast.specs.Scripts.{permits_of}
+use Rattle.sf_actor_set.specs.Opening.{IsSortedFrom, OpensQueues, new_actors}
+use Rattle.sf_actor_set.specs.Scripts.{permits_of}
 use Rattle.sf_shared.specs.Closing.{HasNoCalls}
 use Rattle.sf_crew.specs.Boarding.{IsNewcomer, number_of}
 use Rattle.sf_live.proofs.Newcomers.{few_opened, newcomers, numbers_same, opened_bare, rise_behind}
@@ -21,49 +21,49 @@ use Rattle.sf_live.proofs.opening.open.Goals as goal
 
 pub share-requires : goal.share-requires
 share-requires g c =
-    let opens = c.in_ok-cast.ensures in
+    let opens = c.in_ok-actor_set.ensures in
     record {
       no_calls =
           subst (λ (d : PlainOf g.row.B.Denot). AllByRecursion HasNoCalls d.queues) (sym c.into_parts-pictures.ensures.desk)
-          (opened_bare c.args.queues.now c.in_ok-cast.cast.desk.queues opens.queues_opened);
+          (opened_bare c.args.queues.now c.in_ok-actor_set.actor_set.desk.queues opens.queues_opened);
       none_arrived = ap (λ (d : PlainOf g.row.B.Denot). d.arrivals) c.into_parts-pictures.ensures.desk ∙ opens.none_arrived;
     }
 
 pub returns-clause-few : goal.returns-clause-few
 returns-clause-few g c =
-    let cast = c.in_ok-cast.cast in
-    let opens = c.in_ok-cast.ensures in
+    let actor_set = c.in_ok-actor_set.actor_set in
+    let opens = c.in_ok-actor_set.ensures in
     let kept = c.into_parts-pictures.ensures.kept in
     subst (λ (actors : List (Actor g.row.B.Denot)). length actors ≤ 64) (sym c.into_parts-pictures.ensures.actors)
-    (few_opened g.B.TableName.table (picture_at cast.pictures) (home_of cast.desk) (view_of cast.desk) cast.actors opens.declared c.args.stock.buffers opens.keep
+    (few_opened g.B.TableName.table (picture_at actor_set.pictures) (home_of actor_set.desk) (view_of actor_set.desk) actor_set.actors opens.declared c.args.stock.buffers opens.keep
     (All-permutation (λ (script : ActorScript). script.number ≤ 64) c.args.scripts opens.declared opens.sorted.permutation c.requires.numbers) kept.numbered
-    (subst IsStrictlyIncreasing (sym (numbers_same cast.actors)) kept.rising))
+    (subst IsStrictlyIncreasing (sym (numbers_same actor_set.actors)) kept.rising))
 
 pub returns-clause-rising : goal.returns-clause-rising
 returns-clause-rising g c =
-    let cast = c.in_ok-cast.cast in
+    let actor_set = c.in_ok-actor_set.actor_set in
     let kept = c.into_parts-pictures.ensures.kept in
     let first = c.in_ok-locks.first.seats.by in
     subst (λ (actors : List (Actor g.row.B.Denot)). IsStrictlyIncreasing (first ∷ map number_of actors)) (sym c.into_parts-pictures.ensures.actors)
-    (rise_behind first cast.actors c.in_ok-locks.ensures.opened.number kept.numbered (subst IsStrictlyIncreasing (sym (numbers_same cast.actors)) kept.rising))
+    (rise_behind first actor_set.actors c.in_ok-locks.ensures.opened.number kept.numbered (subst IsStrictlyIncreasing (sym (numbers_same actor_set.actors)) kept.rising))
 
 pub returns-clause-newcomers : goal.returns-clause-newcomers
 returns-clause-newcomers g c =
-    let cast = c.in_ok-cast.cast in
-    let opens = c.in_ok-cast.ensures in
+    let actor_set = c.in_ok-actor_set.actor_set in
+    let opens = c.in_ok-actor_set.ensures in
     let kept = c.into_parts-pictures.ensures.kept in
     let shared = c.in_ok-locks.ensures.opened in
     let locks = c.in_ok-locks.locks in
     let seats = c.in_ok-locks.first.seats in
     subst (λ (actors : List (Actor g.row.B.Denot)). AllByRecursion (IsNewcomer g.B.TableName.table locks c.into_parts-pictures.result.0 seats) actors) (sym c.into_parts-pictures.ensures.actors)
-    (subst (λ (pictures : List Picture). AllByRecursion (IsNewcomer g.B.TableName.table locks pictures seats) cast.actors) (sym c.into_parts-pictures.ensures.pictures)
-    (newcomers g.B.TableName.table locks cast.pictures seats (home_of cast.desk) (view_of cast.desk) cast.actors opens.declared c.args.stock.buffers shared.nothing
+    (subst (λ (pictures : List Picture). AllByRecursion (IsNewcomer g.B.TableName.table locks pictures seats) actor_set.actors) (sym c.into_parts-pictures.ensures.pictures)
+    (newcomers g.B.TableName.table locks actor_set.pictures seats (home_of actor_set.desk) (view_of actor_set.desk) actor_set.actors opens.declared c.args.stock.buffers shared.nothing
     (shared.marks ∙ ap (λ (d : PlainOf g.row.B.Denot). map mark_of d.queues) c.into_parts-pictures.ensures.desk) opens.keep kept.plays))
 
 pub returns-clause-opens : goal.returns-clause-opens
 returns-clause-opens g c = λ of fresh sized.
-    let cast = c.in_ok-cast.cast in
-    let opens = c.in_ok-cast.ensures in
+    let actor_set = c.in_ok-actor_set.actor_set in
+    let opens = c.in_ok-actor_set.ensures in
     let parts = c.into_parts-pictures.ensures in
     let shared = c.in_ok-locks.ensures.opened in
     let pictured = parts.pictures ∙ opens.same_pictures ∙ sym of.pictures_of in
@@ -72,14 +72,14 @@ returns-clause-opens g c = λ of fresh sized.
       pictures = pictured;
       marks = shared.marks
           ∙ ap (λ (d : PlainOf g.row.B.Denot). map mark_of d.queues) parts.desk
-          ∙ marks_opened of.scene cast.desk.queues of.limits (subst (λ (queues : List QueueDecl). OpensQueues queues cast.desk.queues) (sym of.queues_of) opens.queues_opened);
+          ∙ marks_opened of.scene actor_set.desk.queues of.limits (subst (λ (queues : List QueueDecl). OpensQueues queues actor_set.desk.queues) (sym of.queues_of) opens.queues_opened);
       declared = opens.declared;
       sorted = subst (λ (scripts : List ActorScript). IsSortedFrom (λ (script : ActorScript). script.number) scripts opens.declared) (sym of.scripts_of) opens.sorted;
       stock = c.args.stock.buffers;
       once = stock_once c.args.stock.buffers (permits_of c.args.scripts) c.requires.whole;
       below = stock_below c.args.stock.buffers (permits_of c.args.scripts) g.B.TableName.table.slots c.requires.whole sized;
       actors = subst (λ (actors : List (Actor g.row.B.Denot)). AllZip (IsActor g.B.TableName.table) actors (new_actors opens.declared c.args.stock.buffers)) (sym parts.actors)
-          (are_actors g.B.TableName.table (picture_at cast.pictures) (home_of cast.desk) (view_of cast.desk) cast.actors (new_actors opens.declared c.args.stock.buffers) opens.keep);
+          (are_actors g.B.TableName.table (picture_at actor_set.pictures) (home_of actor_set.desk) (view_of actor_set.desk) actor_set.actors (new_actors opens.declared c.args.stock.buffers) opens.keep);
       newcomers = subst (λ (pictures : List Picture). AllByRecursion (IsNewcomer g.B.TableName.table c.in_ok-locks.locks pictures c.in_ok-locks.first.seats) c.into_parts-pictures.result.1.items) pictured
           (returns-clause-newcomers g c);
       none_taken = shared.took;

@@ -10,7 +10,7 @@ invariant-turns g l =
     ((scene : SceneValue) (start : Option (List ℕ))
     → HasShown g.B.TableName.table scene l.plan l.timelines start (g.K.Sink.taken l.initial.sink) l.initial.screens l.initial.player
     → HasShown g.B.TableName.table scene l.plan l.timelines start (g.K.Sink.taken l.sink) l.screens l.player)
-    × (length l.gates ≡ length l.player.play.cast.actors)
+    × (length l.gates ≡ length l.player.play.actor_set.actors)
     × (g.K.Sink.faults l.initial.sink ≤ g.K.Sink.faults l.sink)
 
 abbrev pub decreases-turns : goal.decreases-turns

@@ -1,6 +1,6 @@
 use Rattle.std.proofs.Common.{List, ◌∙◌, ap, subst}
 use Rattle.sf_steps.specs.declared.actor.Actor.{Actor}
-use Rattle.sf_cast.specs.Casts.{CastOf}
+use Rattle.sf_actor_set.specs.ActorSets.{ActorSetOf}
 use Rattle.sf_show.specs.Closings.{closing_of}
 use Rattle.sf_show.specs.Writing.{Writes, WritesPart}
 use Rattle.sf_show.proofs.WritingLemmas.{last_cut, last_written, part_front}
@@ -10,22 +10,22 @@ use Rattle.sf_live.proofs.rounds.write_rest.Goals as goal
 pub returns-in-Err-clause-err : goal.returns-in-Err-clause-err
 returns-in-Err-clause-err g c =
     let player = c.args.player.now in
-    let actors = c.actors.ensures ∙ ap (λ (cast : CastOf g.row.B.Denot). cast.actors) c.cast.ensures in
-    part_front _ _ (all_reply_records player.play.cast.actors) (closing_of player)
+    let actors = c.actors.ensures ∙ ap (λ (actor_set : ActorSetOf g.row.B.Denot). actor_set.actors) c.actor_set.ensures in
+    part_front _ _ (all_reply_records player.play.actor_set.actors) (closing_of player)
     (subst (λ (xs : List (Actor g.row.B.Denot)). WritesPart (g.K.Sink.taken c.args.sink.now) (g.K.Sink.taken c.write_replies.new.sink) (all_reply_records xs)) actors c.in-Err.ensures.err)
 
 pub returns-clause-ok : goal.returns-clause-ok
 returns-clause-ok g c =
     let player = c.args.player.now in
-    let actors = c.actors.ensures ∙ ap (λ (cast : CastOf g.row.B.Denot). cast.actors) c.cast.ensures in
-    last_written c.write_closing.result _ _ _ (all_reply_records player.play.cast.actors) (closing_of player)
+    let actors = c.actors.ensures ∙ ap (λ (actor_set : ActorSetOf g.row.B.Denot). actor_set.actors) c.actor_set.ensures in
+    last_written c.write_closing.result _ _ _ (all_reply_records player.play.actor_set.actors) (closing_of player)
     (subst (λ (xs : List (Actor g.row.B.Denot)). Writes (g.K.Sink.taken c.args.sink.now) (g.K.Sink.taken c.write_replies.new.sink) (all_reply_records xs)) actors c.in-Ok.ensures.ok)
     c.write_closing.ensures.ok
 
 pub returns-clause-err : goal.returns-clause-err
 returns-clause-err g c =
     let player = c.args.player.now in
-    let actors = c.actors.ensures ∙ ap (λ (cast : CastOf g.row.B.Denot). cast.actors) c.cast.ensures in
-    last_cut c.write_closing.result _ _ _ (all_reply_records player.play.cast.actors) (closing_of player)
+    let actors = c.actors.ensures ∙ ap (λ (actor_set : ActorSetOf g.row.B.Denot). actor_set.actors) c.actor_set.ensures in
+    last_cut c.write_closing.result _ _ _ (all_reply_records player.play.actor_set.actors) (closing_of player)
     (subst (λ (xs : List (Actor g.row.B.Denot)). Writes (g.K.Sink.taken c.args.sink.now) (g.K.Sink.taken c.write_replies.new.sink) (all_reply_records xs)) actors c.in-Ok.ensures.ok)
     c.write_closing.ensures.err

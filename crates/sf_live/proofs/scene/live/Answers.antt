@@ -2,7 +2,7 @@ use Rattle.std.proofs.Common.{ap, ◌∙◌, subst, [], ◌∷◌}
 use Rattle.sf_run.specs.Played.{opening}
 use Rattle.sf_scene.specs.Limits.{IsWithinLimits}
 use Rattle.sf_scene.specs.Scene.{SceneValue}
-use Rattle.sf_cast.specs.Opening.{IsSortedFrom}
+use Rattle.sf_actor_set.specs.Opening.{IsSortedFrom}
 use Rattle.sf_show.proofs.TurnLemmas.{timelines_are}
 use Rattle.sf_show.proofs.WritingLemmas.{cut_part}
 use Rattle.sf_live.proofs.scene.live.Goals as goal

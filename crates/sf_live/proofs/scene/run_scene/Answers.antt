@@ -3,7 +3,7 @@ use Rattle.sf_run.proofs.LimitLemmas.{few_layers}
 use Rattle.sf_run.specs.Played.{opening}
 use Rattle.sf_show.proofs.WritingLemmas.{cut_part, part_whole}
 use Rattle.sf_scene.specs.Scene.{SceneValue}
-use Rattle.sf_cast.specs.Scripts.{permits_of}
+use Rattle.sf_actor_set.specs.Scripts.{permits_of}
 use Rattle.sf_live.proofs.Starting.{may_run, of_scene}
 use Rattle.sf_live.proofs.scene.run_scene.Goals as goal
 

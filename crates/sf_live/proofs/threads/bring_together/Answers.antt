@@ -1,10 +1,10 @@
-use Rattle.sf_live.proofs.Together.{cast_there, together}
+use Rattle.sf_live.proofs.Together.{actor_set_there, together}
 use Rattle.sf_live.proofs.threads.bring_together.Goals as goal
 
 pub resume-requires : goal.resume-requires
 resume-requires g c =
     let left = c.in_ok-desk.ensures in
-    cast_there _ g.B.TableName.table c.requires.ran.0 c.args.locks c.args.pictures c.args.ashore c.requires.ran.1 c.in_ok-desk.desk
+    actor_set_there _ g.B.TableName.table c.requires.ran.0 c.args.locks c.args.pictures c.args.ashore c.requires.ran.1 c.in_ok-desk.desk
     (record { closes = left.closed; ordered = left.ordered; goes_on = left.goes_on; nobody = left.nobody }) c.tell.ensures.knows c.tell.ensures.legal c.in_ok-actors.actors.items c.in_ok-actors.ensures.actors
 
 pub returns : goal.returns
@@ -13,5 +13,5 @@ returns g c =
     record {
       together = λ run h. together _ g.B.TableName.table run c.args.locks c.args.pictures c.args.ashore h c.in_ok-desk.desk
           (record { closes = left.closed; ordered = left.ordered; goes_on = left.goes_on; nobody = left.nobody }) c.tell.ensures.knows c.tell.ensures.legal c.in_ok-actors.actors.items c.in_ok-actors.ensures.actors
-          (record { cast = c.resume.result; gates = c.in_ok-actors.gates }) c.resume.ensures c.in_ok-actors.ensures.gates;
+          (record { actor_set = c.resume.result; gates = c.in_ok-actors.gates }) c.resume.ensures c.in_ok-actors.ensures.gates;
     }

@@ -3,7 +3,7 @@ use Rattle.std.proofs.lemmas.Iterator.Adapters.{YieldsList-from_vec}
 use Rattle.std.proofs.lemmas.Iterator.Consumers.{YieldsList-end}
 use Rattle.sf_crew.proofs.Zips.{whole}
 use Rattle.sf_live.specs.Threads.{landed_actor}
-use Rattle.sf_live.proofs.Casting.{actors_more, gates_more}
+use Rattle.sf_live.proofs.ActorSetLemmas.{actors_more, gates_more}
 use Rattle.sf_live.proofs.threads.landed_parts.Goals as goal
 
 pub loop-one-init : goal.loop-one-init

@@ -4,7 +4,7 @@ use Rattle.sf_surface.specs.Histories.{Answers}
 use Rattle.sf_surface.specs.Objects.{ObjectOf, mark_of}
 use Rattle.sf_actor.specs.Desks.{mark_among}
 use Rattle.sf_actor.specs.Plain.{calls_among}
-use Rattle.sf_cast.proofs.CompositingLemmas.{legal_among}
+use Rattle.sf_actor_set.proofs.CompositingLemmas.{legal_among}
 use Rattle.sf_live.proofs.threads.tell.Goals as goal
 
 pub returns-clause-legal : goal.returns-clause-legal

@@ -6,7 +6,7 @@ use Rattle.sf_token.specs.declared.arrivals.ArrvEntry.{ArrvEntry}
 use Rattle.sf_surface.specs.Objects.{ObjectOf}
 use Rattle.sf_actor.specs.Plain.{PlainOf}
 use Rattle.sf_steps.specs.declared.actor.Actor.{Actor}
-use Rattle.sf_cast.specs.Casts.{CastOf}
+use Rattle.sf_actor_set.specs.ActorSets.{ActorSetOf}
 use Rattle.sf_record.specs.declared.record.Record.{Record}
 use Rattle.sf_record.specs.declared.record.Record.TheVariants as rec
 use Rattle.sf_run.specs.Progress.{held_shown}
@@ -20,32 +20,32 @@ use Rattle.sf_show.proofs.closing.write_closing.Goals as goal
 pub returns-in-Err-clause-err : goal.returns-in-Err-clause-err
 returns-in-Err-clause-err g c =
     let player = c.args.player.now in
-    let is = c.desk.view_is ∙ c.desk-desk.ensures ∙ ap (λ (cast : CastOf g.row.B.Denot). cast.desk) c.cast-cast.ensures in
+    let is = c.desk.view_is ∙ c.desk-desk.ensures ∙ ap (λ (actor_set : ActorSetOf g.row.B.Denot). actor_set.desk) c.actor_set-actor_set.ensures in
     let entries = c.entries.ensures ∙ ap (λ (desk : PlainOf g.row.B.Denot). map entry_of (sent desk.arrivals)) is in
-    part_front _ _ (arrived_of player ∷ []) (map rec.Hist (map history_of player.play.cast.desk.queues) ++ rest_of player)
+    part_front _ _ (arrived_of player ∷ []) (map rec.Hist (map history_of player.play.actor_set.desk.queues) ++ rest_of player)
     (c.in-Err.ensures.err (arrived_of player) (subst (λ (es : List ArrvEntry). IfOk c.arrivals_record.result (λ (it : Record). it ≡ rec.Arrv (map arrival_recorded es))) entries c.arrivals_record.ensures))
 
 pub returns-in-Err-write_histories-clause-err : goal.returns-in-Err-write_histories-clause-err
 returns-in-Err-write_histories-clause-err g c =
     let player = c.args.player.now in
-    let is = c.desk.view_is ∙ c.desk-desk.ensures ∙ ap (λ (cast : CastOf g.row.B.Denot). cast.desk) c.cast-cast.ensures in
+    let is = c.desk.view_is ∙ c.desk-desk.ensures ∙ ap (λ (actor_set : ActorSetOf g.row.B.Denot). actor_set.desk) c.actor_set-actor_set.ensures in
     let entries = c.entries.ensures ∙ ap (λ (desk : PlainOf g.row.B.Denot). map entry_of (sent desk.arrivals)) is in
     let queues = c.as_slice.ensures.value ∙ ap (λ (desk : PlainOf g.row.B.Denot). desk.queues) is in
-    part_more _ _ _ (arrived_of player ∷ []) (map rec.Hist (map history_of player.play.cast.desk.queues) ++ rest_of player)
+    part_more _ _ _ (arrived_of player ∷ []) (map rec.Hist (map history_of player.play.actor_set.desk.queues) ++ rest_of player)
     (c.in-Ok.ensures.ok (arrived_of player) (subst (λ (es : List ArrvEntry). IfOk c.arrivals_record.result (λ (it : Record). it ≡ rec.Arrv (map arrival_recorded es))) entries c.arrivals_record.ensures))
-    (part_front _ _ (map rec.Hist (map history_of player.play.cast.desk.queues)) (rest_of player)
+    (part_front _ _ (map rec.Hist (map history_of player.play.actor_set.desk.queues)) (rest_of player)
     (subst (λ (qs : List (ObjectOf g.row.B.Denot)). WritesPart (g.K.Sink.taken c.write_made.new.sink) (g.K.Sink.taken c.write_histories.new.sink) (map rec.Hist (map history_of qs))) queues
     c.in-Err-write_histories.ensures.err))
 
 pub returns-clause-ok : goal.returns-clause-ok
 returns-clause-ok g c =
     let player = c.args.player.now in
-    let is = c.desk.view_is ∙ c.desk-desk.ensures ∙ ap (λ (cast : CastOf g.row.B.Denot). cast.desk) c.cast-cast.ensures in
+    let is = c.desk.view_is ∙ c.desk-desk.ensures ∙ ap (λ (actor_set : ActorSetOf g.row.B.Denot). actor_set.desk) c.actor_set-actor_set.ensures in
     let entries = c.entries.ensures ∙ ap (λ (desk : PlainOf g.row.B.Denot). map entry_of (sent desk.arrivals)) is in
     let queues = c.as_slice.ensures.value ∙ ap (λ (desk : PlainOf g.row.B.Denot). desk.queues) is in
-    let actors = c.actors.ensures ∙ ap (λ (cast : CastOf g.row.B.Denot). cast.actors) c.cast-cast.ensures in
-    last_written c.write_rest.result _ _ _ (arrived_of player ∷ map rec.Hist (map history_of player.play.cast.desk.queues)) (rest_of player)
-    (writes_more _ _ _ (arrived_of player ∷ []) (map rec.Hist (map history_of player.play.cast.desk.queues))
+    let actors = c.actors.ensures ∙ ap (λ (actor_set : ActorSetOf g.row.B.Denot). actor_set.actors) c.actor_set-actor_set.ensures in
+    last_written c.write_rest.result _ _ _ (arrived_of player ∷ map rec.Hist (map history_of player.play.actor_set.desk.queues)) (rest_of player)
+    (writes_more _ _ _ (arrived_of player ∷ []) (map rec.Hist (map history_of player.play.actor_set.desk.queues))
     (c.in-Ok.ensures.ok (arrived_of player) (subst (λ (es : List ArrvEntry). IfOk c.arrivals_record.result (λ (it : Record). it ≡ rec.Arrv (map arrival_recorded es))) entries c.arrivals_record.ensures))
     (subst (λ (qs : List (ObjectOf g.row.B.Denot)). Writes (g.K.Sink.taken c.write_made.new.sink) (g.K.Sink.taken c.write_histories.new.sink) (map rec.Hist (map history_of qs))) queues
     c.in-Ok-write_histories.ensures.ok))
@@ -57,12 +57,12 @@ returns-clause-ok g c =
 pub returns-clause-err : goal.returns-clause-err
 returns-clause-err g c =
     let player = c.args.player.now in
-    let is = c.desk.view_is ∙ c.desk-desk.ensures ∙ ap (λ (cast : CastOf g.row.B.Denot). cast.desk) c.cast-cast.ensures in
+    let is = c.desk.view_is ∙ c.desk-desk.ensures ∙ ap (λ (actor_set : ActorSetOf g.row.B.Denot). actor_set.desk) c.actor_set-actor_set.ensures in
     let entries = c.entries.ensures ∙ ap (λ (desk : PlainOf g.row.B.Denot). map entry_of (sent desk.arrivals)) is in
     let queues = c.as_slice.ensures.value ∙ ap (λ (desk : PlainOf g.row.B.Denot). desk.queues) is in
-    let actors = c.actors.ensures ∙ ap (λ (cast : CastOf g.row.B.Denot). cast.actors) c.cast-cast.ensures in
-    last_cut c.write_rest.result _ _ _ (arrived_of player ∷ map rec.Hist (map history_of player.play.cast.desk.queues)) (rest_of player)
-    (writes_more _ _ _ (arrived_of player ∷ []) (map rec.Hist (map history_of player.play.cast.desk.queues))
+    let actors = c.actors.ensures ∙ ap (λ (actor_set : ActorSetOf g.row.B.Denot). actor_set.actors) c.actor_set-actor_set.ensures in
+    last_cut c.write_rest.result _ _ _ (arrived_of player ∷ map rec.Hist (map history_of player.play.actor_set.desk.queues)) (rest_of player)
+    (writes_more _ _ _ (arrived_of player ∷ []) (map rec.Hist (map history_of player.play.actor_set.desk.queues))
     (c.in-Ok.ensures.ok (arrived_of player) (subst (λ (es : List ArrvEntry). IfOk c.arrivals_record.result (λ (it : Record). it ≡ rec.Arrv (map arrival_recorded es))) entries c.arrivals_record.ensures))
     (subst (λ (qs : List (ObjectOf g.row.B.Denot)). Writes (g.K.Sink.taken c.write_made.new.sink) (g.K.Sink.taken c.write_histories.new.sink) (map rec.Hist (map history_of qs))) queues
     c.in-Ok-write_histories.ensures.ok))

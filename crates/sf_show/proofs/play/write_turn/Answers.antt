@@ -2,7 +2,7 @@ use Rattle.std.proofs.Common.{List, get_or, ◌∙◌, ap, subst, sym, OnErr, On
 use Rattle.sf_actor.specs.Scripts.{picture_at}
 use Rattle.sf_record.specs.declared.record.Record.{Record}
 use Rattle.sf_steps.specs.declared.actor.Actor.{Actor}
-use Rattle.sf_cast.specs.Casts.{CastOf}
+use Rattle.sf_actor_set.specs.ActorSets.{ActorSetOf}
 use Rattle.sf_play.specs.declared.turn.Turn.{Turn}
 use Rattle.sf_commit.specs.Handlers.{HandlerOf}
 use Rattle.sf_plan.specs.declared.plan.Plan.{Plan}
@@ -26,11 +26,11 @@ show_vsync-requires-clause-stage g c = λ lives outlives.
 
 pub returns-in-Step-clause-ok : goal.returns-in-Step-clause-ok
 returns-in-Step-clause-ok g c = λ scene may shown.
-    let actors = c.actors.ensures ∙ ap (λ (cast : CastOf g.row.B.Denot). cast.actors) c.cast.ensures in
+    let actors = c.actors.ensures ∙ ap (λ (actor_set : ActorSetOf g.row.B.Denot). actor_set.actors) c.actor_set.ensures in
     let actor = c.index-actors-place.result in
     let newest =
     ap newest_shown c.replies.ensures
-    ∙ actor_at c.args.player.now.play.cast.actors c.in-Step.place actor (subst (λ (t : Turn). MayShowTurn scene t c.args.player.now) c.in-Step.is may)
+    ∙ actor_at c.args.player.now.play.actor_set.actors c.in-Step.place actor (subst (λ (t : Turn). MayShowTurn scene t c.args.player.now) c.in-Step.is may)
     (c.index-actors-place.is ∙ ap (λ (xs : List (Actor g.row.B.Denot)). get_or xs c.in-Step.place actor) actors)
     ∙ ap (turn_shown (picture_at scene.pictures) c.args.plan.now c.args.timelines.now c.args.player.now.play) (sym c.in-Step.is) in
     with_more _ _ c.write_newest.result
@@ -39,11 +39,11 @@ returns-in-Step-clause-ok g c = λ scene may shown.
 
 pub returns-in-Step-clause-err : goal.returns-in-Step-clause-err
 returns-in-Step-clause-err g c = λ scene may shown.
-    let actors = c.actors.ensures ∙ ap (λ (cast : CastOf g.row.B.Denot). cast.actors) c.cast.ensures in
+    let actors = c.actors.ensures ∙ ap (λ (actor_set : ActorSetOf g.row.B.Denot). actor_set.actors) c.actor_set.ensures in
     let actor = c.index-actors-place.result in
     let newest =
     ap newest_shown c.replies.ensures
-    ∙ actor_at c.args.player.now.play.cast.actors c.in-Step.place actor (subst (λ (t : Turn). MayShowTurn scene t c.args.player.now) c.in-Step.is may)
+    ∙ actor_at c.args.player.now.play.actor_set.actors c.in-Step.place actor (subst (λ (t : Turn). MayShowTurn scene t c.args.player.now) c.in-Step.is may)
     (c.index-actors-place.is ∙ ap (λ (xs : List (Actor g.row.B.Denot)). get_or xs c.in-Step.place actor) actors)
     ∙ ap (turn_shown (picture_at scene.pictures) c.args.plan.now c.args.timelines.now c.args.player.now.play) (sym c.in-Step.is) in
     subst (λ (rs : List Record). OnErr c.write_newest.result (WritesPart (g.K.Sink.taken c.args.sink.now) (g.K.Sink.taken c.write_newest.new.sink) rs)) newest c.write_newest.ensures.err

@@ -1,6 +1,6 @@
 use Rattle.std.proofs.Common.{◌≡◌, ℕ, ◌≤◌, ◌∙◌, ap, subst, sym}
 use Rattle.sf_turns.specs.Counts.{range}
-use Rattle.sf_cast.specs.Scripts.{permits_of}
+use Rattle.sf_actor_set.specs.Scripts.{permits_of}
 use Rattle.sf_commit.specs.Handlers.{new_handler}
 use Rattle.sf_scene.specs.Scene.{SceneValue}
 use Rattle.sf_play.proofs.Rights.{begins, begins_player}
@@ -26,7 +26,7 @@ invariant_of-result g c =
     } in
     let whole : c.args.stock.buffers ≡ range 0 (permits_of c.scene.inside.actors) = subst (λ (s : SceneValue). c.args.stock.buffers ≡ range 0 (permits_of s.actors)) (sym c.scene.view_is) c.requires.whole in
     let sized : permits_of c.scene.inside.actors ≤ g.B.TableName.table.slots = subst (λ (s : SceneValue). permits_of s.actors ≤ g.B.TableName.table.slots) (sym c.scene.view_is) c.requires.sized in
-    begins_player _ scene c.scene.invariant c.args.seat c.args.stock.buffers c.in_ok-cast.cast c.in_ok-handler.handler c.new-3.result c.as_slice.result.now c.as_slice.ensures c.in_ok-cast.ensures
+    begins_player _ scene c.scene.invariant c.args.seat c.args.stock.buffers c.in_ok-actor_set.actor_set c.in_ok-handler.handler c.new-3.result c.as_slice.result.now c.as_slice.ensures c.in_ok-actor_set.ensures
     (c.in_ok-handler.ensures ∙ ap (λ (most : ℕ). new_handler c.scene.inside.width c.scene.inside.height most) c.most_layers.ensures) (c.new-3.ensures ∙ c.new-2.ensures.items) c.requires.fresh whole sized
 
 pub returns : goal.returns
@@ -49,5 +49,5 @@ returns g c =
     } in
     let whole : c.args.stock.buffers ≡ range 0 (permits_of c.scene.inside.actors) = subst (λ (s : SceneValue). c.args.stock.buffers ≡ range 0 (permits_of s.actors)) (sym c.scene.view_is) c.requires.whole in
     let sized : permits_of c.scene.inside.actors ≤ g.B.TableName.table.slots = subst (λ (s : SceneValue). permits_of s.actors ≤ g.B.TableName.table.slots) (sym c.scene.view_is) c.requires.sized in
-    rw (← c.scene.view_is) (begins _ scene c.scene.invariant c.args.seat c.args.stock.buffers c.in_ok-cast.cast c.in_ok-handler.handler c.new-3.result c.as_slice.result.now c.as_slice.ensures c.in_ok-cast.ensures
+    rw (← c.scene.view_is) (begins _ scene c.scene.invariant c.args.seat c.args.stock.buffers c.in_ok-actor_set.actor_set c.in_ok-handler.handler c.new-3.result c.as_slice.result.now c.as_slice.ensures c.in_ok-actor_set.ensures
     (c.in_ok-handler.ensures ∙ ap (λ (most : ℕ). new_handler c.scene.inside.width c.scene.inside.height most) c.most_layers.ensures) (c.new-3.ensures ∙ c.new-2.ensures.items) c.requires.fresh whole sized)

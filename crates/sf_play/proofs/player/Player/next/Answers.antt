@@ -5,7 +5,7 @@ use Rattle.sf_play.proofs.Nexting.{goes, goes_with, keeps_as, less, may_make, st
 use Rattle.sf_play.specs.Places.{settled}
 use Rattle.sf_play.specs.Players.{PlayOf, PlayerOf}
 use Rattle.sf_play.specs.Standing.{StandsAlong, StandsInRun}
-use Rattle.sf_play.specs.Turning.{KeepsCast}
+use Rattle.sf_play.specs.Turning.{KeepsActorSet}
 use Rattle.sf_play.proofs.player.Player.next.Goals as goal
 
 abbrev buffer_in : PlainLease → BufferOf
@@ -13,7 +13,7 @@ buffer_in plain = record { queue = plain.queue.0; number = plain.held.number }
 
 pub turn_at-requires : goal.turn_at-requires
 turn_at-requires g c =
-    let play : PlayOf g.row.B.Denot = record { period = c.self.inside.period; order = c.self.inside.order; cast = c.self.inside.cast; handler = c.self.inside.handler; vsyncs = c.self.inside.vsyncs } in
+    let play : PlayOf g.row.B.Denot = record { period = c.self.inside.period; order = c.self.inside.order; actor_set = c.self.inside.actor_set; handler = c.self.inside.handler; vsyncs = c.self.inside.vsyncs } in
     let inside : PlayerOf g.row.B.Denot = record { play = play; place = c.self.inside.place; held = c.self.inside.held; is_spent = c.self.inside.is_spent } in
     record {
       spent = refl;
@@ -23,9 +23,9 @@ turn_at-requires g c =
 
 pub invariant_of-self-3 : goal.invariant_of-self-3
 invariant_of-self-3 g c =
-    let play : PlayOf g.row.B.Denot = record { period = c.self.inside.period; order = c.self.inside.order; cast = c.self.inside.cast; handler = c.self.inside.handler; vsyncs = c.self.inside.vsyncs } in
+    let play : PlayOf g.row.B.Denot = record { period = c.self.inside.period; order = c.self.inside.order; actor_set = c.self.inside.actor_set; handler = c.self.inside.handler; vsyncs = c.self.inside.vsyncs } in
     let inside : PlayerOf g.row.B.Denot = record { play = play; place = c.self.inside.place; held = c.self.inside.held; is_spent = c.self.inside.is_spent } in
-    let next : PlayOf g.row.B.Denot = record { period = c.self-2.inside.period; order = c.self-2.inside.order; cast = c.self-2.inside.cast; handler = c.self-2.inside.handler; vsyncs = c.self-2.inside.vsyncs } in
+    let next : PlayOf g.row.B.Denot = record { period = c.self-2.inside.period; order = c.self-2.inside.order; actor_set = c.self-2.inside.actor_set; handler = c.self-2.inside.handler; vsyncs = c.self-2.inside.vsyncs } in
     let later : PlayerOf g.row.B.Denot = record { play = next; place = c.self-2.inside.place; held = c.self-2.inside.held; is_spent = c.self-2.inside.is_spent } in
     stays _ g.B.TableName.table inside later c.in_ok-turn.turn c.settled-place.result (c.settled-place.ensures ∙ (λ i. settled (c.as_slice.ensures i) c.self.inside.place)) c.if-self.false
     (λ ofs keep. rw c.self-2.view_is (c.in_ok-turn.ensures.turns ofs keep))
@@ -35,19 +35,19 @@ invariant_of-self-3 g c =
 
 pub returns-clause-turns : goal.returns-clause-turns
 returns-clause-turns g c = λ ofs keep.
-    let play : PlayOf g.row.B.Denot = record { period = c.self.inside.period; order = c.self.inside.order; cast = c.self.inside.cast; handler = c.self.inside.handler; vsyncs = c.self.inside.vsyncs } in
+    let play : PlayOf g.row.B.Denot = record { period = c.self.inside.period; order = c.self.inside.order; actor_set = c.self.inside.actor_set; handler = c.self.inside.handler; vsyncs = c.self.inside.vsyncs } in
     let inside : PlayerOf g.row.B.Denot = record { play = play; place = c.self.inside.place; held = c.self.inside.held; is_spent = c.self.inside.is_spent } in
-    let next : PlayOf g.row.B.Denot = record { period = c.self-2.inside.period; order = c.self-2.inside.order; cast = c.self-2.inside.cast; handler = c.self-2.inside.handler; vsyncs = c.self-2.inside.vsyncs } in
+    let next : PlayOf g.row.B.Denot = record { period = c.self-2.inside.period; order = c.self-2.inside.order; actor_set = c.self-2.inside.actor_set; handler = c.self-2.inside.handler; vsyncs = c.self-2.inside.vsyncs } in
     let later : PlayerOf g.row.B.Denot = record { play = next; place = c.self-2.inside.place; held = c.self-2.inside.held; is_spent = c.self-2.inside.is_spent } in
-    let keep_inside = subst (λ (p : PlayerOf g.row.B.Denot). KeepsCast g.B.TableName.table p.play ofs) (sym c.self.view_is) keep in
+    let keep_inside = subst (λ (p : PlayerOf g.row.B.Denot). KeepsActorSet g.B.TableName.table p.play ofs) (sym c.self.view_is) keep in
     rw (← c.self.view_is) (turned _ g.B.TableName.table inside later c.in_ok-turn.turn c.settled-place.result (c.settled-place.ensures ∙ (λ i. settled (c.as_slice.ensures i) c.self.inside.place)) c.if-self.false
     (λ os kept. rw c.self-2.view_is (c.in_ok-turn.ensures.turns os kept)) ofs keep_inside)
 
 pub returns-clause-on : goal.returns-clause-on
 returns-clause-on g c = λ scene so was.
-    let play : PlayOf g.row.B.Denot = record { period = c.self.inside.period; order = c.self.inside.order; cast = c.self.inside.cast; handler = c.self.inside.handler; vsyncs = c.self.inside.vsyncs } in
+    let play : PlayOf g.row.B.Denot = record { period = c.self.inside.period; order = c.self.inside.order; actor_set = c.self.inside.actor_set; handler = c.self.inside.handler; vsyncs = c.self.inside.vsyncs } in
     let inside : PlayerOf g.row.B.Denot = record { play = play; place = c.self.inside.place; held = c.self.inside.held; is_spent = c.self.inside.is_spent } in
-    let next : PlayOf g.row.B.Denot = record { period = c.self-2.inside.period; order = c.self-2.inside.order; cast = c.self-2.inside.cast; handler = c.self-2.inside.handler; vsyncs = c.self-2.inside.vsyncs } in
+    let next : PlayOf g.row.B.Denot = record { period = c.self-2.inside.period; order = c.self-2.inside.order; actor_set = c.self-2.inside.actor_set; handler = c.self-2.inside.handler; vsyncs = c.self-2.inside.vsyncs } in
     let later : PlayerOf g.row.B.Denot = record { play = next; place = c.self-2.inside.place; held = c.self-2.inside.held; is_spent = c.self-2.inside.is_spent } in
     goes _ g.B.TableName.table inside later c.in_ok-turn.turn c.settled-place.result (c.settled-place.ensures ∙ (λ i. settled (c.as_slice.ensures i) c.self.inside.place)) c.if-self.false
     (λ ofs keep. rw c.self-2.view_is (c.in_ok-turn.ensures.turns ofs keep))
@@ -57,9 +57,9 @@ returns-clause-on g c = λ scene so was.
 
 pub returns-clause-along : goal.returns-clause-along
 returns-clause-along g c = λ scene so was.
-    let play : PlayOf g.row.B.Denot = record { period = c.self.inside.period; order = c.self.inside.order; cast = c.self.inside.cast; handler = c.self.inside.handler; vsyncs = c.self.inside.vsyncs } in
+    let play : PlayOf g.row.B.Denot = record { period = c.self.inside.period; order = c.self.inside.order; actor_set = c.self.inside.actor_set; handler = c.self.inside.handler; vsyncs = c.self.inside.vsyncs } in
     let inside : PlayerOf g.row.B.Denot = record { play = play; place = c.self.inside.place; held = c.self.inside.held; is_spent = c.self.inside.is_spent } in
-    let next : PlayOf g.row.B.Denot = record { period = c.self-2.inside.period; order = c.self-2.inside.order; cast = c.self-2.inside.cast; handler = c.self-2.inside.handler; vsyncs = c.self-2.inside.vsyncs } in
+    let next : PlayOf g.row.B.Denot = record { period = c.self-2.inside.period; order = c.self-2.inside.order; actor_set = c.self-2.inside.actor_set; handler = c.self-2.inside.handler; vsyncs = c.self-2.inside.vsyncs } in
     let later : PlayerOf g.row.B.Denot = record { play = next; place = c.self-2.inside.place; held = c.self-2.inside.held; is_spent = c.self-2.inside.is_spent } in
     goes_with _ g.B.TableName.table inside later c.in_ok-turn.turn c.settled-place.result (c.settled-place.ensures ∙ (λ i. settled (c.as_slice.ensures i) c.self.inside.place)) c.if-self.false
     (λ ofs keep. rw c.self-2.view_is (c.in_ok-turn.ensures.turns ofs keep))
@@ -69,9 +69,9 @@ returns-clause-along g c = λ scene so was.
 
 pub returns-clause-less : goal.returns-clause-less
 returns-clause-less g c =
-    let play : PlayOf g.row.B.Denot = record { period = c.self.inside.period; order = c.self.inside.order; cast = c.self.inside.cast; handler = c.self.inside.handler; vsyncs = c.self.inside.vsyncs } in
+    let play : PlayOf g.row.B.Denot = record { period = c.self.inside.period; order = c.self.inside.order; actor_set = c.self.inside.actor_set; handler = c.self.inside.handler; vsyncs = c.self.inside.vsyncs } in
     let inside : PlayerOf g.row.B.Denot = record { play = play; place = c.self.inside.place; held = c.self.inside.held; is_spent = c.self.inside.is_spent } in
-    let next : PlayOf g.row.B.Denot = record { period = c.self-2.inside.period; order = c.self-2.inside.order; cast = c.self-2.inside.cast; handler = c.self-2.inside.handler; vsyncs = c.self-2.inside.vsyncs } in
+    let next : PlayOf g.row.B.Denot = record { period = c.self-2.inside.period; order = c.self-2.inside.order; actor_set = c.self-2.inside.actor_set; handler = c.self-2.inside.handler; vsyncs = c.self-2.inside.vsyncs } in
     let later : PlayerOf g.row.B.Denot = record { play = next; place = c.self-2.inside.place; held = c.self-2.inside.held; is_spent = c.self-2.inside.is_spent } in
     rw (← c.self.view_is) (less _ g.B.TableName.table inside later c.in_ok-turn.turn c.settled-place.result (c.settled-place.ensures ∙ (λ i. settled (c.as_slice.ensures i) c.self.inside.place)) c.if-self.false
     (λ ofs keep. rw c.self-2.view_is (c.in_ok-turn.ensures.turns ofs keep))

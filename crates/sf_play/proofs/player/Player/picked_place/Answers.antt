@@ -7,5 +7,5 @@ use Rattle.sf_play.proofs.player.Player.picked_place.Goals as goal
 pub returns-clause-names : goal.returns-clause-names
 returns-clause-names g c =
     c.place_of.ensures.first
-    ∙ picked_there c.self.inside.cast.actors c.args.number c.if-number-eq0.false
-    ∙ ap (λ (p : PlayerOf g.row.B.Denot). picked_place p.play.cast.actors c.args.number) c.self.view_is
+    ∙ picked_there c.self.inside.actor_set.actors c.args.number c.if-number-eq0.false
+    ∙ ap (λ (p : PlayerOf g.row.B.Denot). picked_place p.play.actor_set.actors c.args.number) c.self.view_is

@@ -1,16 +1,16 @@
 use Rattle.std.proofs.Common.{◌<◌, ◌∙◌, length, subst, sym}
 use Rattle.sf_play.specs.Players.{PlayOf, PlayerOf}
-use Rattle.sf_play.specs.Turning.{KeepsCast}
+use Rattle.sf_play.specs.Turning.{KeepsActorSet}
 use Rattle.sf_play.proofs.Picking.{settled_there, takes_pick}
 use Rattle.sf_play.proofs.player.Player.turn_at.Goals as goal
 
 pub returns-in-Order-clause-turns : goal.returns-in-Order-clause-turns
 returns-in-Order-clause-turns g c = λ ofs keep.
-    let play : PlayOf g.row.B.Denot = record { period = c.self.inside.period; order = c.self.inside.order; cast = c.self.inside.cast; handler = c.self.inside.handler; vsyncs = c.self.inside.vsyncs } in
+    let play : PlayOf g.row.B.Denot = record { period = c.self.inside.period; order = c.self.inside.order; actor_set = c.self.inside.actor_set; handler = c.self.inside.handler; vsyncs = c.self.inside.vsyncs } in
     let inside : PlayerOf g.row.B.Denot = record { play = play; place = c.self.inside.place; held = c.self.inside.held; is_spent = c.self.inside.is_spent } in
     let low = settled_there c.args.self.now.play.order c.args.self.now.place c.in-Order.place c.in-Order.done (sym c.requires.settled ∙ c.in-Order.is) in
     let low_inside = subst (λ (p : PlayerOf g.row.B.Denot). c.in-Order.place < length p.play.order) (sym c.self.view_is) low in
-    let keep_inside = subst (λ (p : PlayerOf g.row.B.Denot). KeepsCast g.B.TableName.table p.play ofs) (sym c.self.view_is) keep in
+    let keep_inside = subst (λ (p : PlayerOf g.row.B.Denot). KeepsActorSet g.B.TableName.table p.play ofs) (sym c.self.view_is) keep in
     rw (c.in-Order.is, ← c.self.view_is)
     (takes_pick _ g.B.TableName.table ofs c.in-Order.place c.in-Order.done inside c.pick.new.self c.as_slice.result.now (record { actor = 0; times = 0 }) c.pick.result c.as_slice.ensures low_inside (c.pick.ensures.picks ofs keep_inside)
     c.pick.ensures.place)

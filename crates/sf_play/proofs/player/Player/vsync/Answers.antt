@@ -11,16 +11,16 @@ use Rattle.sf_play.proofs.player.Player.vsync.Goals as goal
 
 pub vsync-requires : goal.vsync-requires
 vsync-requires g c =
-    let play : PlayOf g.row.B.Denot = record { period = c.self.inside.period; order = c.self.inside.order; cast = c.self.inside.cast; handler = c.self.inside.handler; vsyncs = c.self.inside.vsyncs } in
+    let play : PlayOf g.row.B.Denot = record { period = c.self.inside.period; order = c.self.inside.order; actor_set = c.self.inside.actor_set; handler = c.self.inside.handler; vsyncs = c.self.inside.vsyncs } in
     let stands = subst (λ (p : PlayerOf g.row.B.Denot). Stands g.B.TableName.table c.requires.may.scene c.requires.may.so p.play) (sym c.self.view_is) c.requires.may.stands in
     record { rising = λ alive. rises_then _ c.requires.may.scene c.requires.may.so play stands c.see-seen.new.self c.see-seen.ensures.times c.in_ok-arrived.arrived.items c.take.new.self.desk.arrivals c.in_ok-arrived.ensures.taken }
 
 pub release_all-requires : goal.release_all-requires
 release_all-requires g c =
-    let play : PlayOf g.row.B.Denot = record { period = c.self.inside.period; order = c.self.inside.order; cast = c.self.inside.cast; handler = c.self.inside.handler; vsyncs = c.self.inside.vsyncs } in
+    let play : PlayOf g.row.B.Denot = record { period = c.self.inside.period; order = c.self.inside.order; actor_set = c.self.inside.actor_set; handler = c.self.inside.handler; vsyncs = c.self.inside.vsyncs } in
     let stands = subst (λ (p : PlayerOf g.row.B.Denot). Stands g.B.TableName.table c.requires.may.scene c.requires.may.so p.play) (sym c.self.view_is) c.requires.may.stands in
     let taken = taken_in c.take.new.self.desk.arrivals in
-    let home : home_of c.vsync.new.self.desk ≡ record (home_of c.self.inside.cast.desk) { taken = taken } =
+    let home : home_of c.vsync.new.self.desk ≡ record (home_of c.self.inside.actor_set.desk) { taken = taken } =
     c.vsync.ensures.only.home ∙ ap (λ (h : DeskHome). record h { taken = taken }) (c.take.ensures.only.home ∙ ap (λ (h : DeskHome). record h { taken = taken }) c.see-seen.ensures.only.home) in
     let there = queues_there _ c.requires.may.scene c.requires.may.so play stands c.see-seen.new.self c.see-seen.ensures.times c.in_ok-arrived.arrived.items c.take.new.self.desk.arrivals c.in_ok-arrived.ensures.taken
     _ c.vsync.new.handler c.take.new.self.desk.turns c.vsync.new.self.desk.turns c.see-seen.result (c.from.result * c.self.inside.period) c.in_ok-commits.field-0 c.in_ok-commits.ensures.decides
@@ -46,7 +46,7 @@ returns-clause-makes g c =
         decides = rw (← number) c.in_ok-commits.ensures.decides;
         turns = c.vsync.ensures.turns;
         only_decides = c.vsync.ensures.only;
-        gives = subst (λ (rs : List (ReleaseOf ReadLeaseOf)). GivesFrames (home_of c.vsync.new.self.desk) (c.self.inside.vsyncs + 1) rs (view_of c.vsync.new.self.desk) (view_of c.release_all.new.cast.desk))
+        gives = subst (λ (rs : List (ReleaseOf ReadLeaseOf)). GivesFrames (home_of c.vsync.new.self.desk) (c.self.inside.vsyncs + 1) rs (view_of c.vsync.new.self.desk) (view_of c.release_all.new.actor_set.desk))
             (c.into_vec.ensures ∙ ap (λ (v : VsyncOf ReadLeaseOf). v.releases) c.commits.view_is) c.in_ok-release_all.ensures.gives;
         only_gives = c.in_ok-release_all.ensures.only;
         rest = refl;

@@ -1,0 +1,4 @@
+pub mod ActorSets
+pub mod Compositing
+pub mod Opening
+pub mod Scripts

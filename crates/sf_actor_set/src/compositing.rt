@@ -1,0 +1,186 @@
+//! The calls of a compositor that shares the desk of one thread with the actors. It calls as number
+//! 0, which no actor has, so that every actor keeps what it keeps.
+ghost use Rattle.std.specs.Prelude.{◌≡◌, false, true, is_ok, IfErr, IfOk, IsErr, None, OnErr};
+ghost use Rattle.sf_actor.specs.Desks.{IsAsBefore, MadeCall, has_queue};
+ghost use Rattle.sf_actor.specs.Plain.{home_of, taken_in, view_of};
+ghost use Rattle.sf_actor.specs.Tries.{Sees};
+ghost use Rattle.sf_calls.specs.Calling.{IfFaultNotYet};
+ghost use Rattle.sf_actor_set.specs.Compositing.{GoesOnDesk, SeatGoesOn, Takes};
+ghost use Rattle.sf_commit.specs.Handlers.{Decides, Stops, last_of};
+ghost use Rattle.std.specs.List.{All};
+ghost use Rattle.sf_calls.specs.Histories.{IsLegal};
+ghost use Rattle.sf_surface.specs.Histories.{Answers};
+ghost use Rattle.sf_surface.specs.Objects.{ObjectOf, mark_of};
+ghost use Rattle.sf_surface.specs.declared.call.QCall.TheVariants as call;
+ghost use Rattle.sf_surface.specs.declared.call.QReply.{QReply as ReplyOf};
+ghost use Rattle.sf_token.specs.Arrivals.{sent};
+ghost use Rattle.sf_token.specs.Pending.{IsRisingFrom};
+
+use sf_actor::{Desk, PlainDesk};
+use sf_base::{ActorId, NoMemory, Seen};
+use sf_calls::{CallFault, Object, Outcome};
+use sf_commit::{Handler, Release, Vsync};
+use sf_picture::Painted;
+use sf_surface::{QCall, QReply, QueueObject, ReadLease};
+use sf_token::{Arrivals, ArriveCall, ArriveReply, Arrived, Batch};
+use sf_turns::{TableName, TurnSeat};
+use sf_txn::Lease;
+use std::marker::Brand;
+
+/// The compositor's number as a caller.
+const COMPOSITOR: u32 = 0;
+
+/// Looks at the timelines.
+pub fn see_at<B: TableName>(desk: &mut PlainDesk<B>) -> Seen
+    ensures sees { Sees (home_of desk.old) (view_of desk.old) (view_of desk.new) result }
+    ensures times { desk.new ≡ record desk.old { times = desk.new.times } }
+    ensures goes { GoesOnDesk (taken_in desk.old.arrivals) desk.old desk.new }
+{
+    desk.times.see_all(&desk.table)
+}
+
+/// Tells of each queue that its calls are legal. It does nothing: each queue keeps this of itself.
+pub fn legal_each<B: TableName>(queues: &[QueueObject<B>])
+    ensures { All (λ (object : ObjectOf B). IsLegal (Answers (mark_of object)) object.calls) queues.now }
+{
+    for object in queues {
+        object.legal();
+    }
+}
+
+/// Tells that the desk's seat at the turns is at the named table. It does nothing.
+pub fn owns_at<B: TableName>(desk: &PlainDesk<B>)
+    ensures { desk.now.turns.table ≡ B.table }
+{
+    let _seat = &desk.turns;
+}
+
+/// Takes what waits.
+fn take_from<B: TableName>(
+    arrivals: &mut Arrivals<ReadLease<B>, Brand>,
+) -> Result<Vec<Arrived<ReadLease<B>>>, NoMemory>
+    ensures taken { IfOk result (λ batch. Takes arrivals.old arrivals.new batch.items) }
+    ensures stays { IfErr result (λ _. arrivals.new ≡ arrivals.old) }
+    ensures sent { sent arrivals.new ≡ sent arrivals.old }
+{
+    match arrivals.apply(COMPOSITOR, ArriveCall::Take) {
+        Outcome::Done(ArriveReply::Batch(batch)) => {
+            let Batch { list } = batch;
+            Ok(list)
+        }
+        Outcome::NoMemory(call) => {
+            drop(call);
+            Err(NoMemory)
+        }
+        _other => unreachable!(),
+    }
+}
+
+/// Takes the transactions that arrived. Want of memory leaves them.
+pub fn take_at<B: TableName>(
+    desk: &mut PlainDesk<B>,
+) -> Result<Vec<Arrived<ReadLease<B>>>, NoMemory>
+    ensures taken { IfOk result (λ batch. Takes desk.old.arrivals desk.new.arrivals batch.items) }
+    ensures stays { IfErr result (λ _. desk.new ≡ desk.old) }
+    ensures arrivals { desk.new ≡ record desk.old { arrivals = desk.new.arrivals } }
+    ensures goes { GoesOnDesk (taken_in desk.new.arrivals) desk.old desk.new }
+{
+    take_from(&mut desk.arrivals)
+}
+
+/// A handler's vsync with the seat at the turns as its eye.
+fn vsync_through<B: TableName>(
+    turns: &mut TurnSeat<Painted>,
+    handler: &mut Handler<ReadLease<B>>,
+    arrived: Vec<Arrived<ReadLease<B>>>,
+    seen: &Seen,
+    expected: u64,
+) -> Result<Vsync<ReadLease<B>>, NoMemory>
+    requires own { turns.old.table ≡ B.table }
+    requires rising { handler.old.is_spent ≡ false → IsRisingFrom handler.old.last arrived.items (last_of handler.old.last arrived.items) }
+    ensures decides { IfOk result (λ told. Decides ⟦<ReadLease<B> as Lease>⟧ handler.old turns.old arrived.items seen.now expected told handler.new turns.new) }
+    ensures stops { OnErr result (Stops ⟦<ReadLease<B> as Lease>⟧ handler.old turns.old handler.new turns.new) }
+    ensures again { handler.old.is_spent ≡ true → IsErr result }
+    ensures goes { SeatGoesOn turns.old turns.new }
+{
+    handler.vsync(turns, arrived, seen, expected)
+}
+
+/// A handler's vsync with the desk's seat at the turns as its eye.
+pub fn vsync_at<B: TableName>(
+    desk: &mut PlainDesk<B>,
+    handler: &mut Handler<ReadLease<B>>,
+    arrived: Vec<Arrived<ReadLease<B>>>,
+    seen: &Seen,
+    expected: u64,
+) -> Result<Vsync<ReadLease<B>>, NoMemory>
+    requires rising { handler.old.is_spent ≡ false → IsRisingFrom handler.old.last arrived.items (last_of handler.old.last arrived.items) }
+    ensures decides { IfOk result (λ told. Decides ⟦<ReadLease<B> as Lease>⟧ handler.old desk.old.turns arrived.items seen.now expected told handler.new desk.new.turns) }
+    ensures stops { OnErr result (Stops ⟦<ReadLease<B> as Lease>⟧ handler.old desk.old.turns handler.new desk.new.turns) }
+    ensures again { handler.old.is_spent ≡ true → IsErr result }
+    ensures turns { desk.new ≡ record desk.old { turns = desk.new.turns } }
+    ensures goes { GoesOnDesk (taken_in desk.old.arrivals) desk.old desk.new }
+{
+    vsync_through(&mut desk.turns, handler, arrived, seen, expected)
+}
+
+/// Lets a reply go that ends no drawing, with what it gives.
+fn let_go<B: TableName>(reply: QReply<B>)
+    requires { reply.ends ≡ None }
+{
+    let QReply {
+        status: _status,
+        values: _values,
+        gives,
+        ends,
+        spare: _spare,
+    } = reply;
+    drop(gives);
+    match ends {
+        None => {}
+        Some(_ending) => unreachable!(),
+    }
+}
+
+/// Whether a call that gives nothing and never waits was made. Its reply is let go, and so is what
+/// comes back for want of memory.
+fn settle<B: TableName>(outcome: Result<QReply<B>, CallFault<QCall<B>>>) -> Result<(), NoMemory>
+    requires ends { IfOk outcome (λ reply. reply.ends ≡ None) }
+    requires never { IfFaultNotYet outcome (λ _. ⊥) }
+    ensures { is_ok result ≡ is_ok outcome }
+{
+    match outcome {
+        Ok(reply) => {
+            let_go(reply);
+            Ok(())
+        }
+        Err(CallFault::NotYet(_)) => unreachable!(),
+        Err(CallFault::NoMemory(call)) => {
+            drop(call);
+            Err(NoMemory)
+        }
+    }
+}
+
+/// Gives a frame back to its queue, as the compositor and for a vsync. A frame that the queue
+/// refuses is dropped.
+pub fn release_at<B: TableName>(
+    desk: &mut PlainDesk<B>,
+    vsync: u32,
+    release: Release<ReadLease<B>>,
+) -> Result<(), NoMemory>
+    requires there { has_queue (home_of desk.old) release.queue.0 ≡ true }
+    ensures released { IfOk result (λ _. (reply : ReplyOf B)
+        × MadeCall (home_of desk.old) (view_of desk.old) (view_of desk.new) 0 release.queue.0 (vsync, call.Release release.lease release.fence) reply) }
+    ensures as_before { IfErr result (λ _. IsAsBefore (view_of desk.old) (view_of desk.new)) }
+    ensures goes { GoesOnDesk (taken_in desk.old.arrivals) desk.old desk.new }
+{
+    let Release {
+        queue,
+        frame: _,
+        fence,
+        lease,
+    } = release;
+    let call = QCall::Release(lease, fence);
+    settle(desk.call(ActorId(COMPOSITOR), queue, vsync, call))
+}

@@ -1,7 +1,0 @@
-pub mod ArrivalLemmas
-pub mod CastLemmas
-pub mod CompositingLemmas
-pub mod OpeningLemmas
-pub mod PlayingLemmas
-pub mod RisingLemmas
-pub mod SteppingLemmas

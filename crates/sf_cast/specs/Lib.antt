@@ -1,4 +1,0 @@
-pub mod Casts
-pub mod Compositing
-pub mod Opening
-pub mod Scripts
