@@ -38,7 +38,7 @@ class Made(unittest.TestCase):
         with open(os.path.join(run.TOP, "crates.txt"), encoding="utf-8") as file:
             whole = small_program.below(["sf_main"], run.TOP, small_program.listed_crates(file.read()))
         self.assertLess(len(self.lines), len(whole))
-        for crate in ("sf_live", "sf_crew", "sf_options", "sf_generate"):
+        for crate in ("sf_live", "sf_threads", "sf_options", "sf_generate"):
             self.assertNotIn(crate, self.lines)
             self.assertIn(crate, whole)
 

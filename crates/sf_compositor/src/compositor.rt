@@ -1,18 +1,18 @@
 ghost use denote.Param.Send.{IsSync};
 ghost use Rattle.std.specs.Prelude.{OnErr, OnOk};
 ghost use Rattle.sf_shared.specs.First.{IsFirst};
-ghost use Rattle.sf_crew.specs.Visits.{LeavesGiven};
+ghost use Rattle.sf_threads.specs.Visits.{LeavesGiven};
 ghost use Rattle.sf_compositor.specs.Keeping.{HasEnded, Keeps};
 
 use crate::decider::Decider;
 use crate::showing::show_next;
-use sf_crew::{Ended, Visit};
 use sf_io::Sink;
 use sf_plan::Plan;
 use sf_record::RunFault;
 use sf_screen::Screens;
 use sf_shared::{FirstSeats, Locks};
 use sf_surface::ReadLease;
+use sf_threads::{Ended, Visit};
 use sf_turns::TableName;
 use sf_txn::Lease;
 use std::alloc::Global;

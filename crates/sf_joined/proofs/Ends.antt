@@ -28,13 +28,13 @@ use Rattle.sf_actor_set.proofs.RisingLemmas.{sorted_rises}
 use Rattle.sf_actor_set.specs.ActorSets.{KeepAs, scripts_of}
 use Rattle.sf_actor_set.specs.Opening.{IsSortedFrom, new_actors}
 use Rattle.sf_steps.specs.Playable.{IsPlayable, MayPlay}
-use Rattle.sf_crew.specs.Walks.{Begin, Moment, More, Walk}
-use Rattle.sf_crew.proofs.Doing.{walk_signals}
+use Rattle.sf_threads.specs.Walks.{Begin, Moment, More, Walk}
+use Rattle.sf_threads.proofs.Doing.{walk_signals}
 use Rattle.sf_run.specs.Actors.{AreActors, number_of, script_of}
 use Rattle.sf_shared.specs.declared.locks.Locks.{Locks}
 use Rattle.sf_shared.specs.declared.seats.Seats.{Seats}
 use Rattle.sf_shared.specs.Seats.{home_of, marks_of, view_of}
-use Rattle.sf_replay.specs.Joining.{CameBack, IsBoarded, actor_at, of_at}
+use Rattle.sf_replay.specs.Joining.{CameBack, HasNewSeats, actor_at, of_at}
 
 scripts_new : (B : Type 0) (scripts : List ActorScript) (stock : List ℕ) → map script_of (new_actors {B = B} scripts stock) ≡ scripts
 scripts_new B [] stock = refl
@@ -74,24 +74,24 @@ module _ {B : Type 0} where
   no_traces (script ∷ scripts) stock = All-cons HasNoTrace _ (new_actors scripts (drop (dequeues_in script.steps) stock)) refl (no_traces scripts (drop (dequeues_in script.steps) stock))
 
   module _ (scene : SceneValue) (table : TableId) (locks : Locks B) where
-    one_back : (start end : Moment B) → HasNoTrace start.of → IsBoarded scene table locks start → CameBack scene table locks start end → IsBack scene table locks end
-    one_back start end fresh boarded came =
+    one_back : (start end : Moment B) → HasNoTrace start.of → HasNewSeats scene table locks start → CameBack scene table locks start end → IsBack scene table locks end
+    one_back start end fresh new_seats came =
         let walked = walk_signals table (picture_at scene.pictures) locks start end came.walk in
         record {
           keeps = came.sound.keeps;
-          served = walk_caller table (picture_at scene.pictures) locks start end came.walk ∙ boarded.served
+          served = walk_caller table (picture_at scene.pictures) locks start end came.walk ∙ new_seats.served
               ∙ sym (ap (λ (s : ActorScript). s.number) (walk_script table (picture_at scene.pictures) locks start end came.walk));
-          signals = walked.seated ∙ ap (λ (list : List (ℕ × ℕ)). list ++ walked.more) boarded.signals ∙ sym (walked.traced ∙ ap (λ (list : List (ℕ × ℕ)). list ++ walked.more) (ap signals_of fresh));
+          signals = walked.seated ∙ ap (λ (list : List (ℕ × ℕ)). list ++ walked.more) new_seats.signals ∙ sym (walked.traced ∙ ap (λ (list : List (ℕ × ℕ)). list ++ walked.more) (ap signals_of fresh));
         }
 
-    pub all_back : (starts ends : List (Moment B)) → All HasNoTrace (map of_at starts) → All (IsBoarded scene table locks) starts → AllZip (CameBack scene table locks) starts ends → All (IsBack scene table locks) ends
-    all_back [] [] fresh boarded came = All-nil (IsBack scene table locks)
-    all_back [] (end ∷ ends) fresh boarded came = absurd came
-    all_back (start ∷ starts) [] fresh boarded came = absurd came
-    all_back (start ∷ starts) (end ∷ ends) fresh boarded came =
+    pub all_back : (starts ends : List (Moment B)) → All HasNoTrace (map of_at starts) → All (HasNewSeats scene table locks) starts → AllZip (CameBack scene table locks) starts ends → All (IsBack scene table locks) ends
+    all_back [] [] fresh new_seats came = All-nil (IsBack scene table locks)
+    all_back [] (end ∷ ends) fresh new_seats came = absurd came
+    all_back (start ∷ starts) [] fresh new_seats came = absurd came
+    all_back (start ∷ starts) (end ∷ ends) fresh new_seats came =
         All-cons (IsBack scene table locks) end ends
-        (one_back start end (All-head HasNoTrace start.of (map of_at starts) fresh) (All-head (IsBoarded scene table locks) start starts boarded) came.0)
-        (all_back starts ends (All-tail HasNoTrace start.of (map of_at starts) fresh) (All-tail (IsBoarded scene table locks) start starts boarded) came.1)
+        (one_back start end (All-head HasNoTrace start.of (map of_at starts) fresh) (All-head (HasNewSeats scene table locks) start starts new_seats) came.0)
+        (all_back starts ends (All-tail HasNoTrace start.of (map of_at starts) fresh) (All-tail (HasNewSeats scene table locks) start starts new_seats) came.1)
 
     pub same_scripts : (starts ends : List (Moment B)) → AllZip (CameBack scene table locks) starts ends → map script_of (map of_at ends) ≡ map script_of (map of_at starts)
     same_scripts [] [] came = refl
@@ -167,13 +167,13 @@ module _ {B : Type 0} where
         few = plays.few;
       }
 
-      pub all_play : ((by : ℕ) → home.serves by ≡ true) → (starts ends : List (Moment B)) → All (IsBoarded scene table locks) starts → AllZip (CameBack scene table locks) starts ends
+      pub all_play : ((by : ℕ) → home.serves by ≡ true) → (starts ends : List (Moment B)) → All (HasNewSeats scene table locks) starts → AllZip (CameBack scene table locks) starts ends
           → All (MayPlay home scene.pictures) (scripts_of (map actor_at ends))
-      all_play serves [] [] boarded came = All-nil (MayPlay home scene.pictures)
-      all_play serves [] (end ∷ ends) boarded came = absurd came
-      all_play serves (start ∷ starts) [] boarded came = absurd came
-      all_play serves (start ∷ starts) (end ∷ ends) boarded came =
-          let plays = may_play scene.pictures start.seats start.of.script (serves start.of.script.number) (All-head (IsBoarded scene table locks) start starts boarded).plays in
+      all_play serves [] [] new_seats came = All-nil (MayPlay home scene.pictures)
+      all_play serves [] (end ∷ ends) new_seats came = absurd came
+      all_play serves (start ∷ starts) [] new_seats came = absurd came
+      all_play serves (start ∷ starts) (end ∷ ends) new_seats came =
+          let plays = may_play scene.pictures start.seats start.of.script (serves start.of.script.number) (All-head (HasNewSeats scene table locks) start starts new_seats).plays in
           let same : end.actor.script ≡ start.of.script = sym came.0.sound.is.script ∙ walk_script table (picture_at scene.pictures) locks start end came.0.walk in
           All-cons (MayPlay home scene.pictures) end.actor.script (scripts_of (map actor_at ends)) (subst (MayPlay home scene.pictures) (sym same) plays)
-          (all_play serves starts ends (All-tail (IsBoarded scene table locks) start starts boarded) came.1)
+          (all_play serves starts ends (All-tail (HasNewSeats scene table locks) start starts new_seats) came.1)

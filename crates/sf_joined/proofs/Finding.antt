@@ -20,7 +20,7 @@ use Rattle.sf_run.proofs.Taking.{shows_picture}
 use Rattle.sf_run.specs.Actors.{AreActors, AreCalls}
 use Rattle.sf_report.specs.Stages.{AreExpected}
 use Rattle.sf_shared.specs.declared.locks.Locks.{Locks}
-use Rattle.sf_crew.specs.Walks.{Moment}
+use Rattle.sf_threads.specs.Walks.{Moment}
 use Rattle.sf_play.proofs.Leasing.{IsArrivedLent, OfFrames}
 use Rattle.sf_play.proofs.Seeing.{one_passes}
 use Rattle.sf_play.specs.Players.{IsBufferLent}

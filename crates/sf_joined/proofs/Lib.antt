@@ -1,5 +1,5 @@
 pub mod Callers
-pub mod Crewing
+pub mod WalkingBack
 pub mod Ends
 pub mod Finding
 pub mod Fronts

@@ -16,7 +16,7 @@ use Rattle.sf_shared.specs.declared.seats.Seats.{Seats}
 use Rattle.sf_shared.specs.Moves.{MovesPass}
 use Rattle.sf_shared.specs.Passes.{KeepsOwn}
 use Rattle.sf_shared.specs.Seats.{IsPassOf, QueuePass, is_at, mark_in}
-use Rattle.sf_crew.specs.Walks.{Moment}
+use Rattle.sf_threads.specs.Walks.{Moment}
 use Rattle.sf_joined.specs.Fronts.{AllFronts}
 use Rattle.sf_joined.proofs.Fronts.{begins_on}
 use Rattle.sf_joined.proofs.Meeting.{meets_arrivals}

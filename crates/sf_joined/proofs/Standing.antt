@@ -65,7 +65,7 @@ use Rattle.sf_shared.specs.Arriving.{ArrivalCalls}
 use Rattle.sf_shared.specs.First.{gave_of, took_of}
 use Rattle.sf_shared.specs.Seats.{QueuePass, calls_known, home_of, is_at, view_of}
 use Rattle.sf_shared.proofs.Going.{goes_unstamped, sent_goes}
-use Rattle.sf_crew.specs.Walks.{Moment}
+use Rattle.sf_threads.specs.Walks.{Moment}
 use Rattle.sf_play.proofs.Arriving.{arrivals_lent}
 use Rattle.sf_play.proofs.Ledging.{none_absent}
 use Rattle.sf_play.proofs.Leasing.{IsArrivedLent, OfFrames}
@@ -220,7 +220,7 @@ module _ {B : Type 0} (lease : Ghosts ReadLeaseOf SeatView ReadLeaseOf Issued) (
 
   -- the actors
   back : All (IsBack scene table locks) ends
-  back = all_back scene table locks j.starts ends (subst (All HasNoTrace) (sym j.new) (no_traces j.declared j.stock)) j.boarded j.came
+  back = all_back scene table locks j.starts ends (subst (All HasNoTrace) (sym j.new) (no_traces j.declared j.stock)) j.new_seats j.came
 
   took : took_of j.first ≡ all_seats
   took = meets_took j.attended all_seats j.first j.met ∙ ap (λ (list : List (Seats B)). list ++ all_seats) j.none_taken
@@ -479,7 +479,7 @@ module _ {B : Type 0} (lease : Ghosts ReadLeaseOf SeatView ReadLeaseOf Issued) (
         ledger = ledger;
         makers = makers;
         draws = draws;
-        plays = all_play scene table locks home joined j.closes.marks (λ by. refl) j.starts ends j.boarded j.came;
+        plays = all_play scene table locks home joined j.closes.marks (λ by. refl) j.starts ends j.new_seats j.came;
       }
 
       pub stands_in_run : MakersPlay scene home joined ofs last.handler → DrawsStand scene home joined ofs last.handler → StandsInRun table scene so (player_joined scene ends desk last)

@@ -11,7 +11,7 @@ use Rattle.sf_scene.specs.Scene.{SceneValue}
 use Rattle.sf_actor.specs.Desks.{mark_among}
 use Rattle.sf_actor.specs.Plain.{PlainOf, home_of as plain_home, view_of as plain_view}
 use Rattle.sf_shared.specs.declared.locks.Locks.{Locks}
-use Rattle.sf_crew.specs.Walks.{Moment}
+use Rattle.sf_threads.specs.Walks.{Moment}
 use Rattle.sf_rights.specs.PlaceTries.{TellsPlaces}
 use Rattle.sf_rights.specs.Standing.{LedgerStands, state_of}
 use Rattle.sf_rights.specs.Vsyncs.{IsOfTurns}

@@ -19,7 +19,7 @@ use Rattle.sf_record.specs.declared.event.VsyncReport.{VsyncReport}
 use Rattle.sf_run.specs.Replies.{reply_shown}
 use Rattle.sf_scene.specs.Limits.{most_layers}
 use Rattle.sf_shared.specs.declared.locks.Locks.{Locks}
-use Rattle.sf_crew.specs.Walks.{Moment}
+use Rattle.sf_threads.specs.Walks.{Moment}
 use Rattle.sf_play.specs.Players.{PlayerOf, SoFar, before_round}
 use Rattle.sf_joined.specs.Logs.{reports_of}
 use Rattle.sf_replay.specs.Joining.{Joins, actor_at, of_at}

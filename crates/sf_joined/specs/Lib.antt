@@ -1,5 +1,5 @@
 pub mod Calls
-pub mod Crews
+pub mod SeatedActors
 pub mod Frames
 pub mod Fronts
 pub mod Joined

@@ -21,8 +21,8 @@ ghost use Rattle.sf_shared.specs.declared.locks.Locks.{Locks};
 ghost use Rattle.sf_shared.specs.declared.seats.Seats.{Seats};
 ghost use Rattle.sf_actor_set.specs.Opening.{new_actors};
 ghost use Rattle.sf_steps.specs.declared.actor.Actor.{Actor};
-ghost use Rattle.sf_crew.specs.Walks.{Moment};
-ghost use Rattle.sf_crew.specs.declared.crew.Crew.{Crew};
+ghost use Rattle.sf_threads.specs.Walks.{Moment};
+ghost use Rattle.sf_threads.specs.declared.seated_actor.SeatedActor.{SeatedActor};
 ghost use Rattle.sf_run.specs.Actors.{AreActors, mark_declared};
 ghost use Rattle.sf_run.specs.Histories.{released_in};
 ghost use Rattle.sf_run.specs.Progress.{HasPlayed};
@@ -37,7 +37,7 @@ ghost use Rattle.sf_compositor.specs.Vsyncs.{IsVsync, Sitting, Vsyncs};
 ghost use Rattle.sf_play.specs.Players.{AreLent, Stands};
 ghost use Rattle.sf_play.specs.Standing.{IsStanding, StandsInRun};
 ghost use Rattle.sf_joined.specs.Calls.{AreReleasesOn, IsGivenOn};
-ghost use Rattle.sf_joined.specs.Crews.{CameOfNew, WalkedBack};
+ghost use Rattle.sf_joined.specs.SeatedActors.{CameOfNew, WalkedBack};
 ghost use Rattle.sf_joined.specs.Frames.{AllFind};
 ghost use Rattle.sf_joined.specs.Joined.{IsJoined, player_joined, so_joined};
 ghost use Rattle.sf_joined.specs.Logs.{HasPlayedSo, HasSeenSo, HasTaken, HoldsLent, IsBegun, IsKnown, KnowsSteps};
@@ -154,10 +154,10 @@ pub fn a_player_stands_at_the_join<B: TableName>()
         → IsStanding B.table (player_joined scene ends desk last) }
 {}
 
-/// Crews whose actors had done nothing when they were sent out in threads walked back by tries of their
-/// steps: so they went aboard and came back as `Joins` has it.
-pub fn crews_walked_back<B: TableName>()
-    ensures { (scene : SceneValue) (locks : Locks B) (known : Seats B) (declared : List ActorScript) (stock : List ℕ) (actors : List (Actor B)) (sent back : List (Crew B))
+/// Seated actors that had done nothing when they were sent out in threads walked back by tries of their
+/// steps: so they were given seats and came back as `Joins` has it.
+pub fn seated_actors_walked_back<B: TableName>()
+    ensures { (scene : SceneValue) (locks : Locks B) (known : Seats B) (declared : List ActorScript) (stock : List ℕ) (actors : List (Actor B)) (sent back : List (SeatedActor B))
         → CameOfNew scene B.table locks known (new_actors declared stock) actors sent back → WalkedBack scene B.table locks (new_actors declared stock) back }
 {}
 

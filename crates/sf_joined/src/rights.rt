@@ -2,7 +2,7 @@ ghost use Rattle.std.specs.Prelude.{◌≡◌, ℕ, ◌≤◌, List};
 ghost use Rattle.sf_scene.specs.Scene.{SceneValue};
 ghost use Rattle.sf_actor.specs.Plain.{PlainOf};
 ghost use Rattle.sf_shared.specs.declared.locks.Locks.{Locks};
-ghost use Rattle.sf_crew.specs.Walks.{Moment};
+ghost use Rattle.sf_threads.specs.Walks.{Moment};
 ghost use Rattle.sf_compositor.specs.Vsyncs.{Sitting};
 ghost use Rattle.sf_play.specs.Standing.{IsStanding, StandsInRun};
 ghost use Rattle.atomic_table.specs.Seated.{TableId};

@@ -22,15 +22,15 @@ use Rattle.sf_steps.specs.declared.actor.Actor.{Actor}
 use Rattle.sf_actor_set.specs.ActorSets.{IsActorSet, KeepAs, numbers_of, scripts_of}
 use Rattle.sf_run.specs.Actors.{number_of, script_of}
 use Rattle.sf_shared.specs.declared.locks.Locks.{Locks}
-use Rattle.sf_crew.specs.declared.ashore.Landed.{Landed}
-use Rattle.sf_crew.specs.declared.gates.Gates.{Gates}
-use Rattle.sf_crew.specs.Walks.{Moment}
+use Rattle.sf_threads.specs.declared.all_returned.ReturnedActor.{ReturnedActor}
+use Rattle.sf_threads.specs.declared.gates.Gates.{Gates}
+use Rattle.sf_threads.specs.Walks.{Moment}
 use Rattle.sf_compositor.specs.Vsyncs.{Sitting}
 use Rattle.sf_replay.specs.Joining.{actor_at, of_at}
 use Rattle.sf_joined.specs.Joined.{IsJoined, actor_set_joined}
 use Rattle.sf_joined.proofs.Ends.{all_play}
 use Rattle.sf_joined.proofs.Standing.{actors, kept_as}
-use Rattle.sf_live.specs.Threads.{landed_actor}
+use Rattle.sf_live.specs.Threads.{returned_actor}
 
 module _ {B : Type 0} (table : TableId) (pictures : ℕ → Picture) (home : DeskHome) (view : DeskView B) where
   scripts_are : (actor_set : List (Actor B)) (ofs : List (ActorOf B)) → KeepAs table pictures home view actor_set ofs → scripts_of actor_set ≡ map script_of ofs
@@ -62,13 +62,13 @@ module _ {B : Type 0} (lease : Ghosts ReadLeaseOf SeatView ReadLeaseOf Issued) (
         numbered = subst (All (λ (script : ActorScript). 1 ≤ script.number)) (sym scripts)
             (All-permutation (λ (script : ActorScript). 1 ≤ script.number) scene.actors (map script_of (map of_at ends)) are.scripts
             (All-weaker (IsDeclared (most_actors scene.version)) (λ (script : ActorScript). 1 ≤ script.number) (λ script fits. fits.low) scene.actors is.joins.limits.actors.each));
-        plays = all_play scene table locks (plain_home desk) (plain_view desk) is.joins.closes.marks (λ by. refl) is.joins.starts ends is.joins.boarded is.joins.came;
+        plays = all_play scene table locks (plain_home desk) (plain_view desk) is.joins.closes.marks (λ by. refl) is.joins.starts ends is.joins.new_seats is.joins.came;
         kept = λ unspent. all_kept table (picture_at scene.pictures) (plain_home desk) (plain_view desk) (map actor_at ends) (map of_at ends) keep;
       }
 
--- one more actor came ashore, with the gates that it passed
-pub actors_more : {B : Type 0} (landed : List (Landed B)) (one : Landed B) (old new : List (Actor B)) → old ≡ map landed_actor landed → new ≡ old ++ one.actor ∷ [] → new ≡ map landed_actor (landed ++ one ∷ [])
-actors_more landed one old new are pushed = pushed ∙ ap (λ (actors : List (Actor _)). actors ++ one.actor ∷ []) are ∙ sym (map-append landed_actor landed (one ∷ []))
+-- one more actor came back, with the gates that it passed
+pub actors_more : {B : Type 0} (returned : List (ReturnedActor B)) (one : ReturnedActor B) (old new : List (Actor B)) → old ≡ map returned_actor returned → new ≡ old ++ one.actor ∷ [] → new ≡ map returned_actor (returned ++ one ∷ [])
+actors_more returned one old new are pushed = pushed ∙ ap (λ (actors : List (Actor _)). actors ++ one.actor ∷ []) are ∙ sym (map-append returned_actor returned (one ∷ []))
 
 pub gates_more : {B : Type 0} (old new : List Gates) (passed : Gates) (actors more : List (Actor B)) (actor : Actor B) → length old ≡ length actors → new ≡ old ++ passed ∷ [] → more ≡ actors ++ actor ∷ [] → length new ≡ length more
 gates_more old new passed actors more actor same pushed more_is =

@@ -1,4 +1,4 @@
--- A run whose actors are ashore is joined, with whatever desk its locks are closed to.
+-- A run whose actors came back is joined, with whatever desk its locks are closed to.
 use Rattle.std.proofs.Common.{◌≡◌, ℕ, ◌≤◌, List, [], ◌∷◌, map, ap, ◌∙◌, refl, sym, subst}
 use Rattle.std.specs.List.{AllByRecursion, AllZip}
 use Rattle.atomic_table.specs.Seated.{TableId}
@@ -16,34 +16,34 @@ use Rattle.sf_shared.specs.declared.first.FirstSeats.{FirstSeats}
 use Rattle.sf_shared.specs.declared.locks.Locks.{Locks}
 use Rattle.sf_shared.specs.declared.seats.Seats.{Seats}
 use Rattle.sf_shared.specs.First.{HasAll, IsFirst, KnowsNothing, took_of}
-use Rattle.sf_crew.specs.declared.ashore.Ashore.{Ashore}
-use Rattle.sf_crew.specs.declared.crew.Crew.{Crew}
-use Rattle.sf_crew.specs.Boarding.{Boards, GivesEach}
-use Rattle.sf_crew.specs.Crews.{Came}
-use Rattle.sf_crew.specs.Meeting.{landed_of}
-use Rattle.sf_crew.specs.Returns.{Returns}
+use Rattle.sf_threads.specs.declared.all_returned.AllReturned.{AllReturned}
+use Rattle.sf_threads.specs.declared.seated_actor.SeatedActor.{SeatedActor}
+use Rattle.sf_threads.specs.Seating.{GetsSeats, GivesEach}
+use Rattle.sf_threads.specs.SeatedActors.{Came}
+use Rattle.sf_threads.specs.Meeting.{as_returned}
+use Rattle.sf_threads.specs.Returns.{Returns}
 use Rattle.sf_compositor.specs.Sitting.{Sits}
 use Rattle.sf_replay.specs.Joining.{Joins, MeetsAll}
-use Rattle.sf_joined.specs.Crews.{IsUnused, WalkedBack, crew_actor}
-use Rattle.sf_joined.proofs.Crewing.{all_walked}
+use Rattle.sf_joined.specs.SeatedActors.{IsUnused, WalkedBack, actor_of_seated}
+use Rattle.sf_joined.proofs.WalkingBack.{all_walked}
 use Rattle.sf_live.specs.declared.opening.Opened.{Opened}
 use Rattle.sf_live.specs.Openings.{IsOpen}
-use Rattle.sf_live.specs.Threads.{AreClosedTo, HasRun, RunOf, landed_actor}
+use Rattle.sf_live.specs.Threads.{AreClosedTo, HasRun, RunOf, returned_actor}
 
 module _ {B : Type 0} where
   -- the first seats after they gave some, where nothing was called before
-  pub record HasGiven (first boarded : FirstSeats B) : Type 0 where
-    pub nothing : KnowsNothing boarded.seats
-    pub step : boarded.seats.last.step ≡ first.seats.last.step
-    pub signals : boarded.seats.times.knows.signals ≡ first.seats.times.knows.signals
-    pub leaves : boarded.seats.turns.leaves ≡ first.seats.turns.leaves
-    pub took : took_of boarded ≡ took_of first
+  pub record HasGiven (first after_seating : FirstSeats B) : Type 0 where
+    pub nothing : KnowsNothing after_seating.seats
+    pub step : after_seating.seats.last.step ≡ first.seats.last.step
+    pub signals : after_seating.seats.times.knows.signals ≡ first.seats.times.knows.signals
+    pub leaves : after_seating.seats.turns.leaves ≡ first.seats.turns.leaves
+    pub took : took_of after_seating ≡ took_of first
 
-  pub has_given : (first : FirstSeats B) (callers : List ℕ) (boarded : FirstSeats B) → KnowsNothing first.seats → GivesEach first callers boarded → HasGiven first boarded
-  has_given first [] boarded nothing gives = subst (HasGiven first) gives (record { nothing = nothing; step = refl; signals = refl; leaves = refl; took = refl })
-  has_given first (caller ∷ callers) boarded nothing gives =
+  pub has_given : (first : FirstSeats B) (callers : List ℕ) (after_seating : FirstSeats B) → KnowsNothing first.seats → GivesEach first callers after_seating → HasGiven first after_seating
+  has_given first [] after_seating nothing gives = subst (HasGiven first) gives (record { nothing = nothing; step = refl; signals = refl; leaves = refl; took = refl })
+  has_given first (caller ∷ callers) after_seating nothing gives =
       let one = gives.1 in
-      let rest = has_given gives.0 callers boarded one.nothing gives.2 in
+      let rest = has_given gives.0 callers after_seating one.nothing gives.2 in
       record {
         nothing = rest.nothing;
         step = rest.step ∙ ap (λ c. c.step) one.last;
@@ -52,35 +52,35 @@ module _ {B : Type 0} where
         took = rest.took ∙ one.took;
       }
 
-  all_unused : (table : TableId) (locks : Locks B) (known : Seats B) (actors : List (Actor B)) (sent : List (Crew B)) → AllZip (Boards table locks known) actors sent → AllByRecursion IsUnused sent
-  all_unused table locks known [] [] boards = tt
-  all_unused table locks known [] (s ∷ sent) boards = absurd boards
-  all_unused table locks known (a ∷ actors) [] boards = absurd boards
-  all_unused table locks known (a ∷ actors) (s ∷ sent) boards = (boards.0.fresh.nothing, all_unused table locks known actors sent boards.1)
+  all_unused : (table : TableId) (locks : Locks B) (known : Seats B) (actors : List (Actor B)) (sent : List (SeatedActor B)) → AllZip (GetsSeats table locks known) actors sent → AllByRecursion IsUnused sent
+  all_unused table locks known [] [] gets_seats = tt
+  all_unused table locks known [] (s ∷ sent) gets_seats = absurd gets_seats
+  all_unused table locks known (a ∷ actors) [] gets_seats = absurd gets_seats
+  all_unused table locks known (a ∷ actors) (s ∷ sent) gets_seats = (gets_seats.0.fresh.nothing, all_unused table locks known actors sent gets_seats.1)
 
-  landed_are : (back : List (Crew B)) → map landed_actor (map landed_of back) ≡ map crew_actor back
-  landed_are [] = refl
-  landed_are (crew ∷ back) = ap (λ (actors : List (Actor B)). crew.actor ∷ actors) (landed_are back)
+  returned_are : (back : List (SeatedActor B)) → map returned_actor (map as_returned back) ≡ map actor_of_seated back
+  returned_are [] = refl
+  returned_are (seated_actor ∷ back) = ap (λ (actors : List (Actor B)). seated_actor.actor ∷ actors) (returned_are back)
 
 module _ {B V : Type 0} (lease : Ghosts ReadLeaseOf SeatView ReadLeaseOf Issued) (table : TableId) (run : RunOf B) (opened : Opened B) (opens : IsOpen run.scene table opened) (unused : KnowsNothing opened.first.seats)
-    (keeps : V → Locks B → FirstSeats B → Type 0) (visitor : V) (ashore : Ashore B) (first : IsFirst table opened.locks ashore.first) (all : HasAll ashore.first)
-    (returns : Returns keeps table opened.locks opened.pictures opened.first opened.actors.items visitor ashore) (at_last : returns.attended.seats ≡ run.last.seats)
+    (keeps : V → Locks B → FirstSeats B → Type 0) (visitor : V) (all_returned : AllReturned B) (first : IsFirst table opened.locks all_returned.first) (all : HasAll all_returned.first)
+    (returns : Returns keeps table opened.locks opened.pictures opened.first opened.actors.items visitor all_returned) (at_last : returns.attended.seats ≡ run.last.seats)
     (sits : Sits lease table opened.locks run.scene.period (plan_of run.scene) (most_layers run.scene.version) run.timelines run.before run.now run.screens run.last) where
   walked : WalkedBack run.scene table opened.locks (new_actors opens.declared opens.stock) returns.back
   walked =
-      all_walked run.scene table opened.locks opened.first.seats opens.declared opens.stock opened.actors.items returns.sent returns.back opens.actors opens.newcomers returns.boards
-      (all_unused table opened.locks opened.first.seats opened.actors.items returns.sent returns.boards)
+      all_walked run.scene table opened.locks opened.first.seats opens.declared opens.stock opened.actors.items returns.sent returns.back opens.actors opens.newcomers returns.gets_seats
+      (all_unused table opened.locks opened.first.seats opened.actors.items returns.sent returns.gets_seats)
       (subst (λ (pictures : List Picture). AllZip (Came table opened.locks pictures) returns.sent returns.back) opens.pictures returns.came)
 
-  given : HasGiven opened.first returns.boarded
-  given = has_given opened.first _ returns.boarded unused returns.gives
+  given : HasGiven opened.first returns.after_seating
+  given = has_given opened.first _ returns.after_seating unused returns.gives
 
   -- a plan has the size of its scene's display
   handler_of : new_handler {L = ReadLeaseOf} (plan_of run.scene).width (plan_of run.scene).height (most_layers run.scene.version) ≡ new_handler run.scene.width run.scene.height (most_layers run.scene.version)
   unfolding plan_of
   handler_of = refl
 
-  abbrev joined_with : (desk : PlainOf B) → AreClosedTo opened.locks ashore.first desk → Joins lease run.scene table run.scene.period (most_layers run.scene.version) opened.locks run.last walked.ends desk
+  abbrev joined_with : (desk : PlainOf B) → AreClosedTo opened.locks all_returned.first desk → Joins lease run.scene table run.scene.period (most_layers run.scene.version) opened.locks run.last walked.ends desk
   joined_with desk closed = record {
     limits = opens.limits;
     marks = opens.marks;
@@ -91,7 +91,7 @@ module _ {B V : Type 0} (lease : Ghosts ReadLeaseOf SeatView ReadLeaseOf Issued)
     below = opens.below;
     starts = walked.starts;
     new = walked.new;
-    boarded = walked.boarded;
+    new_seats = walked.new_seats;
     came = walked.came;
     begins = sits.start;
     handler = sits.fresh.handler ∙ handler_of;
@@ -103,8 +103,8 @@ module _ {B V : Type 0} (lease : Ghosts ReadLeaseOf SeatView ReadLeaseOf Issued)
     attended = returns.attended;
     at_last = at_last;
     none_taken = returns.attends.given.took ∙ given.took ∙ opens.none_taken;
-    first = ashore.first;
-    met = subst (λ (seats : List (Seats B)). MeetsAll returns.attended seats ashore.first) (sym walked.seats) returns.met;
+    first = all_returned.first;
+    met = subst (λ (seats : List (Seats B)). MeetsAll returns.attended seats all_returned.first) (sym walked.seats) returns.met;
     is_first = first;
     has_all = all;
     closes = closed.closes;
@@ -113,12 +113,12 @@ module _ {B V : Type 0} (lease : Ghosts ReadLeaseOf SeatView ReadLeaseOf Issued)
     nobody = closed.nobody;
   }
 
-  pub has_run : run.last.number ≤ 2147483648 → HasRun lease table run opened.locks opened.pictures ashore
+  pub has_run : run.last.number ≤ 2147483648 → HasRun lease table run opened.locks opened.pictures all_returned
   has_run few = record {
     pictured = opens.pictures;
     few = few;
     ends = walked.ends;
-    actors = walked.actors ∙ sym (landed_are returns.back) ∙ ap (map landed_actor) (sym returns.landed);
+    actors = walked.actors ∙ sym (returned_are returns.back) ∙ ap (map returned_actor) (sym returns.returned);
     joins = joined_with;
     shows = λ desk closed. record { written = sits.written };
   }

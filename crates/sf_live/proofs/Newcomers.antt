@@ -1,4 +1,4 @@
--- Actors that have done nothing may go aboard where nothing is known.
+-- Actors that have done nothing may be given seats where nothing is known.
 use Rattle.std.proofs.Common.{◌≡◌, ℕ, zero, suc, ◌+◌, ◌<◌, ◌≤◌, true, List, [], ◌∷◌, inl, inr, drop, filter, length, map, take, arith, refl, ap, sym, subst}
 use Rattle.std.specs.Prelude.{◌==◌, All, IfSome}
 use Rattle.std.specs.List.{AllByRecursion, list_any, slice_index}
@@ -32,7 +32,7 @@ use Rattle.sf_shared.specs.First.{KnowsNothing}
 use Rattle.sf_shared.specs.Seats.{QueuePass, calls_known, is_at, marks_of}
 use Rattle.sf_shared.specs.declared.locks.Locks.{Locks}
 use Rattle.sf_shared.specs.declared.seats.Seats.{Seats}
-use Rattle.sf_crew.specs.Boarding.{IsNewcomer, home_for, number_of}
+use Rattle.sf_threads.specs.Seating.{IsNewcomer, home_for, number_of}
 use Rattle.sf_play.proofs.Lasting.{many_below}
 
 -- a script that may be played over a desk may be over another one with the same queues that serves its actor

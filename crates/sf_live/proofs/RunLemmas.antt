@@ -32,12 +32,12 @@ use Rattle.sf_show.proofs.WritingLemmas.{cut_none, some_whole, writes_none}
 use Rattle.sf_shared.specs.declared.first.FirstSeats.{FirstSeats}
 use Rattle.sf_shared.specs.declared.locks.Locks.{Locks}
 use Rattle.sf_shared.specs.First.{HasAll, IsFirst, KnowsNothing}
-use Rattle.sf_crew.specs.declared.ashore.Ashore.{Ashore}
-use Rattle.sf_crew.specs.declared.run.Stopped.{Stopped}
-use Rattle.sf_crew.specs.declared.run.Stopped.TheVariants as stopped
-use Rattle.sf_crew.specs.Boarding.{GivesEach, number_of}
-use Rattle.sf_crew.specs.Returns.{Returns}
-use Rattle.sf_crew.specs.Visits.{HasLeftOrIs}
+use Rattle.sf_threads.specs.declared.all_returned.AllReturned.{AllReturned}
+use Rattle.sf_threads.specs.declared.run.Stopped.{Stopped}
+use Rattle.sf_threads.specs.declared.run.Stopped.TheVariants as stopped
+use Rattle.sf_threads.specs.Seating.{GivesEach, number_of}
+use Rattle.sf_threads.specs.Returns.{Returns}
+use Rattle.sf_threads.specs.Visits.{HasLeftOrIs}
 use Rattle.sf_compositor.specs.declared.compositor.Compositor.{Compositor}
 use Rattle.sf_compositor.specs.Keeping.{HasEnded, IsSame, Keeps, sitting_of}
 use Rattle.sf_compositor.specs.Sitting.{Sits}
@@ -83,9 +83,9 @@ module _ {K B : Type 0} {naming : Naming B} where
 module _ {K B : Type 0} {naming : Naming B} (taken : K → Option (List ℕ)) (faults : K → ℕ) (lease : Ghosts ReadLeaseOf SeatView ReadLeaseOf Issued) (table : TableId) (scene : SceneValue) (opened : Opened B) (c : Compositor K B naming)
     (opens : IsOpen scene table opened) (starts : Starts scene c) (unused : KnowsNothing opened.first.seats) where
   -- before the first vsync
-  pub kept_first : (boarded : FirstSeats B) → GivesEach opened.first (map number_of opened.actors.items) boarded → Keeps taken faults lease table c c opened.locks boarded
-  kept_first boarded gives =
-      let given = has_given opened.first (map number_of opened.actors.items) boarded unused gives in
+  pub kept_first : (after_seating : FirstSeats B) → GivesEach opened.first (map number_of opened.actors.items) after_seating → Keeps taken faults lease table c c opened.locks after_seating
+  kept_first after_seating gives =
+      let given = has_given opened.first (map number_of opened.actors.items) after_seating unused gives in
       let handler = starts.handler in
       let last = ap (λ (h : HandlerOf ReadLeaseOf). h.last) handler in
       let step = given.step in
@@ -101,7 +101,7 @@ module _ {K B : Type 0} {naming : Naming B} (taken : K → Option (List ℕ)) (f
         log = record {
           set = starts.set;
           sits = record {
-            start = sitting_of boarded c;
+            start = sitting_of after_seating c;
             fresh = record {
               handler = handler ∙ (λ i. new_handler (sym wide i) (sym high i) (sym most i));
               nothing = given.nothing;
@@ -118,7 +118,7 @@ module _ {K B : Type 0} {naming : Naming B} (taken : K → Option (List ℕ)) (f
             wide = ap (λ (h : HandlerOf ReadLeaseOf). h.width) handler ∙ sym wide;
             high = ap (λ (h : HandlerOf ReadLeaseOf). h.height) handler ∙ sym high;
             few = omega (arith, most, low);
-            known = (let low : 0 ≤ taken_in (unstamped boarded.seats.arrivals.seen) = omega arith in omega (arith, last, low));
+            known = (let low : 0 ≤ taken_in (unstamped after_seating.seats.arrivals.seen) = omega arith in omega (arith, last, low));
             early = omega (arith, step, opened_step);
           };
         };
@@ -131,10 +131,10 @@ module _ {K B : Type 0} {naming : Naming B} (taken : K → Option (List ℕ)) (f
     abbrev KeepsSo : Compositor K B naming → Locks B → FirstSeats B → Type 0
     KeepsSo now locks first = S × Keeps taken faults lease table c now locks first
 
-    module _ (now : Compositor K B naming) (ashore : Ashore B) (first : IsFirst table opened.locks ashore.first) (all : HasAll ashore.first)
-        (pictures : List Picture) (pictured : pictures ≡ opened.pictures) (returned : Returns KeepsSo table opened.locks pictures opened.first opened.actors.items now ashore) where
-      abbrev returns : Returns KeepsSo table opened.locks opened.pictures opened.first opened.actors.items now ashore
-      returns = subst (λ (p : List Picture). Returns KeepsSo table opened.locks p opened.first opened.actors.items now ashore) pictured returned
+    module _ (now : Compositor K B naming) (all_returned : AllReturned B) (first : IsFirst table opened.locks all_returned.first) (all : HasAll all_returned.first)
+        (pictures : List Picture) (pictured : pictures ≡ opened.pictures) (returned : Returns KeepsSo table opened.locks pictures opened.first opened.actors.items now all_returned) where
+      abbrev returns : Returns KeepsSo table opened.locks opened.pictures opened.first opened.actors.items now all_returned
+      returns = subst (λ (p : List Picture). Returns KeepsSo table opened.locks p opened.first opened.actors.items now all_returned) pictured returned
 
       kept : Keeps taken faults lease table c now opened.locks returns.attended
       kept = returns.attends.kept.1
@@ -142,9 +142,9 @@ module _ {K B : Type 0} {naming : Naming B} (taken : K → Option (List ℕ)) (f
       abbrev pub ran : RunOf B
       ran = run_by taken faults scene returns.attended.seats c now
 
-      pub came_ashore : HasRun lease table ran opened.locks opened.pictures ashore
-      came_ashore =
-          has_run lease table ran opened opens unused KeepsSo now ashore first all returns refl
+      pub came_returned : HasRun lease table ran opened.locks opened.pictures all_returned
+      came_returned =
+          has_run lease table ran opened opens unused KeepsSo now all_returned first all returns refl
           (subst (λ (p : ℕ). Sits lease table opened.locks p (plan_of scene) (most_layers scene.version) now.timelines.items (taken c.sink.now) (taken now.sink.now) now.screens (sitting_of returns.attended now)) (kept.same.period ∙ starts.period)
           (subst (λ (p : Plan). Sits lease table opened.locks now.period p (most_layers scene.version) now.timelines.items (taken c.sink.now) (taken now.sink.now) now.screens (sitting_of returns.attended now)) (kept.same.plan ∙ starts.planned)
           (subst (λ (most : ℕ). Sits lease table opened.locks now.period now.plan most now.timelines.items (taken c.sink.now) (taken now.sink.now) now.screens (sitting_of returns.attended now)) (ap (λ (h : HandlerOf ReadLeaseOf). h.tree.most) starts.handler)
@@ -162,8 +162,8 @@ module _ {K B : Type 0} {naming : Naming B} (taken : K → Option (List ℕ)) (f
       }
 
       -- where there was no memory to bring the actors together
-      pub cut_ashore : (why : RunFault) → (why ≡ WriteFault → ⊥) → WasCut taken faults c now why
-      cut_ashore why other = record {
+      pub cut_returned : (why : RunFault) → (why ≡ WriteFault → ⊥) → WasCut taken faults c now why
+      cut_returned why other = record {
         same = kept.same;
         cut = some_whole (taken c.sink.now) (taken now.sink.now) kept.some;
         faults_rise = kept.faults_rise;

@@ -13,15 +13,15 @@ use Rattle.sf_steps.specs.declared.actor.Actor.{Actor}
 use Rattle.sf_actor_set.specs.ActorSets.{ActorSetOf, IsActorSet}
 use Rattle.sf_scene.specs.Limits.{most_layers}
 use Rattle.sf_shared.specs.declared.locks.Locks.{Locks}
-use Rattle.sf_crew.specs.declared.ashore.Ashore.{Ashore}
+use Rattle.sf_threads.specs.declared.all_returned.AllReturned.{AllReturned}
 use Rattle.sf_joined.specs.Joined.{IsJoined, actor_set_joined}
 use Rattle.sf_live.specs.declared.threads.Joined.{Joined}
-use Rattle.sf_live.specs.Threads.{AreClosedTo, HasRun, IsTogether, RunOf, landed_actor}
+use Rattle.sf_live.specs.Threads.{AreClosedTo, HasRun, IsTogether, RunOf, returned_actor}
 use Rattle.sf_live.proofs.ActorSetLemmas.{is_actor_set}
 
-module _ {B : Type 0} (lease : Ghosts ReadLeaseOf SeatView ReadLeaseOf Issued) (table : TableId) (run : RunOf B) (locks : Locks B) (pictures : List Picture) (ashore : Ashore B)
-    (h : HasRun lease table run locks pictures ashore) (desk : PlainOf B) (closed : AreClosedTo locks ashore.first desk) (knows : KnowsAll (plain_view desk))
-    (legal : (queue : ℕ) → IsLegal (Answers (mark_among (plain_home desk).marks queue)) ((plain_view desk).calls queue)) (actors : List (Actor B)) (are : actors ≡ map landed_actor ashore.landed.items) where
+module _ {B : Type 0} (lease : Ghosts ReadLeaseOf SeatView ReadLeaseOf Issued) (table : TableId) (run : RunOf B) (locks : Locks B) (pictures : List Picture) (all_returned : AllReturned B)
+    (h : HasRun lease table run locks pictures all_returned) (desk : PlainOf B) (closed : AreClosedTo locks all_returned.first desk) (knows : KnowsAll (plain_view desk))
+    (legal : (queue : ℕ) → IsLegal (Answers (mark_among (plain_home desk).marks queue)) ((plain_view desk).calls queue)) (actors : List (Actor B)) (are : actors ≡ map returned_actor all_returned.returned.items) where
   abbrev actor_set : ActorSetOf B
   actor_set = record { pictures = pictures; actors = actors; desk = desk; is_spent = false }
 

@@ -12,7 +12,7 @@ use Rattle.sf_run.specs.Actors.{mark_declared}
 use Rattle.sf_run.specs.Histories.{rising_queues}
 use Rattle.sf_shared.specs.First.{took_of}
 use Rattle.sf_shared.specs.Seats.{marks_of}
-use Rattle.sf_crew.specs.Boarding.{IsNewcomer}
+use Rattle.sf_threads.specs.Seating.{IsNewcomer}
 use Rattle.sf_live.specs.declared.opening.Opened.{Opened}
 
 -- The queues are shared as they are declared, by rising number. The actors have done nothing, each with a permit for each of its dequeues. The

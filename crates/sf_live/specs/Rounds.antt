@@ -7,8 +7,8 @@ use Rattle.sf_picture.specs.declared.picture.Picture.{Picture}
 use Rattle.sf_scene.specs.Scene.{SceneValue}
 use Rattle.sf_actor.specs.Scripts.{picture_at}
 use Rattle.sf_steps.specs.declared.actor.Actor.{Actor}
-use Rattle.sf_crew.specs.Gates.{HasPassed, IsReady}
-use Rattle.sf_crew.specs.declared.gates.Gates.{Gates}
+use Rattle.sf_threads.specs.Gates.{HasPassed, IsReady}
+use Rattle.sf_threads.specs.declared.gates.Gates.{Gates}
 use Rattle.sf_record.specs.Events.{events_records}
 use Rattle.sf_record.specs.declared.event.Event.{Event}
 use Rattle.sf_record.specs.declared.event.Event.TheVariants as event

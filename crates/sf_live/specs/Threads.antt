@@ -1,4 +1,4 @@
--- A run in threads, once all are ashore and the locks are closed.
+-- A run in threads, once all came back and the locks are closed.
 use Rattle.std.specs.Prelude.{◌≡◌, ℕ, ◌≤◌, List, ◌∷◌, length, map, Contains, Option}
 use Rattle.atomic_table.specs.Seated.{TableId}
 use Rattle.sf_picture.specs.declared.picture.Picture.{Picture}
@@ -21,9 +21,9 @@ use Rattle.sf_shared.specs.declared.seats.Seats.{Seats}
 use Rattle.sf_shared.specs.Closing.{Closes, HasNoEntry, IsOrdered}
 use Rattle.sf_shared.specs.First.{gave_of, took_of}
 use Rattle.sf_shared.specs.Seats.{home_of, view_of}
-use Rattle.sf_crew.specs.declared.ashore.Ashore.{Ashore}
-use Rattle.sf_crew.specs.declared.ashore.Landed.{Landed}
-use Rattle.sf_crew.specs.Walks.{Moment}
+use Rattle.sf_threads.specs.declared.all_returned.AllReturned.{AllReturned}
+use Rattle.sf_threads.specs.declared.all_returned.ReturnedActor.{ReturnedActor}
+use Rattle.sf_threads.specs.Walks.{Moment}
 use Rattle.sf_compositor.specs.Sitting.{AreFound, records_shown, showings_of}
 use Rattle.sf_compositor.specs.Vsyncs.{Sitting, Vsyncs}
 use Rattle.sf_replay.specs.Joining.{Joins, actor_at}
@@ -41,8 +41,8 @@ pub record RunOf (B : Type 0) : Type 0 where
   pub screens : List OutputScreen
 
 module _ {B : Type 0} where
-  abbrev pub landed_actor : Landed B → Actor B
-  landed_actor landed = landed.actor
+  abbrev pub returned_actor : ReturnedActor B → Actor B
+  returned_actor returned = returned.actor
 
   -- the locks were closed to this desk, after the first seats took all others in
   pub record AreClosedTo (locks : Locks B) (first : FirstSeats B) (desk : PlainOf B) : Type 0 where
@@ -62,16 +62,16 @@ module _ {B : Type 0} where
           → Writes run.before run.now (records_shown pictures (plan_of run.scene) run.timelines (showings_of lease table locks run.scene.period log))
           × AreShown pictures run.screens
 
-    -- All are ashore, after these moments; the compositor came to where it is by vsyncs, which are written; and with whatever desk the locks are
+    -- All came back, at these moments; the compositor came to where it is by vsyncs, which are written; and with whatever desk the locks are
     -- closed to the run is joined.
-    pub record HasRun (pictures : List Picture) (ashore : Ashore B) : Type 0 where
+    pub record HasRun (pictures : List Picture) (all_returned : AllReturned B) : Type 0 where
       pub pictured : pictures ≡ run.scene.pictures
       pub few : run.last.number ≤ 2147483648
       pub ends : List (Moment B)
-      pub actors : map actor_at ends ≡ map landed_actor ashore.landed.items
-      pub joins : (desk : PlainOf B) → AreClosedTo locks ashore.first desk
+      pub actors : map actor_at ends ≡ map returned_actor all_returned.returned.items
+      pub joins : (desk : PlainOf B) → AreClosedTo locks all_returned.first desk
           → Joins lease run.scene table run.scene.period (most_layers run.scene.version) locks run.last ends desk
-      pub shows : (desk : PlainOf B) (closed : AreClosedTo locks ashore.first desk) → HasWritten (joins desk closed).begins (joins desk closed).log
+      pub shows : (desk : PlainOf B) (closed : AreClosedTo locks all_returned.first desk) → HasWritten (joins desk closed).begins (joins desk closed).log
 
     -- The actors are together again, over the desk of one thread, with the gates that each passed.
     pub record IsTogether (joined : Joined B) : Type 0 where

@@ -6,7 +6,7 @@ ghost use Rattle.sf_turns.specs.Counts.{range};
 ghost use Rattle.sf_actor_set.specs.Scripts.{AreOfScene, permits_of};
 ghost use Rattle.sf_shared.specs.Closing.{HasNoCalls, Opens};
 ghost use Rattle.sf_shared.specs.First.{IsFirst, KnowsNothing, gave_of};
-ghost use Rattle.sf_crew.specs.Boarding.{IsNewcomer, number_of};
+ghost use Rattle.sf_threads.specs.Seating.{IsNewcomer, number_of};
 ghost use Rattle.sf_live.specs.Openings.{IsOpen};
 
 use sf_actor::PlainDesk;

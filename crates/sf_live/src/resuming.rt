@@ -8,13 +8,13 @@ ghost use Rattle.sf_run.specs.Frames.{plan_of};
 use crate::threads::Joined;
 use sf_base::Items;
 use sf_commit::Handler;
-use sf_crew::Gates;
 use sf_joined::{
     a_run_in_threads_goes_on, buffers_among_threads_have_their_pictures, what_threads_did_is_played,
 };
 use sf_play::Player;
 use sf_scene::Pick;
 use sf_surface::ReadLease;
+use sf_threads::Gates;
 use sf_turns::TableName;
 use sf_txn::Lease;
 use std::alloc::Global;

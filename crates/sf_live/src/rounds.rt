@@ -15,7 +15,6 @@ ghost use Rattle.sf_show.specs.Writing.{CutSome, Writes, WritesPart};
 ghost use Rattle.sf_steps.specs.declared.actor.Actor.{Actor as ActorIn};
 
 use sf_actor::Reply;
-use sf_crew::Gates;
 use sf_io::{Gate, Sink};
 use sf_plan::Plan;
 use sf_play::{Player, Turn};
@@ -24,6 +23,7 @@ use sf_report::reply_record;
 use sf_screen::Screens;
 use sf_show::{show_vsync, write_closing, write_made};
 use sf_steps::Actor;
+use sf_threads::Gates;
 use sf_turns::TableName;
 use std::alloc::Global;
 use std::sync::Wait;

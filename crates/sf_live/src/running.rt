@@ -4,18 +4,18 @@ ghost use Rattle.std.specs.List.Sorted.{IsStrictlyIncreasing};
 ghost use Rattle.sf_record.specs.declared.encode.RunFault.TheVariants.{WriteFault};
 ghost use Rattle.sf_scene.specs.Scene.{SceneValue};
 ghost use Rattle.sf_shared.specs.First.{IsFirst, KnowsNothing, gave_of};
-ghost use Rattle.sf_crew.specs.Boarding.{IsNewcomer, number_of};
-ghost use Rattle.sf_crew.specs.declared.run.Stopped.TheVariants as stopped;
+ghost use Rattle.sf_threads.specs.Seating.{IsNewcomer, number_of};
+ghost use Rattle.sf_threads.specs.declared.run.Stopped.TheVariants as stopped;
 ghost use Rattle.sf_live.specs.Openings.{IsOpen};
 ghost use Rattle.sf_live.specs.Running.{CameTogether, Starts, WasCut};
 
 use crate::opening::Opened;
 use crate::threads::{Joined, bring_together};
 use sf_compositor::Compositor;
-use sf_crew::{Stopped, run_crews};
 use sf_io::{Gate, Sink};
 use sf_record::RunFault;
 use sf_surface::ReadLease;
+use sf_threads::{Stopped, run_actors};
 use sf_turns::TableName;
 use sf_txn::Lease;
 use std::alloc::Global;
@@ -66,7 +66,7 @@ pub(crate) fn run_threads<
         locks,
         first,
     } = opened;
-    let (compositor, ashore) = run_crews(
+    let (compositor, all_returned) = run_actors(
         rt,
         alloc,
         &locks,
@@ -76,8 +76,8 @@ pub(crate) fn run_threads<
         actors,
         compositor,
     );
-    match ashore {
-        Ok(ashore) => match bring_together(alloc, pictures, locks, ashore) {
+    match all_returned {
+        Ok(all_returned) => match bring_together(alloc, pictures, locks, all_returned) {
             Ok(joined) => (compositor, Ok(joined)),
             Err(_) => (compositor, Err(RunFault::NoMemory)),
         },

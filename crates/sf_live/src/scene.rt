@@ -10,7 +10,7 @@ ghost use Rattle.sf_scene.specs.Scene.{SceneValue};
 ghost use Rattle.sf_show.specs.Writing.{CutSome, Writes};
 ghost use Rattle.sf_shared.specs.First.{IsFirst, KnowsNothing, gave_of};
 ghost use Rattle.sf_turns.specs.Counts.{range};
-ghost use Rattle.sf_crew.specs.Boarding.{IsNewcomer, number_of};
+ghost use Rattle.sf_threads.specs.Seating.{IsNewcomer, number_of};
 ghost use Rattle.sf_shared.specs.declared.locks.Locks.{Locks};
 ghost use Rattle.sf_live.specs.Resuming.{GoesFrom, HasCome};
 ghost use Rattle.sf_live.specs.Running.{MayRun};

@@ -5,18 +5,18 @@ ghost use Rattle.sf_surface.specs.Objects.{ObjectOf, mark_of};
 ghost use Rattle.sf_actor.specs.Desks.{KnowsAll, mark_among};
 ghost use Rattle.sf_actor.specs.Plain.{home_of, view_of};
 ghost use Rattle.sf_shared.specs.First.{HasAll, IsFirst};
-ghost use Rattle.sf_crew.specs.Meeting.{landed_of};
-ghost use Rattle.sf_live.specs.Threads.{HasRun, IsTogether, RunOf, landed_actor};
+ghost use Rattle.sf_threads.specs.Meeting.{as_returned};
+ghost use Rattle.sf_live.specs.Threads.{HasRun, IsTogether, RunOf, returned_actor};
 
 use sf_actor::{Desk, PlainDesk};
 use sf_actor_set::ActorSet;
 use sf_base::{Items, NoMemory};
 use sf_calls::Object;
-use sf_crew::{Ashore, Gates, Landed};
 use sf_picture::Picture;
 use sf_shared::Locks;
 use sf_steps::Actor;
 use sf_surface::{QueueObject, ReadLease};
+use sf_threads::{AllReturned, Gates, ReturnedActor};
 use sf_turns::TableName;
 use sf_txn::Lease;
 use std::alloc::Global;
@@ -48,18 +48,18 @@ fn tell<B: TableName>(desk: &PlainDesk<B>)
     legal_each(&desk.queues);
 }
 
-/// The actors that came ashore, and the gates that they passed.
-fn landed_parts<B: TableName>(
+/// The actors that came back, and the gates that they passed.
+fn returned_parts<B: TableName>(
     alloc: Global,
-    landed: Vec<Landed<B>>,
+    returned: Vec<ReturnedActor<B>>,
 ) -> Result<(Vec<Actor<B>>, Vec<Gates>), NoMemory>
-    ensures actors { IfOk result (λ parts. parts.0.items ≡ map landed_actor landed.items) }
+    ensures actors { IfOk result (λ parts. parts.0.items ≡ map returned_actor returned.items) }
     ensures gates { IfOk result (λ parts. length parts.1.items ≡ length parts.0.items) }
 {
     let mut actors = Vec::new(alloc);
     let mut gates = Vec::new(alloc);
-    for one in landed {
-        let Landed {
+    for one in returned {
+        let ReturnedActor {
             actor,
             gates: passed,
         } = one;
@@ -74,16 +74,16 @@ pub(crate) fn bring_together<B: TableName>(
     alloc: Global,
     pictures: Items<Picture>,
     locks: Locks<B>,
-    ashore: Ashore<B>,
+    all_returned: AllReturned<B>,
 ) -> Result<Joined<B>, NoMemory>
-    requires first { IsFirst B.table locks ashore.first }
-    requires all { HasAll ashore.first }
-    requires ran { (run : RunOf B) × HasRun ⟦<ReadLease<B> as Lease>⟧ B.table run locks pictures ashore }
-    ensures together { (run : RunOf B) → HasRun ⟦<ReadLease<B> as Lease>⟧ B.table run locks pictures ashore
+    requires first { IsFirst B.table locks all_returned.first }
+    requires all { HasAll all_returned.first }
+    requires ran { (run : RunOf B) × HasRun ⟦<ReadLease<B> as Lease>⟧ B.table run locks pictures all_returned }
+    ensures together { (run : RunOf B) → HasRun ⟦<ReadLease<B> as Lease>⟧ B.table run locks pictures all_returned
         → IfOk result (IsTogether ⟦<ReadLease<B> as Lease>⟧ B.table run locks) }
 {
-    let Ashore { first, landed } = ashore;
-    let (actors, gates) = landed_parts(alloc, landed)?;
+    let AllReturned { first, returned } = all_returned;
+    let (actors, gates) = returned_parts(alloc, returned)?;
     let desk = locks.close(alloc, first)?;
     tell(&desk);
     Ok(Joined {

@@ -21,7 +21,7 @@ use Rattle.sf_shared.specs.declared.first.FirstSeats.{FirstSeats}
 use Rattle.sf_shared.specs.declared.seats.Seats.{Seats}
 use Rattle.sf_shared.specs.First.{took_of}
 use Rattle.sf_shared.specs.Seats.{view_of}
-use Rattle.sf_crew.specs.Walks.{Moment}
+use Rattle.sf_threads.specs.Walks.{Moment}
 use Rattle.sf_replay.specs.Joining.{MeetsAll, of_at, seats_at}
 use Rattle.sf_replay.specs.Members.{AllOnce, bit, count_of, number_at}
 

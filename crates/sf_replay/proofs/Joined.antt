@@ -22,13 +22,13 @@ use Rattle.sf_shared.specs.declared.seats.Seats.{Seats}
 use Rattle.sf_shared.specs.Closing.{Closes, IsOrdered}
 use Rattle.sf_shared.specs.First.{took_of}
 use Rattle.sf_shared.specs.Seats.{AreSeats, home_of, marks_of, view_of}
-use Rattle.sf_crew.specs.Walks.{Moment}
+use Rattle.sf_threads.specs.Walks.{Moment}
 use Rattle.sf_rights.specs.Standing.{state_of}
 use Rattle.sf_rights.specs.States.{AreApart, State}
 use Rattle.sf_rights.specs.Vsyncs.{lease_on}
 use Rattle.sf_run.proofs.Members.{has_here, has_later}
 use Rattle.sf_replay.specs.Cuts.{Event, Local, MakesAt, many_of, state_at}
-use Rattle.sf_replay.specs.Joining.{CameBack, IsBoarded, of_at}
+use Rattle.sf_replay.specs.Joining.{CameBack, HasNewSeats, of_at}
 use Rattle.sf_replay.specs.Lifts.{local_of}
 use Rattle.sf_compositor.specs.Vsyncs.{Sitting}
 use Rattle.sf_replay.proofs.Assembling.{AreMembers, IsMember, Member, assembled, by_of, first_of, last_of}
@@ -57,16 +57,16 @@ module _ {B : Type 0} (scene : SceneValue) (table : TableId) (locks : Locks B) (
   steps_range : (home : _) (pictures : _) (moment : Moment B) → MayPlay home pictures moment.of.script → (s : Step) → Contains moment.of.script.steps s → IsStep s
   steps_range home pictures moment plays s there = (All-contains (IsPlayable home) moment.of.script.steps s plays.playable there).ranges
 
-  pub callers_of : (starts ends : List (Moment B)) → AllZip (CameBack scene table locks) starts ends → All (IsBoarded scene table locks) starts → ((moment : Moment B) → Contains ends moment → Contains (took_of first) moment.seats)
+  pub callers_of : (starts ends : List (Moment B)) → AllZip (CameBack scene table locks) starts ends → All (HasNewSeats scene table locks) starts → ((moment : Moment B) → Contains ends moment → Contains (took_of first) moment.seats)
       → ((start end : Moment B) → CameBack scene table locks start end → Contains ends end → (number queue place : ℕ) → Contains start.of.stock number → (makes : MakesAt (whole_of desk) number queue place) → makes.made.by ≡ end.seats.by)
-      → ((start end : Moment B) → CameBack scene table locks start end → IsBoarded scene table locks start → end.seats.by ≡ start.of.script.number)
+      → ((start end : Moment B) → CameBack scene table locks start end → HasNewSeats scene table locks start → end.seats.by ≡ start.of.script.number)
       → ((moment : Moment B) → Contains starts moment → moment.of.script.number ≡ 0 → ⊥)
       → AreCallers starts ends
-  callers_of [] [] came boarded took owner served numbered = record { members = []; are = tt; bys = refl; firsts = refl; lasts = refl }
-  callers_of [] (end ∷ ends) came boarded took owner served numbered = absurd came
-  callers_of (start ∷ starts) [] came boarded took owner served numbered = absurd came
-  callers_of (start ∷ starts) (end ∷ ends) came boarded took owner served numbered =
-      let rest = callers_of starts ends came.1 (All-tail (IsBoarded scene table locks) start starts boarded) (λ moment there. took moment (has_later end moment ends there))
+  callers_of [] [] came new_seats took owner served numbered = record { members = []; are = tt; bys = refl; firsts = refl; lasts = refl }
+  callers_of [] (end ∷ ends) came new_seats took owner served numbered = absurd came
+  callers_of (start ∷ starts) [] came new_seats took owner served numbered = absurd came
+  callers_of (start ∷ starts) (end ∷ ends) came new_seats took owner served numbered =
+      let rest = callers_of starts ends came.1 (All-tail (HasNewSeats scene table locks) start starts new_seats) (λ moment there. took moment (has_later end moment ends there))
       (λ first_one last_one back there. owner first_one last_one back (has_later end last_one ends there)) served (λ moment there. numbered moment (has_later start moment starts there)) in
       record {
         members = one ∷ rest.members;
@@ -76,20 +76,20 @@ module _ {B : Type 0} (scene : SceneValue) (table : TableId) (locks : Locks B) (
         lasts = ap (λ (ls : List (Local B)). local_at end ∷ ls) rest.lasts;
       }
     where
-      aboard : IsBoarded scene table locks start
-      aboard = All-head (IsBoarded scene table locks) start starts boarded
+      has_new_seats : HasNewSeats scene table locks start
+      has_new_seats = All-head (HasNewSeats scene table locks) start starts new_seats
 
       taken : Contains (took_of first) end.seats
       taken = took end (has_here end ends)
 
       one : Member B
-      one = member table locks first desk closes ordered own_first apart legal (picture_at scene.pictures) Holds lifted start end came.0.walk aboard.sound came.0.own (served start end came.0 aboard) (numbered start (has_here start starts))
-          (steps_range (home_of locks start.seats) scene.pictures start aboard.plays) aboard.nothing (ordered.queues_on end.seats taken) (ordered.arrivals_on end.seats taken) (goes_on end.seats taken)
+      one = member table locks first desk closes ordered own_first apart legal (picture_at scene.pictures) Holds lifted start end came.0.walk has_new_seats.sound came.0.own (served start end came.0 has_new_seats) (numbered start (has_here start starts))
+          (steps_range (home_of locks start.seats) scene.pictures start has_new_seats.plays) has_new_seats.nothing (ordered.queues_on end.seats taken) (ordered.arrivals_on end.seats taken) (goes_on end.seats taken)
           (owner start end came.0 (has_here end ends))
 
       is_one : IsMember (whole_of desk) Holds (stamps first) one
-      is_one = is_member table locks first desk closes ordered own_first apart legal (picture_at scene.pictures) Holds lifted start end came.0.walk aboard.sound came.0.own (served start end came.0 aboard) (numbered start (has_here start starts))
-          (steps_range (home_of locks start.seats) scene.pictures start aboard.plays) aboard.nothing (ordered.queues_on end.seats taken) (ordered.arrivals_on end.seats taken) (goes_on end.seats taken)
+      is_one = is_member table locks first desk closes ordered own_first apart legal (picture_at scene.pictures) Holds lifted start end came.0.walk has_new_seats.sound came.0.own (served start end came.0 has_new_seats) (numbered start (has_here start starts))
+          (steps_range (home_of locks start.seats) scene.pictures start has_new_seats.plays) has_new_seats.nothing (ordered.queues_on end.seats taken) (ordered.arrivals_on end.seats taken) (goes_on end.seats taken)
           (owner start end came.0 (has_here end ends))
 
   -- the ledger at the end, from that at the beginning

@@ -25,7 +25,7 @@ use Rattle.sf_rights.proofs.Marking.{mark_only}
 use Rattle.sf_run.proofs.Members.{has_cases, has_first, has_here, has_later}
 use Rattle.sf_shared.specs.declared.locks.Locks.{Locks}
 use Rattle.sf_shared.specs.Seats.{marks_of, view_of}
-use Rattle.sf_crew.specs.Walks.{IsSound, Moment}
+use Rattle.sf_threads.specs.Walks.{IsSound, Moment}
 use Rattle.sf_replay.specs.Cuts.{MakesAt}
 use Rattle.sf_replay.specs.Joining.{CameBack, of_at}
 use Rattle.sf_replay.specs.Members.{AllOnce, bit, count_of, mine, whole_of}
@@ -150,17 +150,17 @@ module _ {B : Type 0} (table : TableId) (pictures : ℕ → Picture) (locks : Lo
           with_it = brings (permit_of e.call.1) e.reply.spare number with_e
 
 module _ {B : Type 0} (scene : SceneValue) (table : TableId) (locks : Locks B) where
-  -- who went aboard as the one who came back
-  pub record Boarded (starts : List (Moment B)) (end : Moment B) : Type 0 where
+  -- who was given seats as the one who came back
+  pub record SeatedAs (starts : List (Moment B)) (end : Moment B) : Type 0 where
     pub start : Moment B
     pub there : Contains starts start
     pub back : CameBack scene table locks start end
 
-  pub boarded_of : (starts ends : List (Moment B)) → AllZip (CameBack scene table locks) starts ends → (end : Moment B) → Contains ends end → Boarded starts end
-  boarded_of [] [] came end there = absurd (omega (arith, there.1))
-  boarded_of [] (one ∷ ends) came end there = absurd came
-  boarded_of (start ∷ starts) [] came end there = absurd came
-  boarded_of (start ∷ starts) (one ∷ ends) came end there = elim (has_cases one end ends there) [
+  pub seated_as : (starts ends : List (Moment B)) → AllZip (CameBack scene table locks) starts ends → (end : Moment B) → Contains ends end → SeatedAs starts end
+  seated_as [] [] came end there = absurd (omega (arith, there.1))
+  seated_as [] (one ∷ ends) came end there = absurd came
+  seated_as (start ∷ starts) [] came end there = absurd came
+  seated_as (start ∷ starts) (one ∷ ends) came end there = elim (has_cases one end ends there) [
     | inl same ↦ record { start = start; there = has_here start starts; back = subst (λ (m : Moment B). CameBack scene table locks start m) same came.0 }
-    | inr later ↦ let rest = boarded_of starts ends came.1 end later in record { start = rest.start; there = has_later start rest.start starts rest.there; back = rest.back }
+    | inr later ↦ let rest = seated_as starts ends came.1 end later in record { start = rest.start; there = has_later start rest.start starts rest.there; back = rest.back }
   ]

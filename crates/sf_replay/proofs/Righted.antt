@@ -25,7 +25,7 @@ use Rattle.sf_run.proofs.Bringing.{any_passes}
 use Rattle.sf_run.proofs.Members.{filter_has, joined_has, map_has}
 use Rattle.sf_shared.specs.declared.locks.Locks.{Locks}
 use Rattle.sf_shared.specs.Seats.{marks_of}
-use Rattle.sf_crew.specs.Walks.{Moment}
+use Rattle.sf_threads.specs.Walks.{Moment}
 use Rattle.sf_rights.specs.MakerRuns.{AreDeclared}
 use Rattle.sf_rights.specs.Standing.{Begins, LedgerStands, state_of}
 use Rattle.sf_rights.specs.States.{AreApart, State}

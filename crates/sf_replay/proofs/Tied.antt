@@ -28,13 +28,13 @@ use Rattle.sf_shared.specs.First.{gave_of, took_of}
 use Rattle.sf_shared.specs.declared.seats.Seats.{Seats}
 use Rattle.sf_run.proofs.Members.{has_cases, has_first, has_later, has_map, map_has}
 use Rattle.sf_replay.proofs.Declared.{declared_low, declared_once, each_once, left_all, moment_number, numbers_are, script_number, seats_numbers, took_all}
-use Rattle.sf_crew.specs.Walks.{Moment, Walk}
+use Rattle.sf_threads.specs.Walks.{Moment, Walk}
 use Rattle.sf_scene.specs.declared.step.ActorScript.{ActorScript}
 use Rattle.sf_surface.specs.Histories.{Made, Answers}
-use Rattle.sf_replay.proofs.Owning.{Boarded, boarded_of, counted_there, once_there, one_stock, own_stock}
-use Rattle.sf_crew.specs.Walks.Walk.{Begin, More}
+use Rattle.sf_replay.proofs.Owning.{SeatedAs, seated_as, counted_there, once_there, one_stock, own_stock}
+use Rattle.sf_threads.specs.Walks.Walk.{Begin, More}
 use Rattle.sf_replay.specs.Cuts.{Local, MakesAt, many_of, state_at}
-use Rattle.sf_replay.specs.Joining.{CameBack, IsBoarded, Joins, of_at, seats_at}
+use Rattle.sf_replay.specs.Joining.{CameBack, HasNewSeats, Joins, of_at, seats_at}
 use Rattle.sf_replay.specs.Members.{AllOnce, AreTied, count_of, number_at, seated, whole_of, stamps}
 use Rattle.sf_compositor.specs.Vsyncs.{Sitting}
 use Rattle.sf_rights.specs.Ledgers.{IsLedger}
@@ -71,11 +71,11 @@ module _ {B : Type 0} (lease : Ghosts ReadLeaseOf SeatView ReadLeaseOf Issued) (
   on_none [] = refl
   on_none (moment ∷ moments) = on_none moments
 
-  leaves_none : (moments : List (Moment B)) → All (IsBoarded scene table locks) moments → flat_map (λ (local : Local B). local.leaves) (map local_at moments) ≡ []
-  leaves_none [] boarded = refl
-  leaves_none (moment ∷ moments) boarded =
-      ap (λ (xs : List Turn). xs ++ flat_map (λ (local : Local B). local.leaves) (map local_at moments)) (All-head (IsBoarded scene table locks) moment moments boarded).leaves
-      ∙ leaves_none moments (All-tail (IsBoarded scene table locks) moment moments boarded)
+  leaves_none : (moments : List (Moment B)) → All (HasNewSeats scene table locks) moments → flat_map (λ (local : Local B). local.leaves) (map local_at moments) ≡ []
+  leaves_none [] new_seats = refl
+  leaves_none (moment ∷ moments) new_seats =
+      ap (λ (xs : List Turn). xs ++ flat_map (λ (local : Local B). local.leaves) (map local_at moments)) (All-head (HasNewSeats scene table locks) moment moments new_seats).leaves
+      ∙ leaves_none moments (All-tail (HasNewSeats scene table locks) moment moments new_seats)
 
   pub own_apart : AreApart (marks_of locks)
   own_apart = subst AreApart (sym joins.marks) (rising_marks scene joins.limits)
@@ -114,16 +114,16 @@ module _ {B : Type 0} (lease : Ghosts ReadLeaseOf SeatView ReadLeaseOf Issued) (
       omega (arith, low, same, none)
 
   -- the callers' numbers are those of the declared actors
-  ends_are : (starts ends : List (Moment B)) → AllZip (CameBack scene table locks) starts ends → All (IsBoarded scene table locks) starts → map number_at ends ≡ map moment_number starts
-  ends_are [] [] came boarded = refl
-  ends_are [] (end ∷ ends) came boarded = absurd came
-  ends_are (start ∷ starts) [] came boarded = absurd came
-  ends_are (start ∷ starts) (end ∷ ends) came boarded =
-      ap (λ (n : ℕ). n ∷ map number_at ends) (walk_by table (picture_at scene.pictures) locks came.0.walk ∙ (All-head (IsBoarded scene table locks) start starts boarded).served)
-      ∙ ap (λ (ns : List ℕ). start.of.script.number ∷ ns) (ends_are starts ends came.1 (All-tail (IsBoarded scene table locks) start starts boarded))
+  ends_are : (starts ends : List (Moment B)) → AllZip (CameBack scene table locks) starts ends → All (HasNewSeats scene table locks) starts → map number_at ends ≡ map moment_number starts
+  ends_are [] [] came new_seats = refl
+  ends_are [] (end ∷ ends) came new_seats = absurd came
+  ends_are (start ∷ starts) [] came new_seats = absurd came
+  ends_are (start ∷ starts) (end ∷ ends) came new_seats =
+      ap (λ (n : ℕ). n ∷ map number_at ends) (walk_by table (picture_at scene.pictures) locks came.0.walk ∙ (All-head (HasNewSeats scene table locks) start starts new_seats).served)
+      ∙ ap (λ (ns : List ℕ). start.of.script.number ∷ ns) (ends_are starts ends came.1 (All-tail (HasNewSeats scene table locks) start starts new_seats))
 
   numbers : map number_at ends ≡ map script_number joins.declared
-  numbers = ends_are joins.starts ends joins.came joins.boarded ∙ declared_are
+  numbers = ends_are joins.starts ends joins.came joins.new_seats ∙ declared_are
 
   by_place : (by : ℕ) → (joins.first.seats.by ≡ by) ⊎ Contains (gave_of joins.first) by → Contains (0 ∷ map number_at ends) by
   by_place by (inl same) = has_first 0 by (map number_at ends) (sym joins.is_first.number ∙ same)
@@ -155,9 +155,9 @@ module _ {B : Type 0} (lease : Ghosts ReadLeaseOf SeatView ReadLeaseOf Issued) (
   stocks_new : flat_map stock_of (map of_at ends) ≡ flat_map (stock_of {B = B}) (new_actors joins.declared joins.stock)
   stocks_new = stocks_same joins.starts ends joins.came ∙ ap (λ (ofs : List (ActorOf B)). flat_map stock_of ofs) joins.new
 
-  served_at : (start end : Moment B) → CameBack scene table locks start end → IsBoarded scene table locks start → end.of.script.number ≡ end.seats.by
-  served_at start end back boarded =
-      ap (λ (script : ActorScript). script.number) (walk_same table (picture_at scene.pictures) locks back.walk).0 ∙ sym (walk_by table (picture_at scene.pictures) locks back.walk ∙ boarded.served)
+  served_at : (start end : Moment B) → CameBack scene table locks start end → HasNewSeats scene table locks start → end.of.script.number ≡ end.seats.by
+  served_at start end back new_seats =
+      ap (λ (script : ActorScript). script.number) (walk_same table (picture_at scene.pictures) locks back.walk).0 ∙ sym (walk_by table (picture_at scene.pictures) locks back.walk ∙ new_seats.served)
 
   stocks_few : (number : ℕ) → stock_at number (flat_map stock_of (map of_at ends)) ≤ 1
   stocks_few number =
@@ -187,12 +187,12 @@ module _ {B : Type 0} (lease : Ghosts ReadLeaseOf SeatView ReadLeaseOf Issued) (
           found : (y : Moment B) × Contains ends y × (y.seats.by ≡ makes.made.by)
           found = map_has number_at ends makes.made.by other
 
-          its_start : Boarded scene table locks joins.starts found.0
-          its_start = boarded_of scene table locks joins.starts ends joins.came found.0 found.1
+          its_start : SeatedAs scene table locks joins.starts found.0
+          its_start = seated_as scene table locks joins.starts ends joins.came found.0 found.1
 
           its : Contains found.0.of.stock number
           its = own_stock table (picture_at scene.pictures) locks desk joins.closes.marks own_apart tied.legal found.0 its_start.back.sound
-              (served_at its_start.start found.0 its_start.back (All-contains (IsBoarded scene table locks) joins.starts its_start.start joins.boarded its_start.there))
+              (served_at its_start.start found.0 its_start.back (All-contains (HasNewSeats scene table locks) joins.starts its_start.start joins.new_seats its_start.there))
               (λ q. (joins.goes_on found.0.seats (taken found.0 found.1)).calls q) number queue place makes (sym found.2)
 
           own_end : Contains end.of.stock number
@@ -244,12 +244,12 @@ module _ {B : Type 0} (lease : Ghosts ReadLeaseOf SeatView ReadLeaseOf Issued) (
         (actors_are joins.starts ∙ joins.new)
         (ap (λ (xs : List (Arrival ReadLeaseOf)). xs ++ flat_map (λ (local : Local B). local.pending) (map local_at joins.starts)) handler_pending ∙ pending_none joins.starts)
         (ap (λ xs. map lease_on xs ++ flat_map (λ (local : Local B). local.on) (map local_at joins.starts)) handler_on ∙ on_none joins.starts)
-        (ap (λ (xs : List Turn). xs ++ flat_map (λ (local : Local B). local.leaves) (map local_at joins.starts)) joins.no_leaves ∙ leaves_none joins.starts joins.boarded)
+        (ap (λ (xs : List Turn). xs ++ flat_map (λ (local : Local B). local.leaves) (map local_at joins.starts)) joins.no_leaves ∙ leaves_none joins.starts joins.new_seats)
         Holds from
 
     callers : AreCallers scene table locks joins.first desk joins.closes joins.ordered own_first joins.goes_on own_apart tied.legal Holds lifted joins.starts ends
-    callers = callers_of scene table locks joins.first desk joins.closes joins.ordered own_first joins.goes_on own_apart tied.legal Holds lifted joins.starts ends joins.came joins.boarded taken owner
-        (λ start end back boarded. walk_by table (picture_at scene.pictures) locks back.walk ∙ boarded.served) numbered
+    callers = callers_of scene table locks joins.first desk joins.closes joins.ordered own_first joins.goes_on own_apart tied.legal Holds lifted joins.starts ends joins.came joins.new_seats taken owner
+        (λ start end back new_seats. walk_by table (picture_at scene.pictures) locks back.walk ∙ new_seats.served) numbered
 
     -- what holds at the beginning holds at the join
     pub tied_holds : Holds (state_at (whole_of desk) (many_of (whole_of desk)) (seated last ∷ map local_at ends))

@@ -26,7 +26,7 @@ use Rattle.sf_shared.specs.Arriving.{ArrivalEntry}
 use Rattle.sf_shared.specs.Closing.{Closes, GoesOnIn, IsOrdered}
 use Rattle.sf_shared.specs.First.{KnowsNothing}
 use Rattle.sf_shared.specs.Seats.{AreSeats, QueuePass, calls_known, calls_made, home_of, is_at, marks_of, moment, moments_of, sent_in, takes_in, view_of}
-use Rattle.sf_crew.specs.Walks.{IsSound, Moment, Walk}
+use Rattle.sf_threads.specs.Walks.{IsSound, Moment, Walk}
 use Rattle.sf_rights.specs.States.{AreApart, State}
 use Rattle.sf_replay.specs.Cuts.{HasLedger, MakesAt, many_of}
 use Rattle.sf_replay.specs.Lifts.{Comes, local_of}

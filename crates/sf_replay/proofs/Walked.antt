@@ -23,8 +23,8 @@ use Rattle.sf_steps.specs.Actors.{Acts, IsActor}
 use Rattle.sf_shared.specs.declared.locks.Locks.{Locks}
 use Rattle.sf_shared.specs.declared.seats.Seats.{Seats}
 use Rattle.sf_shared.specs.Seats.{home_of, marks_of, tables_of, view_of}
-use Rattle.sf_crew.specs.Walks.{IsSound, IsTry, Moment, Walk}
-use Rattle.sf_crew.specs.Walks.Walk.{Begin, More}
+use Rattle.sf_threads.specs.Walks.{IsSound, IsTry, Moment, Walk}
+use Rattle.sf_threads.specs.Walks.Walk.{Begin, More}
 use Rattle.sf_rights.specs.States.{AreApart, State}
 use Rattle.sf_rights.proofs.Marking.{mark_only}
 use Rattle.sf_rights.proofs.Played.{got_has, next_done}

@@ -26,7 +26,7 @@ use Rattle.sf_shared.specs.declared.seats.Seats.{Seats}
 use Rattle.sf_shared.specs.Closing.{Closes, HasNoEntry, IsOrdered}
 use Rattle.sf_shared.specs.First.{HasAll, IsFirst, KnowsNothing, Meets, gave_of, took_of}
 use Rattle.sf_shared.specs.Seats.{AreSeats, home_of, marks_of, view_of}
-use Rattle.sf_crew.specs.Walks.{IsSound, Moment, Walk}
+use Rattle.sf_threads.specs.Walks.{IsSound, Moment, Walk}
 use Rattle.sf_compositor.specs.Vsyncs.{Sitting, Vsyncs}
 
 module _ {B : Type 0} where
@@ -44,8 +44,8 @@ module _ {B : Type 0} where
   MeetsAll start met new = FoldsTo (λ (old : FirstSeats B) (seats : Seats B) (new : FirstSeats B). Meets seats old new) start met new
 
   module _ (scene : SceneValue) (table : TableId) (locks : Locks B) where
-    -- an actor that has done nothing, aboard with seats of its own, which know nothing, signalled nothing and left no turn
-    pub record IsBoarded (moment : Moment B) : Type 0 where
+    -- an actor that has done nothing, with seats of its own, which know nothing, signalled nothing and left no turn
+    pub record HasNewSeats (moment : Moment B) : Type 0 where
       pub sound : IsSound table (picture_at scene.pictures) locks moment
       pub own : AreSeats table locks moment.seats
       pub served : moment.seats.by ≡ moment.of.script.number
@@ -60,13 +60,13 @@ module _ {B : Type 0} where
       pub own : AreSeats table locks end.seats
       pub walk : Walk table (picture_at scene.pictures) locks start end
 
-  -- The scene's actors went aboard with a permit for each of their dequeues, and came back; the compositor did its vsyncs meanwhile, through
+  -- The scene's actors were given seats, with a permit for each of their dequeues, and came back; the compositor did its vsyncs meanwhile, through
   -- the first seats; these took in the seats of all actors; and the locks were closed to this desk.
   pub record Joins (lease : Ghosts ReadLeaseOf SeatView ReadLeaseOf Issued) (scene : SceneValue) (table : TableId) (period most : ℕ) (locks : Locks B)
       (last : Sitting B) (ends : List (Moment B)) (desk : PlainOf B) : Type 0 where
     pub limits : IsWithinLimits scene
     pub marks : marks_of locks ≡ map mark_declared (rising_queues scene)
-    -- the actors, as they went aboard
+    -- the actors, as they were given seats
     pub declared : List ActorScript
     pub sorted : IsSortedFrom (λ (script : ActorScript). script.number) scene.actors declared
     pub stock : List ℕ
@@ -74,7 +74,7 @@ module _ {B : Type 0} where
     pub below : (number : ℕ) → Contains stock number → number < table.slots
     pub starts : List (Moment B)
     pub new : map of_at starts ≡ new_actors declared stock
-    pub boarded : All (IsBoarded scene table locks) starts
+    pub new_seats : All (HasNewSeats scene table locks) starts
     -- and as they came back
     pub came : AllZip (CameBack scene table locks) starts ends
     -- the compositor, from its first vsync on, over the first seats

@@ -14,7 +14,7 @@ use Rattle.sf_actor.specs.Rights.{Turn}
 use Rattle.sf_shared.specs.declared.first.FirstSeats.{FirstSeats}
 use Rattle.sf_shared.specs.declared.locks.Locks.{Locks}
 use Rattle.sf_shared.specs.Seats.{QueueEntry, QueuePass, home_of, is_at, marks_of, view_of}
-use Rattle.sf_crew.specs.Walks.{Moment}
+use Rattle.sf_threads.specs.Walks.{Moment}
 use Rattle.sf_rights.specs.Vsyncs.{lease_on}
 use Rattle.sf_rights.specs.Standing.{GiveAll}
 use Rattle.sf_surface.specs.Tokens.{Issued}

@@ -3,7 +3,7 @@ ghost use Rattle.atomic_table.specs.Seated.{TableId};
 ghost use Rattle.sf_actor.specs.Plain.{PlainOf, home_of, view_of};
 ghost use Rattle.sf_scene.specs.Scene.{SceneValue};
 ghost use Rattle.sf_shared.specs.declared.locks.Locks.{Locks};
-ghost use Rattle.sf_crew.specs.Walks.{Moment};
+ghost use Rattle.sf_threads.specs.Walks.{Moment};
 ghost use Rattle.sf_rights.specs.Standing.{LedgerStands};
 ghost use Rattle.sf_replay.specs.Joining.{Joins, of_at};
 ghost use Rattle.sf_replay.specs.Members.{AreTied, AreTimed, stamps};

@@ -16,7 +16,7 @@ ghost use Rattle.sf_turns.specs.Counts.{IsExact};
 ghost use Rattle.sf_actor.specs.Plain.{PlainOf, home_of, view_of};
 ghost use Rattle.sf_actor.specs.Scripts.{picture_at};
 ghost use Rattle.sf_shared.specs.declared.locks.Locks.{Locks};
-ghost use Rattle.sf_crew.specs.Walks.{Moment};
+ghost use Rattle.sf_threads.specs.Walks.{Moment};
 ghost use Rattle.sf_run.specs.Actors.{AreActors};
 ghost use Rattle.sf_rights.specs.Actors.{AreOver};
 ghost use Rattle.sf_rights.specs.InTurn.{DrawsStand};

@@ -14,7 +14,7 @@ use Rattle.sf_steps.specs.declared.actor.Actor.{Actor}
 use Rattle.sf_actor_set.specs.Opening.{IsSortedFrom, OpensQueues, new_actors}
 use Rattle.sf_actor_set.specs.Scripts.{permits_of}
 use Rattle.sf_shared.specs.Closing.{HasNoCalls}
-use Rattle.sf_crew.specs.Boarding.{IsNewcomer, number_of}
+use Rattle.sf_threads.specs.Seating.{IsNewcomer, number_of}
 use Rattle.sf_live.proofs.Newcomers.{few_opened, newcomers, numbers_same, opened_bare, rise_behind}
 use Rattle.sf_live.proofs.Openings.{are_actors, marks_opened, stock_below, stock_once}
 use Rattle.sf_live.proofs.opening.open.Goals as goal

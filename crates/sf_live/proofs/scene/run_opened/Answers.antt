@@ -2,7 +2,7 @@ use Rattle.std.proofs.Common.{◌≤◌, ◌∷◌, [], arith, refl, rules, subs
 use Rattle.sf_io.specs.Causes.{Rose}
 use Rattle.sf_compositor.proofs.Rising.{rose_since}
 use Rattle.sf_show.specs.Writing.{CutSome}
-use Rattle.sf_crew.proofs.AttendLemmas.{of_ok}
+use Rattle.sf_threads.proofs.AttendLemmas.{of_ok}
 use Rattle.sf_run.specs.Played.{opening}
 use Rattle.sf_show.proofs.WritingLemmas.{cut_more}
 use Rattle.sf_live.specs.Runs.{WroteLive}

@@ -1,9 +1,0 @@
-pub mod Backs
-pub mod Boarding
-pub mod Crews
-pub mod Gates
-pub mod Hands
-pub mod Meeting
-pub mod Returns
-pub mod Visits
-pub mod Walks

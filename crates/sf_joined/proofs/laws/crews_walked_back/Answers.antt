@@ -1,6 +1,0 @@
-use Rattle.sf_joined.proofs.Crewing.{all_walked}
-use Rattle.sf_joined.proofs.laws.crews_walked_back.Goals as goal
-
-pub returns : goal.returns
-returns g c = λ scene locks known declared stock actors sent back is.
-    all_walked scene g.B.TableName.table locks known declared stock actors sent back is.are is.newcomers is.boards is.unused is.came

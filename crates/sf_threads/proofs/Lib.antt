@@ -1,0 +1,16 @@
+pub mod AttendLemmas
+pub mod SeatingLemmas
+pub mod CrossingActors
+pub mod CrossingArrivals
+pub mod CrossingSeatedActors
+pub mod CrossingObjects
+pub mod CrossingSeats
+pub mod CrossingSends
+pub mod CrossingSlots
+pub mod CrossingTokens
+pub mod CrossingTurns
+pub mod Doing
+pub mod TaskLemmas
+pub mod MeetLemmas
+pub mod WalkLemmas
+pub mod Zips

@@ -1,0 +1,9 @@
+pub mod Backs
+pub mod Seating
+pub mod SeatedActors
+pub mod Gates
+pub mod Tasks
+pub mod Meeting
+pub mod Returns
+pub mod Visits
+pub mod Walks

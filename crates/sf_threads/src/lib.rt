@@ -1,0 +1,25 @@
+//! The actors of a scene in threads of their own. Each is given seats at what all share, and
+//! tries one step after the other; one that can't go on sleeps until another one has done something.
+//! Meanwhile whoever started them does its own part with the first seats. Once all rest they are
+//! joined, and their seats are taken in.
+#![tactic(auto)]
+
+mod all_returned;
+mod gates;
+mod here;
+mod laws;
+mod run;
+mod seated_actor;
+mod seating;
+mod task;
+mod threads;
+mod turn;
+mod visit;
+mod work;
+
+pub use all_returned::{AllReturned, ReturnedActor};
+pub use gates::Gates;
+pub use laws::seats_do_what_steps_do;
+pub use run::{Stopped, run_actors};
+pub use seated_actor::SeatedActor;
+pub use visit::{Ended, Visit};

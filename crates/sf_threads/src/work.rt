@@ -1,0 +1,66 @@
+ghost use Rattle.std.specs.Prelude.{◌<◌};
+ghost use Rattle.sf_threads.specs.SeatedActors.{MayTryNext};
+ghost use Rattle.sf_threads.specs.Backs.{IfWhole};
+
+use crate::seated_actor::{Back, SeatedActor};
+use crate::turn::turn;
+use sf_actor::Stepped;
+use sf_io::Gate;
+use sf_picture::Picture;
+use sf_shared::Locks;
+use sf_turns::TableName;
+use sf_watch::Watch;
+use std::sync::Wait;
+
+/// What a thread does after a try, which may have sent a transaction, with the news before it. Whether
+/// it goes on.
+fn goes_on<R: Wait>(rt: &R, watch: &Watch, seen: u64, sends: bool, stepped: Stepped) -> bool {
+    match stepped {
+        Stepped::Done => watch.tell_done(rt) && (!sends || watch.wait_for_look(rt)),
+        Stepped::NotYet => watch.idle(rt, seen),
+        Stepped::Ended => {
+            watch.tell_ended(rt);
+            false
+        }
+    }
+}
+
+/// Tries a seated actor's steps, one after the other, until it has done all or is stopped; while a step
+/// can't be done it sleeps, and so it does after a transaction until the visitor has looked at it. One
+/// for which no thread could be started is left as it is. For want of memory all are stopped.
+pub(crate) fn work<R: Wait, G: Gate, B: TableName>(
+    rt: &R,
+    locks: &Locks<B>,
+    pictures: &[Picture],
+    watch: &Watch,
+    gate: &G,
+    place: usize,
+    seated_actor: SeatedActor<B>,
+) -> Back<B>
+    requires place { place < 64 }
+    requires may_try_next { MayTryNext B.table locks.now pictures.now seated_actor }
+    ensures { IfWhole B.table locks.now pictures.now seated_actor result }
+{
+    let mut seated_actor = seated_actor;
+    if watch.is_turned_away(rt, place) {
+        return Back::Whole(seated_actor);
+    }
+    for _ in rt.forever() {
+        let seen = watch.news(rt);
+        let sends = seated_actor.actor.sends_next();
+        let (turned, stepped) = turn(rt, locks, pictures, gate, seated_actor);
+        seated_actor = turned;
+        match stepped {
+            Ok(stepped) => {
+                if !goes_on(rt, watch, seen, sends, stepped) {
+                    return Back::Whole(seated_actor);
+                }
+            }
+            Err(_) => {
+                watch.stop(rt);
+                return Back::Spent(seated_actor);
+            }
+        }
+    }
+    unreachable!()
+}
