@@ -10,7 +10,7 @@ const LEAST_BEHIND: u64 = 1 << 63;
 
 /// What the threads tell each other.
 #[derive(Drop)]
-struct Board {
+struct State {
     /// How often something was done, from 1 and wrapping: the start counts as new.
     news: u64,
     /// How many threads are idle, and know the latest news.
@@ -25,7 +25,7 @@ struct Board {
     has_turned_away: bool,
 }
 
-impl Board {
+impl State {
     /// Whether so many threads are all idle, or have ended.
     fn rests(&self, many: usize) -> bool {
         self.idle.saturating_add(self.ended) >= many
@@ -36,7 +36,7 @@ impl Board {
 #[derive(Drop)]
 pub struct Watch {
     many: usize,
-    board: Mutex<Board>,
+    state: Mutex<State>,
     /// For threads that are idle: there are news.
     changed: Condvar,
     /// For threads that wait for a look.
@@ -50,7 +50,7 @@ impl Watch {
     pub fn new(many: usize) -> Watch {
         Watch {
             many,
-            board: Mutex::new(Board {
+            state: Mutex::new(State {
                 news: 1,
                 idle: 0,
                 looked: 0,
@@ -67,32 +67,32 @@ impl Watch {
 
     /// The latest news. A thread reads it before it tries a step, so that it misses none.
     pub fn news<R: Wait>(&self, rt: &R) -> u64 {
-        self.board.lock(rt).news
+        self.state.lock(rt).news
     }
 
     /// Something was done, which may let others go on: nobody counts as idle any more. False where all
     /// are to stop.
     pub fn tell_done<R: Wait>(&self, rt: &R) -> bool {
-        let mut board = self.board.lock(rt);
-        board.news = board.news.wrapping_add(1);
-        board.idle = 0;
+        let mut state = self.state.lock(rt);
+        state.news = state.news.wrapping_add(1);
+        state.idle = 0;
         self.changed.notify_all();
         self.called.notify_all();
-        !board.stop
+        !state.stop
     }
 
     /// A thread does no more steps.
     pub fn tell_ended<R: Wait>(&self, rt: &R) {
-        let mut board = self.board.lock(rt);
-        board.ended = board.ended.saturating_add(1);
-        if board.rests(self.many) {
+        let mut state = self.state.lock(rt);
+        state.ended = state.ended.saturating_add(1);
+        if state.rests(self.many) {
             self.called.notify_all();
         }
     }
 
     /// All are to stop, whatever they wait for here.
     pub fn stop<R: Wait>(&self, rt: &R) {
-        self.board.lock(rt).stop = true;
+        self.state.lock(rt).stop = true;
         self.changed.notify_all();
         self.looked_on.notify_all();
         self.called.notify_all();
@@ -100,37 +100,37 @@ impl Watch {
 
     /// A thread is idle until there are other news than it has seen. False where it is to stop.
     pub fn idle<R: Wait>(&self, rt: &R, seen: u64) -> bool {
-        let mut board = self.board.lock(rt);
-        if board.news == seen {
-            board.idle = board.idle.saturating_add(1);
-            if board.rests(self.many) {
+        let mut state = self.state.lock(rt);
+        if state.news == seen {
+            state.idle = state.idle.saturating_add(1);
+            if state.rests(self.many) {
                 self.called.notify_all();
             }
         }
-        let board = self
+        let state = self
             .changed
-            .wait_while(rt, board, |board| board.news == seen && !board.stop);
-        !board.stop
+            .wait_while(rt, state, |state| state.news == seen && !state.stop);
+        !state.stop
     }
 
     /// Whoever started the threads waits for other news than it has seen, the first time than 0. The
     /// latest, or none where all threads are idle or have ended, or are to stop.
     pub fn next<R: Wait>(&self, rt: &R, seen: u64) -> Option<u64> {
         let many = self.many;
-        let board = self.board.lock(rt);
-        let board = self.called.wait_while(rt, board, |board| {
-            board.news == seen && !board.stop && !board.rests(many)
+        let state = self.state.lock(rt);
+        let state = self.called.wait_while(rt, state, |state| {
+            state.news == seen && !state.stop && !state.rests(many)
         });
-        if board.stop || board.news == seen {
+        if state.stop || state.news == seen {
             return None;
         }
-        Some(board.news)
+        Some(state.news)
     }
 
     /// Whoever started the threads has looked at all that was done up to these news, and may have done
     /// something itself.
     pub fn tell_looked<R: Wait>(&self, rt: &R, news: u64, did: bool) {
-        self.board.lock(rt).looked = news;
+        self.state.lock(rt).looked = news;
         self.looked_on.notify_all();
         if did {
             self.tell_done(rt);
@@ -141,22 +141,22 @@ impl Watch {
     /// far. Where no thread could be started for some place it doesn't: whoever tries the steps of that
     /// place may wait meanwhile for what this thread does next. False where it is to stop.
     pub fn wait_for_look<R: Wait>(&self, rt: &R) -> bool {
-        let board = self.board.lock(rt);
-        let told = board.news;
-        let board = self.looked_on.wait_while(rt, board, |board| {
-            board.looked.wrapping_sub(told) >= LEAST_BEHIND && !board.stop && !board.has_turned_away
+        let state = self.state.lock(rt);
+        let told = state.news;
+        let state = self.looked_on.wait_while(rt, state, |state| {
+            state.looked.wrapping_sub(told) >= LEAST_BEHIND && !state.stop && !state.has_turned_away
         });
-        !board.stop
+        !state.stop
     }
 
     /// No thread could be started for this place. Nobody waits for it.
     pub fn turn_away<R: Wait>(&self, rt: &R, place: usize)
         requires { place < 64 }
     {
-        let mut board = self.board.lock(rt);
-        board.turned_away[place] = true;
-        board.has_turned_away = true;
-        board.ended = board.ended.saturating_add(1);
+        let mut state = self.state.lock(rt);
+        state.turned_away[place] = true;
+        state.has_turned_away = true;
+        state.ended = state.ended.saturating_add(1);
         self.looked_on.notify_all();
     }
 
@@ -164,6 +164,6 @@ impl Watch {
     pub fn is_turned_away<R: Wait>(&self, rt: &R, place: usize) -> bool
         requires { place < 64 }
     {
-        self.board.lock(rt).turned_away[place]
+        self.state.lock(rt).turned_away[place]
     }
 }
