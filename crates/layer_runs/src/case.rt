@@ -226,7 +226,7 @@ impl Case {
                 self.use_number(rt, name, &mut words)
             }
             "view" | "shows" | "dirty" => self.look_at(rt, name, &mut words),
-            "frame" | "again" | "turns" | "part" | "crew" | "seen" => {
+            "frame" | "again" | "turns" | "part" | "parallel" | "seen" => {
                 let pixels = self.pixels(rt, name, &mut words);
                 show::frame(rt, name, pixels)?;
                 Ok(true)

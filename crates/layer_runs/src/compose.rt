@@ -23,7 +23,7 @@ pub enum Work {
     /// By one, of each layer all of it.
     Whole,
     /// By so many workers.
-    Crew(u32),
+    Parallel(u32),
     /// Of each layer only what shows.
     Seen,
 }
@@ -135,7 +135,7 @@ pub fn add<R: Threads + Sync>(
     }
     match work {
         Work::Whole => compose_one(alloc, view, contents, &sources, part, frame).ok(),
-        Work::Crew(workers) => {
+        Work::Parallel(workers) => {
             if workers < 1 || workers > 16 {
                 return None;
             }

@@ -56,7 +56,7 @@ pub fn part_asked(name: &str, words: &mut SplitWhitespace<'_>) -> Option<Work> {
     match name {
         "part" => Some(Work::Whole),
         "seen" => Some(Work::Seen),
-        _ => Some(Work::Crew(number32(words)?)),
+        _ => Some(Work::Parallel(number32(words)?)),
     }
 }
 
@@ -84,7 +84,7 @@ pub fn turns_asked(name: &str, words: &mut SplitWhitespace<'_>) -> Option<(Work,
     let work = match words.next()? {
         "whole" => Work::Whole,
         "again" => Work::Seen,
-        workers => Work::Crew(workers.parse().ok()?),
+        workers => Work::Parallel(workers.parse().ok()?),
     };
     Some((work, number32(words)?))
 }
@@ -101,7 +101,7 @@ fn turn<R: Threads + Sync>(
 ) -> Option<()> {
     let part = match work {
         Work::Seen => dirty(alloc, before, view).ok()?,
-        Work::Whole | Work::Crew(_) => {
+        Work::Whole | Work::Parallel(_) => {
             let display = Rect {
                 x: 0,
                 y: 0,

@@ -22,7 +22,7 @@
 //! | `keep WIDTH HEIGHT` | what a display shows is kept as the view before; with layers after it, what it shows of these |
 //! | `dirty WIDTH HEIGHT` | where what a display shows, of all or of these layers, differs from the view before |
 //! | `seen WIDTH HEIGHT RECTANGLE ..` | as `part`, of each layer only what shows |
-//! | `crew WORKERS WIDTH HEIGHT RECTANGLE ..` | as `part`, by so many workers |
+//! | `parallel WORKERS WIDTH HEIGHT RECTANGLE ..` | as `part`, by so many workers |
 //! | `turns WORK N WIDTH HEIGHT` | the last of N frames in which this view and the view before take turns; WORK is `whole`, `again` or a number of workers |
 //! | `marks N` | how many rectangles come of looking N times at what changed and what shows |
 //! | `again WIDTH HEIGHT` | the pixels of a display, composed over those of the view before where the two differ |

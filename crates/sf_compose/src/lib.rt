@@ -11,11 +11,11 @@ mod band;
 mod begin;
 mod beside;
 mod contents;
-mod crew;
 mod ground;
 mod laws;
 mod layer;
 mod one;
+mod parallel;
 mod pixels;
 mod seen;
 mod share;
@@ -25,11 +25,11 @@ mod spans;
 mod turned;
 mod whole;
 
-pub use crew::{compose, compose_seen_by};
 pub use laws::{
     composing_has_one_frame, composing_what_differs_gives_the_frame, what_is_read_is_the_image,
 };
 pub use one::compose_one;
+pub use parallel::{compose, compose_seen_by};
 pub use pixels::Pixels;
 pub use seen::compose_seen;
 pub use whole::compose_frame;

@@ -9,7 +9,7 @@ compose_one-requires-clause-readable g c =
 
 pub compose-requires-clause-readable : goal.compose-requires-clause-readable
 compose-requires-clause-readable g c κs within =
-    rw c.deref-in-Crew.ensures.value (readable c.args.contents.now c.as_slice.result.now c.args.view.now.drawn c.in-Some.sources.items (c.as_slice.ensures ∙ ap (λ (v : ViewOf). v.drawn) c.view.view_is) c.in-Some.ensures)
+    rw c.deref-in-Parallel.ensures.value (readable c.args.contents.now c.as_slice.result.now c.args.view.now.drawn c.in-Some.sources.items (c.as_slice.ensures ∙ ap (λ (v : ViewOf). v.drawn) c.view.view_is) c.in-Some.ensures)
 
 pub compose_seen-requires-clause-readable : goal.compose_seen-requires-clause-readable
 compose_seen-requires-clause-readable g c =

@@ -2,7 +2,7 @@ use Rattle.std.proofs.Common.{map, pos}
 use Rattle.sf_region.specs.Points.{has}
 use Rattle.sf_compose.specs.Readings.{read_image}
 use Rattle.sf_compose.proofs.FrameLemmas.{KeepsRest-repaints, ShowsPart-repaints}
-use Rattle.sf_compose.proofs.crew.compose_seen_by.Goals as goal
+use Rattle.sf_compose.proofs.parallel.compose_seen_by.Goals as goal
 
 pub returns-clause-image : goal.returns-clause-image
 returns-clause-image g c =
