@@ -1,8 +1,11 @@
 //! The calls of a compositor that shares the locks with the actors.
-ghost use Rattle.std.specs.Prelude.{◌≡◌, ◌<◌, ◌≤◌, IfErr, IfOk, Some};
+ghost use Rattle.std.specs.Prelude.{◌≡◌, ◌<◌, ◌≤◌, [], IfErr, IfOk, None, Some, map};
 ghost use Rattle.sf_calls.specs.Histories.{Begins, calls_by};
 ghost use Rattle.std.specs.Prelude.{false, true, IsErr, OnErr};
 ghost use Rattle.sf_commit.specs.Handlers.{Decides, Stops, last_of};
+ghost use Rattle.sf_commit.specs.Lending.{ends_of};
+ghost use Rattle.sf_commit.specs.OnLayers.{at_hand};
+ghost use Rattle.sf_txn.specs.Leases.{IsEyeAfter};
 ghost use Rattle.sf_stamped.specs.Stamps.{newest_stamp};
 ghost use Rattle.sf_token.specs.Pending.{IsRisingFrom};
 ghost use Rattle.sf_shared.specs.Calls.{TookOne};
@@ -15,7 +18,7 @@ use crate::locks::Locks;
 use crate::seats::Seats;
 use sf_base::{NoMemory, Seen};
 use sf_calls::{CallFault, CallLock, Pass};
-use sf_commit::{Handler, Vsync};
+use sf_commit::{Contents, Handler, Vsync};
 use sf_picture::Painted;
 use sf_surface::ReadLease;
 use sf_token::{ArriveCall, ArriveReply, Arrived, Batch};
@@ -71,9 +74,28 @@ fn vsync_through<B: TableName>(
     handler.vsync(turns, arrived, seen, expected)
 }
 
+/// Gives pixels back to a handler that lent them, with a seat at the turns as its eye: the reads that
+/// were kept for them leave through it.
+fn give_back_through<B: TableName>(
+    turns: &mut TurnSeat<Painted>,
+    handler: &mut Handler<ReadLease<B>>,
+    contents: Contents,
+)
+    requires own { turns.old.table ≡ B.table }
+    requires lent { handler.old.lent ≡ Some contents }
+    ensures back { handler.new ≡ record handler.old { on = map at_hand handler.old.on; lent = None; kept = [] } }
+    ensures reads { IsEyeAfter ⟦<ReadLease<B> as Lease>⟧ turns.old turns.new (ends_of ⟦<ReadLease<B> as Lease>⟧ handler.old.kept) }
+    ensures goes { SeatGoesOn turns.old turns.new }
+{
+    handler.give_back(turns, contents);
+}
+
 impl<B: TableName> Seats<B> {
-    ghost use Rattle.std.specs.Prelude.{◌≡◌, false, true, IfErr, IfOk, IsErr, OnErr};
+    ghost use Rattle.std.specs.Prelude.{◌≡◌, [], false, true, IfErr, IfOk, IsErr, None, OnErr, Some, map};
     ghost use Rattle.sf_commit.specs.Handlers.{Decides, Stops, last_of};
+    ghost use Rattle.sf_commit.specs.Lending.{ends_of};
+    ghost use Rattle.sf_commit.specs.OnLayers.{at_hand};
+    ghost use Rattle.sf_txn.specs.Leases.{IsEyeAfter};
     ghost use Rattle.sf_token.specs.Pending.{IsRisingFrom};
     ghost use Rattle.sf_shared.specs.Eyes.{SeatGoesOn};
     ghost use Rattle.sf_actor.specs.Desks.{IsAsBefore};
@@ -126,5 +148,18 @@ impl<B: TableName> Seats<B> {
         ensures goes { SeatGoesOn self.old.turns self.new.turns }
     {
         vsync_through(&mut self.turns, handler, arrived, seen, expected)
+    }
+
+    /// Gives pixels back to a handler that lent them: the reads that were kept for them leave through
+    /// the seat at the turns. It takes no memory.
+    pub fn give_back(&mut self, handler: &mut Handler<ReadLease<B>>, contents: Contents)
+        requires own { self.old.turns.table ≡ B.table }
+        requires lent { handler.old.lent ≡ Some contents }
+        ensures back { handler.new ≡ record handler.old { on = map at_hand handler.old.on; lent = None; kept = [] } }
+        ensures reads { IsEyeAfter ⟦<ReadLease<B> as Lease>⟧ self.old.turns self.new.turns (ends_of ⟦<ReadLease<B> as Lease>⟧ handler.old.kept) }
+        ensures same { self.new ≡ record self.old { turns = self.new.turns } }
+        ensures goes { SeatGoesOn self.old.turns self.new.turns }
+    {
+        give_back_through(&mut self.turns, handler, contents);
     }
 }
