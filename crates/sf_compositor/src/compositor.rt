@@ -12,7 +12,7 @@ use sf_record::RunFault;
 use sf_screen::Screens;
 use sf_shared::{FirstSeats, Locks};
 use sf_surface::ReadLease;
-use sf_threads::{Ended, Visit};
+use sf_threads::{Ended, Look, Visit};
 use sf_turns::TableName;
 use sf_txn::Lease;
 use std::alloc::Global;
@@ -49,7 +49,13 @@ impl<'a, R: Threads + Wait + Sync, K: Sink, B: TableName> Visit<R, B> for Compos
 
     ghost ended = { HasEnded K.taken K.faults };
 
-    fn visit(&mut self, rt: &R, locks: &Locks<B>, first: &mut FirstSeats<B>) -> Result<bool, Ended>
+    fn visit(
+        &mut self,
+        rt: &R,
+        locks: &Locks<B>,
+        first: &mut FirstSeats<B>,
+        _look: &Look,
+    ) -> Result<bool, Ended>
         requires first { IsFirst B.table locks.now first.old }
         requires kept { (start : _) × (IsSync R.row × Keeps K.taken K.faults ⟦<ReadLease<B> as Lease>⟧ B.table start self.old locks.now first.old) }
         ensures first { OnOk result (IsFirst B.table locks.now first.new) }

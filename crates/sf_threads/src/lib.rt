@@ -22,4 +22,4 @@ pub use gates::Gates;
 pub use laws::seats_do_what_steps_do;
 pub use run::{Stopped, run_actors};
 pub use seated_actor::SeatedActor;
-pub use visit::{Ended, Visit};
+pub use visit::{Ended, Look, Visit};

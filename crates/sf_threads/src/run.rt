@@ -19,7 +19,7 @@ use crate::seated_actor::SeatedActor;
 use crate::seating::seat_actors;
 use crate::task::Task;
 use crate::threads::{bring_back, send_all};
-use crate::visit::{Ended, Visit};
+use crate::visit::{Ended, Look, Visit};
 use sf_base::NoMemory;
 use sf_io::Gate;
 use sf_picture::Picture;
@@ -84,7 +84,8 @@ fn attend<'s, R: Threads + Wait + Sync, G: Gate, B: TableName, V: Visit<R, B>>(
             return Err(Stopped::NoMemory);
         };
         tasks = tried;
-        match visitor.visit(rt, locks, &mut first) {
+        let look = Look { watch, news };
+        match visitor.visit(rt, locks, &mut first, &look) {
             Ok(did) => watch.tell_looked(rt, news, did),
             Err(Ended) => return Err(Stopped::Ended),
         }

@@ -6,12 +6,28 @@ ghost use Rattle.sf_threads.specs.Visits.{LeavesGiven};
 
 use sf_shared::{FirstSeats, Locks};
 use sf_turns::TableName;
+use sf_watch::Watch;
 use std::sync::Wait;
 use std::thread::Threads;
 
 /// A visitor can do no more. It keeps the cause.
 #[derive(Clone, Copy)]
 pub struct Ended;
+
+/// A look of whoever starts the threads at all that was done up to some news.
+#[derive(Clone, Copy)]
+pub struct Look<'a> {
+    pub(crate) watch: &'a Watch,
+    pub(crate) news: u64,
+}
+
+impl<'a> Look<'a> {
+    /// Tells threads that wait for it that all was looked at, before the part that follows is over;
+    /// and whether anything was done that may let a thread go on.
+    pub fn tell<R: Wait>(&self, rt: &R, did: bool) {
+        self.watch.tell_looked(rt, self.news, did);
+    }
+}
 
 /// What whoever starts the threads does meanwhile, with the first seats, as a compositor does its
 /// vsyncs.
@@ -22,9 +38,15 @@ pub trait Visit<R: Threads + Wait + Sync, B: TableName> {
     /// What it keeps of itself since then once it can do no more.
     ghost ended: { Self → Self → Type 0 };
 
-    /// Does its part, after something was done. Whether it did anything itself that may let a thread
-    /// go on.
-    fn visit(&mut self, rt: &R, locks: &Locks<B>, first: &mut FirstSeats<B>) -> Result<bool, Ended>
+    /// Does its part, after something was done. It may tell of its look before it is done with it.
+    /// Whether it did anything itself since then that may let a thread go on.
+    fn visit(
+        &mut self,
+        rt: &R,
+        locks: &Locks<B>,
+        first: &mut FirstSeats<B>,
+        look: &Look,
+    ) -> Result<bool, Ended>
         requires first { IsFirst B.table locks.now first.old }
         requires kept { (start : Self) × keeps start self.old locks.now first.old }
         ensures first { OnOk result (IsFirst B.table locks.now first.new) }
