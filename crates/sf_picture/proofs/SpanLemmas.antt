@@ -1,5 +1,5 @@
 -- Filling a row after the rows above it, and a fill after the fills before it.
-use Rattle.std.proofs.Common.{◌≡◌, ℕ, ◌+◌, ◌*◌, ◌<◌, ◌≤◌, pos, ◌∙◌, inl, inr, List, [], ◌∷◌, arith, true, false, if◌then◌else◌, nat_le, nat_lt, ◌&&◌, suc, Bool, ap, refl, find, reverse, take, length, get_or, Option, Some}
+use Rattle.std.proofs.Common.{◌≡◌, ℕ, ◌+◌, ◌*◌, ◌<◌, ◌≤◌, pos, ◌∙◌, inl, inr, List, ℤ, [], ◌∷◌, arith, true, false, if◌then◌else◌, nat_le, nat_lt, ◌&&◌, suc, Bool, ap, refl, find, reverse, take, length, get_or, Option, Some}
 use Rattle.std.proofs.Math.Nat.{mul-le-mul_right}
 use Rattle.std.proofs.lemmas.Bool.{cases_lt}
 use Rattle.std.proofs.lemmas.Bool.Decides.{nat_tests}
@@ -12,7 +12,7 @@ use Rattle.sf_base.specs.declared.format.Format.{Format}
 use Rattle.sf_picture.specs.Pixels.{colour_at, colour_of, transparent}
 use Rattle.sf_picture.specs.declared.fill.Fill.{Fill}
 use Rattle.std.proofs.lemmas.List.{take_more, reverse-append}
-use Rattle.sf_picture.specs.Spans.{PaintsRows, PaintsFill, ShowsFills}
+use Rattle.sf_picture.specs.Spans.{CoversAll, PaintsRows, PaintsFill, ShowsFills}
 
 -- a row's pixels come before those of each later row
 row_before : (w x y z : ℕ) → x < w → y < z → y * w + x < z * w
@@ -89,6 +89,29 @@ ShowsFills-more format fills i d {w} {h} {mid} {new} shows more paints = record 
       let e = ap (seen_as format) (colour_at-more fills i d x y more) ∙ seen-if format (covers (get_or fills i d).rect (pos x) (pos y)) (get_or fills i d).colour (colour_at (take i fills) x y) in
       grind (arith, was, now, e);
 }
+
+-- where a fill covers all, what was there before it does not matter
+pub ShowsFills-covered : (format : Format) (fills : List Fill) (i : ℕ) (d : Fill) {w h : ℕ} {mid new : List ℕ} → CoversAll (get_or fills i d).rect w h → i < length fills → PaintsFill mid new w h (get_or fills i d).rect (seen_as format (get_or fills i d).colour) → ShowsFills format (take (i + 1) fills) w h new
+ShowsFills-covered format fills i d {w} {h} {mid} {new} covered more paints = record {
+  pixels = λ x y in_row in_column.
+      let all = covered.points x y in_row in_column in
+      let now = paints.pixels x y in_row in_column in
+      let e = ap (seen_as format) (colour_at-more fills i d x y more) ∙ seen-if format (covers (get_or fills i d).rect (pos x) (pos y)) (get_or fills i d).colour (colour_at (take i fills) x y) in
+      grind (arith, all, now, e);
+}
+
+-- all columns and all rows within are all points covered
+pub CoversAll-within : (rect : Rect) (w h : ℕ) → ((x : ℕ) → x < w → is_within rect.x rect.width (pos x) ≡ true) → ((y : ℕ) → y < h → is_within rect.y rect.height (pos y) ≡ true) → CoversAll rect w h
+unfolding covers
+CoversAll-within rect w h across down = record {
+  points = λ x y in_row in_column. rw (across x in_row, down y in_column) refl;
+}
+
+-- all from the first place to the last
+pub all_within : (start : ℤ) (extent first end limit : ℕ) → ((at : ℕ) → at < limit → is_within start extent (pos at) ≡ (nat_le first at && nat_lt at end)) → first ≡ 0 → end ≡ limit → (at : ℕ) → at < limit → is_within start extent (pos at) ≡ true
+all_within start extent first end limit same begins ends at below =
+    let is = same at below in
+    grind (arith, nat_tests, is, begins, ends)
 
 -- filled bytes are the pixels of a picture without fills
 pub ShowsFills-none : (format : Format) (w h : ℕ) (old new : List ℕ) → FillsSpan old new 0 (w * h) (seen_as format transparent) → ShowsFills format [] w h new

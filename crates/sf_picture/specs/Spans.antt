@@ -1,5 +1,5 @@
 -- What filling changes in the bytes of a picture.
-use Rattle.std.specs.Prelude.{◌≡◌, ℕ, ◌+◌, ◌*◌, ◌<◌, pos, List, if◌then◌else◌, nat_le, nat_lt, ◌&&◌}
+use Rattle.std.specs.Prelude.{◌≡◌, ℕ, ◌+◌, ◌*◌, ◌<◌, pos, List, if◌then◌else◌, nat_le, nat_lt, ◌&&◌, true}
 use Rattle.sf_base.specs.Bytes.{pixel_in}
 use Rattle.sf_base.specs.Formats.{seen_as}
 use Rattle.sf_base.specs.Geometry.{covers}
@@ -8,6 +8,10 @@ use Rattle.sf_base.specs.declared.geometry.Rect.{Rect}
 use Rattle.sf_base.specs.declared.pixel.Rgba.{Rgba}
 use Rattle.sf_picture.specs.declared.fill.Fill.{Fill}
 use Rattle.sf_picture.specs.Pixels.{colour_at}
+
+-- the rectangle covers each point of a picture of this size
+pub record CoversAll (rect : Rect) (width height : ℕ) : Type 0 where
+  pub points : (x y : ℕ) → x < width → y < height → covers rect (pos x) (pos y) ≡ true
 
 -- of a picture of this size, the points that the rectangle covers have the colour, and no other changed
 pub record PaintsFill (old new : List ℕ) (width height : ℕ) (rect : Rect) (colour : Rgba) : Type 0 where

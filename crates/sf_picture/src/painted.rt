@@ -1,9 +1,10 @@
-ghost use Rattle.std.specs.Prelude.{◌≡◌, ◌*◌, IfOk, IfErr, length};
+ghost use Rattle.std.specs.Prelude.{◌≡◌, ◌*◌, ◌≤◌, IfOk, IfErr, length, take};
 ghost use Rattle.sf_picture.specs.Pixels.{HasSize, ShowsPicture};
+ghost use Rattle.sf_picture.specs.Spans.{ShowsFills};
 
 use crate::cover::TRANSPARENT;
 use crate::picture::Picture;
-use crate::spans::{fill_span, paint_fill};
+use crate::spans::{covers_all, fill_span, paint_fill};
 use sf_base::{NoMemory, seen_as};
 use std::alloc::Global;
 use std::marker::Model;
@@ -58,17 +59,44 @@ impl Painted {
     }
 }
 
+/// Paints what lies below the fills, or the first of them where it covers every pixel; and how many
+/// fills it painted.
+fn paint_ground(bytes: &mut [u8], picture: &Picture) -> usize
+    requires size { HasSize picture.now }
+    requires room { length bytes.old ≡ 4 * (picture.now.width * picture.now.height) }
+    ensures room { length bytes.new ≡ length bytes.old }
+    ensures few { result ≤ length picture.now.fills }
+    ensures shows { ShowsFills picture.now.format (take result picture.now.fills) picture.now.width picture.now.height bytes.new }
+{
+    let fills = picture.fills.as_slice();
+    if let Some(first) = fills.first() {
+        if covers_all(first, picture.width, picture.height) {
+            paint_fill(bytes, picture.width, picture.height, picture.format, first);
+            return 1;
+        }
+    }
+    let ground = seen_as(picture.format, TRANSPARENT);
+    let count = picture.width as usize * picture.height as usize;
+    fill_span(bytes, 0, count, ground);
+    0
+}
+
 /// Paints every pixel anew.
 fn paint_all(bytes: &mut [u8], picture: &Picture)
     requires size { HasSize picture.now }
     requires room { length bytes.old ≡ 4 * (picture.now.width * picture.now.height) }
     ensures { ShowsPicture picture.now bytes.new }
 {
-    let ground = seen_as(picture.format, TRANSPARENT);
-    let count = picture.width as usize * picture.height as usize;
-    fill_span(bytes, 0, count, ground);
-    for fill in picture.fills.as_slice() {
-        paint_fill(bytes, picture.width, picture.height, picture.format, fill);
+    let painted = paint_ground(bytes, picture);
+    let fills = picture.fills.as_slice();
+    for at in painted..fills.len() {
+        paint_fill(
+            bytes,
+            picture.width,
+            picture.height,
+            picture.format,
+            &fills[at],
+        );
     }
 }
 

@@ -1,7 +1,8 @@
-ghost use Rattle.std.specs.Prelude.{◌≡◌, ◌*◌, ◌≤◌, length};
+ghost use Rattle.std.specs.Prelude.{◌≡◌, ◌*◌, ◌<◌, ◌≤◌, ℕ, length, pos, true};
 ghost use Rattle.sf_base.specs.Bytes.{FillsSpan};
 ghost use Rattle.sf_base.specs.Formats.{seen_as};
-ghost use Rattle.sf_picture.specs.Spans.{PaintsFill};
+ghost use Rattle.sf_base.specs.Geometry.{is_within};
+ghost use Rattle.sf_picture.specs.Spans.{CoversAll, PaintsFill};
 
 use crate::fill::Fill;
 use sf_base::{Format, Rgba, clipped, put_pixel, seen_as};
@@ -15,6 +16,22 @@ pub(crate) fn fill_span(bytes: &mut [u8], start: usize, end: usize, colour: Rgba
     for at in start..end {
         put_pixel(bytes, at, colour);
     }
+}
+
+/// Whether all below a limit is within a range.
+fn spans_all(start: i32, extent: u32, limit: u32) -> bool
+    ensures { result ≡ true → (at : ℕ) → at < limit → is_within start extent (pos at) ≡ true }
+{
+    let (first, end) = clipped(start, extent, limit);
+    first == 0 && end == limit
+}
+
+/// Whether a fill covers every pixel of a picture of this size.
+pub(crate) fn covers_all(fill: &Fill, width: u32, height: u32) -> bool
+    ensures { result ≡ true → CoversAll fill.now.rect width height }
+{
+    spans_all(fill.rect.x, fill.rect.width, width)
+        && spans_all(fill.rect.y, fill.rect.height, height)
 }
 
 /// Fills what lies inside a picture of this size and format, row by row.
