@@ -1,5 +1,6 @@
 -- For how many steps of an actor a gate was passed.
-use Rattle.std.specs.Prelude.{◌≡◌, ◌+◌, ◌≤◌, length, min}
+use Rattle.std.specs.Prelude.{◌≡◌, ◌+◌, ◌≤◌, List, length, min}
+use Rattle.std.specs.List.{AllZip}
 use Rattle.sf_steps.specs.declared.actor.Actor.{Actor}
 use Rattle.sf_threads.specs.declared.gates.Gates.{Gates}
 
@@ -13,3 +14,7 @@ module _ {B : Type 0} where
   -- for each step that is done and for the next one, where there is one
   abbrev pub IsReady : Actor B → Gates → Type 0
   IsReady actor gates = gates.passed ≡ min (length actor.script.steps) (length actor.replies.items + 1)
+
+  -- each of these actors has passed its own
+  abbrev pub HavePassed : List (Actor B) → List Gates → Type 0
+  HavePassed actors gates = AllZip HasPassed actors gates

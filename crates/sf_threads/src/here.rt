@@ -33,10 +33,10 @@ fn try_back<R: Wait, G: Gate, B: TableName>(
         Back::Spent(seated_actor) => return Back::Spent(seated_actor),
         Back::Whole(seated_actor) => seated_actor,
     };
-    let (seated_actor, stepped) = turn(rt, locks, pictures, gate, seated_actor);
+    let (seated_actor, stepped, noted) = turn(rt, locks, pictures, gate, seated_actor);
     match stepped {
         Ok(Stepped::Done) => {
-            watch.tell_done(rt);
+            watch.tell_done(rt, noted.effect());
             Back::Whole(seated_actor)
         }
         Ok(Stepped::NotYet | Stepped::Ended) => Back::Whole(seated_actor),

@@ -8,6 +8,7 @@ mod all_returned;
 mod gates;
 mod here;
 mod laws;
+mod noting;
 mod run;
 mod seated_actor;
 mod seating;

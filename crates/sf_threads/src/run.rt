@@ -86,7 +86,7 @@ fn attend<'s, R: Threads + Wait + Sync, G: Gate, B: TableName, V: Visit<R, B>>(
         tasks = tried;
         let look = Look { watch, news };
         match visitor.visit(rt, locks, &mut first, &look) {
-            Ok(did) => watch.tell_looked(rt, news, did),
+            Ok(did) => look.tell(rt, did),
             Err(Ended) => return Err(Stopped::Ended),
         }
     }

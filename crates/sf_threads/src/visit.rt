@@ -6,13 +6,20 @@ ghost use Rattle.sf_threads.specs.Visits.{LeavesGiven};
 
 use sf_shared::{FirstSeats, Locks};
 use sf_turns::TableName;
-use sf_watch::Watch;
+use sf_watch::{Effect, Watch};
 use std::sync::Wait;
 use std::thread::Threads;
 
 /// A visitor can do no more. It keeps the cause.
 #[derive(Clone, Copy)]
 pub struct Ended;
+
+/// What a visit may bring that did something: it gives buffers back, and ends turns at them.
+const OF_VISIT: Effect = Effect {
+    slots: true,
+    points: false,
+    turns: true,
+};
 
 /// A look of whoever starts the threads at all that was done up to some news.
 #[derive(Clone, Copy)]
@@ -25,7 +32,10 @@ impl<'a> Look<'a> {
     /// Tells threads that wait for it that all was looked at, before the part that follows is over;
     /// and whether anything was done that may let a thread go on.
     pub fn tell<R: Wait>(&self, rt: &R, did: bool) {
-        self.watch.tell_looked(rt, self.news, did);
+        self.watch.tell_looked(rt, self.news);
+        if did {
+            self.watch.tell_done(rt, OF_VISIT);
+        }
     }
 }
 

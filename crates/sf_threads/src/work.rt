@@ -2,6 +2,7 @@ ghost use Rattle.std.specs.Prelude.{◌<◌};
 ghost use Rattle.sf_threads.specs.SeatedActors.{MayTryNext};
 ghost use Rattle.sf_threads.specs.Backs.{IfWhole};
 
+use crate::noting::Noted;
 use crate::seated_actor::{Back, SeatedActor};
 use crate::turn::turn;
 use sf_actor::Stepped;
@@ -12,12 +13,20 @@ use sf_turns::TableName;
 use sf_watch::Watch;
 use std::sync::Wait;
 
-/// What a thread does after a try, which may have sent a transaction, with the news before it. Whether
-/// it goes on.
-fn goes_on<R: Wait>(rt: &R, watch: &Watch, seen: u64, sends: bool, stepped: Stepped) -> bool {
+/// Tells what a step did that is done, if it did anything at what all share. Whether the thread goes on;
+/// behind a transaction it does once the visitor has looked at it.
+fn tell_step<R: Wait>(rt: &R, watch: &Watch, noted: Noted) -> bool {
+    if noted.is_silent() {
+        return !watch.is_stopped(rt);
+    }
+    watch.tell_done(rt, noted.effect()) && (!noted.sends || watch.wait_for_look(rt))
+}
+
+/// What a thread does after a try, with the news before it. Whether it goes on.
+fn goes_on<R: Wait>(rt: &R, watch: &Watch, seen: u64, stepped: Stepped, noted: Noted) -> bool {
     match stepped {
-        Stepped::Done => watch.tell_done(rt) && (!sends || watch.wait_for_look(rt)),
-        Stepped::NotYet => watch.idle(rt, seen),
+        Stepped::Done => tell_step(rt, watch, noted),
+        Stepped::NotYet => watch.idle(rt, noted.awaited, seen),
         Stepped::Ended => {
             watch.tell_ended(rt);
             false
@@ -47,12 +56,11 @@ pub(crate) fn work<R: Wait, G: Gate, B: TableName>(
     }
     for _ in rt.forever() {
         let seen = watch.news(rt);
-        let sends = seated_actor.actor.sends_next();
-        let (turned, stepped) = turn(rt, locks, pictures, gate, seated_actor);
+        let (turned, stepped, noted) = turn(rt, locks, pictures, gate, seated_actor);
         seated_actor = turned;
         match stepped {
             Ok(stepped) => {
-                if !goes_on(rt, watch, seen, sends, stepped) {
+                if !goes_on(rt, watch, seen, stepped, noted) {
                     return Back::Whole(seated_actor);
                 }
             }

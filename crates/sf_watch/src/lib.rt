@@ -6,4 +6,4 @@
 
 mod watch;
 
-pub use watch::{MOST_WATCHED, Watch};
+pub use watch::{Awaited, Effect, MOST_WATCHED, Watch};

@@ -8,13 +8,50 @@ pub const MOST_WATCHED: usize = 64;
 /// News that wrap by as much as this are older ones.
 const LEAST_BEHIND: u64 = 1 << 63;
 
+/// What a thread waits for that is idle.
+#[derive(Clone, Copy)]
+pub enum Awaited {
+    /// A free slot of a queue.
+    Slot,
+    /// A point of a timeline.
+    Point,
+    /// A turn at the pixels of a buffer.
+    Turn,
+}
+
+/// How many kinds of it there are.
+const KINDS: usize = 3;
+
+impl Awaited {
+    /// Its place among the kinds.
+    fn place(self) -> usize
+        ensures { result < 3 }
+    {
+        match self {
+            Awaited::Slot => 0,
+            Awaited::Point => 1,
+            Awaited::Turn => 2,
+        }
+    }
+}
+
+/// What something that was done may have brought those that wait for it.
+#[derive(Clone, Copy)]
+pub struct Effect {
+    pub slots: bool,
+    pub points: bool,
+    pub turns: bool,
+}
+
 /// What the threads tell each other.
 #[derive(Drop)]
 struct State {
     /// How often something was done, from 1 and wrapping: the start counts as new.
     news: u64,
-    /// How many threads are idle, and know the latest news.
-    idle: usize,
+    /// The latest news for those that wait for each kind.
+    latest: [u64; KINDS],
+    /// How many threads are idle, by what they wait for, and know the latest news for it.
+    idle: [usize; KINDS],
     /// Up to which news whoever started the threads has looked.
     looked: u64,
     /// How many do no more steps.
@@ -28,8 +65,15 @@ struct State {
 impl State {
     /// Whether so many threads are all idle, or have ended.
     fn rests(&self, many: usize) -> bool {
-        self.idle.saturating_add(self.ended) >= many
+        let [slots, points, turns] = self.idle;
+        let idle = slots.saturating_add(points).saturating_add(turns);
+        idle.saturating_add(self.ended) >= many
     }
+}
+
+/// Whether these news came before the others.
+fn is_before(news: u64, others: u64) -> bool {
+    news.wrapping_sub(others) >= LEAST_BEHIND
 }
 
 /// A watch over some threads, each with a place from 0, and over whoever started them.
@@ -37,8 +81,8 @@ impl State {
 pub struct Watch {
     many: usize,
     state: Mutex<State>,
-    /// For threads that are idle: there are news.
-    changed: Condvar,
+    /// For threads that are idle, by what they wait for: there are news for them.
+    changed: [Condvar; KINDS],
     /// For threads that wait for a look.
     looked_on: Condvar,
     /// For whoever started them: there are news, or all rest.
@@ -52,14 +96,15 @@ impl Watch {
             many,
             state: Mutex::new(State {
                 news: 1,
-                idle: 0,
+                latest: [1; KINDS],
+                idle: [0; KINDS],
                 looked: 0,
                 ended: 0,
                 stop: false,
                 turned_away: [false; MOST_WATCHED],
                 has_turned_away: false,
             }),
-            changed: Condvar::new(),
+            changed: [Condvar::new(), Condvar::new(), Condvar::new()],
             looked_on: Condvar::new(),
             called: Condvar::new(),
         }
@@ -70,13 +115,33 @@ impl Watch {
         self.state.lock(rt).news
     }
 
-    /// Something was done, which may let others go on: nobody counts as idle any more. False where all
-    /// are to stop.
-    pub fn tell_done<R: Wait>(&self, rt: &R) -> bool {
+    /// Whether all are to stop.
+    pub fn is_stopped<R: Wait>(&self, rt: &R) -> bool {
+        self.state.lock(rt).stop
+    }
+
+    /// There are news for the threads that wait for this: none of them counts as idle any more.
+    fn wake(&self, state: &mut State, awaited: Awaited) {
+        let place = awaited.place();
+        state.latest[place] = state.news;
+        state.idle[place] = 0;
+        self.changed[place].notify_all();
+    }
+
+    /// Something was done: it lets those go on that wait for what it may have brought, and whoever
+    /// started the threads look at it. False where all are to stop.
+    pub fn tell_done<R: Wait>(&self, rt: &R, effect: Effect) -> bool {
         let mut state = self.state.lock(rt);
         state.news = state.news.wrapping_add(1);
-        state.idle = 0;
-        self.changed.notify_all();
+        if effect.slots {
+            self.wake(&mut state, Awaited::Slot);
+        }
+        if effect.points {
+            self.wake(&mut state, Awaited::Point);
+        }
+        if effect.turns {
+            self.wake(&mut state, Awaited::Turn);
+        }
         self.called.notify_all();
         !state.stop
     }
@@ -93,23 +158,27 @@ impl Watch {
     /// All are to stop, whatever they wait for here.
     pub fn stop<R: Wait>(&self, rt: &R) {
         self.state.lock(rt).stop = true;
-        self.changed.notify_all();
+        for changed in &self.changed {
+            changed.notify_all();
+        }
         self.looked_on.notify_all();
         self.called.notify_all();
     }
 
-    /// A thread is idle until there are other news than it has seen. False where it is to stop.
-    pub fn idle<R: Wait>(&self, rt: &R, seen: u64) -> bool {
+    /// A thread is idle until there are news for those that wait for this, later ones than it has seen.
+    /// False where it is to stop.
+    pub fn idle<R: Wait>(&self, rt: &R, awaited: Awaited, seen: u64) -> bool {
+        let place = awaited.place();
         let mut state = self.state.lock(rt);
-        if state.news == seen {
-            state.idle = state.idle.saturating_add(1);
+        if !is_before(seen, state.latest[place]) {
+            state.idle[place] = state.idle[place].saturating_add(1);
             if state.rests(self.many) {
                 self.called.notify_all();
             }
         }
-        let state = self
-            .changed
-            .wait_while(rt, state, |state| state.news == seen && !state.stop);
+        let state = self.changed[place].wait_while(rt, state, |state| {
+            !is_before(seen, state.latest[place]) && !state.stop
+        });
         !state.stop
     }
 
@@ -127,14 +196,10 @@ impl Watch {
         Some(state.news)
     }
 
-    /// Whoever started the threads has looked at all that was done up to these news, and may have done
-    /// something itself.
-    pub fn tell_looked<R: Wait>(&self, rt: &R, news: u64, did: bool) {
+    /// Whoever started the threads has looked at all that was done up to these news.
+    pub fn tell_looked<R: Wait>(&self, rt: &R, news: u64) {
         self.state.lock(rt).looked = news;
         self.looked_on.notify_all();
-        if did {
-            self.tell_done(rt);
-        }
     }
 
     /// A thread, which isn't idle, sleeps until whoever started it has looked at all that was done so
@@ -144,7 +209,7 @@ impl Watch {
         let state = self.state.lock(rt);
         let told = state.news;
         let state = self.looked_on.wait_while(rt, state, |state| {
-            state.looked.wrapping_sub(told) >= LEAST_BEHIND && !state.stop && !state.has_turned_away
+            is_before(state.looked, told) && !state.stop && !state.has_turned_away
         });
         !state.stop
     }

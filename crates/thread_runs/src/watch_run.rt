@@ -1,26 +1,105 @@
 //! Calls on a watch by one thread, and threads that wait for each other's news and sleep meanwhile.
 use crate::words::{number, words};
-use sf_watch::{MOST_WATCHED, Watch};
+use sf_watch::{Awaited, Effect, MOST_WATCHED, Watch};
 use std::sync::Wait;
 use std::sync::atomic::{AtomicUsize, Ordering};
 use std::thread::Threads;
 use std::{io, thread};
 
-/// Once the count is its place, a thread raises it, and ends. Whether it did.
+/// Nothing that a thread waits for.
+const NOTHING: Effect = Effect {
+    slots: false,
+    points: false,
+    turns: false,
+};
+
+/// What brings only this.
+fn bringing(awaited: Awaited) -> Effect {
+    match awaited {
+        Awaited::Slot => Effect {
+            slots: true,
+            ..NOTHING
+        },
+        Awaited::Point => Effect {
+            points: true,
+            ..NOTHING
+        },
+        Awaited::Turn => Effect {
+            turns: true,
+            ..NOTHING
+        },
+    }
+}
+
+/// What the thread at a place waits for: threads that follow one another wait for different things.
+fn awaited_at(place: usize) -> Awaited {
+    match place % 3 {
+        0 => Awaited::Slot,
+        1 => Awaited::Point,
+        _ => Awaited::Turn,
+    }
+}
+
+/// Once the count is its place, a thread raises it, which brings what the next one waits for, and ends.
+/// Whether it did.
 fn raise_in_turn<R: Wait>(rt: &R, watch: &Watch, count: &AtomicUsize, place: usize) -> bool {
     for _ in rt.forever() {
         let seen = watch.news(rt);
         if count.load(Ordering::SeqCst) == place {
-            count.fetch_add(1, Ordering::SeqCst);
-            watch.tell_done(rt);
+            let next = count.fetch_add(1, Ordering::SeqCst).wrapping_add(1);
+            watch.tell_done(rt, bringing(awaited_at(next)));
             watch.tell_ended(rt);
             return true;
         }
-        if !watch.idle(rt, seen) {
+        if !watch.idle(rt, awaited_at(place), seen) {
             return false;
         }
     }
     unreachable!()
+}
+
+/// Waits for the same thing again and again, until all are to stop. How often it was let go on.
+fn count_wakes<R: Wait>(rt: &R, watch: &Watch, awaited: Awaited) -> usize {
+    let mut wakes = 0usize;
+    for _ in rt.forever() {
+        let seen = watch.news(rt);
+        if !watch.idle(rt, awaited, seen) {
+            return wakes;
+        }
+        wakes = wakes.saturating_add(1);
+    }
+    unreachable!()
+}
+
+/// Waits until all rest, where nothing is done any more.
+fn wait_for_rest<R: Wait>(rt: &R, watch: &Watch) {
+    let seen = watch.news(rt);
+    watch.next(rt, seen);
+}
+
+/// How often a thread that waits for this is let go on, while something is done so often that has this
+/// effect, each time once it is idle.
+fn wakes_of<R: Threads + Wait + Sync>(
+    rt: &R,
+    awaited: Awaited,
+    effect: Effect,
+    often: u64,
+) -> usize {
+    let watch = Watch::new(1);
+    let shared = &watch;
+    thread::scope(thread::scope_env(), rt, move |scope| {
+        let started = scope.spawn(move || count_wakes(rt, shared, awaited));
+        let Ok(waiting) = started else {
+            return usize::MAX;
+        };
+        for _ in 0..often {
+            wait_for_rest(rt, shared);
+            shared.tell_done(rt, effect);
+        }
+        wait_for_rest(rt, shared);
+        shared.stop(rt);
+        waiting.join(rt)
+    })
 }
 
 /// Looks whenever there is news, until all rest. Then all are to stop. Whether there was news.
@@ -73,7 +152,7 @@ fn do_and_wait<R: Wait>(
 ) {
     for i in 0..often {
         done.store(i + 1, Ordering::SeqCst);
-        watch.tell_done(rt);
+        watch.tell_done(rt, NOTHING);
         if !watch.wait_for_look(rt) || seen.load(Ordering::SeqCst) <= i {
             missed.fetch_add(1, Ordering::SeqCst);
         }
@@ -90,7 +169,7 @@ fn look_at<R: Wait>(rt: &R, watch: &Watch, done: &AtomicUsize, seen: &AtomicUsiz
             None => break,
         }
         seen.store(done.load(Ordering::SeqCst), Ordering::SeqCst);
-        watch.tell_looked(rt, latest, false);
+        watch.tell_looked(rt, latest);
     }
     watch.stop(rt);
 }
@@ -120,7 +199,7 @@ fn goes_on_unseen<R: Threads + Wait + Sync>(rt: &R) -> bool {
     let shared = &watch;
     thread::scope(thread::scope_env(), rt, move |scope| {
         let started = scope.spawn(move || -> bool {
-            shared.tell_done(rt);
+            shared.tell_done(rt, NOTHING);
             shared.wait_for_look(rt)
         });
         shared.turn_away(rt, 1);
@@ -148,6 +227,24 @@ fn counts_to<R: Threads + Wait + Sync>(
     (least, greatest)
 }
 
+/// What a word says that a thread waits for.
+fn awaited(word: &str) -> Option<Awaited> {
+    match word {
+        "slot" => Some(Awaited::Slot),
+        "point" => Some(Awaited::Point),
+        "turn" => Some(Awaited::Turn),
+        _ => None,
+    }
+}
+
+/// What brings only what a word says, if it says anything.
+fn effect(word: &str) -> Effect {
+    match awaited(word) {
+        Some(awaited) => bringing(awaited),
+        None => NOTHING,
+    }
+}
+
 /// Makes the call of a line, and writes what it answered.
 fn answer<R: Print + Threads + Wait + Sync>(rt: &R, watch: &Watch, line: &str) -> io::Result<()> {
     let [word, first, second, third] = words(line);
@@ -166,10 +263,11 @@ fn answer<R: Print + Threads + Wait + Sync>(rt: &R, watch: &Watch, line: &str) -
             None => println!(rt; "{line}: none"),
         },
         "looked" => {
-            watch.tell_looked(rt, value, second == "did");
+            watch.tell_looked(rt, value);
             println!(rt; "{line}: told")
         }
-        "done" => println!(rt; "{line}: {}", watch.tell_done(rt)),
+        "done" => println!(rt; "{line}: {}", watch.tell_done(rt, effect(first))),
+        "is-stopped" => println!(rt; "{line}: {}", watch.is_stopped(rt)),
         "wait" => println!(rt; "{line}: {}", watch.wait_for_look(rt)),
         "unseen" => println!(rt; "{line}: {}", goes_on_unseen(rt)),
         "stop" => {
@@ -182,6 +280,14 @@ fn answer<R: Print + Threads + Wait + Sync>(rt: &R, watch: &Watch, line: &str) -
             let (least, greatest) = counts_to(rt, place, start, rounds);
             println!(rt; "{line}: {least} to {greatest}")
         }
+        "wakes" => match awaited(first) {
+            Some(awaited) => {
+                let often = number(third).unwrap_or(0);
+                let wakes = wakes_of(rt, awaited, effect(second), often);
+                println!(rt; "{line}: {wakes}")
+            }
+            None => println!(rt; "{line}: no call"),
+        },
         "look" => {
             let (missed, seen) = missed_of(rt, place);
             println!(rt; "{line}: {missed} missed, {seen} seen")
