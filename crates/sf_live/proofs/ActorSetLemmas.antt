@@ -1,8 +1,8 @@
 -- The actors that came back are an actor set over the desk that is left.
-use Rattle.std.proofs.Common.{◌≡◌, ℕ, ◌≤◌, List, [], ◌∷◌, ◌++◌, arith, length, map, ap, ◌∙◌, refl, sym, subst}
+use Rattle.std.proofs.Common.{◌≡◌, ℕ, ◌≤◌, List, [], ◌∷◌, ◌++◌, map, ap, ◌∙◌, refl, sym, subst}
 use Rattle.std.specs.Prelude.{All}
 use Rattle.std.specs.List.Sorted.{IsStrictlyIncreasing}
-use Rattle.std.proofs.lemmas.List.{length-append, map-append}
+use Rattle.std.proofs.lemmas.List.{map-append}
 use Rattle.std.proofs.lemmas.List.Elements.{All-cons, All-nil, All-weaker}
 use Rattle.std.proofs.lemmas.List.Sorted.{All-permutation}
 use Rattle.atomic_table.specs.Seated.{TableId}
@@ -30,7 +30,7 @@ use Rattle.sf_replay.specs.Joining.{actor_at, of_at}
 use Rattle.sf_joined.specs.Joined.{IsJoined, actor_set_joined}
 use Rattle.sf_joined.proofs.Ends.{all_play}
 use Rattle.sf_joined.proofs.Standing.{actors, kept_as}
-use Rattle.sf_live.specs.Threads.{returned_actor}
+use Rattle.sf_live.specs.Threads.{returned_actor, returned_gates}
 
 module _ {B : Type 0} (table : TableId) (pictures : ℕ → Picture) (home : DeskHome) (view : DeskView B) where
   scripts_are : (actor_set : List (Actor B)) (ofs : List (ActorOf B)) → KeepAs table pictures home view actor_set ofs → scripts_of actor_set ≡ map script_of ofs
@@ -70,8 +70,5 @@ module _ {B : Type 0} (lease : Ghosts ReadLeaseOf SeatView ReadLeaseOf Issued) (
 pub actors_more : {B : Type 0} (returned : List (ReturnedActor B)) (one : ReturnedActor B) (old new : List (Actor B)) → old ≡ map returned_actor returned → new ≡ old ++ one.actor ∷ [] → new ≡ map returned_actor (returned ++ one ∷ [])
 actors_more returned one old new are pushed = pushed ∙ ap (λ (actors : List (Actor _)). actors ++ one.actor ∷ []) are ∙ sym (map-append returned_actor returned (one ∷ []))
 
-pub gates_more : {B : Type 0} (old new : List Gates) (passed : Gates) (actors more : List (Actor B)) (actor : Actor B) → length old ≡ length actors → new ≡ old ++ passed ∷ [] → more ≡ actors ++ actor ∷ [] → length new ≡ length more
-gates_more old new passed actors more actor same pushed more_is =
-    let first = ap length pushed ∙ length-append old (passed ∷ []) in
-    let second = ap length more_is ∙ length-append actors (actor ∷ []) in
-    omega (arith, first, second, same)
+pub gates_more : {B : Type 0} (returned : List (ReturnedActor B)) (one : ReturnedActor B) (old new : List Gates) → old ≡ map returned_gates returned → new ≡ old ++ one.gates ∷ [] → new ≡ map returned_gates (returned ++ one ∷ [])
+gates_more returned one old new are pushed = pushed ∙ ap (λ (gates : List Gates). gates ++ one.gates ∷ []) are ∙ sym (map-append returned_gates returned (one ∷ []))

@@ -28,7 +28,8 @@ use Rattle.sf_joined.specs.SeatedActors.{IsUnused, WalkedBack, actor_of_seated}
 use Rattle.sf_joined.proofs.WalkingBack.{all_walked}
 use Rattle.sf_live.specs.declared.opening.Opened.{Opened}
 use Rattle.sf_live.specs.Openings.{IsOpen}
-use Rattle.sf_live.specs.Threads.{AreClosedTo, HasRun, RunOf, returned_actor}
+use Rattle.sf_live.specs.Threads.{AreClosedTo, HasPassedOwn, HasRun, RunOf, returned_actor}
+use Rattle.sf_live.proofs.GateLemmas.{brought_back}
 
 module _ {B : Type 0} where
   -- the first seats after they gave some, where nothing was called before
@@ -119,6 +120,7 @@ module _ {B V : Type 0} (lease : Ghosts ReadLeaseOf SeatView ReadLeaseOf Issued)
     few = few;
     ends = walked.ends;
     actors = walked.actors ∙ sym (returned_are returns.back) ∙ ap (map returned_actor) (sym returns.returned);
+    gates = subst (AllByRecursion HasPassedOwn) (sym returns.returned) (brought_back table opened.locks opened.pictures returns.sent returns.back returns.came);
     joins = joined_with;
     shows = λ desk closed. record { written = sits.written };
   }

@@ -8,5 +8,6 @@ pub mod Together
 pub mod GoingOn
 pub mod RunLemmas
 pub mod Starting
+pub mod GateLemmas
 pub mod RoundLemmas
 pub mod EndLemmas

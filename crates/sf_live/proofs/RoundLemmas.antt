@@ -1,11 +1,9 @@
 -- The vsyncs of the rounds behind a run, and how far they have been written.
-use Rattle.std.proofs.Common.{◌≡◌, ℕ, not, List, [], ◌∷◌, ◌++◌, length, map, Option, ap, ◌∙◌, sym, subst, inl, inr}
+use Rattle.std.proofs.Common.{◌≡◌, ℕ, not, List, [], ◌∷◌, ◌++◌, map, Option, ap, ◌∙◌, sym, subst, inl, inr}
 use Rattle.std.specs.Prelude.{◌⊎◌}
 use Rattle.std.specs.List.{flat_map}
-use Rattle.std.proofs.lemmas.List.{append-nil, length-map, map-append}
+use Rattle.std.proofs.lemmas.List.{append-nil, map-append}
 use Rattle.std.proofs.lemmas.List.Concat.{flat_map-append}
-use Rattle.std.proofs.lemmas.List.Sorted.{length_permutation}
-use Rattle.std.proofs.lemmas.Slice.Zip.{AllZip-long}
 use Rattle.atomic_table.specs.Seated.{TableId}
 use Rattle.sf_picture.specs.declared.picture.Picture.{Picture}
 use Rattle.sf_plan.specs.declared.plan.Plan.{Plan}
@@ -14,7 +12,6 @@ use Rattle.sf_commit.specs.declared.vsync.Commit.{Commit as Decided}
 use Rattle.sf_surface.specs.Tokens.{ReadLeaseOf}
 use Rattle.sf_scene.specs.Scene.{SceneValue}
 use Rattle.sf_actor.specs.Scripts.{picture_at}
-use Rattle.sf_actor_set.specs.ActorSets.{KeepsAs}
 use Rattle.sf_record.specs.Events.{event_records, events_records, vsync_records}
 use Rattle.sf_record.specs.declared.event.Event.{Event}
 use Rattle.sf_record.specs.declared.event.Event.TheVariants as event
@@ -24,7 +21,6 @@ use Rattle.sf_record.specs.declared.record.Reply.{Reply}
 use Rattle.sf_report.specs.Reports.{has_commits}
 use Rattle.sf_report.specs.Stages.{AreExpected, IsStage}
 use Rattle.sf_report.specs.declared.report.VsyncReport.{VsyncReport}
-use Rattle.sf_run.specs.Actors.{script_of}
 use Rattle.sf_run.specs.Frames.{plan_of}
 use Rattle.sf_run.specs.Played.{opening}
 use Rattle.sf_run.specs.Replies.{reply_shown}
@@ -33,10 +29,9 @@ use Rattle.sf_screen.specs.ScreenLists.{AreShown}
 use Rattle.sf_screen.specs.declared.screens.OutputScreen.{OutputScreen}
 use Rattle.sf_play.specs.Going.{GoesOn, TellsStage}
 use Rattle.sf_play.specs.Happening.{VsyncHappens}
-use Rattle.sf_play.specs.Players.{PlayOf, PlayerOf, SoFar, home_in, view_in}
+use Rattle.sf_play.specs.Players.{PlayOf, PlayerOf, SoFar}
 use Rattle.sf_play.specs.Playing.{expected_by}
 use Rattle.sf_play.specs.Showing.{vsync_shown as play_shown}
-use Rattle.sf_play.specs.Standing.{StandsInRun}
 use Rattle.sf_play.specs.declared.turn.Turn.{Turn}
 use Rattle.sf_play.specs.declared.turn.Turn.TheVariants as turn
 use Rattle.sf_show.specs.Turns.{is_end}
@@ -82,14 +77,6 @@ module _ {B : Type 0} where
       | inr end ↦ ap (turn_written pictures plan timelines player) (sym end)
     ]
   ]
-
-  -- as many actors stand in a run as its scene has
-  pub as_many : (table : TableId) (scene : SceneValue) (so : SoFar B) (player : PlayerOf B) → StandsInRun table scene so player → length player.play.actor_set.actors ≡ length scene.actors
-  as_many table scene so player stands =
-      let standing = stands.stands.stands in
-      sym (AllZip-long (KeepsAs table (picture_at scene.pictures) (home_in player.play) (view_in player.play)) player.play.actor_set.actors so.actors standing.keep)
-      ∙ sym (length-map so.actors script_of)
-      ∙ length_permutation scene.actors (map script_of so.actors) standing.tell.actors.scripts
 
   vsync_is : (scene : SceneValue) (timelines : List ℕ) (report : VsyncReport) (play : PlayOf B) (so later : SoFar B) → timelines ≡ rising_timelines scene
       → (commits : List Decided) → VsyncHappens scene (has_commits commits) report play so later

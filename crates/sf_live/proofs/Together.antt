@@ -1,5 +1,5 @@
 -- The actors of a run in threads are together again over the desk that is left.
-use Rattle.std.proofs.Common.{◌≡◌, ℕ, false, List, length, map, ap, ◌∙◌, refl, sym, subst}
+use Rattle.std.proofs.Common.{◌≡◌, ℕ, false, List, map, ap, ◌∙◌, refl, sym, subst}
 use Rattle.atomic_table.specs.Seated.{TableId}
 use Rattle.sf_picture.specs.declared.picture.Picture.{Picture}
 use Rattle.sf_calls.specs.Histories.{IsLegal}
@@ -16,7 +16,10 @@ use Rattle.sf_shared.specs.declared.locks.Locks.{Locks}
 use Rattle.sf_threads.specs.declared.all_returned.AllReturned.{AllReturned}
 use Rattle.sf_joined.specs.Joined.{IsJoined, actor_set_joined}
 use Rattle.sf_live.specs.declared.threads.Joined.{Joined}
-use Rattle.sf_live.specs.Threads.{AreClosedTo, HasRun, IsTogether, RunOf, returned_actor}
+use Rattle.sf_threads.specs.declared.gates.Gates.{Gates}
+use Rattle.sf_threads.specs.Gates.{HavePassed}
+use Rattle.sf_live.specs.Threads.{AreClosedTo, HasRun, IsTogether, RunOf, returned_actor, returned_gates}
+use Rattle.sf_live.proofs.GateLemmas.{apart}
 use Rattle.sf_live.proofs.ActorSetLemmas.{is_actor_set}
 
 module _ {B : Type 0} (lease : Ghosts ReadLeaseOf SeatView ReadLeaseOf Issued) (table : TableId) (run : RunOf B) (locks : Locks B) (pictures : List Picture) (all_returned : AllReturned B)
@@ -35,13 +38,13 @@ module _ {B : Type 0} (lease : Ghosts ReadLeaseOf SeatView ReadLeaseOf Issued) (
   pub actor_set_there : IsActorSet table actor_set
   actor_set_there = subst (IsActorSet table) (sym actor_set_is) (is_actor_set lease run.scene table run.scene.period (most_layers run.scene.version) locks run.last h.ends desk joined_is)
 
-  pub together : (joined : Joined B) → joined.actor_set ≡ actor_set → length joined.gates.items ≡ length actors → IsTogether lease table run locks joined
-  together joined is long = record {
+  pub together : (joined : Joined B) → joined.actor_set ≡ actor_set → joined.gates.items ≡ map returned_gates all_returned.returned.items → IsTogether lease table run locks joined
+  together joined is passed = record {
     few = h.few;
     ends = h.ends;
     desk = desk;
     is = joined_is;
     shows = h.shows desk closed;
     actor_set = is ∙ actor_set_is;
-    gates = long ∙ sym (ap (λ (c : ActorSetOf B). length c.actors) is);
+    gates = subst (λ (p : List (Actor B) × List Gates). HavePassed p.0 p.1) (λ i. ((sym are ∙ sym (ap (λ (s : ActorSetOf B). s.actors) is)) i, sym passed i)) (apart all_returned.returned.items h.gates);
   }

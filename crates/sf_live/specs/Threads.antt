@@ -1,5 +1,6 @@
 -- A run in threads, once all came back and the locks are closed.
-use Rattle.std.specs.Prelude.{◌≡◌, ℕ, ◌≤◌, List, ◌∷◌, length, map, Contains, Option}
+use Rattle.std.specs.Prelude.{◌≡◌, ℕ, ◌≤◌, List, ◌∷◌, map, Contains, Option}
+use Rattle.std.specs.List.{AllByRecursion}
 use Rattle.atomic_table.specs.Seated.{TableId}
 use Rattle.sf_picture.specs.declared.picture.Picture.{Picture}
 use Rattle.sf_surface.specs.Tokens.{Issued, ReadLeaseOf}
@@ -23,6 +24,8 @@ use Rattle.sf_shared.specs.First.{gave_of, took_of}
 use Rattle.sf_shared.specs.Seats.{home_of, view_of}
 use Rattle.sf_threads.specs.declared.all_returned.AllReturned.{AllReturned}
 use Rattle.sf_threads.specs.declared.all_returned.ReturnedActor.{ReturnedActor}
+use Rattle.sf_threads.specs.declared.gates.Gates.{Gates}
+use Rattle.sf_threads.specs.Gates.{HasPassed, HavePassed}
 use Rattle.sf_threads.specs.Walks.{Moment}
 use Rattle.sf_compositor.specs.Sitting.{AreFound, records_shown, showings_of}
 use Rattle.sf_compositor.specs.Vsyncs.{Sitting, Vsyncs}
@@ -44,6 +47,13 @@ module _ {B : Type 0} where
   abbrev pub returned_actor : ReturnedActor B → Actor B
   returned_actor returned = returned.actor
 
+  abbrev pub returned_gates : ReturnedActor B → Gates
+  returned_gates returned = returned.gates
+
+  -- an actor came back with the gates that it has passed
+  abbrev pub HasPassedOwn : ReturnedActor B → Type 0
+  HasPassedOwn returned = HasPassed returned.actor returned.gates
+
   -- the locks were closed to this desk, after the first seats took all others in
   pub record AreClosedTo (locks : Locks B) (first : FirstSeats B) (desk : PlainOf B) : Type 0 where
     pub closes : Closes locks first desk
@@ -62,18 +72,19 @@ module _ {B : Type 0} where
           → Writes run.before run.now (records_shown pictures (plan_of run.scene) run.timelines (showings_of lease table locks run.scene.period log))
           × AreShown pictures run.screens
 
-    -- All came back, at these moments; the compositor came to where it is by vsyncs, which are written; and with whatever desk the locks are
+    -- All came back, at these moments, with the gates that each has passed; the compositor came to where it is by vsyncs, which are written; and with whatever desk the locks are
     -- closed to the run is joined.
     pub record HasRun (pictures : List Picture) (all_returned : AllReturned B) : Type 0 where
       pub pictured : pictures ≡ run.scene.pictures
       pub few : run.last.number ≤ 2147483648
       pub ends : List (Moment B)
       pub actors : map actor_at ends ≡ map returned_actor all_returned.returned.items
+      pub gates : AllByRecursion HasPassedOwn all_returned.returned.items
       pub joins : (desk : PlainOf B) → AreClosedTo locks all_returned.first desk
           → Joins lease run.scene table run.scene.period (most_layers run.scene.version) locks run.last ends desk
       pub shows : (desk : PlainOf B) (closed : AreClosedTo locks all_returned.first desk) → HasWritten (joins desk closed).begins (joins desk closed).log
 
-    -- The actors are together again, over the desk of one thread, with the gates that each passed.
+    -- The actors are together again, over the desk of one thread, each with the gates that it has passed.
     pub record IsTogether (joined : Joined B) : Type 0 where
       pub few : run.last.number ≤ 2147483648
       pub ends : List (Moment B)
@@ -81,4 +92,4 @@ module _ {B : Type 0} where
       pub is : IsJoined lease run.scene table run.scene.period (most_layers run.scene.version) locks run.last ends desk
       pub shows : HasWritten is.joins.begins is.joins.log
       pub actor_set : joined.actor_set ≡ actor_set_joined run.scene ends desk
-      pub gates : length joined.gates.items ≡ length joined.actor_set.actors
+      pub gates : HavePassed joined.actor_set.actors joined.gates.items

@@ -13,6 +13,7 @@ ghost use Rattle.sf_show.specs.Closings.{closing_of};
 ghost use Rattle.sf_show.specs.Turns.{is_end};
 ghost use Rattle.sf_show.specs.Writing.{CutSome, Writes, WritesPart};
 ghost use Rattle.sf_steps.specs.declared.actor.Actor.{Actor as ActorIn};
+ghost use Rattle.sf_threads.specs.Gates.{HavePassed};
 
 use sf_actor::Reply;
 use sf_io::{Gate, Sink};
@@ -29,7 +30,7 @@ use std::alloc::Global;
 use std::sync::Wait;
 use std::thread::Threads;
 
-/// Before the step that the next turn tries, the gate is passed, once for each step.
+/// Before the step that the next turn tries, the gate is passed for its actor, once for each step.
 fn pass_gate<R: Wait, G: Gate, B: TableName>(
     rt: &R,
     gate: &G,
@@ -37,9 +38,8 @@ fn pass_gate<R: Wait, G: Gate, B: TableName>(
     player: &Player<B>,
 )
     requires few { All (λ (actor : ActorIn B). length actor.script.steps ≤ 4294967295) player.now.play.actor_set.actors }
-    requires gates { length gates.old ≡ length player.now.play.actor_set.actors }
+    requires gates { HavePassed player.now.play.actor_set.actors gates.old }
     ensures passed { PassesFor (next_tried player.now) player.now.play.actor_set.actors gates.old gates.new }
-    ensures as_many { length gates.new ≡ length gates.old }
 {
     if let Some(place) = player.next_actor() {
         gates[place] = gates[place].ready(rt, gate, &player.actor_set().actors()[place]);
@@ -111,13 +111,13 @@ fn show_turn<R: Threads + Wait + Sync, K: Sink, G: Gate, B: TableName>(
 ) -> Result<bool, RunFault>
     requires some { 1 ≤ workers }
     requires few { workers ≤ 16 }
-    requires gates { length gates.old ≡ length player.old.play.actor_set.actors }
+    requires gates { HavePassed player.old.play.actor_set.actors gates.old }
     requires shown { (scene : SceneValue) × (start : Option (List ℕ)) × HasShown B.table scene plan.now timelines.now start (K.taken sink.old) screens.old player.old }
     ensures on { (scene : SceneValue) (start : Option (List ℕ)) → HasShown B.table scene plan.now timelines.now start (K.taken sink.old) screens.old player.old
         → IfOk result (λ goes_on. ShowsOn goes_on B.table scene plan.now timelines.now start (K.taken sink.new) screens.new player.new) }
     ensures err { (scene : SceneValue) (start : Option (List ℕ)) → HasShown B.table scene plan.now timelines.now start (K.taken sink.old) screens.old player.old
         → OnErr result (CutSome start (K.taken sink.new)) }
-    ensures gates { IfOk result (λ _. length gates.new ≡ length player.new.play.actor_set.actors) }
+    ensures gates { IfOk result (λ _. HavePassed player.new.play.actor_set.actors gates.new) }
     ensures less { IfOk result (λ goes_on. goes_on ≡ true → fuel_of player.new < fuel_of player.old) }
     ensures later { K.faults sink.old ≤ K.faults sink.new }
     ensures failed { IsErrOf result RunFault.WriteFault → Rose (K.faults sink.old) (K.faults sink.new) }
@@ -151,7 +151,7 @@ fn show_rounds<R: Threads + Wait + Sync, K: Sink, G: Gate, B: TableName>(
 ) -> Result<(), RunFault>
     requires some { 1 ≤ workers }
     requires few { workers ≤ 16 }
-    requires gates { length gates.old ≡ length player.old.play.actor_set.actors }
+    requires gates { HavePassed player.old.play.actor_set.actors gates.old }
     requires shown { (scene : SceneValue) × (start : Option (List ℕ)) × HasShown B.table scene plan.now timelines.now start (K.taken sink.old) screens.old player.old }
     ensures ok { (scene : SceneValue) (start : Option (List ℕ)) → HasShown B.table scene plan.now timelines.now start (K.taken sink.old) screens.old player.old
         → OnOk result (HasShownAll B.table scene start (K.taken sink.new) player.new) }
@@ -244,7 +244,7 @@ pub(crate) fn write_rounds<R: Threads + Wait + Sync, K: Sink, G: Gate, B: TableN
 ) -> Result<(), RunFault>
     requires some { 1 ≤ workers }
     requires few { workers ≤ 16 }
-    requires gates { length gates.old ≡ length player.old.play.actor_set.actors }
+    requires gates { HavePassed player.old.play.actor_set.actors gates.old }
     requires shown { (scene : SceneValue) × (start : Option (List ℕ)) × HasShown B.table scene plan.now timelines.now start (K.taken sink.old) screens.old player.old }
     ensures ok { (scene : SceneValue) (start : Option (List ℕ)) → HasShown B.table scene plan.now timelines.now start (K.taken sink.old) screens.old player.old
         → OnOk result (WroteLive scene start (K.taken sink.new)) }

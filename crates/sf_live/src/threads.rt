@@ -1,4 +1,4 @@
-ghost use Rattle.std.specs.Prelude.{◌≡◌, ℕ, All, length, map, IfOk};
+ghost use Rattle.std.specs.Prelude.{◌≡◌, ℕ, All, map, IfOk};
 ghost use Rattle.sf_calls.specs.Histories.{IsLegal};
 ghost use Rattle.sf_surface.specs.Histories.{Answers};
 ghost use Rattle.sf_surface.specs.Objects.{ObjectOf, mark_of};
@@ -6,7 +6,7 @@ ghost use Rattle.sf_actor.specs.Desks.{KnowsAll, mark_among};
 ghost use Rattle.sf_actor.specs.Plain.{home_of, view_of};
 ghost use Rattle.sf_shared.specs.First.{HasAll, IsFirst};
 ghost use Rattle.sf_threads.specs.Meeting.{as_returned};
-ghost use Rattle.sf_live.specs.Threads.{HasRun, IsTogether, RunOf, returned_actor};
+ghost use Rattle.sf_live.specs.Threads.{HasRun, IsTogether, RunOf, returned_actor, returned_gates};
 
 use sf_actor::{Desk, PlainDesk};
 use sf_actor_set::ActorSet;
@@ -54,7 +54,7 @@ fn returned_parts<B: TableName>(
     returned: Vec<ReturnedActor<B>>,
 ) -> Result<(Vec<Actor<B>>, Vec<Gates>), NoMemory>
     ensures actors { IfOk result (λ parts. parts.0.items ≡ map returned_actor returned.items) }
-    ensures gates { IfOk result (λ parts. length parts.1.items ≡ length parts.0.items) }
+    ensures gates { IfOk result (λ parts. parts.1.items ≡ map returned_gates returned.items) }
 {
     let mut actors = Vec::new(alloc);
     let mut gates = Vec::new(alloc);

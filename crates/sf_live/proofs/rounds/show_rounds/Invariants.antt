@@ -1,16 +1,17 @@
-use Rattle.std.proofs.Common.{◌≡◌, ℕ, ◌≤◌, List, length, Option}
+use Rattle.std.proofs.Common.{ℕ, ◌≤◌, List, Option}
 use Rattle.sf_scene.specs.Scene.{SceneValue}
 use Rattle.sf_play.specs.Going.{fuel_of}
+use Rattle.sf_threads.specs.Gates.{HavePassed}
 use Rattle.sf_live.specs.Rounds.{HasShown}
 use Rattle.sf_live.proofs.rounds.show_rounds.Given as goal
 
--- what was shown is written behind what was there, and each actor has its gates
+-- what was shown is written behind what was there, and each actor has passed its gates
 abbrev pub invariant-turns : goal.invariant-turns
 invariant-turns g l =
     ((scene : SceneValue) (start : Option (List ℕ))
     → HasShown g.B.TableName.table scene l.plan l.timelines start (g.K.Sink.taken l.initial.sink) l.initial.screens l.initial.player
     → HasShown g.B.TableName.table scene l.plan l.timelines start (g.K.Sink.taken l.sink) l.screens l.player)
-    × (length l.gates ≡ length l.player.play.actor_set.actors)
+    × HavePassed l.player.play.actor_set.actors l.gates
     × (g.K.Sink.faults l.initial.sink ≤ g.K.Sink.faults l.sink)
 
 abbrev pub decreases-turns : goal.decreases-turns

@@ -1,9 +1,10 @@
-use Rattle.std.proofs.Common.{Bool, not, ◌∙◌, subst, sym}
+use Rattle.std.proofs.Common.{Bool, not, subst, sym}
 use Rattle.sf_live.specs.Rounds.{ShowsOn, turn_written}
 use Rattle.sf_actor.specs.Scripts.{picture_at}
 use Rattle.sf_show.proofs.ClosingLemmas.{few_steps}
 use Rattle.sf_show.proofs.TurnLemmas.{timelines_within}
-use Rattle.sf_live.proofs.RoundLemmas.{as_many, cut_before, may_write, shows_on, turn_cut}
+use Rattle.sf_live.proofs.GateLemmas.{turned}
+use Rattle.sf_live.proofs.RoundLemmas.{cut_before, may_write, shows_on, turn_cut}
 use Rattle.sf_live.proofs.rounds.show_turn.Goals as goal
 
 pub pass_gate-requires-clause-few : goal.pass_gate-requires-clause-few
@@ -35,11 +36,9 @@ returns-in-Ok-write_turn-clause-on g c = λ scene start has.
 
 pub returns-in-Ok-write_turn-clause-gates : goal.returns-in-Ok-write_turn-clause-gates
 returns-in-Ok-write_turn-clause-gates g c =
-    let scene = c.requires.shown.0 in
     let has = c.requires.shown.2 in
-    let goes = c.in-Ok.ensures.on scene has.so has.stands in
-    c.pass_gate.ensures.as_many ∙ c.requires.gates
-    ∙ as_many g.B.TableName.table scene has.so c.args.player.now has.stands ∙ sym (as_many g.B.TableName.table scene goes.later c.next.new.self goes.stands)
+    let keep = has.stands.stands.stands.keep in
+    turned _ g.B.TableName.table has.so.actors c.args.player.now c.next.new.self c.in-Ok.turn c.args.gates.now c.pass_gate.new.gates keep c.requires.gates (c.in-Ok.ensures.turns has.so.actors keep) c.pass_gate.ensures.passed
 
 pub returns-in-Err-write_turn-clause-err : goal.returns-in-Err-write_turn-clause-err
 returns-in-Err-write_turn-clause-err g c = λ scene start has.
