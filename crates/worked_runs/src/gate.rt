@@ -108,3 +108,18 @@ impl Gate for MeetingGate {
         }
     }
 }
+
+/// For how many turns an actor rests at a gate that lets all others go on.
+const REST: u32 = 1_000;
+
+/// A gate at which each actor rests before each step, so that whoever is told of a step sees it before the
+/// next one.
+pub struct SlowGate;
+
+impl Gate for SlowGate {
+    fn pass<R: Wait>(&self, _: &R, _: u32, _: u32) {
+        for _ in 0..REST {
+            yield_now();
+        }
+    }
+}

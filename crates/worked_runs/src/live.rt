@@ -1,4 +1,4 @@
-use crate::gate::{MeetingGate, StepOf};
+use crate::gate::{MeetingGate, SlowGate, StepOf};
 use record_lines::{Body, Records, TAGS, push_records};
 use sf_app::run;
 use sf_io::{Gate, MemSink, MemSource, OpenGate};
@@ -106,6 +106,28 @@ fn show_failing<R: Files + AllocGlobal + Print + Threads + Wait + Sync>(rt: &R) 
     Ok(())
 }
 
+// The number of the last vsync that committed something.
+fn last_vsync(records: &[u8]) -> io::Result<u64> {
+    let mut last = 0;
+    for (tag, body) in (Records { rest: records }) {
+        if tag == "VSYN" {
+            last = Body { rest: body }.number(4)?;
+        }
+    }
+    Ok(last)
+}
+
+// Runs live an actor with many steps that no one else can see, and then a transaction. It rests before
+// each; the compositor looks at the start alone, and at what was sent.
+fn show_unseen<R: Files + AllocGlobal + Print + Threads + Wait + Sync>(rt: &R) -> io::Result<()> {
+    let name = "steps-that-no-one-sees";
+    let (status, sink) = run_live(rt, name, Vec::new(rt.alloc()), &SlowGate)?;
+    println!(rt; "== {name} live status {status}")?;
+    let number = last_vsync(sink.bytes())?;
+    let is_soon = (1..=2).contains(&number);
+    say(rt, "a vsync was the first or the second", is_soon)
+}
+
 /// Prints the live runs with gates, and those into a sink that fails.
 pub fn show<R: Files + AllocGlobal + Print + Threads + Wait + Sync>(rt: &R) -> io::Result<()> {
     for (name, one, meetings, ahead, is_fixed) in [
@@ -113,11 +135,13 @@ pub fn show<R: Files + AllocGlobal + Print + Threads + Wait + Sync>(rt: &R) -> i
         ("phone", 2, 10, 0, false),
         ("producers-with-two-buffers", 1, 10, 0, false),
         ("a-wait-that-never-ends", 1, 0, 0, true),
+        ("an-actor-that-is-left", 1, 0, 0, true),
         ("a-signal-that-is-held-back", 1, 1, 1, true),
         ("sixteen-actors-in-a-ring", 1, 1, 0, true),
     ] {
         let gate = MeetingGate::new(rt.alloc(), one, meetings, ahead);
         show_meeting(rt, name, gate, is_fixed)?;
     }
+    show_unseen(rt)?;
     show_failing(rt)
 }

@@ -17,9 +17,13 @@
 //! - A phone's screen, in which two actors meet before each of their first ten steps, which they could
 //!   not do if one ran after the other; and two producers that wait for the compositor.
 //! - An actor that waits for a signal that nobody gives: the run ends, and the actor is stuck.
+//! - The same behind steps that are done, beside an actor that ends: when the threads are joined it is
+//!   tried again, and the gate is not passed again.
 //! - A signal that is held back until the actor that waits for it has come to its next step: it is held
 //!   back in vain, since that step may not be begun before the wait is done.
 //! - Sixteen actors that wait for one another's signals in a ring.
+//! - An actor with many steps that no one else can see, and then a transaction: the compositor doesn't
+//!   make a vsync for each of them.
 //! - A sink that fails at one write after the other, while threads run and behind them: what was written
 //!   is whole records, and then at most one that is cut.
 //!
