@@ -65,7 +65,8 @@ fn show_meeting<R: Files + AllocGlobal + Print + Threads + Wait + Sync>(
     let (status, sink) = run_live(rt, name, Vec::new(rt.alloc()), &gate)?;
     println!(rt; "== {name} live status {status}")?;
     say(rt, "an actor waited in vain", gate.gave_up())?;
-    let steps = steps_in(rt.alloc(), sink.bytes())?;
+    let mut steps = steps_in(rt.alloc(), sink.bytes())?;
+    steps.sort()?;
     let mut passed = gate.into_passes();
     passed.sort()?;
     println!(rt; "steps: {}", steps.len())?;
