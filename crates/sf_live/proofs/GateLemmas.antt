@@ -1,6 +1,6 @@
 -- The gates that each actor has passed, at the joins and from turn to turn.
-use Rattle.std.proofs.Common.{◌≡◌, ℕ, zero, suc, Bool, true, false, List, [], ◌∷◌, length, map, Option, None, Some, refl, sym, ap, ◌∙◌, subst, cc, arith}
-use Rattle.std.specs.Prelude.{if◌then◌else◌, nat_lt, slice_get, slice_set}
+use Rattle.std.proofs.Common.{◌≡◌, ℕ, zero, suc, Bool, true, false, List, [], ◌∷◌, length, map, Option, None, Some, refl, sym, ap, ◌∙◌, subst, arith}
+use Rattle.std.specs.Prelude.{◌==◌, if◌then◌else◌, nat_lt, slice_get, slice_set}
 use Rattle.std.specs.List.{AllByRecursion, AllZip, position}
 use Rattle.atomic_table.specs.Seated.{TableId}
 use Rattle.sf_picture.specs.declared.picture.Picture.{Picture}
@@ -32,6 +32,7 @@ use Rattle.sf_threads.specs.Gates.{HasPassed, HavePassed, IsReady}
 use Rattle.sf_threads.specs.Meeting.{as_returned}
 use Rattle.sf_threads.specs.SeatedActors.{Came}
 use Rattle.sf_threads.proofs.WalkLemmas.{traces_on, within}
+use Rattle.sf_threads.proofs.Zips.{zip_long}
 use Rattle.sf_live.specs.Rounds.{PassesAt, PassesFor}
 use Rattle.sf_live.specs.Threads.{HasPassedOwn, returned_actor, returned_gates}
 
@@ -47,6 +48,9 @@ module _ {B : Type 0} where
   pub apart : (returned : List (ReturnedActor B)) → AllByRecursion HasPassedOwn returned → HavePassed (map returned_actor returned) (map returned_gates returned)
   apart [] all = tt
   apart (one ∷ returned) all = (all.0, apart returned all.1)
+
+  pub as_many : (actors : List (Actor B)) (gates : List Gates) → HavePassed actors gates → length actors ≡ length gates
+  as_many actors gates have = zip_long HasPassed actors gates have
 
   -- an actor that contracts see alike has passed the same gates
   same_passed : (table : TableId) (was now : Actor B) (of : ActorOf B) (gates : Gates) → IsActor table was of → IsActor table now of → HasPassed was gates → HasPassed now gates

@@ -31,6 +31,7 @@ use std::sync::Wait;
 use std::thread::Threads;
 
 /// Before the step that the next turn tries, the gate is passed for its actor, once for each step.
+#[tactic(auto, using(crate::proofs::GateLemmas::as_many))]
 fn pass_gate<R: Wait, G: Gate, B: TableName>(
     rt: &R,
     gate: &G,
