@@ -144,7 +144,7 @@ module _ {B : Type 0} {R C : Type 0} (lease : Ghosts ReadLeaseOf SeatView R C) (
       ap (λ (s : ActorSetOf B). s.actors) m.only_gives.same ∙ ap (λ (s : ActorSetOf B). s.actors) m.only_decides.same ∙ ap (λ (s : ActorSetOf B). s.actors) m.only_takes.same ∙ ap (λ (s : ActorSetOf B). s.actors) m.only_looks.same in
       subst (λ (l : List (Actor B)). HavePassed l ready) (sym actors) (subst (HavePassed old.play.actor_set.actors) (sym none) has)
 
-  tried_if : (place : Option ℕ) → TriesIf table ofs place old.play new.play came_to → PassesFor place old.play.actor_set.actors gates ready → HaveNow
+  tried_if : (place : Option ℕ) → TriesIf lease table ofs place old.play new.play came_to → PassesFor place old.play.actor_set.actors gates ready → HaveNow
   tried_if None tries passes = same_play tries.1 passes
   tried_if (Some place) tries passes = tried place tries passes
 
