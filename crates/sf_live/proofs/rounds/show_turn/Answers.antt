@@ -1,4 +1,11 @@
-use Rattle.std.proofs.Common.{Bool, not, subst, sym}
+use Rattle.std.proofs.Common.{Bool, List, not, subst, sym}
+use Rattle.atomic_table.specs.Seated.{TableId}
+use Rattle.sf_picture.specs.declared.picture.Picture.{Picture}
+use Rattle.sf_scene.specs.Scene.{SceneValue}
+use Rattle.sf_actor.specs.Plain.{home_of, view_of}
+use Rattle.sf_actor_set.specs.ActorSets.{KeepAs}
+use Rattle.sf_play.specs.Players.{PlayerOf, SoFar}
+use Rattle.sf_play.specs.Standing.{StandsInRun}
 use Rattle.sf_live.specs.Rounds.{ShowsOn, turn_written}
 use Rattle.sf_actor.specs.Scripts.{picture_at}
 use Rattle.sf_show.proofs.ClosingLemmas.{few_steps}
@@ -6,6 +13,13 @@ use Rattle.sf_show.proofs.TurnLemmas.{timelines_within}
 use Rattle.sf_live.proofs.GateLemmas.{turned}
 use Rattle.sf_live.proofs.RoundLemmas.{cut_before, may_write, shows_on, turn_cut}
 use Rattle.sf_live.proofs.rounds.show_turn.Goals as goal
+
+-- the actors of a player that stands in a run keep what they keep, over the pictures that it has
+keeps_now : {B : Type 0} (table : TableId) (scene : SceneValue) (so : SoFar B) (player : PlayerOf B) → StandsInRun table scene so player
+    → KeepAs table (picture_at player.play.actor_set.pictures) (home_of player.play.actor_set.desk) (view_of player.play.actor_set.desk) player.play.actor_set.actors so.actors
+keeps_now table scene so player stands =
+    let s = stands.stands.stands in
+    subst (λ (pictures : List Picture). KeepAs table (picture_at pictures) (home_of player.play.actor_set.desk) (view_of player.play.actor_set.desk) player.play.actor_set.actors so.actors) (sym s.of_scene.pictures) s.keep
 
 pub pass_gate-requires-clause-few : goal.pass_gate-requires-clause-few
 pass_gate-requires-clause-few g c = λ place actor below.
@@ -37,7 +51,7 @@ returns-in-Ok-write_turn-clause-on g c = λ scene start has.
 pub returns-in-Ok-write_turn-clause-gates : goal.returns-in-Ok-write_turn-clause-gates
 returns-in-Ok-write_turn-clause-gates g c =
     let has = c.requires.shown.2 in
-    let keep = has.stands.stands.stands.keep in
+    let keep = keeps_now g.B.TableName.table c.requires.shown.0 has.so c.args.player.now has.stands in
     turned _ g.B.TableName.table has.so.actors c.args.player.now c.next.new.self c.in-Ok.turn c.args.gates.now c.pass_gate.new.gates keep c.requires.gates (c.in-Ok.ensures.turns has.so.actors keep) c.pass_gate.ensures.passed
 
 pub returns-in-Err-write_turn-clause-err : goal.returns-in-Err-write_turn-clause-err
