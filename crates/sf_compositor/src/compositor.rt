@@ -23,7 +23,7 @@ use std::thread::Threads;
 const MOST_VSYNCS: u32 = 1 << 31;
 
 /// The compositor of a run whose actors are threads: whenever something was done it makes a vsync,
-/// and writes its records.
+/// tells them of it, and writes its records.
 #[derive(Drop)]
 pub struct Compositor<'a, K, B: TableName> {
     pub alloc: Global,
@@ -54,7 +54,7 @@ impl<'a, R: Threads + Wait + Sync, K: Sink, B: TableName> Visit<R, B> for Compos
         rt: &R,
         locks: &Locks<B>,
         first: &mut FirstSeats<B>,
-        _look: &Look,
+        look: &Look,
     ) -> Result<bool, Ended>
         requires first { IsFirst B.table locks.now first.old }
         requires kept { (start : _) × (IsSync R.row × Keeps K.taken K.faults ⟦<ReadLease<B> as Lease>⟧ B.table start self.old locks.now first.old) }
@@ -81,10 +81,11 @@ impl<'a, R: Threads + Wait + Sync, K: Sink, B: TableName> Visit<R, B> for Compos
             &mut self.decider.handler,
             self.period,
             self.vsyncs,
+            look,
         ) {
-            Ok(goes_on) => {
+            Ok(()) => {
                 self.vsyncs += 1;
-                Ok(goes_on)
+                Ok(false)
             }
             Err(fault) => {
                 self.fault = Some(fault);

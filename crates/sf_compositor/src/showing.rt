@@ -16,6 +16,7 @@ use sf_screen::Screens;
 use sf_shared::{Locks, Seats};
 use sf_show::show_vsync;
 use sf_surface::ReadLease;
+use sf_threads::Look;
 use sf_turns::TableName;
 use sf_txn::Lease;
 use std::alloc::Global;
@@ -41,9 +42,9 @@ fn tell_layers<B: TableName>(handler: &Handler<ReadLease<B>>)
     let _layers = handler.tree().layers();
 }
 
-/// Makes the next vsync and writes its records; at most so many workers compose each frame of it.
-/// Whether another one may do more with nothing else done: it committed something, or something waits
-/// for its time.
+/// Makes the next vsync, and tells of the look at all that was done before; another one may do more with
+/// nothing else done where it committed something, or something waits for its time. Only then its records
+/// are written, and at most so many workers compose each frame of it.
 pub(crate) fn show_next<R: Threads + Wait + Sync, K: Sink, B: TableName>(
     rt: &R,
     alloc: Global,
@@ -57,7 +58,8 @@ pub(crate) fn show_next<R: Threads + Wait + Sync, K: Sink, B: TableName>(
     handler: &mut Handler<ReadLease<B>>,
     period: u64,
     before: u32,
-) -> Result<bool, RunFault>
+    look: &Look,
+) -> Result<(), RunFault>
     requires some { 1 ≤ workers }
     requires few { workers ≤ 16 }
     requires timelines { All (λ timeline. (1 ≤ timeline) × (timeline ≤ 64)) timelines.now }
@@ -81,11 +83,12 @@ pub(crate) fn show_next<R: Threads + Wait + Sync, K: Sink, B: TableName>(
         Err(_) => return Err(RunFault::NoMemory),
     };
     let goes_on = report.has_commits() || held.as_slice().iter().any(is_time);
+    look.tell(rt, goes_on);
     tell_layers(handler);
     match show_vsync(
         rt, alloc, workers, sink, timelines, plan, screens, handler, report,
     ) {
-        Ok(()) => Ok(goes_on),
+        Ok(()) => Ok(()),
         Err(fault) => Err(fault),
     }
 }
