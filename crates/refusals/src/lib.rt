@@ -5,6 +5,8 @@
 
 mod calls;
 mod queues;
+mod tokens;
 mod transactions;
 mod trees;
 mod turns;
+mod views;
