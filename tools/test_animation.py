@@ -127,9 +127,9 @@ class Y4m(unittest.TestCase):
         self.assertEqual(picture, b"FRAME\n" + bytes((235, 16, 81, 41, 128, 128, 90, 240, 128, 128, 240, 110)))
 
     def test_rates_that_players_know(self):
-        for period, rate in ((16666667, b"F60:1"), (8333333, b"F120:1"), (16683333, b"F60000:1001"), (1_000_000_000, b"F1:1"), (1_000_000, b"F1000:1")):
+        for period, rate in ((16666667, b"60:1"), (8333333, b"120:1"), (16683333, b"60000:1001"), (1_000_000_000, b"1:1"), (1_000_000, b"1000:1")):
             head, _ = self.pieces(Frames(1, 1, period, [Frame(1, period, bytes(4))]))
-            self.assertIn(rate + b" ", head)
+            self.assertIn(b" F" + rate + b" ", head)
 
 
 class Commands(Case):
