@@ -53,7 +53,8 @@ module _ {B : Type 0} where
 
   -- What a play has shown so far is written behind what was there: the player stands along with the play of the scene, and each
   -- screen has its last frame.
-  pub record IsWriting (table : TableId) (scene : SceneValue) (plan : Plan) (timelines : List ℕ) (start now : Option (List ℕ)) (screens : List OutputScreen) (player : PlayerOf B) : Type 0 where
+  pub record IsWriting (table : TableId) (scene : SceneValue) (plan : Plan) (timelines : List ℕ) (start now : Option (List ℕ))
+      (screens : List OutputScreen) (player : PlayerOf B) : Type 0 where
     pub so : SoFar B
     pub stands : StandsAlong table scene so player
     pub planned : plan ≡ plan_of scene

@@ -393,7 +393,8 @@ where
     requires unlent { handler.now.lent ≡ None }
     requires stage { IsStage (λ one. L.picture one.lease) plan.now handler.now report.view report.sources }
     ensures ok { (pictures : ℕ → Picture) → AreExpected (λ one. L.picture one.lease) pictures handler.now → AreShown pictures screens.old
-        → OnOk result (Writes (K.taken sink.old) (K.taken sink.new) (vsync_shown pictures plan.now timelines.now report handler.now.tree.layers) × AreShown pictures screens.new) }
+        → OnOk result (Writes (K.taken sink.old) (K.taken sink.new) (vsync_shown pictures plan.now timelines.now report handler.now.tree.layers)
+        × AreShown pictures screens.new) }
     ensures err { (pictures : ℕ → Picture) → AreExpected (λ one. L.picture one.lease) pictures handler.now → AreShown pictures screens.old
         → OnErr result (WritesPart (K.taken sink.old) (K.taken sink.new) (vsync_shown pictures plan.now timelines.now report handler.now.tree.layers)) }
 
