@@ -1,13 +1,16 @@
-ghost use Rattle.std.specs.Prelude.{◌≡◌, IfOk};
+ghost use Rattle.std.specs.Prelude.{◌≡◌, IfOk, Result};
 ghost use Rattle.sf_words.specs.Text.{words_of};
 ghost use Rattle.sf_words.specs.Reading.{Gives};
+ghost use Rattle.sf_words.specs.declared.fault.WordFault.{WordFault};
 ghost use Rattle.sf_scene.specs.Limits.{StepFits};
 ghost use Rattle.sf_scene.specs.Ranges.{IsName};
+ghost use Rattle.sf_scene.specs.declared.step.Step.{Step};
+ghost use Rattle.sf_script.specs.Draft.{DraftValue};
 ghost use Rattle.sf_script.specs.Fits.{NameFits, NamedFits};
 ghost use Rattle.sf_script.specs.Memory.{GivesUnless};
 ghost use Rattle.sf_script.specs.Steps.{acquire_at, as_name_at, async_at, attach_at, dequeue_at, detach_at, draw_at, most_at};
 ghost use Rattle.sf_script.specs.Steps.{on_point_at, on_queue_at, plain, queue_at, request_at, return_at, step_at, step_of_attach};
-ghost use Rattle.sf_script.specs.Steps.{step_of_dequeue, step_of_detach, step_of_most, step_of_return, step_on_point, step_on_queue};
+ghost use Rattle.sf_script.specs.Steps.{step_of_dequeue, step_of_detach, step_of_most, step_of_return, step_on_point, step_on_queue, unnamed};
 
 use crate::draft::Draft;
 use crate::fault::LineFault;
@@ -231,6 +234,14 @@ fn unnamed(step: Step) -> NamedStep
     }
 }
 
+// What a reader gave of a step that binds no new name.
+fn unnamed_if_read(step: Result<Step, WordFault>) -> Result<NamedStep, LineFault>
+    ensures given { (read : Result Step WordFault) → Gives (λ x. x) step read → GivesUnless (λ x. x) result (unnamed read) }
+    ensures fits { (draft : DraftValue) → IfOk step (StepFits draft.scene) → IfOk result (NamedFits draft) }
+{
+    Ok(unnamed(step?))
+}
+
 /// A step of this form, by the words behind its first one.
 #[tactic(auto, unfolding(crate::specs::Steps::step_at))]
 pub fn step_line(
@@ -243,24 +254,24 @@ pub fn step_line(
     ensures fits { IfOk result (NamedFits draft.now) }
 {
     match form {
-        StepForm::OnQueue(form) => Ok(unnamed(on_queue(draft.scene(), form, line)?)),
-        StepForm::Most(side) => Ok(unnamed(most(draft.scene(), side, line)?)),
-        StepForm::Async => Ok(unnamed(asynchronous(draft.scene(), line)?)),
+        StepForm::OnQueue(form) => unnamed_if_read(on_queue(draft.scene(), form, line)),
+        StepForm::Most(side) => unnamed_if_read(most(draft.scene(), side, line)),
+        StepForm::Async => unnamed_if_read(asynchronous(draft.scene(), line)),
         StepForm::Dequeue(waits) => dequeue(alloc, draft, waits, line),
-        StepForm::Request => Ok(unnamed(request(draft, line)?)),
-        StepForm::Draw => Ok(unnamed(draw(draft, line)?)),
+        StepForm::Request => unnamed_if_read(request(draft, line)),
+        StepForm::Draw => unnamed_if_read(draw(draft, line)),
         StepForm::Queue => Ok(unnamed(queue(alloc, draft, line)?)),
         StepForm::Return(side) => Ok(unnamed(returned(alloc, draft, side, line)?)),
         StepForm::Detach(side) => detach(alloc, draft, side, line),
         StepForm::Attach(side) => attach(alloc, draft, side, line),
         StepForm::Acquire => acquire(alloc, draft, line),
-        StepForm::OnPoint(form) => Ok(unnamed(on_point(draft.scene(), form, line)?)),
-        StepForm::Tx => Ok(unnamed(tx(line)?)),
-        StepForm::Desire => Ok(unnamed(desire(line)?)),
-        StepForm::Buffer => Ok(unnamed(buffer(draft, line)?)),
-        StepForm::Barrier => Ok(unnamed(barrier(line)?)),
-        StepForm::Merge => Ok(unnamed(merge(line)?)),
-        StepForm::Apply => Ok(unnamed(apply(line)?)),
-        StepForm::Set => Ok(unnamed(set(line)?)),
+        StepForm::OnPoint(form) => unnamed_if_read(on_point(draft.scene(), form, line)),
+        StepForm::Tx => unnamed_if_read(tx(line)),
+        StepForm::Desire => unnamed_if_read(desire(line)),
+        StepForm::Buffer => unnamed_if_read(buffer(draft, line)),
+        StepForm::Barrier => unnamed_if_read(barrier(line)),
+        StepForm::Merge => unnamed_if_read(merge(line)),
+        StepForm::Apply => unnamed_if_read(apply(line)),
+        StepForm::Set => unnamed_if_read(set(line)),
     }
 }
