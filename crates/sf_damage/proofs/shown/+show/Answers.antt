@@ -1,0 +1,111 @@
+use Rattle.std.proofs.Common.{◌≡◌, ◌≤◌, ◌<◌, ℤ, suc, Bool, true, false, not, ◌&&◌, ◌||◌, List, [], ◌∷◌, ◌++◌, length, reverse, Result, Ok, Err, refl, sym, ◌∙◌, ap, subst, arith}
+use Rattle.std.specs.List.{list_any}
+use Rattle.std.specs.Prelude.{OnOk}
+use Rattle.std.proofs.lemmas.Bool.{false≢true}
+use Rattle.std.proofs.lemmas.List.{reverse-append}
+use Rattle.std.proofs.lemmas.Result.{IfOk-weaker}
+use Rattle.sf_base.specs.Geometry.{covers}
+use Rattle.sf_base.specs.declared.geometry.Rect.{Rect}
+use Rattle.sf_region.specs.Points.{has}
+use Rattle.sf_view.specs.Views.{is_in_clip}
+use Rattle.sf_view.specs.declared.drawn.Drawn.{Drawn}
+use Rattle.sf_damage.specs.Visible.{AreVisible, hides_all, hides_at}
+use Rattle.sf_damage.proofs.ListLemmas.{AreNear-others, first-others, first_of, length-others, others_of}
+use Rattle.sf_damage.proofs.shown.+show.Goals as goal
+use Rattle.sf_damage.proofs.shown.+show.Goals.{then-hides_all, else-hides_all}
+
+on_ok : {T E X : Type 0} (r : Result T E) → X → OnOk r X
+on_ok (Ok t) x = x
+on_ok (Err e) x = tt
+
+not_false : (b : Bool) → not b ≡ false → b ≡ true
+not_false true e = refl
+not_false false e = absurd (false≢true (sym e))
+
+-- a clip that shows nothing is hidden
+absorbed : (c h : Bool) → (c && not h) ≡ false → h ≡ (c || h)
+absorbed false h e = refl
+absorbed true true e = refl
+absorbed true false e = absurd (false≢true (sym e))
+
+visible_none : (layers : List Drawn) (shown : List (List Rect)) → length layers < 1 → shown ≡ [] → AreVisible layers (reverse shown)
+visible_none [] shown none empty = rw empty refl
+visible_none (d ∷ ds) shown none empty = absurd (omega arith)
+
+hidden_none : (layers : List Drawn) (region : List Rect) → length layers < 1 → region ≡ [] → (x y : ℤ) → has region x y ≡ list_any (hides_at x y) layers
+hidden_none [] region none empty x y = rw empty refl
+hidden_none (d ∷ ds) region none empty x y = absurd (omega arith)
+
+visible_more : (layers : List Drawn) (shown pushed : List (List Rect)) (hidden region : List Rect) → 1 ≤ length layers → AreVisible (others_of layers) (reverse shown)
+    → ((x y : ℤ) → has hidden x y ≡ list_any (hides_at x y) (others_of layers)) → ((x y : ℤ) → has region x y ≡ (covers (first_of layers).clip x y && not (has hidden x y)))
+    → pushed ≡ shown ++ region ∷ [] → AreVisible layers (reverse pushed)
+visible_more layers shown pushed hidden region some visible hides points is =
+    subst (λ (ls : List Drawn). AreVisible ls (reverse pushed)) (first-others layers some)
+    (rw (is, reverse-append shown (region ∷ [])) (λ x y. points x y ∙ ap (λ h. covers (first_of layers).clip x y && not h) (hides x y), visible))
+
+hidden_more : (layers : List Drawn) (hidden all : List Rect) → 1 ≤ length layers → hides_all (first_of layers) ≡ true → ((x y : ℤ) → has hidden x y ≡ list_any (hides_at x y) (others_of layers))
+    → ((x y : ℤ) → has all x y ≡ (covers (first_of layers).clip x y || has hidden x y)) → (x y : ℤ) → has all x y ≡ list_any (hides_at x y) layers
+hidden_more layers hidden all some solid hides points x y =
+    let d = first_of layers in
+    let ds = others_of layers in
+    subst (λ (ls : List Drawn). has all x y ≡ list_any (hides_at x y) ls) (first-others layers some)
+    (points x y ∙ (ap (λ h. covers d.clip x y || h) (hides x y) ∙ ap (λ b. (b && is_in_clip d x y) || list_any (hides_at x y) ds) (sym solid)))
+
+-- where nothing shows of a layer that hides, or it hides nothing, no more is hidden than before
+hidden_empty : (layers : List Drawn) (hidden region : List Rect) → 1 ≤ length layers → hides_all (first_of layers) ≡ true → region ≡ []
+    → ((x y : ℤ) → has hidden x y ≡ list_any (hides_at x y) (others_of layers)) → ((x y : ℤ) → has region x y ≡ (covers (first_of layers).clip x y && not (has hidden x y)))
+    → (x y : ℤ) → has hidden x y ≡ list_any (hides_at x y) layers
+hidden_empty layers hidden region some solid empty hides points x y =
+    hidden_more layers hidden hidden some solid hides (λ a b. absorbed (covers (first_of layers).clip a b) (has hidden a b) (sym (points a b) ∙ ap (λ (rs : List Rect). has rs a b) empty)) x y
+
+hidden_same : (layers : List Drawn) (hidden : List Rect) → 1 ≤ length layers → hides_all (first_of layers) ≡ false → ((x y : ℤ) → has hidden x y ≡ list_any (hides_at x y) (others_of layers))
+    → (x y : ℤ) → has hidden x y ≡ list_any (hides_at x y) layers
+hidden_same layers hidden some clear hides x y =
+    let d = first_of layers in
+    let ds = others_of layers in
+    subst (λ (ls : List Drawn). has hidden x y ≡ list_any (hides_at x y) ls) (first-others layers some)
+    (hides x y ∙ ap (λ b. (b && is_in_clip d x y) || list_any (hides_at x y) ds) (sym clear))
+
+pub returns-in_default-clause-shown : goal.returns-in_default-clause-shown
+returns-in_default-clause-shown t c = visible_none c.args.layers.now c.args.shown.now.items c.in_default.len_below c.requires.none
+
+pub returns-in_default-clause-hidden : goal.returns-in_default-clause-hidden
+returns-in_default-clause-hidden t c = hidden_none c.args.layers.now c.empty.result c.in_default.len_below c.empty.ensures
+
+pub show-requires : goal.show-requires
+show-requires t c =
+    let fewer : suc (length (others_of c.args.layers.now)) ≡ length c.args.layers.now = length-others c.args.layers.now c.in-len1-up.len_at_least in
+    (omega arith, (AreNear-others c.args.layers.now c.in-len1-up.len_at_least c.requires.near, c.requires.none))
+
+pub returns-then-adds-clause-shown : goal.returns-then-adds-clause-shown
+returns-then-adds-clause-shown t c =
+    on_ok c.with_rect.result
+    (visible_more c.args.layers.now c.show.new.shown.items c.push.new.self.items c.in_ok-hidden.hidden c.in_ok-region.region c.in-len1-up.len_at_least
+    c.in_ok-hidden.ensures.shown c.in_ok-hidden.ensures.hidden c.in_ok-region.ensures c.in_ok-push.ensures.items)
+
+pub returns-then-adds-clause-hidden : goal.returns-then-adds-clause-hidden
+returns-then-adds-clause-hidden t c =
+    let layers = c.args.layers.now in
+    let solid : hides_all (first_of layers) ≡ true = elim c.if-hides_all.branch [
+      | then-hides_all w ↦ sym c.hides_all.ensures ∙ w.if-hides_all.true
+      | else-hides_all w ↦ absurd (false≢true (sym w.if-hides_all.false ∙ (sym w.adds-is ∙ c.if-adds.true)))
+    ] in
+    IfOk-weaker c.with_rect.result (λ all. (x y : ℤ) → has all x y ≡ (covers (first_of layers).clip x y || has c.in_ok-hidden.hidden x y))
+    (λ all. (x y : ℤ) → has all x y ≡ list_any (hides_at x y) layers)
+    (λ all points. hidden_more layers c.in_ok-hidden.hidden all c.in-len1-up.len_at_least solid c.in_ok-hidden.ensures.hidden points) c.with_rect.ensures
+
+pub returns-else-adds-clause-shown : goal.returns-else-adds-clause-shown
+returns-else-adds-clause-shown t c =
+    visible_more c.args.layers.now c.show.new.shown.items c.push.new.self.items c.in_ok-hidden.hidden c.in_ok-region.region c.in-len1-up.len_at_least
+    c.in_ok-hidden.ensures.shown c.in_ok-hidden.ensures.hidden c.in_ok-region.ensures c.in_ok-push.ensures.items
+
+pub returns-else-adds-clause-hidden : goal.returns-else-adds-clause-hidden
+returns-else-adds-clause-hidden t c =
+    let layers = c.args.layers.now in
+    let some = c.in-len1-up.len_at_least in
+    elim c.if-hides_all.branch [
+      | then-hides_all w ↦
+          hidden_empty layers c.in_ok-hidden.hidden c.in_ok-region.region some (sym c.hides_all.ensures ∙ w.if-hides_all.true)
+          (w.is_empty.ensures.0 (not_false w.is_empty.result (sym w.adds-is ∙ c.if-adds.false))) c.in_ok-hidden.ensures.hidden c.in_ok-region.ensures
+      | else-hides_all w ↦ hidden_same layers c.in_ok-hidden.hidden some (sym c.hides_all.ensures ∙ w.if-hides_all.false) c.in_ok-hidden.ensures.hidden
+    ]
