@@ -1,8 +1,10 @@
 use Rattle.std.proofs.Common.{◌∙◌, ap, subst, sym}
 use Rattle.std.specs.List.{All, AllZip}
 use Rattle.sf_ready.specs.Facts.{FactsOf, HasSame}
-use Rattle.sf_token.specs.Looking.{IsLookedArrival}
-use Rattle.sf_token.specs.Pending.{IsRisingFrom, QueuesOf}
+use Rattle.std.proofs.lemmas.List.Elements.{All-append}
+use Rattle.sf_token.specs.Looking.{AllLeases, IsLookedArrival}
+use Rattle.sf_token.specs.Pending.{Arrival, IsRisingFrom, QueuesOf}
+use Rattle.sf_txn.specs.Buffers.{Buffer}
 use Rattle.sf_commit.proofs.FollowLemmas.{looked_all, looks_rise, rising_append, rising_looked}
 use Rattle.sf_commit.proofs.HeldLemmas.{held_is, looks_begin, looks_stay}
 use Rattle.sf_commit.specs.Handlers.{last_of}
@@ -10,6 +12,14 @@ use Rattle.sf_commit.specs.Holding.{AreLooks}
 use Rattle.sf_next.specs.Next.{AreRising, IsLookedAt}
 use Rattle.sf_commit.specs.Rounds.{Leads, pressed_in}
 use Rattle.sf_commit.proofs.follow.decide_all.Goals as goal
+
+pub look-requires : goal.look-requires
+look-requires g c =
+    let fits = g.L.Lease.fits (g.L.Lease.mark c.args.eye.now) in
+    record {
+      fits = subst (λ (q : QueuesOf g.row.L.Denot). AllLeases fits q.pending) (sym c.in_ok-receive.ensures)
+          (All-append (λ (a : Arrival g.row.L.Denot). All (λ (b : Buffer g.row.L.Denot). fits b.lease) a.txn.buffers) c.args.queues.now.pending c.args.arrived.items c.requires.pending c.requires.brought);
+    }
 
 pub decide-requires-clause-pressed : goal.decide-requires-clause-pressed
 decide-requires-clause-pressed g c = subst (λ ls. HasSame c.note_pressed.new.facts.pressed (pressed_in ls)) c.layers.ensures.value c.in_ok-note_pressed.ensures.pressed

@@ -1,6 +1,8 @@
-use Rattle.std.proofs.Common.{◌∙◌, ◌<◌, ◌∷◌, ◌++◌, [], true, List, ap, sym, subst, append_assoc, length}
+use Rattle.std.proofs.Common.{arith, ◌∙◌, ◌<◌, ◌∷◌, ◌++◌, true, List, ap, sym, subst, append_assoc, length}
+use Rattle.std.proofs.lemmas.List.{append-nil}
 use Rattle.sf_base.specs.Fences.{no_points}
 use Rattle.sf_picture.specs.declared.picture.Picture.{Picture}
+use Rattle.sf_commit.proofs.ListLemmas.{empty_of}
 use Rattle.sf_commit.proofs.SettleLemmas.{image_is, some_here}
 use Rattle.sf_commit.specs.Inside.{ShowsHere}
 use Rattle.sf_commit.specs.Leases.{pictures_here}
@@ -38,3 +40,10 @@ loop-reading-preserved g c =
           ∙ (ap (λ (xs : List (OnLayer g.row.L.Denot)). c.loop-reading.on.items ++ xs) (sym c.in-Some.ensures.steps.0) ∙ c.loop-reading.invariant.0))),
       is.1,
     )
+
+pub returns : goal.returns
+returns g c =
+    let made = c.loop-reading.on.items in
+    let left = c.loop-reading.reading-iterator.rest in
+    let none = empty_of left.items (omega (arith, left.ok.0, c.in-None.ensures.steps.0)) in
+    sym (append-nil made) ∙ (ap (λ (rest : List (OnLayer g.row.L.Denot)). made ++ rest) (sym none) ∙ c.loop-reading.invariant.0)

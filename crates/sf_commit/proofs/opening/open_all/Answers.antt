@@ -1,8 +1,10 @@
-use Rattle.std.proofs.Common.{[], subst, sym}
+use Rattle.std.proofs.Common.{[], ◌++◌, List, map, ap, ◌∙◌, subst, sym, arith}
+use Rattle.std.proofs.lemmas.List.{append-nil}
 use Rattle.std.proofs.lemmas.List.Elements.{All-head}
+use Rattle.sf_commit.proofs.ListLemmas.{empty_of}
 use Rattle.sf_commit.proofs.SettleLemmas.{Opened, opened_more, opened_none, then_after}
-use Rattle.sf_commit.specs.Leases.{IsKnownOn, ShowsLease}
-use Rattle.sf_commit.specs.OnLayers.{OnLayer}
+use Rattle.sf_commit.specs.Leases.{IsKnownOn, ShowsLease, pictures_here}
+use Rattle.sf_commit.specs.OnLayers.{OnLayer, shown_on}
 use Rattle.sf_commit.proofs.opening.open_all.Goals as goal
 
 pub open_one-reading-requires : goal.open_one-reading-requires
@@ -31,3 +33,17 @@ loop-one-init g c =
     subst (λ rest. Opened g.L.Lease c.args.on.items (c.args.readings.now.items, c.args.contents.now.items) (c.args.readings.now.items, c.args.contents.now.items) rest c.args.eye.now c.args.eye.now)
     (sym c.into_iter-one-iterator.ensures.into_iter_gives.0)
     (opened_none g.L.Lease c.args.on.items (c.args.readings.now.items, c.args.contents.now.items) c.args.eye.now c.requires.fits c.requires.known)
+
+pub returns-clause-readings : goal.returns-clause-readings
+returns-clause-readings g c =
+    let made = c.loop-one.readings.items in
+    let left = c.loop-one.one-iterator.rest in
+    let none = empty_of left.items (omega (arith, left.ok.0, c.in-None.ensures.steps.0)) in
+    sym (append-nil made) ∙ (ap (λ (rest : List (OnLayer g.row.L.Denot)). made ++ map shown_on rest) (sym none) ∙ c.loop-one.invariant.reads)
+
+pub returns-clause-contents : goal.returns-clause-contents
+returns-clause-contents g c =
+    let made = c.loop-one.contents.items in
+    let left = c.loop-one.one-iterator.rest in
+    let none = empty_of left.items (omega (arith, left.ok.0, c.in-None.ensures.steps.0)) in
+    sym (append-nil made) ∙ (ap (λ (rest : List (OnLayer g.row.L.Denot)). made ++ pictures_here g.L.Lease rest) (sym none) ∙ c.loop-one.invariant.shows)

@@ -1,5 +1,6 @@
-use Rattle.std.proofs.Common.{◌∙◌, ◌∷◌, ◌++◌, [], List, ap, length, refl, subst, sym, arith}
-use Rattle.sf_commit.proofs.SettleLemmas.{Released, released_more, released_none, released_some}
+use Rattle.std.proofs.Common.{◌∷◌, ◌++◌, [], List, ap, length, refl, subst, arith}
+use Rattle.sf_commit.proofs.ListLemmas.{empty_of}
+use Rattle.sf_commit.proofs.SettleLemmas.{Released, released_all, released_more, released_none, released_some}
 use Rattle.sf_commit.specs.OnLayers.{OnLayer}
 use Rattle.sf_commit.proofs.settle.release_all.Goals as goal
 
@@ -27,3 +28,17 @@ returns-in_err-push-clause-some g c =
     released_some g.L.Lease c.args.gone.items (c.loop-one.releases.items ++ c.in_ok-release.field-0 ∷ []) c.next.new.self.rest.items c.args.kept.now.items c.release.new.kept.items c.release.new.kept.items
     (released_more g.L.Lease c.args.gone.items c.next.new.self.rest.items c.loop-one.releases.items c.in-Some.one c.in_ok-release.field-0 c.args.kept.now.items c.loop-one.kept.items
     c.release.new.kept.items so c.in_ok-release.ensures.released c.in_ok-release.ensures.kept) refl
+
+pub returns-clause-released : goal.returns-clause-released
+returns-clause-released g c =
+    let left = c.loop-one.one-iterator.rest in
+    let none = empty_of left.items (omega (arith, left.ok.0, c.in-None.ensures.steps.0)) in
+    let so = subst (λ rest. Released g.L.Lease c.args.gone.items c.loop-one.releases.items rest c.args.kept.now.items c.loop-one.kept.items) none c.loop-one.invariant.so in
+    (released_all g.L.Lease c.args.gone.items c.loop-one.releases.items c.args.kept.now.items c.loop-one.kept.items so).0
+
+pub returns-clause-kept : goal.returns-clause-kept
+returns-clause-kept g c =
+    let left = c.loop-one.one-iterator.rest in
+    let none = empty_of left.items (omega (arith, left.ok.0, c.in-None.ensures.steps.0)) in
+    let so = subst (λ rest. Released g.L.Lease c.args.gone.items c.loop-one.releases.items rest c.args.kept.now.items c.loop-one.kept.items) none c.loop-one.invariant.so in
+    (released_all g.L.Lease c.args.gone.items c.loop-one.releases.items c.args.kept.now.items c.loop-one.kept.items so).1

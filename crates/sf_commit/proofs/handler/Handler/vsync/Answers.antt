@@ -20,6 +20,13 @@ pub decide_all-requires-clause-pending : goal.decide_all-requires-clause-pending
 decide_all-requires-clause-pending g c =
     (subst (λ (x : HandlerOf g.row.L.Denot). x.is_spent ≡ false → FitsHandler g.L.Lease c.args.eye.now x) (sym c.self.view_is) c.requires.fits c.if-self.false).pending
 
+pub decide_all-requires-clause-earlier : goal.decide_all-requires-clause-earlier
+decide_all-requires-clause-earlier g c = (c.self.invariant.0.keeps c.if-self.false).rising
+
+pub decide_all-requires-clause-rising : goal.decide_all-requires-clause-rising
+decide_all-requires-clause-rising g c =
+    subst (λ (x : HandlerOf g.row.L.Denot). x.is_spent ≡ false → IsRisingFrom x.last c.args.arrived.items (last_of x.last c.args.arrived.items)) (sym c.self.view_is) c.requires.rising c.if-self.false
+
 pub settle_all-settled-requires-clause-display : goal.settle_all-settled-requires-clause-display
 settle_all-settled-requires-clause-display g c = (c.self.invariant.0.keeps c.if-self.false).display
 
