@@ -5,7 +5,7 @@ ghost use Rattle.sf_shared.specs.Passes.{IsAt, IsFirstPass, KeepsOwn, MayGive, a
 
 use crate::clock::Clock;
 use crate::locks::{Locks, QueueLock};
-use crate::seats::Seats;
+use crate::seats::{Seats, SeatsParts};
 use sf_base::NoMemory;
 use sf_calls::Pass;
 use sf_stamped::Stamped;
@@ -121,14 +121,14 @@ impl<B: TableName> FirstSeats<B> {
         if self.took.push(kept).is_err() {
             return Err(NoMemory);
         }
-        let Seats {
+        let SeatsParts {
             by: _,
             last,
             queues,
             arrivals,
             times,
             turns,
-        } = seats;
+        } = seats.into_parts();
         let first = &mut self.seats;
         first.last.stamp = first.last.stamp.max(last.stamp);
         meet_passes(&locks.queues, &mut first.queues, queues);

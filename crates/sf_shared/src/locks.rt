@@ -12,7 +12,7 @@ ghost use Rattle.sf_shared.specs.Seats.{AreSeats, home_of, is_lock, view_of};
 use crate::arrivals::StampedArrivals;
 use crate::clock::Clock;
 use crate::first::FirstSeats;
-use crate::seats::Seats;
+use crate::seats::{Seats, SeatsParts};
 use sf_actor::PlainDesk;
 use sf_base::{NoMemory, QueueId};
 use sf_calls::{CallLock, Pass};
@@ -207,14 +207,14 @@ impl<B: TableName> Locks<B> {
             times: table,
         } = self;
         let FirstSeats { seats, took: _ } = first;
-        let Seats {
+        let SeatsParts {
             by: _,
             last: _,
             queues: passes,
             arrivals: pass,
             times,
             turns,
-        } = seats;
+        } = seats.into_parts();
         let queues = close_queues(alloc, queues, passes)?;
         let Ok(arrivals) = arrivals.close(pass) else {
             return Err(NoMemory);

@@ -13,12 +13,21 @@ use sf_txn::Transaction;
 use std::sync::Wait;
 
 /// What one caller brings to what is shared: its passes, one for each lock, and its seats.
-#[derive(Drop)]
 pub struct Seats<B: TableName> {
     pub(crate) by: u32,
     // Its last call, of all locks.
     pub(crate) last: Clock,
     // In the order of the locks.
+    pub(crate) queues: Vec<Pass<Stamped<QueueObject<B>>>>,
+    pub(crate) arrivals: Pass<StampedArrivals<B>>,
+    pub(crate) times: TimeSeat,
+    pub(crate) turns: TurnSeat<Painted>,
+}
+
+/// The seats of a caller, taken apart.
+pub(crate) struct SeatsParts<B: TableName> {
+    pub(crate) by: u32,
+    pub(crate) last: Clock,
     pub(crate) queues: Vec<Pass<Stamped<QueueObject<B>>>>,
     pub(crate) arrivals: Pass<StampedArrivals<B>>,
     pub(crate) times: TimeSeat,
@@ -32,6 +41,35 @@ impl<B: TableName> Seats<B> {
     ghost use Rattle.sf_actor.specs.Desks.{IsAsBefore, MadeCall, MadeSend, WaitsForCall, has_queue};
     ghost use Rattle.sf_shared.specs.Moves.{ChangesArrivals, ChangesPasses};
     ghost use Rattle.sf_shared.specs.Seats.{AreSeats, home_of, view_of};
+
+    /// All that the seats are made of.
+    pub(crate) fn into_parts(self) -> SeatsParts<B>
+        ensures { self ≡ record {
+          by = result.by;
+          last = result.last;
+          queues = result.queues;
+          arrivals = result.arrivals;
+          times = result.times;
+          turns = result.turns;
+        } }
+    {
+        let Seats {
+            by,
+            last,
+            queues,
+            arrivals,
+            times,
+            turns,
+        } = self;
+        SeatsParts {
+            by,
+            last,
+            queues,
+            arrivals,
+            times,
+            turns,
+        }
+    }
 
     /// Makes a call on a queue, for a step of the caller, and waits for its turn under the lock.
     pub fn call<R: Wait>(
@@ -89,5 +127,18 @@ impl<B: TableName> Seats<B> {
             step,
             txn,
         )
+    }
+}
+
+impl<B: TableName> Drop for Seats<B> {
+    fn drop(self) {
+        let Seats {
+            by: _,
+            last: _,
+            queues: _,
+            arrivals: _,
+            times: _,
+            turns: _,
+        } = self;
     }
 }

@@ -5,9 +5,10 @@ use Rattle.std.proofs.Math.Nat.{le-max_left}
 use Rattle.std.proofs.lemmas.List.{with_items_is}
 use Rattle.sf_shared.specs.declared.first.FirstSeats.{FirstSeats}
 use Rattle.sf_shared.specs.declared.locks.QueueLock.{QueueLock}
-use Rattle.sf_shared.specs.First.{gave_of}
+use Rattle.sf_shared.specs.First.{Meets, gave_of}
 use Rattle.sf_shared.specs.Passes.{IsAt, IsFirstPass, KeepsOwn, all_met}
-use Rattle.sf_shared.specs.Seats.{IsPassOf, QueuePass}
+use Rattle.sf_shared.specs.Seats.{AreSeats, IsPassOf, QueuePass}
+use Rattle.sf_shared.specs.declared.seats.Seats.{Seats}
 use Rattle.sf_shared.proofs.Giving.{at_locks}
 use Rattle.sf_shared.proofs.Meeting.{IsMet, first_after, first_passes, meets_after, met_long, one_longer, took_one}
 use Rattle.sf_shared.proofs.Passing.{as_long}
@@ -22,17 +23,23 @@ meet_passes-requires-clause-own g c =
 
 pub meet_passes-requires-clause-theirs : goal.meet_passes-requires-clause-theirs
 meet_passes-requires-clause-theirs g c =
-    subst (λ (ls : List (QueueLock g.row.B.Denot)). AllZip IsAt ls c.args.seats.queues.items) (sym c.deref.ensures.value)
-    (at_locks c.args.seats.by c.args.locks.now.queues.items c.args.seats.queues.items c.requires.theirs.queues)
+    let parts = c.into_parts-queues.result in
+    let seats : Seats g.row.B.Denot = record { by = parts.by; last = parts.last; queues = parts.queues; arrivals = parts.arrivals; times = parts.times; turns = parts.turns } in
+    let theirs = subst (AreSeats g.B.TableName.table c.args.locks.now) c.into_parts-queues.ensures c.requires.theirs in
+    subst (λ (ls : List (QueueLock g.row.B.Denot)). AllZip IsAt ls seats.queues.items) (sym c.deref.ensures.value)
+    (at_locks seats.by c.args.locks.now.queues.items seats.queues.items theirs.queues)
 
 pub meet_passes-requires-clause-long : goal.meet_passes-requires-clause-long
 meet_passes-requires-clause-long g c =
     let first = c.args.self.now in
+    let parts = c.into_parts-queues.result in
+    let seats : Seats g.row.B.Denot = record { by = parts.by; last = parts.last; queues = parts.queues; arrivals = parts.arrivals; times = parts.times; turns = parts.turns } in
+    let theirs = subst (AreSeats g.B.TableName.table c.args.locks.now) c.into_parts-queues.ensures c.requires.theirs in
     let a = ap (λ (ls : List (QueueLock g.row.B.Denot)). length ls) c.deref.ensures.value in
     let b = as_long (IsPassOf first.seats.by) c.args.locks.now.queues.items first.seats.queues.items c.requires.first.own.queues in
     let d = ap (λ (ps : List (QueuePass g.row.B.Denot)). length ps) c.deref_mut.ensures.value in
-    let e = as_long (IsPassOf c.args.seats.by) c.args.locks.now.queues.items c.args.seats.queues.items c.requires.theirs.queues in
-    let many = c.args.seats.queues.ok.0 in
+    let e = as_long (IsPassOf seats.by) c.args.locks.now.queues.items seats.queues.items theirs.queues in
+    let many = seats.queues.ok.0 in
     (omega (arith, a, b, d), omega (arith, many, b, d, e))
 
 pub meet_passes-requires-clause-first : goal.meet_passes-requires-clause-first
@@ -44,6 +51,9 @@ meet_passes-requires-clause-first g c =
 pub returns-clause-first : goal.returns-clause-first
 returns-clause-first g c =
     let old = c.args.self.now in
+    let parts = c.into_parts-queues.result in
+    let seats : Seats g.row.B.Denot = record { by = parts.by; last = parts.last; queues = parts.queues; arrivals = parts.arrivals; times = parts.times; turns = parts.turns } in
+    let theirs = subst (AreSeats g.B.TableName.table c.args.locks.now) c.into_parts-queues.ensures c.requires.theirs in
     let new : FirstSeats g.row.B.Denot = record {
       seats = record {
         by = old.seats.by;
@@ -55,18 +65,18 @@ returns-clause-first g c =
       };
       took = c.push.new.self;
     } in
-    let met = c.meet_passes.ensures.met ∙ ap (λ (ps : List (QueuePass g.row.B.Denot)). all_met ps c.args.seats.queues.items) c.deref_mut.ensures.value in
+    let met = c.meet_passes.ensures.met ∙ ap (λ (ps : List (QueuePass g.row.B.Denot)). all_met ps seats.queues.items) c.deref_mut.ensures.value in
     let many = old.seats.queues.ok.0 in
-    let long = ap (λ (ps : List (QueuePass g.row.B.Denot)). length ps) met ∙ met_long old.seats.queues.items c.args.seats.queues.items in
+    let long = ap (λ (ps : List (QueuePass g.row.B.Denot)). length ps) met ∙ met_long old.seats.queues.items seats.queues.items in
     let whole = with_items_is old.seats.queues c.meet_passes.new.firsts (omega (arith, many, long)) in
     let own = subst (λ (ps : List (QueuePass g.row.B.Denot)). AllZip KeepsOwn ps c.meet_passes.new.firsts) c.deref_mut.ensures.value c.meet_passes.ensures.own_calls in
     let pushed : c.push.new.self.items ≡ old.took.items ++ c.of-kept.result ∷ [] = search rules in
-    let m : IsMet c.args.seats old new = record {
-      took = took_one old.took.items c.push.new.self.items c.of-kept.result c.args.seats pushed c.of-kept.ensures;
+    let m : IsMet seats old new = record {
+      took = took_one old.took.items c.push.new.self.items c.of-kept.result seats pushed (c.of-kept.ensures ∙ c.into_parts-queues.ensures);
       many = one_longer old.took.items c.push.new.self.items c.of-kept.result pushed;
       number = refl;
       step = refl;
-      stamp = (let a = c.max-first.ensures in let b = le-max_left old.seats.last.stamp c.args.seats.last.stamp in omega (arith, a, b));
+      stamp = (let a = c.max-first.ensures in let b = le-max_left old.seats.last.stamp seats.last.stamp in omega (arith, a, b));
       queues = whole ∙ met;
       own_calls = subst (λ (ps : List (QueuePass g.row.B.Denot)). AllZip KeepsOwn old.seats.queues.items ps) (sym whole) own;
       arrivals = c.meet.ensures.both;
@@ -74,11 +84,14 @@ returns-clause-first g c =
       times = c.join.ensures.both;
       turns = c.join-2.ensures.both;
     } in
-    first_after g.B.TableName.table c.args.locks.now c.args.seats old new c.requires.first c.requires.theirs m c.requires.out
+    first_after g.B.TableName.table c.args.locks.now seats old new c.requires.first theirs m c.requires.out
 
 pub returns-clause-meets : goal.returns-clause-meets
 returns-clause-meets g c =
     let old = c.args.self.now in
+    let parts = c.into_parts-queues.result in
+    let seats : Seats g.row.B.Denot = record { by = parts.by; last = parts.last; queues = parts.queues; arrivals = parts.arrivals; times = parts.times; turns = parts.turns } in
+    let theirs = subst (AreSeats g.B.TableName.table c.args.locks.now) c.into_parts-queues.ensures c.requires.theirs in
     let new : FirstSeats g.row.B.Denot = record {
       seats = record {
         by = old.seats.by;
@@ -90,18 +103,18 @@ returns-clause-meets g c =
       };
       took = c.push.new.self;
     } in
-    let met = c.meet_passes.ensures.met ∙ ap (λ (ps : List (QueuePass g.row.B.Denot)). all_met ps c.args.seats.queues.items) c.deref_mut.ensures.value in
+    let met = c.meet_passes.ensures.met ∙ ap (λ (ps : List (QueuePass g.row.B.Denot)). all_met ps seats.queues.items) c.deref_mut.ensures.value in
     let many = old.seats.queues.ok.0 in
-    let long = ap (λ (ps : List (QueuePass g.row.B.Denot)). length ps) met ∙ met_long old.seats.queues.items c.args.seats.queues.items in
+    let long = ap (λ (ps : List (QueuePass g.row.B.Denot)). length ps) met ∙ met_long old.seats.queues.items seats.queues.items in
     let whole = with_items_is old.seats.queues c.meet_passes.new.firsts (omega (arith, many, long)) in
     let own = subst (λ (ps : List (QueuePass g.row.B.Denot)). AllZip KeepsOwn ps c.meet_passes.new.firsts) c.deref_mut.ensures.value c.meet_passes.ensures.own_calls in
     let pushed : c.push.new.self.items ≡ old.took.items ++ c.of-kept.result ∷ [] = search rules in
-    let m : IsMet c.args.seats old new = record {
-      took = took_one old.took.items c.push.new.self.items c.of-kept.result c.args.seats pushed c.of-kept.ensures;
+    let m : IsMet seats old new = record {
+      took = took_one old.took.items c.push.new.self.items c.of-kept.result seats pushed (c.of-kept.ensures ∙ c.into_parts-queues.ensures);
       many = one_longer old.took.items c.push.new.self.items c.of-kept.result pushed;
       number = refl;
       step = refl;
-      stamp = (let a = c.max-first.ensures in let b = le-max_left old.seats.last.stamp c.args.seats.last.stamp in omega (arith, a, b));
+      stamp = (let a = c.max-first.ensures in let b = le-max_left old.seats.last.stamp seats.last.stamp in omega (arith, a, b));
       queues = whole ∙ met;
       own_calls = subst (λ (ps : List (QueuePass g.row.B.Denot)). AllZip KeepsOwn old.seats.queues.items ps) (sym whole) own;
       arrivals = c.meet.ensures.both;
@@ -109,4 +122,4 @@ returns-clause-meets g c =
       times = c.join.ensures.both;
       turns = c.join-2.ensures.both;
     } in
-    meets_after g.B.TableName.table c.args.locks.now c.args.seats old new c.requires.first c.requires.theirs m
+    subst (λ (s : Seats g.row.B.Denot). Meets s old new) (sym c.into_parts-queues.ensures) (meets_after g.B.TableName.table c.args.locks.now seats old new c.requires.first theirs m)

@@ -1,23 +1,43 @@
-use Rattle.std.proofs.Common.{List, ◌∙◌, ap, subst, sym}
+use Rattle.std.proofs.Common.{◌≡◌, ◌∷◌, List, ◌∙◌, ap, subst, sym}
+use Rattle.std.specs.Prelude.{Contains}
 use Rattle.sf_calls.specs.Histories.{GoesOnWithout, IsLegal, calls_by}
 use Rattle.sf_stamped.specs.Stamps.{AnswersStamped, unstamped}
 use Rattle.sf_stamped.proofs.StampLemmas.{legal_without, rises}
 use Rattle.sf_token.specs.Arrivals.{AnswersCall}
 use Rattle.sf_actor.specs.Plain.{PlainOf}
 use Rattle.sf_shared.specs.Arriving.{ArrivalEntry}
-use Rattle.sf_shared.specs.Closing.{AreClosed}
+use Rattle.sf_shared.specs.Closing.{AreClosed, Closes, IsOrdered}
+use Rattle.sf_shared.specs.First.{HasAll, IsFirst, gave_of}
+use Rattle.sf_shared.specs.declared.first.FirstSeats.{FirstSeats}
+use Rattle.sf_shared.specs.declared.seats.Seats.{Seats}
 use Rattle.sf_shared.proofs.Ending.{IsLeft, all_last, closes, goes, last_arrivals, nobody, ordered}
 use Rattle.sf_shared.proofs.locks.Locks.close.Goals as goal
 
 pub close_queues-requires : goal.close_queues-requires
-close_queues-requires g c = all_last g.B.TableName.table c.args.self c.args.first c.requires.first c.requires.all
+close_queues-requires g c =
+    let parts = c.into_parts-passes.result in
+    let whole : Seats g.row.B.Denot = record { by = parts.by; last = parts.last; queues = parts.queues; arrivals = parts.arrivals; times = parts.times; turns = parts.turns } in
+    let first : FirstSeats g.row.B.Denot = record { seats = whole; took = c.args.first.took } in
+    let same : c.args.first ≡ first = ap (λ (s : Seats g.row.B.Denot). let f : FirstSeats g.row.B.Denot = record { seats = s; took = c.args.first.took } in f) c.into_parts-passes.ensures in
+    let is_first = subst (IsFirst g.B.TableName.table c.args.self) same c.requires.first in
+    all_last g.B.TableName.table c.args.self first is_first (subst HasAll same c.requires.all)
 
 pub close-requires-clause-took_all : goal.close-requires-clause-took_all
-close-requires-clause-took_all g c = last_arrivals g.B.TableName.table c.args.self c.args.first c.requires.first c.requires.all
+close-requires-clause-took_all g c =
+    let parts = c.into_parts-passes.result in
+    let whole : Seats g.row.B.Denot = record { by = parts.by; last = parts.last; queues = parts.queues; arrivals = parts.arrivals; times = parts.times; turns = parts.turns } in
+    let first : FirstSeats g.row.B.Denot = record { seats = whole; took = c.args.first.took } in
+    let same : c.args.first ≡ first = ap (λ (s : Seats g.row.B.Denot). let f : FirstSeats g.row.B.Denot = record { seats = s; took = c.args.first.took } in f) c.into_parts-passes.ensures in
+    let is_first = subst (IsFirst g.B.TableName.table c.args.self) same c.requires.first in
+    last_arrivals g.B.TableName.table c.args.self first is_first (subst HasAll same c.requires.all)
 
 pub returns-clause-closed : goal.returns-clause-closed
 returns-clause-closed g c =
-    let first = c.args.first in
+    let parts = c.into_parts-passes.result in
+    let whole : Seats g.row.B.Denot = record { by = parts.by; last = parts.last; queues = parts.queues; arrivals = parts.arrivals; times = parts.times; turns = parts.turns } in
+    let first : FirstSeats g.row.B.Denot = record { seats = whole; took = c.args.first.took } in
+    let same : c.args.first ≡ first = ap (λ (s : Seats g.row.B.Denot). let f : FirstSeats g.row.B.Denot = record { seats = s; took = c.args.first.took } in f) c.into_parts-passes.ensures in
+    let is_first = subst (IsFirst g.B.TableName.table c.args.self) same c.requires.first in
     let closed = c.in-Ok.ensures in
     let legal = subst (λ (log : List ArrivalEntry). IsLegal (AnswersStamped AnswersCall) log) closed.history closed.legal in
     let left : IsLeft c.args.self first c.new.result = record {
@@ -29,11 +49,15 @@ returns-clause-closed g c =
       times = ap (λ (d : PlainOf g.row.B.Denot). d.times) c.new.ensures;
       turns = ap (λ (d : PlainOf g.row.B.Denot). d.turns) c.new.ensures;
     } in
-    closes g.B.TableName.table c.args.self first c.new.result c.requires.first left
+    subst (λ (f : FirstSeats g.row.B.Denot). Closes c.args.self f c.new.result) (sym same) (closes g.B.TableName.table c.args.self first c.new.result is_first left)
 
 pub returns-clause-ordered : goal.returns-clause-ordered
 returns-clause-ordered g c =
-    let first = c.args.first in
+    let parts = c.into_parts-passes.result in
+    let whole : Seats g.row.B.Denot = record { by = parts.by; last = parts.last; queues = parts.queues; arrivals = parts.arrivals; times = parts.times; turns = parts.turns } in
+    let first : FirstSeats g.row.B.Denot = record { seats = whole; took = c.args.first.took } in
+    let same : c.args.first ≡ first = ap (λ (s : Seats g.row.B.Denot). let f : FirstSeats g.row.B.Denot = record { seats = s; took = c.args.first.took } in f) c.into_parts-passes.ensures in
+    let is_first = subst (IsFirst g.B.TableName.table c.args.self) same c.requires.first in
     let closed = c.in-Ok.ensures in
     let legal = subst (λ (log : List ArrivalEntry). IsLegal (AnswersStamped AnswersCall) log) closed.history closed.legal in
     let left : IsLeft c.args.self first c.new.result = record {
@@ -45,11 +69,15 @@ returns-clause-ordered g c =
       times = ap (λ (d : PlainOf g.row.B.Denot). d.times) c.new.ensures;
       turns = ap (λ (d : PlainOf g.row.B.Denot). d.turns) c.new.ensures;
     } in
-    ordered g.B.TableName.table c.args.self first c.new.result c.requires.first left
+    subst (λ (f : FirstSeats g.row.B.Denot). IsOrdered f) (sym same) (ordered g.B.TableName.table c.args.self first c.new.result is_first left)
 
 pub returns-clause-goes_on : goal.returns-clause-goes_on
 returns-clause-goes_on g c =
-    let first = c.args.first in
+    let parts = c.into_parts-passes.result in
+    let whole : Seats g.row.B.Denot = record { by = parts.by; last = parts.last; queues = parts.queues; arrivals = parts.arrivals; times = parts.times; turns = parts.turns } in
+    let first : FirstSeats g.row.B.Denot = record { seats = whole; took = c.args.first.took } in
+    let same : c.args.first ≡ first = ap (λ (s : Seats g.row.B.Denot). let f : FirstSeats g.row.B.Denot = record { seats = s; took = c.args.first.took } in f) c.into_parts-passes.ensures in
+    let is_first = subst (IsFirst g.B.TableName.table c.args.self) same c.requires.first in
     let closed = c.in-Ok.ensures in
     let legal = subst (λ (log : List ArrivalEntry). IsLegal (AnswersStamped AnswersCall) log) closed.history closed.legal in
     let left : IsLeft c.args.self first c.new.result = record {
@@ -61,11 +89,15 @@ returns-clause-goes_on g c =
       times = ap (λ (d : PlainOf g.row.B.Denot). d.times) c.new.ensures;
       turns = ap (λ (d : PlainOf g.row.B.Denot). d.turns) c.new.ensures;
     } in
-    goes g.B.TableName.table c.args.self first c.new.result c.requires.first left
+    goes g.B.TableName.table c.args.self first c.new.result is_first left
 
 pub returns-clause-nobody : goal.returns-clause-nobody
 returns-clause-nobody g c =
-    let first = c.args.first in
+    let parts = c.into_parts-passes.result in
+    let whole : Seats g.row.B.Denot = record { by = parts.by; last = parts.last; queues = parts.queues; arrivals = parts.arrivals; times = parts.times; turns = parts.turns } in
+    let first : FirstSeats g.row.B.Denot = record { seats = whole; took = c.args.first.took } in
+    let same : c.args.first ≡ first = ap (λ (s : Seats g.row.B.Denot). let f : FirstSeats g.row.B.Denot = record { seats = s; took = c.args.first.took } in f) c.into_parts-passes.ensures in
+    let is_first = subst (IsFirst g.B.TableName.table c.args.self) same c.requires.first in
     let closed = c.in-Ok.ensures in
     let legal = subst (λ (log : List ArrivalEntry). IsLegal (AnswersStamped AnswersCall) log) closed.history closed.legal in
     let left : IsLeft c.args.self first c.new.result = record {
@@ -77,4 +109,5 @@ returns-clause-nobody g c =
       times = ap (λ (d : PlainOf g.row.B.Denot). d.times) c.new.ensures;
       turns = ap (λ (d : PlainOf g.row.B.Denot). d.turns) c.new.ensures;
     } in
-    nobody g.B.TableName.table c.args.self first c.new.result c.requires.first left
+    λ by not. nobody g.B.TableName.table c.args.self first c.new.result is_first left by
+    (λ there. not (subst (λ (f : FirstSeats g.row.B.Denot). Contains (f.seats.by ∷ gave_of f) by) (sym same) there))
