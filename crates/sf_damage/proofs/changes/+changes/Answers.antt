@@ -1,7 +1,6 @@
-use Rattle.std.proofs.Common.{◌≡◌, suc, ℤ, false, ◌||◌, [], List, length, arith}
+use Rattle.std.proofs.Common.{◌≡◌, suc, ℤ, false, ◌||◌, [], length, arith}
 use Rattle.std.proofs.lemmas.Result.{IfOk-weaker}
 use Rattle.sf_base.specs.Geometry.{covers}
-use Rattle.sf_base.specs.declared.geometry.Rect.{Rect}
 use Rattle.sf_region.specs.Points.{has}
 use Rattle.sf_damage.specs.Damage.{IsSameBeside, stack_in}
 use Rattle.sf_damage.proofs.ListLemmas.{AreNear-others, first_of, length-others, others_of}
