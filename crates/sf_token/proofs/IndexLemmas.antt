@@ -239,3 +239,8 @@ either_way (Err e) Q old new P q same then unchanged = subst P (sym same) unchan
 pub on_ok : {A E : Type 0} (r : Result A E) (P : Type 0) → is_err r ≡ false → OnOk r P → P
 on_ok (Ok a) P went p = p
 on_ok (Err e) P went p = cc
+
+-- a call with an error says what it left
+pub on_err : {A E : Type 0} (r : Result A E) (P : Type 0) → is_err r ≡ true → OnErr r P → P
+on_err (Ok a) P failed p = cc
+on_err (Err e) P failed p = p

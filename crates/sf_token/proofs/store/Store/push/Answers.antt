@@ -1,7 +1,9 @@
-use Rattle.std.proofs.Common.{◌∙◌, sym, ap, subst, ◌<◌, List, [], ◌∷◌, ◌++◌}
+use Rattle.std.proofs.Common.{◌∙◌, sym, ap, subst, ◌<◌, ℕ, List, [], ◌∷◌, ◌++◌}
+use Rattle.slab.specs.Slab.{Slab, get}
 use Rattle.std.specs.List.{AllByRecursion}
 use Rattle.sf_token.specs.Pending.{Arrival}
-use Rattle.sf_token.proofs.IndexLemmas.{on_ok}
+use Rattle.sf_token.specs.Slots.{AreFiled}
+use Rattle.sf_token.proofs.IndexLemmas.{on_err, on_ok}
 use Rattle.sf_token.proofs.StoreLemmas.{filed_push}
 use Rattle.sf_token.proofs.store.Store.push.Goals as goal
 
@@ -22,3 +24,18 @@ returns-clause-ok g c =
     c.self.inside.keys.entries c.insert.new.self.entries c.reserve.ensures.rest_kept c.insert_reserved.ensures.key c.vacant_key-key.ensures.value c.insert_reserved.ensures.was_vacant
     c.insert_reserved.ensures.updates (ap (λ (a : Arrival g.row.L.Denot). a.number) c.arrived.view_is) entries c.self.invariant.0 below in
     more.1 ∙ ap (λ (list : List (Arrival g.row.L.Denot)). list ++ c.args.arrived ∷ []) c.self.view_is
+
+-- room for more changes nothing that is filed
+pub invariant_of-self : goal.invariant_of-self
+invariant_of-self g c = (
+  subst (λ (s : Slab (Arrival g.row.L.Denot)). AreFiled (get s) c.self.inside.keys.entries) (sym c.reserve.ensures.rest_kept) c.self.invariant.0,
+  c.self.invariant.1,
+)
+
+pub invariant_of-self-then-is_err-2 : goal.invariant_of-self-then-is_err-2
+invariant_of-self-then-is_err-2 g c =
+    let stays = on_err c.insert.result _ (sym c.is_err-2.ensures.value ∙ c.if-is_err-2.true) c.insert.ensures.err in (
+      subst (λ (entries : List (ℕ × ℕ)). AreFiled (get c.reserve.new.self) entries) (sym stays)
+          (subst (λ (s : Slab (Arrival g.row.L.Denot)). AreFiled (get s) c.self.inside.keys.entries) (sym c.reserve.ensures.rest_kept) c.self.invariant.0),
+      c.insert.ensures.ordered,
+    )
