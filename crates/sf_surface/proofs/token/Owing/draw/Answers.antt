@@ -1,5 +1,7 @@
 use Rattle.std.proofs.Common.{◌∙◌, ap, sym, refl, subst, inl, inr}
 use Rattle.sf_base.specs.Fences.{IsSignalled}
+use Rattle.sf_picture.specs.Pixels.{HasSize}
+use Rattle.sf_picture.specs.declared.picture.Picture.{Picture}
 use Rattle.sf_turns.specs.Views.{Leaves}
 use Rattle.sf_surface.specs.Drawing.{IsShort, MayEnter}
 use Rattle.sf_surface.specs.Tokens.{Issued, OwingOf}
@@ -20,6 +22,21 @@ returns-then-is_some-clause-pays g c =
       refl,
       inl (λ signalled. (let none = c.first_open.ensures.signalled.1 (subst (λ (o : OwingOf). IsSignalled o.fence c.args.seen.now) (sym c.self.view_is) signalled) in cc (some, none)), refl),
     )
+
+pub repaint-requires-clause-size : goal.repaint-requires-clause-size
+repaint-requires-clause-size g c =
+    let is = c.in-Ok.ensures.same ∙ same_picture-is c.args.picture.now c.promised.result.now (sym c.if-not-is_same.ensures) ∙ c.promised.ensures in
+    subst HasSize (sym is) c.self.invariant.fits
+
+pub repaint-requires-clause-same_width : goal.repaint-requires-clause-same_width
+repaint-requires-clause-same_width g c =
+    let is = c.in-Ok.ensures.same ∙ same_picture-is c.args.picture.now c.promised.result.now (sym c.if-not-is_same.ensures) ∙ c.promised.ensures in
+    ap (λ (p : Picture). p.width) is ∙ (sym c.self.invariant.wide ∙ sym (ap (λ (p : Picture). p.width) c.in-Ok-enter.ensures.entered.1))
+
+pub repaint-requires-clause-same_height : goal.repaint-requires-clause-same_height
+repaint-requires-clause-same_height g c =
+    let is = c.in-Ok.ensures.same ∙ same_picture-is c.args.picture.now c.promised.result.now (sym c.if-not-is_same.ensures) ∙ c.promised.ensures in
+    ap (λ (p : Picture). p.height) is ∙ (sym c.self.invariant.high ∙ sym (ap (λ (p : Picture). p.height) c.in-Ok-enter.ensures.entered.1))
 
 pub leave-requires-clause-promised : goal.leave-requires-clause-promised
 leave-requires-clause-promised g c =
