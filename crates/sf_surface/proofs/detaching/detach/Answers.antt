@@ -1,10 +1,11 @@
-use Rattle.std.proofs.Common.{◌∙◌, ap, refl, sym, None}
+use Rattle.std.proofs.Common.{◌∙◌, ap, refl, subst, sym, None}
 use Rattle.sf_base.specs.declared.ids.QueueId.{QueueId}
 use Rattle.sf_surface.specs.declared.call.Gives.TheVariants as gives
+use Rattle.sf_surface.specs.declared.work.Work.{Work}
 use Rattle.sf_surface.specs.Calls.{write_token}
 use Rattle.sf_surface.specs.Hands.{done_reply}
-use Rattle.sf_surface.specs.Tokens.{WriteLeaseOf, ending_drawn, turn_after}
-use Rattle.sf_surface.proofs.LeaseLemmas.{says}
+use Rattle.sf_surface.specs.Tokens.{IsRightOf, IsWorkOf, WriteLeaseOf, ending_drawn, turn_after, turn_of}
+use Rattle.sf_surface.proofs.LeaseLemmas.{after_right, says}
 use Rattle.sf_surface.proofs.GiveBackLemmas.{detach_refused, detach_unlent, detaches}
 use Rattle.sf_surface.proofs.detaching.detach.Goals as goal
 
@@ -32,3 +33,16 @@ returns-in-Ok-clause-done g c =
     let ends = c.in-Ok.ensures.ends ∙ ap (λ (l : WriteLeaseOf). ending_drawn l.work) c.lease.view_is in
     detaches g.B.TableName.table q c.detach_allowed.new.q c.args.by c.args.lease said _ same c.requires.sound (sym c.in_default.ensures) c.detach_allowed.ensures.done (c.detach_allowed.ensures.history said (says q said there))
     (λ i. done_reply {B = g.row.B.Denot} (c.none.ensures i) (gives.Free (record { held = held i; turn = heir i })) (ends i) None)
+
+pub invariant_of-result : goal.invariant_of-result
+invariant_of-result g c =
+    let lease = c.lease.inside in
+    subst (IsRightOf g.B.TableName.table lease.held) (sym c.in-Ok.ensures.heir) (after_right g.B.TableName.table lease.held lease.work c.lease.invariant.right c.lease.invariant.drawn)
+
+pub invariant_of-lease : goal.invariant_of-lease
+invariant_of-lease g c =
+    let held = c.lease.inside.held in
+    record {
+      right = subst (λ (w : Work). IsRightOf g.B.TableName.table held (turn_of w)) (sym c.in-Err.ensures.back) c.lease.invariant.right;
+      drawn = subst (IsWorkOf held) (sym c.in-Err.ensures.back) c.lease.invariant.drawn;
+    }
