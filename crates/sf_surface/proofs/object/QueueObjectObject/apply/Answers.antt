@@ -70,3 +70,25 @@ returns-in-NotYet-clause-not_yet g c =
       ap (λ (q : QCall g.row.B.Denot). (c.args.call.0, q)) told.0,
       seen,
     )
+
+pub invariant_of-self-in-NotYet-1 : goal.invariant_of-self-in-NotYet-1
+invariant_of-self-in-NotYet-1 g c =
+    let table = g.B.TableName.table in
+    let inside = c.self.inside in
+    let before : List HistEntry = inside.history.shown.items in
+    let old : ObjectOf g.row.B.Denot = record { queue = inside.slots; calls = calls_in inside.history } in
+    let new : ObjectOf g.row.B.Denot = record { queue = c.dispatch.new.slots; calls = calls_in c.ready.new.history } in
+    let same : new ≡ old = λ i. record { queue = c.in-NotYet.ensures.not_yet.1 i; calls = c.in-Ok.ensures.calls i } in
+    subst (λ (es : List HistEntry). IsKept {B = g.row.B.Denot} table inside.number es new) (sym c.in-Ok.ensures.shown)
+    (subst (λ (o : ObjectOf g.row.B.Denot). IsKept {B = g.row.B.Denot} table inside.number before o) (sym same) c.self.invariant)
+
+pub invariant_of-self-in-NoMemory-1 : goal.invariant_of-self-in-NoMemory-1
+invariant_of-self-in-NoMemory-1 g c =
+    let table = g.B.TableName.table in
+    let inside = c.self.inside in
+    let before : List HistEntry = inside.history.shown.items in
+    let old : ObjectOf g.row.B.Denot = record { queue = inside.slots; calls = calls_in inside.history } in
+    let new : ObjectOf g.row.B.Denot = record { queue = c.dispatch.new.slots; calls = calls_in c.ready.new.history } in
+    let same : new ≡ old = λ i. record { queue = c.in-NoMemory.ensures.no_memory.1 i; calls = c.in-Ok.ensures.calls i } in
+    subst (λ (es : List HistEntry). IsKept {B = g.row.B.Denot} table inside.number es new) (sym c.in-Ok.ensures.shown)
+    (subst (λ (o : ObjectOf g.row.B.Denot). IsKept {B = g.row.B.Denot} table inside.number before o) (sym same) c.self.invariant)
