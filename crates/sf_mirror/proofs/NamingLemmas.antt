@@ -1,13 +1,14 @@
 -- The least free numbers, one after another.
 use Rattle.std.proofs.Common.{◌≡◌, ℕ, zero, suc, ◌+◌, ◌-◌, ◌<◌, ◌≤◌, Bool, true, false, not, ◌||◌, List, [], ◌∷◌, ◌++◌, length, refl, ap, ◌∙◌, sym, subst, arith}
 use Rattle.std.specs.List.{list_any}
-use Rattle.std.proofs.lemmas.Bool.{eq-eqb}
+use Rattle.std.proofs.lemmas.Bool.{cases_eq, eq-eqb}
 use Rattle.std.proofs.Math.Seq.{drop-cons}
-use Rattle.std.proofs.Common.{drop, get_or, append_assoc, append-nil}
-use Rattle.std.proofs.lemmas.List.{drop_all}
+use Rattle.std.proofs.Common.{drop, get_or, append_assoc, append-nil, inl, inr, replicate}
+use Rattle.std.proofs.lemmas.List.{drop_all, get_or-replicate, length-replicate}
 use Rattle.sf_base.specs.declared.ids.LayerId.{LayerId}
 use Rattle.sf_layer.specs.declared.layer.Layer.{Layer}
 use Rattle.sf_shown.specs.Copies.{IsLeastFree, free_from, is_free, is_taken_by, least_free, named}
+use Rattle.sf_mirror.specs.Marks.{AreMarks}
 
 -- a search that begins lower finds the same
 skips : (taken : List LayerId) (steps from number : ℕ) → number < from + steps → from ≤ number → is_free taken number ≡ true → ((k : ℕ) → from ≤ k → k < number → is_free taken k ≡ false) → free_from taken steps from ≡ number
@@ -60,6 +61,20 @@ still_taken taken number below k low high = by_order (number - k) refl
         let same : k ≡ number = omega arith in
         subst (λ (n : ℕ). is_free (taken ++ record { 0 = number } ∷ []) n ≡ false) (sym same) (ap not (any-back number taken))
     by_order (suc far) e = ap not (any-front k taken (record { 0 = number }) (not-false (list_any (is_taken_by k) taken) (below k low (omega arith))))
+
+-- nothing is taken
+pub no_marks : AreMarks [] (replicate 9218 false)
+no_marks = record {
+  long = length-replicate 9218 false;
+  marked = λ number inside. let long = length-replicate 9218 false in get_or-replicate 9218 number false false (omega (arith, long, inside));
+}
+
+-- a search goes on where a number is taken
+pub one_further : (taken : List LayerId) (number : ℕ) → ((k : ℕ) → 1 ≤ k → k < number → is_free taken k ≡ false) → is_free taken number ≡ false → (k : ℕ) → 1 ≤ k → k < number + 1 → is_free taken k ≡ false
+one_further taken number below here k low high = elim (cases_eq k number) [
+  | inl same ↦ subst (λ (n : ℕ). is_free taken n ≡ false) (sym same) here
+  | inr apart ↦ below k low (omega (arith, high, apart))
+]
 
 -- one more layer is named
 pub named_one : (names : List (LayerId × LayerId)) (taken : List LayerId) (layers : List Layer) (i next number : ℕ) (d : Layer) (all : List (LayerId × LayerId)) → next ≡ suc i → i < length layers → IsLeastFree taken number

@@ -1,37 +1,57 @@
-ghost use Rattle.std.specs.Prelude.{◌≡◌, ◌≤◌, ◌<◌, ◌+◌, ℕ, IfOk, IfSome, length, false};
-ghost use Rattle.std.specs.List.{All, list_any};
+ghost use Rattle.std.specs.Prelude.{◌≡◌, ◌≤◌, ◌<◌, ◌+◌, ◌++◌, ◌∷◌, [], ℕ, List, IfOk, IfSome, length, false};
+ghost use Rattle.std.specs.List.{All};
 ghost use Rattle.sf_base.specs.declared.ids.LayerId.{LayerId as LayerIdValue};
-ghost use Rattle.sf_shown.specs.Copies.{IsLeastFree, is_free, is_taken_by, named};
+ghost use Rattle.sf_shown.specs.Copies.{IsLeastFree, is_free, named};
+ghost use Rattle.sf_mirror.specs.Marks.{AreMarks};
 
 use sf_base::{LayerId, NoMemory};
 use sf_layer::Layer;
 use std::alloc::Global;
 
-/// Whether a number is one of these.
-fn is_taken(taken: &[LayerId], number: u32) -> bool
-    ensures { result ≡ list_any (is_taken_by number) taken.now }
+/// How many numbers have a mark: 0, and all that a copy can get.
+const MARKS: usize = 9_218;
+
+/// Marks a number as taken, if it has a mark.
+fn mark(marks: &mut Vec<bool>, id: LayerId)
+    ensures { (taken : List LayerIdValue) → AreMarks taken marks.old.items → AreMarks (taken ++ id ∷ []) marks.new.items }
 {
-    taken.iter().any(|id| id.0 == number)
+    let at = id.0 as usize;
+    if at < marks.len() {
+        marks[at] = true;
+    }
 }
 
-/// Whether a number is none of these, which are taken.
-fn is_free(taken: &[LayerId], number: u32) -> bool
-    ensures { result ≡ is_free taken.now number }
+/// The marks of the numbers that are taken.
+fn marks_of(alloc: Global, taken: &[LayerId]) -> Result<Vec<bool>, NoMemory>
+    ensures { IfOk result (λ marks. AreMarks taken.now marks.items) }
 {
-    !is_taken(taken, number)
+    let mut marks = vec![in alloc; false; MARKS]?;
+    for id in taken {
+        mark(&mut marks, *id);
+    }
+    Ok(marks)
+}
+
+/// Whether a number is not taken.
+fn is_free(marks: &[bool], number: u32) -> bool
+    requires { number < length marks.now }
+    ensures { (taken : List LayerIdValue) → AreMarks taken marks.now → result ≡ is_free taken number }
+{
+    !marks[number as usize]
 }
 
 /// The least number from 1 that is not taken, where all below this one are. There is always one.
-fn least_free(taken: &[LayerId], from: u32) -> Option<u32>
+fn least_free(taken: &[LayerId], marks: &[bool], from: u32) -> Option<u32>
     requires low { 1 ≤ from }
     requires few { length taken.now ≤ 9216 }
+    requires marks { AreMarks taken.now marks.now }
     requires below { (k : ℕ) → 1 ≤ k → k < from → is_free taken.now k ≡ false }
     ensures { IfSome result (IsLeastFree taken.now) }
 {
     let end = taken.len() as u32 + 2;
     let mut number = from;
     while number < end {
-        if is_free(taken, number) {
+        if is_free(marks, number) {
             return Some(number);
         }
         number += 1;
@@ -50,14 +70,16 @@ pub fn name_all(
     ensures positive { IfOk result (λ names. All (λ (name : LayerIdValue × LayerIdValue). 0 < name.1.0) names.items) }
 {
     let mut names = Vec::new(alloc);
+    let mut marks = marks_of(alloc, taken)?;
     let mut from = 1u32;
     for layer in layers {
-        let Some(number) = least_free(taken, from) else {
+        let Some(number) = least_free(taken, &marks, from) else {
             return Err(NoMemory);
         };
         let copy = LayerId(number);
         names.push((layer.number, copy))?;
         taken.push(copy)?;
+        mark(&mut marks, copy);
         from = number + 1;
     }
     Ok(names)
