@@ -29,6 +29,11 @@ pub struct Screen {
     body: Vec<u8>,
 }
 
+/// The most layers that a view draws where it is composed over an older frame, or that one drew. To
+/// find where two views differ can take time with the square of their layers, and calls as deep as
+/// they are many. Only with copies of mirrored layers are there more than 1,024.
+const LONGEST: usize = 2_048;
+
 /// How many bytes a number has.
 const NUMBER: usize = 4;
 
@@ -179,6 +184,16 @@ fn is_same_size(old: &View, view: &View) -> bool
     old.width == view.width && old.height == view.height
 }
 
+/// Whether a view is composed over the frame of an older one: it has that one's size, and both are
+/// short enough to look for where they differ.
+fn is_composed_over(old: &View, view: &View) -> bool
+    ensures wide { result ≡ true → old.now.width ≡ view.now.width }
+    ensures high { result ≡ true → old.now.height ≡ view.now.height }
+{
+    let is_short = old.drawn.len() <= LONGEST && view.drawn.len() <= LONGEST;
+    is_short && is_same_size(old, view)
+}
+
 impl Screen {
     ghost use Rattle.std.specs.Prelude.{◌≡◌, ◌++◌, ℕ, [], None, Some, OnErr, OnOk, is_some, map, true};
     ghost use Rattle.sf_compose.specs.Readings.{AreReadable};
@@ -197,10 +212,10 @@ impl Screen {
         }
     }
 
-    /// Shows a view, over the frame of the last one where that has its size; so many workers, 1 to 16,
-    /// compose its frame, each some of its rows. A layer that shows a buffer finds its pixels among the
-    /// contents, at the place that stands for the layer in `sources`. After want of memory the screen
-    /// is as it was.
+    /// Shows a view, over the frame of the last one where that has its size and neither draws more
+    /// than 2,048 layers; so many workers, 1 to 16, compose its frame, each some of its rows. A layer
+    /// that shows a buffer finds its pixels among the contents, at the place that stands for the layer
+    /// in `sources`. After want of memory the screen is as it was.
     pub fn show<R: Threads + Sync, C: Pixels + Sync>(
         &mut self,
         rt: &R,
@@ -219,7 +234,7 @@ impl Screen {
         ensures err { OnErr result (self.new ≡ self.old) }
     {
         match &self.view {
-            Some(old) if is_same_size(old, &view) => {
+            Some(old) if is_composed_over(old, &view) => {
                 let body = &mut self.body;
                 compose_behind(rt, self.alloc, workers, old, &view, contents, sources, body)?;
             }
