@@ -5,3 +5,6 @@ pub mod Limits
 pub mod Shown
 pub mod Sits
 pub mod Rising
+pub mod Lent
+pub mod GivenBack
+pub mod Due

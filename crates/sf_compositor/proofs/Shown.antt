@@ -1,5 +1,6 @@
 -- What a vsync shows can be composed by a plan, and what is written of it is that of its report.
-use Rattle.std.proofs.Common.{◌≡◌, ℕ, ◌≤◌, List, Option, arith, ap, ◌∙◌, length, map, sym, subst}
+use Rattle.std.proofs.Common.{◌≡◌, ℕ, ◌≤◌, List, Option, Result, Ok, OnOk, arith, ap, ◌∙◌, length, map, sym, subst}
+use Rattle.std.specs.Prelude.{IfOk}
 use Rattle.atomic_table.specs.Seated.{TableId}
 use Rattle.sf_picture.specs.declared.picture.Picture.{Picture}
 use Rattle.sf_commit.specs.Handlers.{HandlerOf, source_of}
@@ -20,9 +21,16 @@ use Rattle.sf_play.proofs.Composing.{sources_told, views_told}
 use Rattle.sf_play.specs.Playing.{expected_by}
 use Rattle.sf_show.specs.Vsyncs.{vsync_shown}
 use Rattle.sf_show.specs.Writing.{Writes}
-use Rattle.sf_compositor.specs.Sitting.{MakesVsync, MaySit, ShowsBuffers, ShowsVsync}
+use Rattle.sf_compositor.specs.Sitting.{HasAll, MakesVsync, MaySit, ShowsBuffers, ShowsVsync}
 use Rattle.sf_compositor.specs.Vsyncs.{Sitting}
 use Rattle.sf_compositor.proofs.Limits.{limit_stays}
+
+-- what is so of what came of it, where it succeeded
+pub if_ok : {T E : Type 0} (result : Result T E) (value : T) (P : T → Type 0) → result ≡ Ok value → IfOk result P → P value
+if_ok {T} {E} result value P is all = subst (λ (r : Result T E). IfOk r P) is all
+
+pub on_ok : {T E X : Type 0} (result : Result T E) (value : T) → result ≡ Ok value → OnOk result X → X
+on_ok {T} {E} {X} result value is fact = subst (λ (r : Result T E). OnOk r X) is fact
 
 module _ {B : Type 0} (lease : Ghosts ReadLeaseOf SeatView ReadLeaseOf Issued) (table : TableId) (locks : Locks B) (period : ℕ) where
   abbrev Makes : Sitting B → Sitting B → VsyncReport → Type 0
@@ -56,15 +64,15 @@ module _ {B : Type 0} (lease : Ghosts ReadLeaseOf SeatView ReadLeaseOf Issued) (
       }
 
   -- another vsync may follow
-  pub sits_on : (plan : Plan) (old new : Sitting B) (report : VsyncReport) → Makes old new report → MaySit plan old → new.handler.lent ≡ old.handler.lent
+  pub sits_on : (plan : Plan) (old new : Sitting B) (report : VsyncReport) → Makes old new report → MaySit plan old → HasAll new.handler
       → new.handler.last ≤ taken_in (unstamped new.seats.arrivals.seen) → new.seats.last.step ≤ new.number → MaySit plan new
-  sits_on plan old new report makes may lent known early =
+  sits_on plan old new report makes may all known early =
       let state = makes.vsync.decides.settled.state in
       let limit = limit_is old new report makes in
       let low = may.few in
       record {
         alive = ap (λ (h : HandlerOf ReadLeaseOf). h.is_spent) state ∙ may.alive;
-        unlent = lent ∙ may.unlent;
+        all = all;
         wide = ap (λ (h : HandlerOf ReadLeaseOf). h.width) state ∙ may.wide;
         high = ap (λ (h : HandlerOf ReadLeaseOf). h.height) state ∙ may.high;
         few = omega (arith, limit, low);

@@ -6,11 +6,14 @@ ghost use Rattle.sf_compositor.specs.Keeping.{HasEnded, Keeps};
 
 use crate::decider::Decider;
 use crate::showing::show_next;
+use crate::vsync::Made;
 use sf_io::Sink;
 use sf_plan::Plan;
 use sf_record::RunFault;
+use sf_report::VsyncReport;
 use sf_screen::Screens;
 use sf_shared::{FirstSeats, Locks};
+use sf_show::show_vsync;
 use sf_surface::ReadLease;
 use sf_threads::{Ended, Look, Visit};
 use sf_turns::TableName;
@@ -22,8 +25,8 @@ use std::thread::Threads;
 /// How many vsyncs are made at most while actors run: what is left is done in the rounds behind.
 const MOST_VSYNCS: u32 = 1 << 31;
 
-/// The compositor of a run whose actors are threads: whenever something was done it makes a vsync,
-/// tells them of it, and writes its records.
+/// The compositor of a run whose actors are threads: whenever something was done it makes a vsync, while
+/// what the last one shows is composed, and then writes the last one's records.
 #[derive(Drop)]
 pub struct Compositor<'a, K, B: TableName> {
     pub alloc: Global,
@@ -37,6 +40,8 @@ pub struct Compositor<'a, K, B: TableName> {
     /// What its vsyncs show.
     pub plan: Plan,
     pub screens: Screens,
+    /// What the last vsync did, if there was one: its records are still to be written.
+    pub due: Option<VsyncReport>,
     pub decider: Decider<B>,
     /// How many vsyncs there were.
     pub vsyncs: u32,
@@ -76,17 +81,61 @@ impl<'a, R: Threads + Wait + Sync, K: Sink, B: TableName> Visit<R, B> for Compos
             &self.timelines,
             &self.plan,
             &mut self.screens,
+            self.due.take(),
+            look,
             locks,
             &mut first.seats,
             &mut self.decider.handler,
             self.period,
             self.vsyncs,
-            look,
         ) {
-            Ok(()) => {
+            Ok(made) => {
+                let Made {
+                    report,
+                    goes_on: _,
+                    releases,
+                } = made;
+                self.due = Some(report);
                 self.vsyncs += 1;
-                Ok(false)
+                Ok(releases)
             }
+            Err(fault) => {
+                self.fault = Some(fault);
+                Err(Ended)
+            }
+        }
+    }
+}
+
+impl<'a, K: Sink, B: TableName> Compositor<'a, K, B> {
+    ghost use Rattle.std.specs.Prelude.{◌≡◌, None, OnErr, OnOk};
+    ghost use Rattle.sf_compositor.specs.Keeping.{HasEnded, Keeps};
+    ghost use Rattle.sf_shared.specs.declared.first.FirstSeats.{FirstSeats as FirstIn};
+    ghost use Rattle.sf_shared.specs.declared.locks.Locks.{Locks as LocksIn};
+
+    /// Composes what the last vsync shows, once none follows, and writes its records, if they are due.
+    pub fn settle<R: Threads + Sync>(&mut self, rt: &R) -> Result<(), Ended>
+        requires kept { (start : _) × (locks : LocksIn B) × (first : FirstIn B) × Keeps K.taken K.faults ⟦<ReadLease<B> as Lease>⟧ B.table start self.old locks first }
+        ensures kept { (start : _) (locks : LocksIn B) (first : FirstIn B) → Keeps K.taken K.faults ⟦<ReadLease<B> as Lease>⟧ B.table start self.old locks first
+            → OnOk result (Keeps K.taken K.faults ⟦<ReadLease<B> as Lease>⟧ B.table start self.new locks first × (self.new.due ≡ None)) }
+        ensures ended { (start : _) (locks : LocksIn B) (first : FirstIn B) → Keeps K.taken K.faults ⟦<ReadLease<B> as Lease>⟧ B.table start self.old locks first
+            → OnErr result (HasEnded K.taken K.faults start self.new) }
+    {
+        let Some(report) = self.due.take() else {
+            return Ok(());
+        };
+        match show_vsync(
+            rt,
+            self.alloc,
+            self.workers,
+            self.sink,
+            &self.timelines,
+            &self.plan,
+            &mut self.screens,
+            &self.decider.handler,
+            report,
+        ) {
+            Ok(()) => Ok(()),
             Err(fault) => {
                 self.fault = Some(fault);
                 Err(Ended)

@@ -2,6 +2,7 @@
 //! arrived, vsync by vsync, and shows it, while the actors run in threads of their own.
 #![tactic(auto)]
 
+mod behind;
 mod compositor;
 mod decider;
 mod release;

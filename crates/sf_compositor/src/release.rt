@@ -66,6 +66,7 @@ fn release_one<R: Wait, B: TableName>(
     ensures changes { OnOk result (ChangesPasses seats.old seats.new) }
     ensures step { OnOk result (seats.new.last.step ≡ number) }
     ensures gives { OnOk result (GivesOne (home_of locks.now seats.old) number release (view_of seats.old) (view_of seats.new)) }
+    ensures turns { seats.new.turns ≡ seats.old.turns }
 {
     let Release {
         queue,
@@ -97,6 +98,7 @@ pub(crate) fn release_all<R: Wait, B: TableName>(
     ensures last { OnOk result (seats.old.last.stamp ≤ seats.new.last.stamp) }
     ensures arrivals { OnOk result (seats.new.arrivals ≡ seats.old.arrivals) }
     ensures early { OnOk result (seats.old.last.step ≤ number → seats.new.last.step ≤ number) }
+    ensures turns { seats.new.turns ≡ seats.old.turns }
 {
     for release in releases {
         release_one(rt, locks, seats, number, release)?;

@@ -14,12 +14,14 @@ use Rattle.sf_turns.specs.Views.{SeatView}
 use Rattle.sf_turns.specs.declared.naming.TableName.{Ghosts as Naming}
 use Rattle.sf_txn.specs.declared.lease.Lease.{Ghosts}
 use Rattle.sf_commit.specs.Handlers.{HandlerOf, new_handler}
+use Rattle.sf_commit.specs.OnLayers.{at_hand}
 use Rattle.sf_actor.specs.Plain.{taken_in}
 use Rattle.sf_scene.specs.Limits.{most_layers}
 use Rattle.sf_scene.specs.Scene.{SceneValue}
 use Rattle.sf_scene.specs.declared.declarations.Pick.{Pick}
 use Rattle.sf_plan.specs.Due.{IsPlan}
 use Rattle.sf_plan.specs.declared.plan.Plan.{Plan}
+use Rattle.sf_report.specs.declared.report.VsyncReport.{VsyncReport}
 use Rattle.sf_run.proofs.FrameLemmas.{is_plan}
 use Rattle.sf_run.proofs.LimitLemmas.{few_layers}
 use Rattle.sf_run.specs.Frames.{plan_of}
@@ -40,7 +42,7 @@ use Rattle.sf_threads.specs.Returns.{Returns}
 use Rattle.sf_threads.specs.Visits.{HasLeftOrIs}
 use Rattle.sf_compositor.specs.declared.compositor.Compositor.{Compositor}
 use Rattle.sf_compositor.specs.Keeping.{HasEnded, IsSame, Keeps, sitting_of}
-use Rattle.sf_compositor.specs.Sitting.{Sits}
+use Rattle.sf_compositor.specs.Sitting.{Sits, SitsWith}
 use Rattle.sf_compositor.specs.Vsyncs.{Begin}
 use Rattle.sf_live.specs.declared.opening.Opened.{Opened}
 use Rattle.sf_live.specs.declared.threads.Joined.{Joined}
@@ -80,6 +82,16 @@ module _ {K B : Type 0} {naming : Naming B} where
   pub same_self : (c : Compositor K B naming) → IsSame c c
   same_self c = record { workers = refl; plan = refl; period = refl; timelines = refl; sink = refl }
 
+  -- where the compositor ended the run
+  pub cut_ended : (taken : K → Option (List ℕ)) (faults : K → ℕ) (c now : Compositor K B naming) (fault : RunFault) → (fault ≡ WriteFault → now.fault ≡ Some WriteFault)
+      → HasEnded taken faults c now → WasCut taken faults c now fault
+  cut_ended taken faults c now fault caused ended = record {
+    same = ended.same;
+    cut = ended.cut;
+    faults_rise = ended.faults_rise;
+    failed = λ is. ended.failed (caused is);
+  }
+
 module _ {K B : Type 0} {naming : Naming B} (taken : K → Option (List ℕ)) (faults : K → ℕ) (lease : Ghosts ReadLeaseOf SeatView ReadLeaseOf Issued) (table : TableId) (scene : SceneValue) (opened : Opened B) (c : Compositor K B naming)
     (opens : IsOpen scene table opened) (starts : Starts scene c) (unused : KnowsNothing opened.first.seats) where
   -- before the first vsync
@@ -100,7 +112,7 @@ module _ {K B : Type 0} {naming : Naming B} (taken : K → Option (List ℕ)) (f
         few = omega (arith, none);
         log = record {
           set = starts.set;
-          sits = record {
+          sits = subst (λ (due : Option VsyncReport). SitsWith lease table opened.locks c.period due c.plan c.decider.handler.tree.most c.timelines.items (taken c.sink.now) (taken c.sink.now) c.screens (sitting_of after_seating c)) (sym starts.none_due) (record {
             start = sitting_of after_seating c;
             fresh = record {
               handler = handler ∙ (λ i. new_handler (sym wide i) (sym high i) (sym most i));
@@ -111,10 +123,14 @@ module _ {K B : Type 0} {naming : Naming B} (taken : K → Option (List ℕ)) (f
             };
             log = Begin;
             written = λ pictures found. no_writing pictures (taken c.sink.now) c.screens starts.screens;
-          };
+          });
           may = record {
             alive = ap (λ (h : HandlerOf ReadLeaseOf). h.is_spent) handler;
-            unlent = ap (λ (h : HandlerOf ReadLeaseOf). h.lent) handler;
+            all = record {
+              unlent = ap (λ (h : HandlerOf ReadLeaseOf). h.lent) handler;
+              none_kept = ap (λ (h : HandlerOf ReadLeaseOf). h.kept) handler;
+              here = ap (λ (h : HandlerOf ReadLeaseOf). map at_hand h.on) handler ∙ sym (ap (λ (h : HandlerOf ReadLeaseOf). h.on) handler);
+            };
             wide = ap (λ (h : HandlerOf ReadLeaseOf). h.width) handler ∙ sym wide;
             high = ap (λ (h : HandlerOf ReadLeaseOf). h.height) handler ∙ sym high;
             few = omega (arith, most, low);
@@ -136,39 +152,46 @@ module _ {K B : Type 0} {naming : Naming B} (taken : K → Option (List ℕ)) (f
       abbrev returns : Returns KeepsSo table opened.locks opened.pictures opened.first opened.actors.items now all_returned
       returns = subst (λ (p : List Picture). Returns KeepsSo table opened.locks p opened.first opened.actors.items now all_returned) pictured returned
 
-      kept : Keeps taken faults lease table c now opened.locks returns.attended
+      pub kept : Keeps taken faults lease table c now opened.locks returns.attended
       kept = returns.attends.kept.1
 
-      abbrev pub ran : RunOf B
-      ran = run_by taken faults scene returns.attended.seats c now
+      -- once what was due is written
+      module _ (settled : Compositor K B naming) (still : Keeps taken faults lease table c settled opened.locks returns.attended) (none : settled.due ≡ None) where
+        abbrev pub ran : RunOf B
+        ran = run_by taken faults scene returns.attended.seats c settled
 
-      pub came_returned : HasRun lease table ran opened.locks opened.pictures all_returned
-      came_returned =
-          has_run lease table ran opened opens unused KeepsSo now all_returned first all returns refl
-          (subst (λ (p : ℕ). Sits lease table opened.locks p (plan_of scene) (most_layers scene.version) now.timelines.items (taken c.sink.now) (taken now.sink.now) now.screens (sitting_of returns.attended now)) (kept.same.period ∙ starts.period)
-          (subst (λ (p : Plan). Sits lease table opened.locks now.period p (most_layers scene.version) now.timelines.items (taken c.sink.now) (taken now.sink.now) now.screens (sitting_of returns.attended now)) (kept.same.plan ∙ starts.planned)
-          (subst (λ (most : ℕ). Sits lease table opened.locks now.period now.plan most now.timelines.items (taken c.sink.now) (taken now.sink.now) now.screens (sitting_of returns.attended now)) (ap (λ (h : HandlerOf ReadLeaseOf). h.tree.most) starts.handler)
-          kept.log.sits)))
-          kept.few
+        all_sit : Sits lease table opened.locks settled.period settled.plan c.decider.handler.tree.most settled.timelines.items (taken c.sink.now) (taken settled.sink.now) settled.screens (sitting_of returns.attended settled)
+        all_sit =
+            subst (λ (due : Option VsyncReport). SitsWith lease table opened.locks settled.period due settled.plan c.decider.handler.tree.most settled.timelines.items (taken c.sink.now) (taken settled.sink.now) settled.screens (sitting_of returns.attended settled))
+            none still.log.sits
 
-      pub came_together : (joined : Joined B) → IsTogether lease table ran opened.locks joined → CameTogether taken faults lease table scene c now joined
-      came_together joined together = record {
-        same = kept.same;
-        locks = opened.locks;
-        seats = returns.attended.seats;
-        together = together;
-        some = kept.some;
-        faults_rise = kept.faults_rise;
-      }
+        pub came_returned : HasRun lease table ran opened.locks opened.pictures all_returned
+        came_returned =
+            has_run lease table ran opened opens unused KeepsSo now all_returned first all returns refl
+            (subst (λ (p : ℕ). Sits lease table opened.locks p (plan_of scene) (most_layers scene.version) settled.timelines.items (taken c.sink.now) (taken settled.sink.now) settled.screens (sitting_of returns.attended settled)) (still.same.period ∙ starts.period)
+            (subst (λ (p : Plan). Sits lease table opened.locks settled.period p (most_layers scene.version) settled.timelines.items (taken c.sink.now) (taken settled.sink.now) settled.screens (sitting_of returns.attended settled)) (still.same.plan ∙ starts.planned)
+            (subst (λ (most : ℕ). Sits lease table opened.locks settled.period settled.plan most settled.timelines.items (taken c.sink.now) (taken settled.sink.now) settled.screens (sitting_of returns.attended settled)) (ap (λ (h : HandlerOf ReadLeaseOf). h.tree.most) starts.handler)
+            all_sit)))
+            still.few
 
-      -- where there was no memory to bring the actors together
-      pub cut_returned : (why : RunFault) → (why ≡ WriteFault → ⊥) → WasCut taken faults c now why
-      cut_returned why other = record {
-        same = kept.same;
-        cut = some_whole (taken c.sink.now) (taken now.sink.now) kept.some;
-        faults_rise = kept.faults_rise;
-        failed = λ is. absurd (other is);
-      }
+        pub came_together : (joined : Joined B) → IsTogether lease table ran opened.locks joined → CameTogether taken faults lease table scene c settled joined
+        came_together joined together = record {
+          same = still.same;
+          locks = opened.locks;
+          seats = returns.attended.seats;
+          together = together;
+          some = still.some;
+          faults_rise = still.faults_rise;
+        }
+
+        -- where there was no memory to bring the actors together
+        pub cut_returned : (why : RunFault) → (why ≡ WriteFault → ⊥) → WasCut taken faults c settled why
+        cut_returned why other = record {
+          same = still.same;
+          cut = some_whole (taken c.sink.now) (taken settled.sink.now) still.some;
+          faults_rise = still.faults_rise;
+          failed = λ is. absurd (other is);
+        }
 
     -- where the threads came to no end
     pub cut_threads : (locks : Locks B) (now : Compositor K B naming) (why : Stopped) (fault : RunFault) → (fault ≡ WriteFault → (why ≡ stopped.Ended) × (now.fault ≡ Some WriteFault))
@@ -177,12 +200,7 @@ module _ {K B : Type 0} {naming : Naming B} (taken : K → Option (List ℕ)) (f
         let failed : fault ≡ WriteFault → Rose (faults c.sink.now) (faults c.sink.now) =
         λ is. absurd (false≢true (ap is_some (sym starts.fine ∙ ap (λ (n : Compositor K B naming). n.fault) (sym same) ∙ (caused is).1))) in
         subst (λ (n : Compositor K B naming). WasCut taken faults c n fault) (sym same) (record { same = same_self c; cut = cut_none (taken c.sink.now); faults_rise = omega arith; failed = failed })
-    cut_threads locks now stopped.Ended fault caused (inr ended) = record {
-      same = ended.same;
-      cut = ended.cut;
-      faults_rise = ended.faults_rise;
-      failed = λ is. ended.failed (caused is).1;
-    }
+    cut_threads locks now stopped.Ended fault caused (inr ended) = cut_ended taken faults c now fault (λ is. (caused is).1) ended
     cut_threads locks now stopped.NoMemory fault caused (inr (first, left)) = record {
       same = left.1.same;
       cut = some_whole (taken c.sink.now) (taken now.sink.now) left.1.some;
@@ -212,11 +230,12 @@ module _ {K B : Type 0} {naming : Naming B} (taken : K → Option (List ℕ)) (f
 
 -- a compositor of the scene that is opened may start
 pub starts_here : {K B : Type 0} {naming : Naming B} {table : TableId} {before after : Option (List ℕ)} {period : ℕ} {order : List Pick} {handler : HandlerOf ReadLeaseOf} {opened : Opened B} (c : Compositor K B naming) (scene : SceneValue)
-    → MayRun table scene before after c.timelines.items c.plan period order handler opened → c.decider.handler ≡ handler → c.vsyncs ≡ 0 → c.fault ≡ None → c.screens ≡ [] → c.period ≡ period → 1 ≤ c.workers → c.workers ≤ 16
+    → MayRun table scene before after c.timelines.items c.plan period order handler opened → c.decider.handler ≡ handler → c.vsyncs ≡ 0 → c.due ≡ None → c.fault ≡ None → c.screens ≡ [] → c.period ≡ period → 1 ≤ c.workers → c.workers ≤ 16
     → Starts scene c
-starts_here c scene may handler none fine screens period some few = record {
+starts_here c scene may handler none none_due fine screens period some few = record {
   handler = handler ∙ may.handler_is;
   none_made = none;
+  none_due = none_due;
   fine = fine;
   planned = may.planned;
   screens = screens;

@@ -44,6 +44,7 @@ module _ {K B : Type 0} {naming : Naming B} where
   pub record Starts (scene : SceneValue) (c : Compositor K B naming) : Type 0 where
     pub handler : c.decider.handler ≡ new_handler scene.width scene.height (most_layers scene.version)
     pub none_made : c.vsyncs ≡ 0
+    pub none_due : c.due ≡ None
     pub fine : c.fault ≡ None
     pub planned : c.plan ≡ plan_of scene
     pub screens : c.screens ≡ []

@@ -15,7 +15,7 @@ use sf_compositor::Compositor;
 use sf_io::{Gate, Sink};
 use sf_record::RunFault;
 use sf_surface::ReadLease;
-use sf_threads::{Stopped, run_actors};
+use sf_threads::{Ended, Stopped, run_actors};
 use sf_turns::TableName;
 use sf_txn::Lease;
 use std::alloc::Global;
@@ -66,7 +66,7 @@ pub(crate) fn run_threads<
         locks,
         first,
     } = opened;
-    let (compositor, all_returned) = run_actors(
+    let (mut compositor, all_returned) = run_actors(
         rt,
         alloc,
         &locks,
@@ -77,10 +77,19 @@ pub(crate) fn run_threads<
         compositor,
     );
     match all_returned {
-        Ok(all_returned) => match bring_together(alloc, pictures, locks, all_returned) {
-            Ok(joined) => (compositor, Ok(joined)),
-            Err(_) => (compositor, Err(RunFault::NoMemory)),
-        },
+        Ok(all_returned) => {
+            match compositor.settle(rt) {
+                Ok(()) => {}
+                Err(Ended) => {
+                    let fault = fault_of(Stopped::Ended, compositor.fault);
+                    return (compositor, Err(fault));
+                }
+            }
+            match bring_together(alloc, pictures, locks, all_returned) {
+                Ok(joined) => (compositor, Ok(joined)),
+                Err(_) => (compositor, Err(RunFault::NoMemory)),
+            }
+        }
         Err(why) => {
             let fault = fault_of(why, compositor.fault);
             (compositor, Err(fault))

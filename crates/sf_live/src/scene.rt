@@ -126,6 +126,7 @@ fn run_opened<R: Threads + Wait + Sync, K: Sink, G: Gate + Sync, B: TableName + 
         sink,
         plan,
         screens: Screens::new(alloc),
+        due: None,
         decider: Decider { handler },
         vsyncs: 0,
         fault: None,
@@ -139,10 +140,12 @@ fn run_opened<R: Threads + Wait + Sync, K: Sink, G: Gate + Sync, B: TableName + 
         sink,
         plan,
         screens,
+        due,
         decider,
         vsyncs,
         fault: _,
     } = compositor;
+    drop(due);
     match joined {
         Ok(joined) => run_rounds(
             rt, alloc, workers, sink, gate, timelines, plan, screens, period, order, joined,

@@ -194,6 +194,17 @@ fn is_composed_over(old: &View, view: &View) -> bool
     is_short && is_same_size(old, view)
 }
 
+/// How many points a region has.
+fn points_of(part: &Region) -> u64 {
+    let mut points = 0u64;
+    for rect in part.rects() {
+        points = points.saturating_add(u64::from(rect.width).saturating_mul(u64::from(
+            rect.height,
+        )));
+    }
+    points
+}
+
 impl Screen {
     ghost use Rattle.std.specs.Prelude.{◌≡◌, ◌++◌, ℕ, [], None, Some, OnErr, OnOk, is_some, map, true};
     ghost use Rattle.sf_compose.specs.Readings.{AreReadable};
@@ -242,6 +253,19 @@ impl Screen {
         }
         self.view = Some(view);
         Ok(())
+    }
+
+    /// At most so many points of layers are painted to show a view, where memory suffices to tell.
+    pub fn work(&self, view: &View) -> u64 {
+        let layers = view.drawn.len() as u64;
+        let points = match &self.view {
+            Some(old) if is_composed_over(old, view) => match dirty(self.alloc, old, view) {
+                Ok(part) => points_of(&part),
+                Err(_) => 0,
+            },
+            _ => u64::from(view.width).saturating_mul(u64::from(view.height)),
+        };
+        points.saturating_mul(layers)
     }
 
     /// Puts the numbers of this output, in the vsync of this number, in front of the frame of the view

@@ -5,6 +5,7 @@ ghost use Rattle.sf_screen.specs.ScreenLists.{is_of, is_same};
 use crate::screen::Screen;
 use sf_base::NoMemory;
 use sf_output::Output;
+use sf_view::View;
 use std::alloc::Global;
 use std::marker::Model;
 
@@ -64,6 +65,15 @@ impl Screens {
         Screens {
             alloc,
             list: Vec::new(alloc),
+        }
+    }
+
+    /// At most so many points of layers are painted to show a view as this output, where memory suffices
+    /// to tell.
+    pub fn work(&self, of: &Output<()>, view: &View) -> u64 {
+        match self.list.iter().find(|one| is_same(&one.of, of)) {
+            Some(one) => one.screen.work(view),
+            None => Screen::new(self.alloc).work(view),
         }
     }
 

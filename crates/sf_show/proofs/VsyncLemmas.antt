@@ -1,7 +1,8 @@
 -- The records of a vsync, piece by piece.
-use Rattle.std.proofs.Common.{◌≡◌, ℕ, Bool, true, false, if◌then◌else◌, List, [], ◌∷◌, ◌++◌, drop, map, take, Option, Some, None, Result, Ok, Err, refl, ap, ◌∙◌, sym, subst, IfOk, OnErr, OnOk}
+use Rattle.std.proofs.Common.{◌≡◌, ℕ, Bool, true, false, if◌then◌else◌, List, [], ◌∷◌, ◌++◌, drop, map, take, Option, Some, Result, Ok, Err, refl, ap, ◌∙◌, sym, subst, IfOk, OnErr, OnOk}
 use Rattle.std.specs.Prelude.{IfSome, pos}
-use Rattle.std.specs.List.{AllZip}
+use Rattle.std.specs.List.{All, AllZip}
+use Rattle.std.proofs.lemmas.List.Elements.{All-cons, All-nil}
 use Rattle.byteorder.specs.Endian.{big_bytes}
 use Rattle.std.proofs.lemmas.Bool.{false≢true}
 use Rattle.std.proofs.lemmas.List.{drop_at, take_at}
@@ -10,7 +11,7 @@ use Rattle.sf_compose.proofs.RowLemmas.{frame_bytes-same}
 use Rattle.sf_compose.specs.Again.{ShowsView}
 use Rattle.sf_compose.specs.Frames.{frame_bytes}
 use Rattle.sf_layer.specs.declared.layer.Layer.{Layer}
-use Rattle.sf_output.specs.Outputs.{IsOutput, map_output}
+use Rattle.sf_output.specs.Outputs.{IsOutput, OfImage, map_output}
 use Rattle.sf_output.specs.declared.output.Output.{Output}
 use Rattle.sf_output.specs.declared.output.Output.TheVariants as out
 use Rattle.sf_picture.specs.declared.picture.Picture.{Picture}
@@ -30,6 +31,8 @@ use Rattle.sf_report.specs.declared.sourced.SourcedView.{SourcedView}
 use Rattle.sf_run.specs.Commits.{commit_shown}
 use Rattle.sf_run.specs.Frames.{frame_of, shown_due}
 use Rattle.sf_run.specs.Seeing.{value_shown}
+use Rattle.sf_screen.specs.ScreenLists.{AreShown}
+use Rattle.sf_screen.specs.declared.screens.OutputScreen.{OutputScreen}
 use Rattle.sf_screen.specs.Screens.{IsShown, IsWhole, ScreenOf, head_of, image_bytes, is_image}
 use Rattle.sf_screen.proofs.ScreenLemmas.{shown_bytes}
 use Rattle.sf_view.proofs.ImageLemmas.{view_image-order}
@@ -37,9 +40,9 @@ use Rattle.sf_view.specs.Image.{image_in}
 use Rattle.sf_view.specs.Stacks.{view_image}
 use Rattle.sf_view.specs.Views.{ViewOf}
 use Rattle.sf_show.proofs.WritingLemmas.{part_front, part_more, writes_more}
-use Rattle.sf_show.specs.Vsyncs.{AreViewsDue, IsSame, IsViewDue, image_record, pixels_of, records_by, records_if, told_by, view_record, vsync_shown}
+use Rattle.sf_show.specs.Vsyncs.{AreComposed, AreViewsDue, IsComposed, IsSame, IsViewDue, image_record, pixels_in, pixels_of, records_by, records_if, shown_record, told_by, vsync_shown}
 use Rattle.sf_show.specs.Writing.{Writes, WritesPart}
-use Rattle.sf_show.specs.declared.vsync.VsyncViews.{VsyncViews}
+use Rattle.sf_show.specs.declared.vsync.VsyncFacts.{VsyncFacts}
 
 pub with_more : (A B : Type 0) (r : Result (Unit {0}) RunFault) → OnOk r A → B → OnOk r (A × B)
 with_more A B (Ok u) a b = (a, b)
@@ -103,20 +106,56 @@ pub all_written : (a b c d : Option (List ℕ)) (head : Record) (middle tail all
 all_written a b c d head middle tail all is first second third = subst (Writes a d) is (writes_more a c d (head ∷ middle) tail (writes_more a b c (head ∷ []) middle first second) third)
 
 -- the first record of one that commits something
-abbrev pub head_by : List ℕ → VsyncViews → Record
-head_by timelines vsync = rec.Vsyn (record { number = vsync.number; expected = vsync.expected; timelines = map (value_shown vsync.seen) timelines })
+abbrev pub head_by : List ℕ → VsyncFacts → Record
+head_by timelines facts = rec.Vsyn (record { number = facts.number; expected = facts.expected; timelines = map (value_shown facts.seen) timelines })
 
 -- the records of what is shown, one after another
-each_record : (pictures : ℕ → Picture) (number : ℕ) (views : List (Output SourcedView)) → map (view_record pictures number) views ≡ map (output_record number) (map (map_output (pixels_of pictures)) views)
-each_record pictures number [] = refl
-each_record pictures number (view ∷ views) = ap (λ (rs : List Record). view_record pictures number view ∷ rs) (each_record pictures number views)
+each_record : (number : ℕ) (images : List (Output ScreenOf)) → map (shown_record number) images ≡ map (output_record number) (pixels_in images)
+each_record number [] = refl
+each_record number (image ∷ images) = ap (λ (rs : List Record). shown_record number image ∷ rs) (each_record number images)
 
 -- all records of one that commits something
-pub all_records : (pictures : ℕ → Picture) (timelines : List ℕ) (vsync : VsyncViews) → has_commits vsync.commits ≡ true
-    → head_by timelines vsync ∷ (map rec.Comm (map commit_shown vsync.commits) ++ map (view_record pictures vsync.number) vsync.views) ≡ records_by pictures timelines vsync
-all_records pictures timelines vsync some =
-    ap (λ (rs : List Record). head_by timelines vsync ∷ (map rec.Comm (map commit_shown vsync.commits) ++ rs)) (each_record pictures vsync.number vsync.views)
-    ∙ its_records vsync.commits (told_by pictures timelines vsync) some
+pub all_records : (timelines : List ℕ) (facts : VsyncFacts) (images : List (Output ScreenOf)) → has_commits facts.commits ≡ true
+    → head_by timelines facts ∷ (map rec.Comm (map commit_shown facts.commits) ++ map (shown_record facts.number) images) ≡ records_by timelines facts (pixels_in images)
+all_records timelines facts images some =
+    ap (λ (rs : List Record). head_by timelines facts ∷ (map rec.Comm (map commit_shown facts.commits) ++ rs)) (each_record facts.number images)
+    ∙ its_records facts.commits (told_by timelines facts (pixels_in images)) some
+
+pub zip_push : {A B : Type 0} (R : A → B → Type 0) (xs : List A) (ys : List B) (x : A) (y : B) → AllZip R xs ys → R x y → AllZip R (xs ++ x ∷ []) (ys ++ y ∷ [])
+zip_push R [] [] x y zip r = (r, tt)
+zip_push R [] (b ∷ ys) x y zip r = absurd zip
+zip_push R (a ∷ xs) [] x y zip r = absurd zip
+zip_push R (a ∷ xs) (b ∷ ys) x y zip r = (zip.0, zip_push R xs ys x y zip.1 r)
+
+-- the pixels of images are those of the views that they are of
+composed_is : (pictures : ℕ → Picture) (view : Output SourcedView) (image : Output ScreenOf) → IsOutput (IsComposed pictures) view image
+    → map_output (λ (screen : ScreenOf). screen.frame) image ≡ map_output (pixels_of pictures) view
+composed_is pictures (out.Frame view) (out.Frame image) is = ap (λ (pixels : List ℕ). out.Frame pixels) is.frame
+composed_is pictures (out.Display n view) (out.Display m image) is = (λ i. out.Display (sym is.0 i) (is.1.frame i))
+composed_is pictures (out.Capture n view) (out.Capture m image) is = (λ i. out.Capture (sym is.0 i) (is.1.frame i))
+composed_is pictures (out.Hit n layer) (out.Hit m there) is = (λ i. out.Hit (sym is.0 i) (sym is.1 i))
+composed_is pictures _ _ is = absurd is
+
+composed_are : (pictures : ℕ → Picture) (views : List (Output SourcedView)) (images : List (Output ScreenOf)) → AreComposed pictures views images → pixels_in images ≡ map (map_output (pixels_of pictures)) views
+composed_are pictures [] [] are = refl
+composed_are pictures [] (image ∷ images) are = absurd are
+composed_are pictures (view ∷ views) [] are = absurd are
+composed_are pictures (view ∷ views) (image ∷ images) are = (λ i. composed_is pictures view image are.0 i ∷ composed_are pictures views images are.1 i)
+
+-- and their screens show images
+shown_is : (pictures : ℕ → Picture) (view : Output SourcedView) (image : Output ScreenOf) → IsOutput (IsComposed pictures) view image → OfImage (IsShown pictures) image
+shown_is pictures (out.Frame view) (out.Frame image) is = is.shown
+shown_is pictures (out.Display n view) (out.Display m image) is = is.1.shown
+shown_is pictures (out.Capture n view) (out.Capture m image) is = is.1.shown
+shown_is pictures (out.Hit n layer) (out.Hit m there) is = tt
+shown_is pictures _ _ is = absurd is
+
+pub composed_shown : (pictures : ℕ → Picture) (views : List (Output SourcedView)) (images : List (Output ScreenOf)) → AreComposed pictures views images → All (OfImage (IsShown pictures)) images
+composed_shown pictures [] [] are = All-nil (OfImage (IsShown pictures))
+composed_shown pictures [] (image ∷ images) are = absurd are
+composed_shown pictures (view ∷ views) [] are = absurd are
+composed_shown pictures (view ∷ views) (image ∷ images) are =
+    All-cons (OfImage (IsShown pictures)) image images (shown_is pictures view image are.0) (composed_shown pictures views images are.1)
 
 -- what is shown of a view that is due is what is due
 pixels_are : (pictures : ℕ → Picture) (due : ImageDue) (sourced : SourcedView) → IsViewDue due sourced → frame_of pictures due ≡ pixels_of pictures sourced
@@ -146,26 +185,48 @@ unfolding shown_due
 shown_are pictures plan layers true views is = sym (outputs_are pictures (outputs_due plan layers) views is)
 shown_are pictures plan layers false views is = sym (outputs_are pictures [] views is)
 
--- the records by the views are those of what is due
-pub records_are : (pictures : ℕ → Picture) (plan : Plan) (timelines : List ℕ) (report : VsyncReport) (layers : List Layer) (vsync : VsyncViews) → IsSame report vsync
-    → AreViewsDue plan layers report.commits vsync.views → records_by pictures timelines vsync ≡ vsync_shown pictures plan timelines report layers
-records_are pictures plan timelines report layers vsync same due = (λ i. records_if (same.commits i) (record {
-  number = same.number i;
-  expected = same.expected i;
-  timelines = map (value_shown (same.seen i)) timelines;
-  commits = map commit_shown (same.commits i);
-  shown = shown_are pictures plan layers (shows_frame report.commits) vsync.views due i;
-}))
+-- the records by images that are composed of its views are those of what is due
+pub records_are : (pictures : ℕ → Picture) (plan : Plan) (timelines : List ℕ) (report : VsyncReport) (layers : List Layer) (facts : VsyncFacts) (views : List (Output SourcedView))
+    (images : List (Output ScreenOf)) → IsSame report facts → AreViewsDue plan layers report.commits views → AreComposed pictures views images
+    → records_by timelines facts (pixels_in images) ≡ vsync_shown pictures plan timelines report layers
+records_are pictures plan timelines report layers facts views images same due composed =
+    let shown = composed_are pictures views images composed ∙ shown_are pictures plan layers (shows_frame report.commits) views due in
+    (λ i. records_if (same.commits i) (record {
+      number = same.number i;
+      expected = same.expected i;
+      timelines = map (value_shown (same.seen i)) timelines;
+      commits = map commit_shown (same.commits i);
+      shown = shown i;
+    }))
 
-pub frame_written : (S : Type 0) (r : Result (Unit {0}) RunFault) (a b c d : Option (List ℕ)) (head : Record) (middle tail all : List Record) → head ∷ (middle ++ tail) ≡ all
-    → Writes a b (head ∷ []) → Writes b c middle → OnOk r (Writes c d tail × S) → OnOk r (Writes a d all × S)
-frame_written S (Ok u) a b c d head middle tail all is first second (third, shown) = (all_written a b c d head middle tail all is first second third, shown)
-frame_written S (Err e) a b c d head middle tail all is first second third = tt
+pub tail_written : (r : Result (Unit {0}) RunFault) (a b c d : Option (List ℕ)) (head : Record) (middle tail all : List Record) → head ∷ (middle ++ tail) ≡ all
+    → Writes a b (head ∷ []) → Writes b c middle → OnOk r (Writes c d tail) → OnOk r (Writes a d all)
+tail_written (Ok u) a b c d head middle tail all is first second third = all_written a b c d head middle tail all is first second third
+tail_written (Err e) a b c d head middle tail all is first second third = tt
 
-pub frame_cut : (r : Result (Unit {0}) RunFault) (a b c d : Option (List ℕ)) (head : Record) (middle tail all : List Record) → head ∷ (middle ++ tail) ≡ all
+pub tail_part : (r : Result (Unit {0}) RunFault) (a b c d : Option (List ℕ)) (head : Record) (middle tail all : List Record) → head ∷ (middle ++ tail) ≡ all
     → Writes a b (head ∷ []) → Writes b c middle → OnErr r (WritesPart c d tail) → OnErr r (WritesPart a d all)
-frame_cut (Ok u) a b c d head middle tail all is first second third = tt
-frame_cut (Err e) a b c d head middle tail all is first second third = tail_cut a b c d head middle tail all is first second third
+tail_part (Ok u) a b c d head middle tail all is first second third = tt
+tail_part (Err e) a b c d head middle tail all is first second third = tail_cut a b c d head middle tail all is first second third
+
+-- a vsync of which the images are composed was written, for its report
+pub vsync_written : (r : Result (Unit {0}) RunFault) (a b : Option (List ℕ)) (pictures : ℕ → Picture) (plan : Plan) (timelines : List ℕ) (report : VsyncReport) (layers : List Layer) (facts : VsyncFacts)
+    (views : List (Output SourcedView)) (images : List (Output ScreenOf)) (screens shown : List OutputScreen) → IsSame report facts → AreViewsDue plan layers report.commits views → AreComposed pictures views images
+    → OnOk r (Writes a b (records_by timelines facts (pixels_in images)))
+    → (All (OfImage (IsShown pictures)) images → AreShown pictures screens → OnOk r (AreShown pictures shown)) → AreShown pictures screens
+    → OnOk r (Writes a b (vsync_shown pictures plan timelines report layers) × AreShown pictures shown)
+vsync_written (Ok u) a b pictures plan timelines report layers facts views images screens shown same due composed written still was = (
+  subst (Writes a b) (records_are pictures plan timelines report layers facts views images same due composed) written,
+  still (composed_shown pictures views images composed) was,
+)
+vsync_written (Err e) a b pictures plan timelines report layers facts views images screens shown same due composed written still was = tt
+
+pub vsync_cut : (r : Result (Unit {0}) RunFault) (a b : Option (List ℕ)) (pictures : ℕ → Picture) (plan : Plan) (timelines : List ℕ) (report : VsyncReport) (layers : List Layer) (facts : VsyncFacts)
+    (views : List (Output SourcedView)) (images : List (Output ScreenOf)) → IsSame report facts → AreViewsDue plan layers report.commits views → AreComposed pictures views images
+    → OnErr r (WritesPart a b (records_by timelines facts (pixels_in images))) → OnErr r (WritesPart a b (vsync_shown pictures plan timelines report layers))
+vsync_cut (Ok u) a b pictures plan timelines report layers facts views images same due composed part = tt
+vsync_cut (Err e) a b pictures plan timelines report layers facts views images same due composed part =
+    subst (WritesPart a b) (records_are pictures plan timelines report layers facts views images same due composed) part
 
 pub if_ok : {T E : Type 0} (P Q : T → Type 0) (r : Result T E) → ((x : T) → P x → Q x) → IfOk r P → IfOk r Q
 if_ok P Q (Ok x) f p = f x p

@@ -1,5 +1,5 @@
 -- What is written of a vsync.
-use Rattle.std.specs.Prelude.{◌≡◌, ℕ, Bool, true, false, if◌then◌else◌, List, [], ◌∷◌, ◌++◌, map}
+use Rattle.std.specs.Prelude.{◌≡◌, ℕ, true, if◌then◌else◌, is_some, List, [], map}
 use Rattle.std.specs.List.{All, AllZip}
 use Rattle.sf_picture.specs.declared.picture.Picture.{Picture}
 use Rattle.sf_commit.specs.declared.vsync.Commit.{Commit as Decided}
@@ -11,14 +11,16 @@ use Rattle.sf_plan.specs.declared.plan.Plan.{Plan}
 use Rattle.sf_record.specs.Events.{output_record, vsync_records}
 use Rattle.sf_record.specs.declared.event.VsyncReport.{VsyncReport as Told}
 use Rattle.sf_record.specs.declared.record.Record.{Record}
-use Rattle.sf_report.specs.Stages.{FindsPictures, shows_frame}
+use Rattle.sf_report.specs.Stages.{FindsPictures, IsReadableView, shows_frame}
 use Rattle.sf_report.specs.declared.report.VsyncReport.{VsyncReport}
 use Rattle.sf_report.specs.declared.sourced.SourcedView.{SourcedView}
 use Rattle.sf_run.specs.Commits.{commit_shown}
 use Rattle.sf_run.specs.Frames.{shown_due}
 use Rattle.sf_run.specs.Seeing.{value_shown}
-use Rattle.sf_screen.specs.Screens.{image_bytes}
-use Rattle.sf_show.specs.declared.vsync.VsyncViews.{VsyncViews}
+use Rattle.sf_screen.specs.ScreenLists.{AreShown}
+use Rattle.sf_screen.specs.Screens.{IsShown, ScreenOf, image_bytes}
+use Rattle.sf_screen.specs.declared.screens.OutputScreen.{OutputScreen}
+use Rattle.sf_show.specs.declared.vsync.VsyncFacts.{VsyncFacts}
 
 -- what the records of a vsync show, which leaves these layers
 abbrev pub told_with : (ℕ → Picture) → Plan → List ℕ → VsyncReport → List Layer → Told
@@ -46,10 +48,6 @@ image_record of number pixels = output_record number (map_output (λ _. pixels) 
 abbrev pub pixels_of : (ℕ → Picture) → SourcedView → List ℕ
 pixels_of pictures sourced = image_bytes pictures sourced.view
 
--- the record of what is shown as a view
-abbrev pub view_record : (ℕ → Picture) → ℕ → Output SourcedView → Record
-view_record pictures number output = output_record number (map_output (pixels_of pictures) output)
-
 -- each of the views finds its pictures
 abbrev pub FindPictures : (ℕ → Picture) → List Picture → List (Output SourcedView) → Type 0
 FindPictures pictures contents views = All (OfImage (FindsPictures pictures contents)) views
@@ -62,22 +60,56 @@ abbrev pub AreViewsDue : Plan → List Layer → List Decided → List (Output S
 AreViewsDue plan layers commits views =
     AllZip (IsOutput IsViewDue) (if shows_frame commits then outputs_due plan layers else []) views
 
--- what the records of a vsync show, by its views
-abbrev pub told_by : (ℕ → Picture) → List ℕ → VsyncViews → Told
-told_by pictures timelines vsync = record {
-  number = vsync.number;
-  expected = vsync.expected;
-  timelines = map (value_shown vsync.seen) timelines;
-  commits = map commit_shown vsync.commits;
-  shown = map (map_output (pixels_of pictures)) vsync.views;
+-- the views can be composed from these contents
+abbrev pub AreReadableViews : List Picture → List (Output SourcedView) → Type 0
+AreReadableViews contents views = All (OfImage (IsReadableView contents)) views
+
+-- a screen showed a view
+abbrev pub HasView : ScreenOf → Type 0
+HasView screen = is_some screen.view ≡ true
+
+-- a view's image is on a screen
+pub record IsComposed (pictures : ℕ → Picture) (sourced : SourcedView) (screen : ScreenOf) : Type 0 where
+  pub frame : screen.frame ≡ pixels_of pictures sourced
+  pub shown : IsShown pictures screen
+
+abbrev pub AreComposed : (ℕ → Picture) → List (Output SourcedView) → List (Output ScreenOf) → Type 0
+AreComposed pictures views images = AllZip (IsOutput (IsComposed pictures)) views images
+
+-- These images came of views and contents, on screens among these: each screen showed a view, and where the views find their pictures among
+-- the contents, and what the screens showed were images, they are the images of the views.
+pub record AreImagesOf (contents : List Picture) (views : List (Output SourcedView)) (screens : List OutputScreen) (images : List (Output ScreenOf)) : Type 0 where
+  pub showed : All (OfImage HasView) images
+  pub composed : (pictures : ℕ → Picture) → FindPictures pictures contents views → AreShown pictures screens → AreComposed pictures views images
+
+-- screens that showed images show images still
+abbrev pub KeepsShown : List OutputScreen → List OutputScreen → Type 0
+KeepsShown screens shown = (pictures : ℕ → Picture) → AreShown pictures screens → AreShown pictures shown
+
+-- the record of something that is composed
+abbrev pub shown_record : ℕ → Output ScreenOf → Record
+shown_record number image = output_record number (map_output (λ (screen : ScreenOf). screen.frame) image)
+
+-- the pixels of what is composed
+abbrev pub pixels_in : List (Output ScreenOf) → List (Output (List ℕ))
+pixels_in images = map (map_output (λ (screen : ScreenOf). screen.frame)) images
+
+-- what the records of a vsync show, of which these are the pixels
+abbrev pub told_by : List ℕ → VsyncFacts → List (Output (List ℕ)) → Told
+told_by timelines facts shown = record {
+  number = facts.number;
+  expected = facts.expected;
+  timelines = map (value_shown facts.seen) timelines;
+  commits = map commit_shown facts.commits;
+  shown = shown;
 }
 
-abbrev pub records_by : (ℕ → Picture) → List ℕ → VsyncViews → List Record
-records_by pictures timelines vsync = records_if vsync.commits (told_by pictures timelines vsync)
+abbrev pub records_by : List ℕ → VsyncFacts → List (Output (List ℕ)) → List Record
+records_by timelines facts shown = records_if facts.commits (told_by timelines facts shown)
 
--- a vsync with its views is of this report
-pub record IsSame (report : VsyncReport) (vsync : VsyncViews) : Type 0 where
-  pub number : vsync.number ≡ report.number
-  pub expected : vsync.expected ≡ report.expected
-  pub seen : vsync.seen ≡ report.seen
-  pub commits : vsync.commits ≡ report.commits
+-- this is what the report tells of a vsync
+pub record IsSame (report : VsyncReport) (facts : VsyncFacts) : Type 0 where
+  pub number : facts.number ≡ report.number
+  pub expected : facts.expected ≡ report.expected
+  pub seen : facts.seen ≡ report.seen
+  pub commits : facts.commits ≡ report.commits

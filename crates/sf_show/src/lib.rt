@@ -2,11 +2,13 @@
 #![tactic(auto)]
 
 mod closing;
+mod composing;
 mod play;
 mod vsync;
 mod writing;
 
 pub use closing::write_closing;
+pub use composing::{Beside, compose_beside, compose_views};
 pub use play::{opening, rising_timelines, show_play};
-pub use vsync::{VsyncViews, show_vsync, vsync_views, write_vsync};
+pub use vsync::{VsyncFacts, show_vsync, vsync_views, write_vsync};
 pub use writing::write_made;

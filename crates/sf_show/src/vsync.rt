@@ -7,17 +7,17 @@ ghost use Rattle.sf_picture.specs.declared.picture.Picture.{Picture};
 ghost use Rattle.sf_record.specs.Events.{output_record};
 ghost use Rattle.sf_record.specs.declared.record.Record.TheVariants as rec;
 ghost use Rattle.sf_report.specs.Reports.{has_commits};
-ghost use Rattle.sf_report.specs.Stages.{AreExpected, FindsPictures, IsReadableView, IsStage, is_accepted};
+ghost use Rattle.sf_report.specs.Stages.{AreExpected, IsReadableView, IsStage, is_accepted};
 ghost use Rattle.sf_run.specs.Commits.{commit_shown};
 ghost use Rattle.sf_screen.specs.ScreenLists.{AreShown};
-ghost use Rattle.sf_screen.specs.Screens.{IsShown, image_bytes, is_image};
-ghost use Rattle.sf_show.specs.Vsyncs.{AreViewsDue, FindPictures, IsSame, image_record, records_by, view_record, vsync_shown};
+ghost use Rattle.sf_screen.specs.Screens.{IsShown, is_image};
+ghost use Rattle.sf_show.specs.Vsyncs.{AreViewsDue, FindPictures, HasView, IsSame, image_record, pixels_in, records_by, shown_record, vsync_shown};
 ghost use Rattle.sf_show.specs.Writing.{CutSome, Writes, WritesPart, WritesSome};
 
+use crate::composing::compose_views;
 use crate::writing::write_made;
 use sf_base::{Items, NoMemory, Seen};
 use sf_commit::{Commit, Handler};
-use sf_compose::Pixels;
 use sf_io::Sink;
 use sf_output::Output;
 use sf_plan::Plan;
@@ -85,73 +85,25 @@ fn write_shown<K: Sink>(
     write_image(sink, of, number, screen.body(of))
 }
 
-/// Shows a view as this output on a screen, which at most so many workers compose, and writes the
-/// record of its image.
-fn show_on<R: Threads + Sync, K: Sink, C: Pixels + Sync>(
-    rt: &R,
-    workers: u32,
-    sink: &mut K,
-    screen: &mut Screen,
-    contents: &[C],
-    number: u32,
-    of: &Output<()>,
-    sourced: SourcedView,
-) -> Result<(), RunFault>
-    requires some { 1 ≤ workers }
-    requires few { workers ≤ 16 }
-    requires image { is_image of.now ≡ true }
-    requires readable { IsReadableView (map C.picture contents.now) sourced }
-    ensures ok { (pictures : ℕ → Picture) → FindsPictures pictures (map C.picture contents.now) sourced → IsShown pictures screen.old
-        → OnOk result (Writes (K.taken sink.old) (K.taken sink.new) (image_record of.now number (image_bytes pictures sourced.view) ∷ []) × IsShown pictures screen.new) }
-    ensures err { (pictures : ℕ → Picture) → FindsPictures pictures (map C.picture contents.now) sourced → IsShown pictures screen.old
-        → OnErr result (WritesPart (K.taken sink.old) (K.taken sink.new) (image_record of.now number (image_bytes pictures sourced.view) ∷ [])) }
-    ensures some { OnOk result (WritesSome (K.taken sink.old) (K.taken sink.new)) }
-    ensures cut { OnErr result (CutSome (K.taken sink.old) (K.taken sink.new)) }
-    ensures later { K.faults sink.old ≤ K.faults sink.new }
-    ensures failed { IsErrOf result RunFault.WriteFault → Rose (K.faults sink.old) (K.faults sink.new) }
-{
-    let SourcedView { view, sources } = sourced;
-    match screen.show(rt, workers, view, contents, sources.as_slice()) {
-        Ok(()) => write_shown(sink, screen, of, number),
-        Err(_) => Err(RunFault::NoMemory),
-    }
-}
-
-/// Shows a view as this output on the screen that is the output's, and writes the record of its image.
-fn show_image<R: Threads + Sync, K: Sink, C: Pixels + Sync>(
-    rt: &R,
-    workers: u32,
+/// Writes the record of an image, of which the view is that this screen showed last, and puts the screen
+/// among the others.
+fn write_on<K: Sink>(
     sink: &mut K,
     screens: &mut Screens,
-    contents: &[C],
     number: u32,
     of: Output<()>,
-    sourced: SourcedView,
+    screen: Screen,
 ) -> Result<(), RunFault>
-    requires some { 1 ≤ workers }
-    requires few { workers ≤ 16 }
     requires image { is_image of ≡ true }
-    requires readable { IsReadableView (map C.picture contents.now) sourced }
-    ensures ok { (pictures : ℕ → Picture) → FindsPictures pictures (map C.picture contents.now) sourced → AreShown pictures screens.old
-        → OnOk result (Writes (K.taken sink.old) (K.taken sink.new) (image_record of number (image_bytes pictures sourced.view) ∷ []) × AreShown pictures screens.new) }
-    ensures err { (pictures : ℕ → Picture) → FindsPictures pictures (map C.picture contents.now) sourced → AreShown pictures screens.old
-        → OnErr result (WritesPart (K.taken sink.old) (K.taken sink.new) (image_record of number (image_bytes pictures sourced.view) ∷ [])) }
-    ensures some { OnOk result (WritesSome (K.taken sink.old) (K.taken sink.new)) }
-    ensures cut { OnErr result (CutSome (K.taken sink.old) (K.taken sink.new)) }
+    requires shows { HasView screen }
+    ensures ok { OnOk result (Writes (K.taken sink.old) (K.taken sink.new) (image_record of number screen.frame ∷ [])) }
+    ensures err { OnErr result (WritesPart (K.taken sink.old) (K.taken sink.new) (image_record of number screen.frame ∷ [])) }
+    ensures shown { (pictures : ℕ → Picture) → IsShown pictures screen → AreShown pictures screens.old → OnOk result (AreShown pictures screens.new) }
     ensures later { K.faults sink.old ≤ K.faults sink.new }
     ensures failed { IsErrOf result RunFault.WriteFault → Rose (K.faults sink.old) (K.faults sink.new) }
 {
-    let mut screen = screens.take(&of);
-    match show_on(
-        rt,
-        workers,
-        sink,
-        &mut screen,
-        contents,
-        number,
-        &of,
-        sourced,
-    ) {
+    let mut screen = screen;
+    match write_shown(sink, &mut screen, &of, number) {
         Ok(()) => {}
         Err(fault) => return Err(fault),
     }
@@ -161,41 +113,30 @@ fn show_image<R: Threads + Sync, K: Sink, C: Pixels + Sync>(
     }
 }
 
-/// Shows one of the things that a vsync shows, and writes its record.
-fn show_output<R: Threads + Sync, K: Sink, C: Pixels + Sync>(
-    rt: &R,
+/// Writes the record of one of the things that a vsync shows, whose image is composed.
+fn write_output<K: Sink>(
     alloc: Global,
-    workers: u32,
     sink: &mut K,
     screens: &mut Screens,
-    contents: &[C],
     number: u32,
-    output: Output<SourcedView>,
+    image: Output<Screen>,
 ) -> Result<(), RunFault>
-    requires some { 1 ≤ workers }
-    requires few { workers ≤ 16 }
-    requires readable { OfImage (IsReadableView (map C.picture contents.now)) output }
-    ensures ok { (pictures : ℕ → Picture) → OfImage (FindsPictures pictures (map C.picture contents.now)) output → AreShown pictures screens.old
-        → OnOk result (Writes (K.taken sink.old) (K.taken sink.new) (view_record pictures number output ∷ []) × AreShown pictures screens.new) }
-    ensures err { (pictures : ℕ → Picture) → OfImage (FindsPictures pictures (map C.picture contents.now)) output → AreShown pictures screens.old
-        → OnErr result (WritesPart (K.taken sink.old) (K.taken sink.new) (view_record pictures number output ∷ [])) }
-    ensures some { OnOk result (WritesSome (K.taken sink.old) (K.taken sink.new)) }
-    ensures cut { OnErr result (CutSome (K.taken sink.old) (K.taken sink.new)) }
+    requires shows { OfImage HasView image }
+    ensures ok { OnOk result (Writes (K.taken sink.old) (K.taken sink.new) (shown_record number image ∷ [])) }
+    ensures err { OnErr result (WritesPart (K.taken sink.old) (K.taken sink.new) (shown_record number image ∷ [])) }
+    ensures shown { (pictures : ℕ → Picture) → OfImage (IsShown pictures) image → AreShown pictures screens.old → OnOk result (AreShown pictures screens.new) }
     ensures later { K.faults sink.old ≤ K.faults sink.new }
     ensures failed { IsErrOf result RunFault.WriteFault → Rose (K.faults sink.old) (K.faults sink.new) }
 {
-    match output {
-        Output::Frame(sourced) => {
-            let of = Output::Frame(());
-            show_image(rt, workers, sink, screens, contents, number, of, sourced)
-        }
-        Output::Display(place, sourced) => {
+    match image {
+        Output::Frame(screen) => write_on(sink, screens, number, Output::Frame(()), screen),
+        Output::Display(place, screen) => {
             let of = Output::Display(place, ());
-            show_image(rt, workers, sink, screens, contents, number, of, sourced)
+            write_on(sink, screens, number, of, screen)
         }
-        Output::Capture(place, sourced) => {
+        Output::Capture(place, screen) => {
             let of = Output::Capture(place, ());
-            show_image(rt, workers, sink, screens, contents, number, of, sourced)
+            write_on(sink, screens, number, of, screen)
         }
         Output::Hit(place, layer) => {
             let hit = Hit {
@@ -208,31 +149,24 @@ fn show_output<R: Threads + Sync, K: Sink, C: Pixels + Sync>(
     }
 }
 
-/// Shows what a vsync shows, one thing after another, and writes its records.
-fn show_outputs<R: Threads + Sync, K: Sink, C: Pixels + Sync>(
-    rt: &R,
+/// Writes the records of what a vsync shows, one after another.
+fn write_outputs<K: Sink>(
     alloc: Global,
-    workers: u32,
     sink: &mut K,
     screens: &mut Screens,
-    contents: &[C],
     number: u32,
-    views: Vec<Output<SourcedView>>,
+    images: Vec<Output<Screen>>,
 ) -> Result<(), RunFault>
-    requires some { 1 ≤ workers }
-    requires few { workers ≤ 16 }
-    requires readable { All (OfImage (IsReadableView (map C.picture contents.now))) views.items }
-    ensures ok { (pictures : ℕ → Picture) → FindPictures pictures (map C.picture contents.now) views.items → AreShown pictures screens.old
-        → OnOk result (Writes (K.taken sink.old) (K.taken sink.new) (map (view_record pictures number) views.items) × AreShown pictures screens.new) }
-    ensures err { (pictures : ℕ → Picture) → FindPictures pictures (map C.picture contents.now) views.items → AreShown pictures screens.old
-        → OnErr result (WritesPart (K.taken sink.old) (K.taken sink.new) (map (view_record pictures number) views.items)) }
-    ensures some { OnOk result (WritesSome (K.taken sink.old) (K.taken sink.new)) }
-    ensures cut { OnErr result (CutSome (K.taken sink.old) (K.taken sink.new)) }
+    requires shows { All (OfImage HasView) images.items }
+    ensures ok { OnOk result (Writes (K.taken sink.old) (K.taken sink.new) (map (shown_record number) images.items)) }
+    ensures err { OnErr result (WritesPart (K.taken sink.old) (K.taken sink.new) (map (shown_record number) images.items)) }
+    ensures shown { (pictures : ℕ → Picture) → All (OfImage (IsShown pictures)) images.items → AreShown pictures screens.old
+        → OnOk result (AreShown pictures screens.new) }
     ensures later { K.faults sink.old ≤ K.faults sink.new }
     ensures failed { IsErrOf result RunFault.WriteFault → Rose (K.faults sink.old) (K.faults sink.new) }
 {
-    for output in views {
-        match show_output(rt, alloc, workers, sink, screens, contents, number, output) {
+    for image in images {
+        match write_output(alloc, sink, screens, number, image) {
             Ok(()) => {}
             Err(fault) => return Err(fault),
         }
@@ -240,9 +174,9 @@ fn show_outputs<R: Threads + Sync, K: Sink, C: Pixels + Sync>(
     Ok(())
 }
 
-/// What a vsync did, with the views of what it shows.
+/// What a vsync did, beside what it shows.
 #[derive(Drop)]
-pub struct VsyncViews {
+pub struct VsyncFacts {
     /// From 1.
     pub number: u32,
     /// When the frame is expected, in nanoseconds from the start of the run.
@@ -251,8 +185,6 @@ pub struct VsyncViews {
     pub seen: Seen,
     /// In the order in which they were made.
     pub commits: Items<Commit>,
-    /// What it shows, in order; nothing where no transaction was committed.
-    pub views: Items<Output<SourcedView>>,
 }
 
 /// The views of what a vsync with these commits shows: of what is due where a transaction was committed
@@ -279,21 +211,22 @@ where
     sourced_views(alloc, plan, handler, view, sources)
 }
 
-/// What a vsync did, with the views of what it shows. It may be asked while the pixels are lent.
+/// What a vsync did, and the views of what it shows, in order: nothing where no transaction was
+/// committed. It may be asked while the pixels are lent.
 pub fn vsync_views<L: Lease + Drop>(
     alloc: Global,
     plan: &Plan,
     handler: &Handler<L>,
     report: VsyncReport,
-) -> Result<VsyncViews, NoMemory>
+) -> Result<(VsyncFacts, Vec<Output<SourcedView>>), NoMemory>
 where
     L::Reading: Drop,
     requires { IsStage (λ one. L.picture one.lease) plan.now handler.now report.view report.sources }
-    ensures same { IfOk result (IsSame report) }
-    ensures due { IfOk result (λ vsync. AreViewsDue plan.now handler.now.tree.layers report.commits vsync.views) }
-    ensures readable { IfOk result (λ vsync. All (OfImage (IsReadableView (map (λ one. L.picture one.lease) handler.now.on))) vsync.views) }
+    ensures same { IfOk result (λ told. IsSame report told.0) }
+    ensures due { IfOk result (λ told. AreViewsDue plan.now handler.now.tree.layers report.commits told.1.items) }
+    ensures readable { IfOk result (λ told. All (OfImage (IsReadableView (map (λ one. L.picture one.lease) handler.now.on))) told.1.items) }
     ensures found { (pictures : ℕ → Picture) → AreExpected (λ one. L.picture one.lease) pictures handler.now
-        → IfOk result (λ vsync. FindPictures pictures (map (λ one. L.picture one.lease) handler.now.on) vsync.views) }
+        → IfOk result (λ told. FindPictures pictures (map (λ one. L.picture one.lease) handler.now.on) told.1.items) }
 {
     let VsyncReport {
         number,
@@ -304,49 +237,40 @@ where
         sources,
     } = report;
     let views = views_of(alloc, plan, handler, commits.as_slice(), view, sources)?;
-    Ok(VsyncViews {
+    let facts = VsyncFacts {
         number,
         expected,
         seen,
         commits,
-        views: Items::new(views),
-    })
+    };
+    Ok((facts, views))
 }
 
-/// Writes the records of a vsync, and shows its views, which at most so many workers compose from the
-/// contents. A vsync that commits nothing has no records.
-pub fn write_vsync<R: Threads + Sync, K: Sink, C: Pixels + Sync>(
-    rt: &R,
+/// Writes the records of a vsync, of which the images are composed, and puts their screens among the
+/// others. A vsync that commits nothing has no records.
+pub fn write_vsync<K: Sink>(
     alloc: Global,
-    workers: u32,
     sink: &mut K,
     timelines: &[u32],
     screens: &mut Screens,
-    contents: &[C],
-    vsync: VsyncViews,
+    facts: VsyncFacts,
+    images: Vec<Output<Screen>>,
 ) -> Result<(), RunFault>
-    requires some { 1 ≤ workers }
-    requires few { workers ≤ 16 }
     requires timelines { All (λ timeline. (1 ≤ timeline) × (timeline ≤ 64)) timelines.now }
-    requires readable { All (OfImage (IsReadableView (map C.picture contents.now))) vsync.views }
-    ensures ok { (pictures : ℕ → Picture) → FindPictures pictures (map C.picture contents.now) vsync.views → AreShown pictures screens.old
-        → OnOk result (Writes (K.taken sink.old) (K.taken sink.new) (records_by pictures timelines.now vsync) × AreShown pictures screens.new) }
-    ensures err { (pictures : ℕ → Picture) → FindPictures pictures (map C.picture contents.now) vsync.views → AreShown pictures screens.old
-        → OnErr result (WritesPart (K.taken sink.old) (K.taken sink.new) (records_by pictures timelines.now vsync)) }
-
-    // Whatever the contents are, records are written, and where it fails whole ones before at most one that is cut.
-    ensures some { OnOk result (WritesSome (K.taken sink.old) (K.taken sink.new)) }
-    ensures cut { OnErr result (CutSome (K.taken sink.old) (K.taken sink.new)) }
+    requires shows { All (OfImage HasView) images.items }
+    ensures ok { OnOk result (Writes (K.taken sink.old) (K.taken sink.new) (records_by timelines.now facts (pixels_in images.items))) }
+    ensures err { OnErr result (WritesPart (K.taken sink.old) (K.taken sink.new) (records_by timelines.now facts (pixels_in images.items))) }
+    ensures shown { (pictures : ℕ → Picture) → All (OfImage (IsShown pictures)) images.items → AreShown pictures screens.old
+        → OnOk result (AreShown pictures screens.new) }
     ensures later { K.faults sink.old ≤ K.faults sink.new }
     ensures failed { IsErrOf result RunFault.WriteFault → Rose (K.faults sink.old) (K.faults sink.new) }
 {
-    let VsyncViews {
+    let VsyncFacts {
         number,
         expected,
         seen,
         commits,
-        views,
-    } = vsync;
+    } = facts;
     if !has_commits(commits.as_slice()) {
         return Ok(());
     }
@@ -359,16 +283,7 @@ pub fn write_vsync<R: Threads + Sync, K: Sink, C: Pixels + Sync>(
         Ok(()) => {}
         Err(fault) => return Err(fault),
     }
-    show_outputs(
-        rt,
-        alloc,
-        workers,
-        sink,
-        screens,
-        contents,
-        number,
-        views.into_vec(),
-    )
+    write_outputs(alloc, sink, screens, number, images)
 }
 
 /// Writes the records of a vsync that left this handler, whose pixels are not lent, and shows what the
@@ -404,18 +319,12 @@ where
     ensures later { K.faults sink.old ≤ K.faults sink.new }
     ensures failed { IsErrOf result RunFault.WriteFault → Rose (K.faults sink.old) (K.faults sink.new) }
 {
-    let vsync = match vsync_views(alloc, plan, handler, report) {
-        Ok(vsync) => vsync,
+    let (facts, views) = match vsync_views(alloc, plan, handler, report) {
+        Ok(told) => told,
         Err(_) => return Err(RunFault::NoMemory),
     };
-    write_vsync(
-        rt,
-        alloc,
-        workers,
-        sink,
-        timelines,
-        screens,
-        handler.contents(),
-        vsync,
-    )
+    match compose_views(rt, alloc, workers, screens, handler.contents(), views) {
+        Ok(images) => write_vsync(alloc, sink, timelines, screens, facts, images),
+        Err(_) => Err(RunFault::NoMemory),
+    }
 }

@@ -1,4 +1,4 @@
-use Rattle.std.proofs.Common.{◌∙◌, rules, sym, subst}
+use Rattle.std.proofs.Common.{◌∙◌, refl, rules, sym, subst}
 use Rattle.std.specs.Prelude.{List}
 use Rattle.std.proofs.lemmas.Iterator.Adapters.{YieldsList-from_vec}
 use Rattle.std.proofs.lemmas.Iterator.Consumers.{YieldsList-end}
@@ -10,7 +10,7 @@ use Rattle.sf_compositor.proofs.Going.{gave_more, gave_none, map_same}
 use Rattle.sf_compositor.proofs.release.release_all.Goals as goal
 
 pub loop-release-init : goal.loop-release-init
-loop-release-init g c = record { can_next = search rules; is_finite = search rules; gave = gave_none g.B.TableName.table c.args.locks.now c.args.number c.args.seats.now c.requires.own }
+loop-release-init g c = record { can_next = search rules; is_finite = search rules; turns = refl; gave = gave_none g.B.TableName.table c.args.locks.now c.args.number c.args.seats.now c.requires.own }
 
 pub release_one-requires-clause-own : goal.release_one-requires-clause-own
 release_one-requires-clause-own g c = c.loop-release.invariant.gave.own
@@ -22,6 +22,7 @@ pub loop-release-preserved : goal.loop-release-preserved
 loop-release-preserved g c = record {
   can_next = search rules;
   is_finite = search rules;
+  turns = c.release_one.ensures.turns ∙ c.loop-release.invariant.turns;
   gave =
       gave_more g.B.TableName.table c.args.locks.now c.args.number c.loop-release.yielded c.in-Some.release c.args.seats.now c.loop-release.seats c.release_one.new.seats c.loop-release.invariant.gave
       c.in_ok-release_one.ensures.own c.in_ok-release_one.ensures.changes c.in_ok-release_one.ensures.step c.in_ok-release_one.ensures.gives;
@@ -39,4 +40,5 @@ returns g c =
       last = gave.last;
       arrivals = gave.arrivals;
       early = gave.early;
+      turns = c.loop-release.invariant.turns;
     }

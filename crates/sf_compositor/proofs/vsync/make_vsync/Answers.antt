@@ -1,4 +1,4 @@
-use Rattle.std.proofs.Common.{◌≡◌, ℕ, ◌+◌, ◌*◌, ◌≤◌, List, ◌∙◌, ap, arith, refl, subst, sym}
+use Rattle.std.proofs.Common.{◌≡◌, ℕ, ◌+◌, ◌*◌, ◌≤◌, List, ◌∙◌, ap, arith, refl, rules, subst, sym}
 use Rattle.sf_stamped.specs.Stamps.{unstamped}
 use Rattle.sf_surface.specs.Tokens.{ReadLeaseOf}
 use Rattle.sf_commit.specs.Handlers.{HandlerOf, last_of}
@@ -10,6 +10,7 @@ use Rattle.sf_shared.specs.Arriving.{ArrivalsPass}
 use Rattle.sf_shared.specs.Seats.{home_of, view_of}
 use Rattle.sf_shared.proofs.Staying.{stays_looked, stays_sent}
 use Rattle.sf_shared.specs.Moves.{MadeLater}
+use Rattle.sf_compositor.proofs.GivenBack.{makes_lent}
 use Rattle.sf_compositor.proofs.Going.{reported, stays_on}
 use Rattle.sf_compositor.proofs.Taking.{take_rises}
 use Rattle.sf_compositor.proofs.vsync.make_vsync.Goals as goal
@@ -31,41 +32,43 @@ returns-clause-makes g c =
     (stays_on c.args.seats.now took decided (stays_on c.args.seats.now looked took c.see-seen.ensures.stays (stays_sent looked took c.take.ensures.changes))
     (stays_looked took decided c.vsync.ensures.same c.vsync.ensures.goes)) c.in_ok-release_all.ensures.stays in
     record {
-      vsync = record {
-        own = c.in_ok-release_all.ensures.own;
-        caller = on.number;
-        stays = on;
-        unlent = c.requires.unlent;
-        counted = refl;
-        seen = c.see-seen.result;
-        looked = looked;
-        look = c.see-seen.ensures.same;
-        sees = c.see-seen.ensures.sees;
-        took = took;
-        arrived = c.in_ok-arrived.arrived.items;
-        takes = c.in_ok-arrived.ensures.took;
-        changes = c.take.ensures.changes;
-        early = λ m there.
-            let known = c.take.ensures.own.in_order.step m there in
-            let same = c.in_ok-arrived.ensures.took.step in
-            let looked_same = ap (λ (s : Seats g.row.B.Denot). s.last.step) c.see-seen.ensures.same in
-            omega (arith, known, same, looked_same, c.requires.early);
-        arrivals = c.in_ok-release_all.ensures.arrivals ∙ ap (λ (s : Seats g.row.B.Denot). s.arrivals) c.vsync.ensures.same;
-        expected = (c.args.before + 1) * c.args.period;
-        due = refl;
-        told = c.in_ok-commits.field-0;
-        turns = decided.turns;
-        decides = rw (← number) c.in_ok-commits.ensures.decides;
-        gives =
-            subst (λ (d : Seats g.row.B.Denot). GiveAll (home_of c.args.locks.now d) (c.args.before + 1) c.in_ok-commits.field-0.releases (view_of d) (view_of after)) c.vsync.ensures.same
-            (subst (λ (rs : List (ReleaseOf ReadLeaseOf)). GiveAll (home_of c.args.locks.now decided) (c.args.before + 1) rs (view_of decided) (view_of after))
-            (c.into_vec.ensures ∙ ap (λ (v : VsyncOf ReadLeaseOf). v.releases) c.commits.view_is) c.in_ok-release_all.ensures.gives);
-        later = subst (λ (d : Seats g.row.B.Denot). MadeLater d after) c.vsync.ensures.same c.in_ok-release_all.ensures.later;
-        last = subst (λ (d : Seats g.row.B.Denot). d.last.stamp ≤ after.last.stamp) c.vsync.ensures.same c.in_ok-release_all.ensures.last;
-      };
-      is =
-          ap (λ (n : ℕ). reported c.args.before c.see-seen.result (n * c.args.period) c.in_ok-commits.field-0) (sym number)
-          ∙ ap (reported c.args.before c.see-seen.result (c.from.result * c.args.period)) (sym c.commits.view_is);
+      makes = λ was lent.
+          makes_lent _ g.B.TableName.table c.args.locks.now c.args.period was (record { handler = c.args.handler.now; seats = c.args.seats.now; number = c.args.before })
+          (record { handler = c.vsync.new.handler; seats = after; number = c.args.before + 1 }) _ lent (record {
+            own = c.in_ok-release_all.ensures.own;
+            caller = on.number;
+            stays = on;
+            counted = refl;
+            seen = c.see-seen.result;
+            looked = looked;
+            look = c.see-seen.ensures.same;
+            sees = c.see-seen.ensures.sees;
+            took = took;
+            arrived = c.in_ok-arrived.arrived.items;
+            takes = c.in_ok-arrived.ensures.took;
+            changes = c.take.ensures.changes;
+            early = λ m there.
+                let known = c.take.ensures.own.in_order.step m there in
+                let same = c.in_ok-arrived.ensures.took.step in
+                let looked_same = ap (λ (s : Seats g.row.B.Denot). s.last.step) c.see-seen.ensures.same in
+                omega (arith, known, same, looked_same, c.requires.early);
+            arrivals = c.in_ok-release_all.ensures.arrivals ∙ ap (λ (s : Seats g.row.B.Denot). s.arrivals) c.vsync.ensures.same;
+            expected = (c.args.before + 1) * c.args.period;
+            due = refl;
+            told = c.in_ok-commits.field-0;
+            turns = decided.turns;
+            decides = rw (← number) c.in_ok-commits.ensures.decides;
+            gives =
+                subst (λ (d : Seats g.row.B.Denot). GiveAll (home_of c.args.locks.now d) (c.args.before + 1) c.in_ok-commits.field-0.releases (view_of d) (view_of after)) c.vsync.ensures.same
+                (subst (λ (rs : List (ReleaseOf ReadLeaseOf)). GiveAll (home_of c.args.locks.now decided) (c.args.before + 1) rs (view_of decided) (view_of after))
+                (c.into_vec.ensures ∙ ap (λ (v : VsyncOf ReadLeaseOf). v.releases) c.commits.view_is) c.in_ok-release_all.ensures.gives);
+            later = subst (λ (d : Seats g.row.B.Denot). MadeLater d after) c.vsync.ensures.same c.in_ok-release_all.ensures.later;
+            last = subst (λ (d : Seats g.row.B.Denot). d.last.stamp ≤ after.last.stamp) c.vsync.ensures.same c.in_ok-release_all.ensures.last;
+            same_turns = c.release_all.ensures.turns;
+            is =
+                ap (λ (n : ℕ). reported c.args.before c.see-seen.result (n * c.args.period) c.in_ok-commits.field-0) (sym number)
+                ∙ ap (reported c.args.before c.see-seen.result (c.from.result * c.args.period)) (sym c.commits.view_is);
+          });
     }
 
 pub returns-clause-known : goal.returns-clause-known
@@ -84,3 +87,12 @@ returns-clause-early g c =
     let looked = ap (λ (s : Seats g.row.B.Denot). s.last.step) c.see-seen.ensures.same in
     let decided = ap (λ (s : Seats g.row.B.Denot). s.last.step) c.vsync.ensures.same in
     c.in_ok-release_all.ensures.early (omega (arith, same, looked, decided, c.requires.early))
+
+pub returns-in_err-arrived-clause-makes : goal.returns-in_err-arrived-clause-makes
+returns-in_err-arrived-clause-makes g c = record { makes = λ was lent. search rules }
+
+pub returns-in_err-commits-clause-makes : goal.returns-in_err-commits-clause-makes
+returns-in_err-commits-clause-makes g c = record { makes = λ was lent. search rules }
+
+pub returns-in_err-release_all-clause-makes : goal.returns-in_err-release_all-clause-makes
+returns-in_err-release_all-clause-makes g c = record { makes = λ was lent. search rules }

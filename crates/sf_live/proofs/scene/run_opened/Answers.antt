@@ -14,14 +14,14 @@ run_threads-compositor-requires-clause-starts g c κs within =
     let m = c.requires.starts.2 in (
       c.requires.starts.0,
       m.opens,
-      starts_here _ c.requires.starts.0 m refl refl refl c.new.ensures refl c.requires.some c.requires.few,
+      starts_here _ c.requires.starts.0 m refl refl refl refl c.new.ensures refl c.requires.some c.requires.few,
     )
 
 pub run_rounds-requires-clause-goes : goal.run_rounds-requires-clause-goes
 run_rounds-requires-clause-goes g c κs within =
     let m = c.requires.starts.2 in
     let came = of_ok _ c.run_threads-compositor.result.1 c.in-Ok.joined c.in-Ok.is
-    (c.run_threads-compositor.ensures.together c.requires.starts.0 m.opens (starts_here _ c.requires.starts.0 m refl refl refl c.new.ensures refl c.requires.some c.requires.few)) in (
+    (c.run_threads-compositor.ensures.together c.requires.starts.0 m.opens (starts_here _ c.requires.starts.0 m refl refl refl refl c.new.ensures refl c.requires.some c.requires.few)) in (
       run_came _ _ _ _ _ _ _ c.in-Ok.joined came,
       came.locks,
       c.requires.starts.1,
@@ -38,7 +38,7 @@ returns-in-Err-clause-err g c = λ scene start m.
 pub returns-in-Ok-clause-ok : goal.returns-in-Ok-clause-ok
 returns-in-Ok-clause-ok g c = λ scene start m.
     let came = of_ok _ c.run_threads-compositor.result.1 c.in-Ok.joined c.in-Ok.is
-    (c.run_threads-compositor.ensures.together scene m.opens (starts_here _ scene m refl refl refl c.new.ensures refl c.requires.some c.requires.few)) in
+    (c.run_threads-compositor.ensures.together scene m.opens (starts_here _ scene m refl refl refl refl c.new.ensures refl c.requires.some c.requires.few)) in
     let name = sym came.same.sink in
     subst (λ s. OnOk c.run_rounds.result (WroteLive scene start (g.K.Sink.taken s))) (sym (c.sink-1.given.1 name))
     (c.run_rounds.ensures.ok (run_came _ _ _ _ _ _ _ c.in-Ok.joined came) came.locks start came.together
@@ -47,7 +47,7 @@ returns-in-Ok-clause-ok g c = λ scene start m.
 pub returns-in-Ok-clause-err : goal.returns-in-Ok-clause-err
 returns-in-Ok-clause-err g c = λ scene start m.
     let came = of_ok _ c.run_threads-compositor.result.1 c.in-Ok.joined c.in-Ok.is
-    (c.run_threads-compositor.ensures.together scene m.opens (starts_here _ scene m refl refl refl c.new.ensures refl c.requires.some c.requires.few)) in
+    (c.run_threads-compositor.ensures.together scene m.opens (starts_here _ scene m refl refl refl refl c.new.ensures refl c.requires.some c.requires.few)) in
     let name = sym came.same.sink in
     subst (λ s. OnErr c.run_rounds.result (CutSome start (g.K.Sink.taken s))) (sym (c.sink-1.given.1 name))
     (c.run_rounds.ensures.err (run_came _ _ _ _ _ _ _ c.in-Ok.joined came) came.locks start came.together
@@ -57,7 +57,7 @@ pub returns-in-Ok-clause-later : goal.returns-in-Ok-clause-later
 returns-in-Ok-clause-later g c =
     let m = c.requires.starts.2 in
     let came = of_ok _ c.run_threads-compositor.result.1 c.in-Ok.joined c.in-Ok.is
-    (c.run_threads-compositor.ensures.together c.requires.starts.0 m.opens (starts_here _ c.requires.starts.0 m refl refl refl c.new.ensures refl c.requires.some c.requires.few)) in
+    (c.run_threads-compositor.ensures.together c.requires.starts.0 m.opens (starts_here _ c.requires.starts.0 m refl refl refl refl c.new.ensures refl c.requires.some c.requires.few)) in
     let name = sym came.same.sink in
     let rose = came.faults_rise in
     let later = c.run_rounds.ensures.later in
@@ -67,7 +67,7 @@ pub returns-in-Ok-clause-failed : goal.returns-in-Ok-clause-failed
 returns-in-Ok-clause-failed g c = λ fails.
     let m = c.requires.starts.2 in
     let came = of_ok _ c.run_threads-compositor.result.1 c.in-Ok.joined c.in-Ok.is
-    (c.run_threads-compositor.ensures.together c.requires.starts.0 m.opens (starts_here _ c.requires.starts.0 m refl refl refl c.new.ensures refl c.requires.some c.requires.few)) in
+    (c.run_threads-compositor.ensures.together c.requires.starts.0 m.opens (starts_here _ c.requires.starts.0 m refl refl refl refl c.new.ensures refl c.requires.some c.requires.few)) in
     let name = sym came.same.sink in
     subst (λ s. Rose (g.K.Sink.faults c.args.sink.now) (g.K.Sink.faults s)) (sym (c.sink-1.given.1 name))
     (rose_since _ _ _ came.faults_rise (c.run_rounds.ensures.failed fails))

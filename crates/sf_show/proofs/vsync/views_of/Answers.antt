@@ -1,8 +1,7 @@
-use Rattle.std.proofs.Common.{List, ap, sym, ◌∙◌, map}
-use Rattle.std.specs.List.{list_any}
+use Rattle.std.proofs.Common.{sym, ◌∙◌}
 use Rattle.sf_output.specs.Outputs.{IsOutput}
 use Rattle.sf_plan.specs.Due.{outputs_due}
-use Rattle.sf_report.specs.Stages.{is_accepted, shows_frame}
+use Rattle.sf_report.specs.Stages.{shows_frame}
 use Rattle.sf_show.specs.Vsyncs.{IsViewDue}
 use Rattle.sf_show.proofs.VsyncLemmas.{if_ok, none_due, some_due}
 use Rattle.sf_show.proofs.vsync.views_of.Goals as goal

@@ -1,4 +1,4 @@
-use Rattle.std.proofs.Common.{◌≡◌, ◌++◌, ◌∙◌, ℕ, List, ap}
+use Rattle.std.proofs.Common.{◌++◌, ◌∙◌, ap}
 use Rattle.sf_screen.specs.Screens.{ScreenOf, head_of}
 use Rattle.sf_show.proofs.VsyncLemmas.{image_begins, image_is}
 use Rattle.sf_show.proofs.WritingLemmas.{one_part, one_written}

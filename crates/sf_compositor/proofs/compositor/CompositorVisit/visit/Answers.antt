@@ -1,20 +1,33 @@
-use Rattle.std.proofs.Common.{◌≡◌, ℕ, ◌+◌, List, Err, ap, arith, refl, subst, ◌∙◌}
+use Rattle.std.proofs.Common.{◌+◌, Option, Err, ap, arith, refl, sym, subst, ◌∙◌}
+use Rattle.std.specs.Prelude.{IfSome}
+use Rattle.sf_play.specs.Playing.{expected_by}
 use Rattle.sf_record.specs.declared.encode.RunFault.{RunFault}
+use Rattle.sf_report.specs.Stages.{IsStage}
+use Rattle.sf_report.specs.declared.report.VsyncReport.{VsyncReport}
 use Rattle.sf_shared.specs.declared.first.FirstSeats.{FirstSeats}
 use Rattle.sf_shared.proofs.Staying.{stays_first}
 use Rattle.sf_show.proofs.WritingLemmas.{cut_more, some_more}
 use Rattle.sf_compositor.specs.Vsyncs.{Sitting}
+use Rattle.sf_compositor.proofs.Due.{sits_behind, stage_due, written_by}
 use Rattle.sf_compositor.proofs.Rising.{rose_since, same_fault}
-use Rattle.sf_compositor.proofs.Sits.{shows_by, sits_more}
 use Rattle.sf_compositor.proofs.compositor.CompositorVisit.visit.Goals as goal
 
 pub show_next-requires-sync-R : goal.show_next-requires-sync-R
 show_next-requires-sync-R g c = λ lives outlives. c.requires.kept.1.0
 
+pub show_next-requires-clause-stage : goal.show_next-requires-clause-stage
+show_next-requires-clause-stage g c κs within =
+    let self = c.args.self.now in
+    let start = c.requires.kept.0 in
+    let old : Sitting g.row.B.Denot = record { handler = self.decider.handler; seats = c.args.first.now.seats; number = self.vsyncs } in
+    subst (λ (due : Option VsyncReport). IfSome due (λ (last : VsyncReport). IsStage expected_by self.plan self.decider.handler last.view last.sources)) (sym c.take.ensures.value)
+    (stage_due _ g.B.TableName.table c.args.locks.now self.period self.plan start.decider.handler.tree.most self.timelines.items (g.K.Sink.taken start.sink.now) (g.K.Sink.taken self.sink.now) self.screens old self.due
+    c.requires.kept.1.1.log.sits)
+
 pub returns-in-Ok-clause-first : goal.returns-in-Ok-clause-first
 returns-in-Ok-clause-first g c =
     let new : FirstSeats g.row.B.Denot = record { seats = c.show_next.new.seats; took = c.args.first.now.took } in
-    let vsync = c.in-Ok.ensures.shows.vsync in
+    let vsync = c.in-Ok.ensures.makes.vsync in
     stays_first g.B.TableName.table c.args.locks.now c.args.first.now new c.requires.first vsync.own vsync.stays refl
 
 pub returns-in-Ok-clause-kept : goal.returns-in-Ok-clause-kept
@@ -22,7 +35,6 @@ returns-in-Ok-clause-kept g c = λ start was.
     let self = c.args.self.now in
     let old : Sitting g.row.B.Denot = record { handler = self.decider.handler; seats = c.args.first.now.seats; number = self.vsyncs } in
     let new : Sitting g.row.B.Denot = record { handler = c.show_next.new.handler; seats = c.show_next.new.seats; number = self.vsyncs + 1 } in
-    let vsync = c.in-Ok.ensures.shows.vsync in
     let kept = was.1 in
     let faults = c.show_next.ensures.later in
     let rose = kept.faults_rise in (
@@ -39,10 +51,9 @@ returns-in-Ok-clause-kept g c = λ start was.
         log = record {
           set = kept.log.set;
           sits =
-              sits_more _ g.B.TableName.table c.args.locks.now self.period self.plan start.decider.handler.tree.most self.timelines.items (g.K.Sink.taken start.sink.now) (g.K.Sink.taken self.sink.now)
-              (g.K.Sink.taken c.show_next.new.sink) self.screens c.show_next.new.screens old new kept.log.sits
-              (shows_by _ g.B.TableName.table c.args.locks.now self.period self.plan (g.K.Sink.taken self.sink.now) (g.K.Sink.taken c.show_next.new.sink) self.screens c.show_next.new.screens old new c.deref.result.now self.timelines.items
-              c.deref.ensures.value c.in-Ok.ensures.shows);
+              sits_behind _ g.B.TableName.table c.args.locks.now self.period self.plan start.decider.handler.tree.most self.timelines.items (g.K.Sink.taken start.sink.now) (g.K.Sink.taken self.sink.now) self.screens old
+              (g.K.Sink.taken c.show_next.new.sink) c.show_next.new.screens self.due new c.in-Ok.made.report kept.log.sits
+              (written_by self.plan (g.K.Sink.taken self.sink.now) (g.K.Sink.taken c.show_next.new.sink) self.screens c.show_next.new.screens self.decider.handler c.deref.result.now self.timelines.items c.take.result self.due c.deref.ensures.value c.take.ensures.value c.in-Ok.ensures.written) c.in-Ok.ensures.makes c.in-Ok.ensures.stage;
           may = c.in-Ok.ensures.may;
         };
         some = some_more (g.K.Sink.taken start.sink.now) (g.K.Sink.taken self.sink.now) (g.K.Sink.taken c.show_next.new.sink) kept.some c.in-Ok.ensures.some;
