@@ -11,22 +11,33 @@ use std::{fs, io};
 /// How many of the writes of a run fail in turn: those of the first record, of vsyncs and of replies.
 const FAILING_WRITES: u64 = 24;
 
-// Runs the script of this name live, with a gate, into a sink of which some writes fail: the status,
-// and the sink with what was written.
+// Runs the script of this name with a word and a gate, into a sink of which some writes fail: the
+// status, and the sink with what was written.
+fn run_with<R: Files + AllocGlobal + Threads + Wait + Sync, G: Gate + Sync>(
+    rt: &R,
+    name: &str,
+    word: &str,
+    failing_writes: Vec<u64>,
+    gate: &G,
+) -> io::Result<(u8, MemSink)> {
+    let alloc = rt.alloc();
+    let mut words = Vec::new(alloc);
+    words.push(String::from_str(alloc, word)?)?;
+    let path = format!(in alloc; "{name}.sf")?;
+    let mut source = MemSource::new(fs::read(rt, path.as_str())?, Vec::new(alloc));
+    let mut sink = MemSink::new(alloc, failing_writes);
+    let status = run(rt, alloc, &words, &mut source, &mut sink, gate);
+    Ok((status, sink))
+}
+
+// Runs the script of this name live.
 fn run_live<R: Files + AllocGlobal + Threads + Wait + Sync, G: Gate + Sync>(
     rt: &R,
     name: &str,
     failing_writes: Vec<u64>,
     gate: &G,
 ) -> io::Result<(u8, MemSink)> {
-    let alloc = rt.alloc();
-    let mut words = Vec::new(alloc);
-    words.push(String::from_str(alloc, "--run=live")?)?;
-    let path = format!(in alloc; "{name}.sf")?;
-    let mut source = MemSource::new(fs::read(rt, path.as_str())?, Vec::new(alloc));
-    let mut sink = MemSink::new(alloc, failing_writes);
-    let status = run(rt, alloc, &words, &mut source, &mut sink, gate);
-    Ok((status, sink))
+    run_with(rt, name, "--run=live", failing_writes, gate)
 }
 
 // The steps that have replies, and then those at which actors are stuck.
@@ -129,6 +140,50 @@ fn show_unseen<R: Files + AllocGlobal + Print + Threads + Wait + Sync>(rt: &R) -
     say(rt, "a vsync was the first or the second", is_soon)
 }
 
+// The pixels of the frames of a run.
+fn frames_in(alloc: Global, records: &[u8]) -> io::Result<Vec<&[u8]>> {
+    let mut frames = Vec::new(alloc);
+    for (tag, body) in (Records { rest: records }) {
+        if tag != "FRAM" {
+            continue;
+        }
+        if let Some((_, pixels)) = body.split_at_checked(4) {
+            frames.push(pixels)?;
+        }
+    }
+    Ok(frames)
+}
+
+// Whether frames are some of all those, in their order, up to the last one.
+fn are_among(frames: &[&[u8]], all: &[&[u8]]) -> bool {
+    let mut found = 0;
+    for frame in all {
+        if frames.get(found) == Some(frame) {
+            found += 1;
+        }
+    }
+    found == frames.len() && frames.last() == all.last()
+}
+
+// Plays a script whose frames one actor sends off one after another, and runs it live: each frame of
+// the live run is one of the play, in their order, although the next vsync is decided while a frame is
+// composed, and a buffer is drawn in again that was given back before it was read for the last time.
+fn show_frames<R: Files + AllocGlobal + Print + Threads + Wait + Sync>(rt: &R) -> io::Result<()> {
+    let name = "two-large-buffers";
+    let alloc = rt.alloc();
+    let (_, played) = run_with(rt, name, "--run=play", Vec::new(alloc), &OpenGate)?;
+    let (status, sink) = run_live(rt, name, Vec::new(alloc), &OpenGate)?;
+    println!(rt; "== {name} live status {status}")?;
+    println!(rt; "steps: {}", steps_in(alloc, sink.bytes())?.len())?;
+    let all = frames_in(alloc, played.bytes())?;
+    let frames = frames_in(alloc, sink.bytes())?;
+    say(
+        rt,
+        "each frame is one of the play",
+        are_among(&frames, &all),
+    )
+}
+
 /// Prints the live runs with gates, and those into a sink that fails.
 pub fn show<R: Files + AllocGlobal + Print + Threads + Wait + Sync>(rt: &R) -> io::Result<()> {
     for (name, one, meetings, ahead, is_fixed) in [
@@ -143,6 +198,7 @@ pub fn show<R: Files + AllocGlobal + Print + Threads + Wait + Sync>(rt: &R) -> i
         let gate = MeetingGate::new(rt.alloc(), one, meetings, ahead);
         show_meeting(rt, name, gate, is_fixed)?;
     }
+    show_frames(rt)?;
     show_unseen(rt)?;
     show_failing(rt)
 }

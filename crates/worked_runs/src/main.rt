@@ -22,6 +22,9 @@
 //! - A signal that is held back until the actor that waits for it has come to its next step: it is held
 //!   back in vain, since that step may not be begun before the wait is done.
 //! - Sixteen actors that wait for one another's signals in a ring.
+//! - A producer with two buffers and a large display, whose images are composed in a thread beside the
+//!   next vsync: each frame of the run is one of the play, though a buffer is given back while its pixels
+//!   are still read.
 //! - An actor with many steps that no one else can see, and then a transaction: the compositor doesn't
 //!   make a vsync for each of them.
 //! - A sink that fails at one write after the other, while threads run and behind them: what was written
