@@ -8,6 +8,7 @@ import sys
 import unittest
 
 import run
+import stream
 
 PROGRAM = run.built(run.TOP)
 NO_RECORDS = (b"sf_main: records are binary and are not written to a terminal; "
@@ -41,12 +42,18 @@ def panes(count):
     return "\n".join(["scene 1 1024 1024 16666667", "actor 1", *turns[0], *turns[1], f"order {order} v", "end", ""]).encode()
 
 
-def with_memory(size, *words):
+def with_memory(size, *words, script=b""):
     """The status of a call that gets so many bytes of memory, and what it wrote; None where it can't even begin."""
     limit = "import os, resource, sys; resource.setrlimit(resource.RLIMIT_AS, (int(sys.argv[1]),) * 2); os.execv(sys.argv[2], sys.argv[2:])"
-    ended = subprocess.run([sys.executable, "-c", limit, str(size), PROGRAM, *words], input=b"", stdout=subprocess.PIPE, stderr=subprocess.PIPE, timeout=60)
+    ended = subprocess.run([sys.executable, "-c", limit, str(size), PROGRAM, *words], input=script, stdout=subprocess.PIPE, stderr=subprocess.PIPE, timeout=60)
     began = 0 <= ended.returncode <= 5 and b"Error" not in ended.stderr
     return (ended.returncode, ended.stdout, ended.stderr) if began else None
+
+
+def is_cut_once(data):
+    """Whether these are whole records, and behind them at most one that is cut."""
+    records, _ = stream.read(data)
+    return all(not record.faults for record in records[:-1]) and all(record.is_cut or not record.faults for record in records[-1:])
 
 
 class Terminal:
@@ -112,6 +119,17 @@ class Command(unittest.TestCase):
         self.assertEqual(began[0], (5, b"", b"out of memory\n"))
         self.assertEqual(began[-1], (1, b"", USAGE))
         self.assertEqual(began, sorted(began, key=lambda ended: -ended[0]), "with more memory")
+
+    def test_a_live_run_with_little_memory(self):
+        with open(os.path.join(run.TOP, "crates", "worked_runs", "data", "phone.sf"), "rb") as file:
+            script = file.read()
+        ended = [with_memory(size << 20, "--run", "live", script=script) for size in (*range(4, 36, 2), 48, 64, 128, 1024)]
+        began = [one for one in ended if one]
+        for status, records, err in began:
+            self.assertIn((status, err), [(0, b""), (5, b"out of memory\n")])
+            self.assertTrue(is_cut_once(records))
+            self.assertEqual(records.endswith(b"DONE" + bytes(4)), status == 0)
+        self.assertEqual((began[0][0], began[-1][0]), (5, 0), "with the least and the most memory")
 
     def test_records_are_not_written_to_a_terminal(self):
         for words in ((), ("--run", "live"), ("--run", "gen"), ("--summary",)):
