@@ -1,10 +1,11 @@
 -- Which statuses are left where the words are right, the script is a scene, and nothing failed.
 use Rattle.std.proofs.Common.{◌≡◌, ℕ, ◌<◌, ◌≤◌, Bool, true, false, List, [], ◌∷◌, ◌++◌, Option, None, Some, Result, Ok, Err, length, ◌⊎◌, inl, inr, refl, sym, ap, subst, ◌∙◌, arith, length-append, OnErr, IsErrOf}
 use Rattle.std.specs.Prelude.{◌≢◌}
-use Rattle.std.proofs.lemmas.List.{append-nil}
+use Rattle.std.proofs.lemmas.List.{append-nil, take_all}
 use Rattle.std.proofs.lemmas.Bool.{cases_eq, lt-ltb}
 use Rattle.std.proofs.KnownBytes.{Appends-nil}
 use Rattle.std.specs.Io.KnownBytes.{Appends, Consumes, IsAtEnd}
+use Rattle.sf_io.specs.Causes.{Rose}
 use Rattle.sf_io.specs.Streams.{Took, TookPrefix}
 use Rattle.sf_live.specs.Runs.{WroteLive}
 use Rattle.sf_options.specs.declared.options.Options.{Options}
@@ -25,7 +26,7 @@ use Rattle.sf_show.specs.Runs.{CutRun}
 use Rattle.sf_show.specs.Writing.{CutSome}
 use Rattle.sf_app.proofs.HeaderLemmas.{IsPeriod, parsed_timed}
 use Rattle.sf_app.specs.Shown.{ShowsPart, ShowsPlay, ShowsRun, ShowsRunPart, records_shown}
-use Rattle.sf_app.specs.Statuses.{NoScene, PlayedScript, PrefixOf, RefusedScript, WritesPrefix, at_no_place, fault_bytes, misspelled, too_long}
+use Rattle.sf_app.specs.Statuses.{NoScene, PlayedScript, PrefixOf, RefusedScript, RunEnded, ScriptEnded, WritesPrefix, at_no_place, fault_bytes, misspelled, too_long}
 use Rattle.sf_app.specs.Words.{IsScript, IsScriptBy, IsTold, IsToldBy, generated, is_gen}
 
 pub nothing_took : (a : Option (List ℕ)) (bs : List ℕ) → TookPrefix a a bs
@@ -179,9 +180,6 @@ none_by options bytes (Err fault) a is = nothing_took a (fault_bytes fault)
 pub prefix_none : (options : Options) (bytes : List ℕ) (a : Option (List ℕ)) → PrefixOf options (parsed_of bytes) a a
 prefix_none options bytes a = none_by options bytes (parsed_of bytes) a refl
 
-pub prefix_shown : (options : Options) (p : Result SceneValue ScriptFault) (scene : SceneValue) (a b : Option (List ℕ)) → p ≡ Ok scene → ShowsRunPart options.run options.summary scene a b → PrefixOf options p a b
-prefix_shown options p scene a b is h = subst (λ (q : Result SceneValue ScriptFault). PrefixOf options q a b) (sym is) h
-
 pub prefix_refused : (options : Options) (p : Result SceneValue ScriptFault) (fault : ScriptFault) (a b : Option (List ℕ)) → p ≡ Err fault → TookPrefix a b (fault_bytes fault) → PrefixOf options p a b
 prefix_refused options p fault a b is h = subst (λ (q : Result SceneValue ScriptFault). PrefixOf options q a b) (sym is) h
 
@@ -201,31 +199,180 @@ writes_too_long options left rest a b reads took h = λ bytes told.
     let many : Took (Some bytes) rest 1048577 = subst (λ (l : Option (List ℕ)). Took l rest 1048577) (told_read options left bytes reads told) took in
     prefix_refused options (parsed_of bytes) (at_no_place 9) a b (too_long_fault bytes (too_many bytes rest many)) h
 
--- the status of a refusal
-pub refusal_range : (n : ℕ) → (n ≡ 2) ⊎ ((n ≡ 4) ⊎ (n ≡ 5)) → (n ≤ 5) × ((n ≢ 1) × (n ≢ 3))
-refusal_range n (inl e) = (omega (arith, e), ((λ f. omega (arith, e, f)), λ f. omega (arith, e, f)))
-refusal_range n (inr (inl e)) = (omega (arith, e), ((λ f. omega (arith, e, f)), λ f. omega (arith, e, f)))
-refusal_range n (inr (inr e)) = (omega (arith, e), ((λ f. omega (arith, e, f)), λ f. omega (arith, e, f)))
-
 -- nothing was written, whatever the words ask for
 pub writes_nothing : (asked : Option Options) (left a : Option (List ℕ)) → WritesPrefix asked left a a
 writes_nothing None left a = refl
 writes_nothing (Some options) left a = writes_none options left a a refl
 
--- what holds of the options that the words give
-pub played_as : (asked : Option Options) (options : Options) (left rest a b : Option (List ℕ)) → asked ≡ Some options → PlayedScript (Some options) left rest a b → PlayedScript asked left rest a b
-played_as asked options left rest a b is p = subst (λ (o : Option Options). PlayedScript o left rest a b) (sym is) p
+-- what shows a fault whole is a prefix of it
+fault_prefix : (bs : List ℕ) (a b : Option (List ℕ)) → Appends a b bs → TookPrefix a b bs
+fault_prefix bs a b h = (length bs, omega arith, subst (Appends a b) (sym (take_all (length bs) bs (omega arith))) h)
 
-pub refused_as : (asked : Option Options) (options : Options) (left rest a b : Option (List ℕ)) → asked ≡ Some options → RefusedScript (Some options) left rest a b → RefusedScript asked left rest a b
-refused_as asked options left rest a b is p = subst (λ (o : Option Options). RefusedScript o left rest a b) (sym is) p
+-- what shows the run of a scene was written
+pub scene_shown : (options : Options) (scene : SceneValue) (a b : Option (List ℕ)) (f g : ℕ) → ShowsRun options.run options.summary scene a b → ScriptEnded options (Ok scene) 0 a b f g
+scene_shown options scene a b f g h =
+    let part = run_part_whole options.run options.summary scene a b h in
+    record {
+      played = λ _. (scene, refl, h);
+      refused = λ e. absurd (omega (arith, e));
+      write_failed = λ e. absurd (omega (arith, e));
+      range = omega arith;
+      begun = λ e. omega (arith, e);
+      read = λ e. omega (arith, e);
+      prefix = part;
+      cut = run_cut options.run options.summary scene a b part;
+    }
 
-pub writes_as : (asked : Option Options) (options : Options) (left a b : Option (List ℕ)) → asked ≡ Some options → WritesPrefix (Some options) left a b → WritesPrefix asked left a b
-writes_as asked options left a b is p = subst (λ (o : Option Options). WritesPrefix o left a b) (sym is) p
+-- the record of a fault was written
+pub fault_shown : (options : Options) (fault : ScriptFault) (a b : Option (List ℕ)) (f g : ℕ) → Appends a b (fault_bytes fault) → CutSome a b → ScriptEnded options (Err fault) 2 a b f g
+fault_shown options fault a b f g h cut = record {
+  played = λ e. absurd (omega (arith, e));
+  refused = λ _. (fault, refl, h);
+  write_failed = λ e. absurd (omega (arith, e));
+  range = omega arith;
+  begun = λ e. omega (arith, e);
+  read = λ e. omega (arith, e);
+  prefix = fault_prefix (fault_bytes fault) a b h;
+  cut = cut;
+}
 
-pub gen_as : (asked : Option Options) (x y : Options) → asked ≡ Some x → asked ≡ Some y → is_gen y.run ≡ true → is_gen x.run ≡ true
-gen_as asked x y e f gen = ap (λ (o : Options). is_gen o.run) (some_same asked x y e f) ∙ gen
+-- the sink failed, or memory was wanting
+pub script_cut : (options : Options) (p : Result SceneValue ScriptFault) (n : ℕ) (a b : Option (List ℕ)) (f g : ℕ) → 4 ≤ n → n ≤ 5 → (n ≡ 4 → Rose f g) → PrefixOf options p a b → CutSome a b →
+    ScriptEnded options p n a b f g
+script_cut options p n a b f g low high failed prefix cut = record {
+  played = λ e. absurd (omega (arith, low, e));
+  refused = λ e. absurd (omega (arith, low, e));
+  write_failed = failed;
+  range = high;
+  begun = λ e. omega (arith, low, e);
+  read = λ e. omega (arith, low, e);
+  prefix = prefix;
+  cut = cut;
+}
 
-pub refusal_is_late : (n : ℕ) → (n ≡ 2) ⊎ ((n ≡ 4) ⊎ (n ≡ 5)) → n ≢ 0
-refusal_is_late n (inl e) = λ f. omega (arith, e, f)
-refusal_is_late n (inr (inl e)) = λ f. omega (arith, e, f)
-refusal_is_late n (inr (inr e)) = λ f. omega (arith, e, f)
+-- nothing was written for want of memory
+pub script_unread : (options : Options) (bytes : List ℕ) (a : Option (List ℕ)) (f : ℕ) → ScriptEnded options (parsed_of bytes) 5 a a f f
+script_unread options bytes a f = script_cut options (parsed_of bytes) 5 a a f f (omega arith) (omega arith) (λ e. absurd (omega (arith, e))) (prefix_none options bytes a) (cut_nothing a)
+
+-- what a script spells
+pub spelled_as : (options : Options) (p q : Result SceneValue ScriptFault) (n : ℕ) (a b : Option (List ℕ)) (f g : ℕ) → p ≡ q → ScriptEnded options q n a b f g → ScriptEnded options p n a b f g
+spelled_as options p q n a b f g is h = subst (λ (r : Result SceneValue ScriptFault). ScriptEnded options r n a b f g) (sym is) h
+
+three_or_five : (n : ℕ) → (n ≡ 3) ⊎ (n ≡ 5) → (m : ℕ) → n ≡ m → m ≢ 3 → m ≢ 5 → ⊥
+three_or_five n (inl e) m is a b = a (sym is ∙ e)
+three_or_five n (inr e) m is a b = b (sym is ∙ e)
+
+at_most_five : (n : ℕ) → (n ≡ 3) ⊎ (n ≡ 5) → n ≤ 5
+at_most_five n (inl e) = omega (arith, e)
+at_most_five n (inr e) = omega (arith, e)
+
+err_is_not_ok : {fault : ScriptFault} {scene : SceneValue} → Err fault ≡ Ok scene → ⊥
+err_is_not_ok e = cc
+
+same_fault : (p : Result SceneValue ScriptFault) (one other : ScriptFault) → p ≡ Err one → p ≡ Err other → one ≡ other
+same_fault p one other e f = cc
+
+-- a fault is no scene
+no_scene : {A : Type 0} {P : SceneValue → Type 0} {fault : ScriptFault} → (scene : SceneValue) × (Err fault ≡ Ok scene) × P scene → A
+no_scene h = absurd (err_is_not_ok h.1)
+
+-- a script has one fault
+the_fault : (p : Result SceneValue ScriptFault) (fault : ScriptFault) (a b : Option (List ℕ)) → p ≡ Err fault → (other : ScriptFault) × (p ≡ Err other) × Appends a b (fault_bytes other) → Appends a b (fault_bytes fault)
+the_fault p fault a b is h = subst (λ (f : ScriptFault). Appends a b (fault_bytes f)) (same_fault p h.0 fault h.1 is) h.2
+
+no_words : {A : Type 0} (options : Options) → Some options ≡ None → A
+no_words options e = absurd (right_words (Some options) options refl e)
+
+module _ {S K : Type 0} (left : S → Option (List ℕ)) (reads : S → ℕ) (taken : K → Option (List ℕ)) (writes : K → ℕ) where
+  -- the words are wrong
+  pub words_wrong : (asked : Option Options) (source : S) (sink : K) → asked ≡ None → RunEnded left reads taken writes asked 1 source source sink sink
+  words_wrong asked source sink none = record {
+    played = λ e. absurd (omega (arith, e));
+    usage = λ _. none;
+    wrong = λ _. inl refl;
+    untouched = λ _. (refl, refl);
+    refused = λ e. absurd (omega (arith, e));
+    read_failed = λ e. absurd (omega (arith, e));
+    silent = λ _. refl;
+    write_failed = λ e. absurd (omega (arith, e));
+    range = omega arith;
+    unread = λ _ _ _. refl;
+    prefix = writes_nothing asked (left source) (taken sink);
+    cut = cut_nothing (taken sink);
+  }
+
+  -- memory was wanting before anything was read
+  pub unbegun : (asked : Option Options) (source : S) (sink : K) → RunEnded left reads taken writes asked 5 source source sink sink
+  unbegun asked source sink = record {
+    played = λ e. absurd (omega (arith, e));
+    usage = λ e. absurd (omega (arith, e));
+    wrong = λ _. inr refl;
+    untouched = λ _. (refl, refl);
+    refused = λ e. absurd (omega (arith, e));
+    read_failed = λ e. absurd (omega (arith, e));
+    silent = λ _. refl;
+    write_failed = λ e. absurd (omega (arith, e));
+    range = omega arith;
+    unread = λ _ _ _. refl;
+    prefix = writes_nothing asked (left source) (taken sink);
+    cut = cut_nothing (taken sink);
+  }
+
+  -- the source failed, or memory was wanting to read it
+  pub unread_script : (options : Options) (n : ℕ) (source rest : S) (sink : K) → (n ≡ 3) ⊎ (n ≡ 5) → (n ≡ 3 → Rose (reads source) (reads rest)) → (is_gen options.run ≡ true → rest ≡ source) →
+      RunEnded left reads taken writes (Some options) n source rest sink sink
+  unread_script options n source rest sink which failed same = record {
+    played = λ e. absurd (three_or_five n which 0 e (omega arith) (omega arith));
+    usage = λ e. absurd (three_or_five n which 1 e (omega arith) (omega arith));
+    wrong = λ none. no_words options none;
+    untouched = λ none. no_words options none;
+    refused = λ e. absurd (three_or_five n which 2 e (omega arith) (omega arith));
+    read_failed = failed;
+    silent = λ _. refl;
+    write_failed = λ e. absurd (three_or_five n which 4 e (omega arith) (omega arith));
+    range = at_most_five n which;
+    unread = λ asked is gen. same (ap (λ (o : Options). is_gen o.run) (some_same (Some options) options asked refl is) ∙ gen);
+    prefix = writes_none options (left source) (taken sink) (taken sink) refl;
+    cut = cut_nothing (taken sink);
+  }
+
+  -- a script was played, or refused for its fault
+  pub script_read : (options : Options) (n : ℕ) (source rest : S) (sink now : K) (script : List ℕ) → IsScript options (left source) (left rest) script → (is_gen options.run ≡ true → rest ≡ source) →
+      ScriptEnded options (parsed_of script) n (taken sink) (taken now) (writes sink) (writes now) → RunEnded left reads taken writes (Some options) n source rest sink now
+  script_read options n source rest sink now script is same h = record {
+    played = λ e. played_script options (left source) (left rest) (taken sink) (taken now) script is (h.played e);
+    usage = λ e. absurd (h.begun e);
+    wrong = λ none. no_words options none;
+    untouched = λ none. no_words options none;
+    refused = λ e. refused_script options (left source) (left rest) (taken sink) (taken now) script is (h.refused e);
+    read_failed = λ e. absurd (h.read e);
+    silent = λ e. absurd (h.read e);
+    write_failed = h.write_failed;
+    range = h.range;
+    unread = λ asked right gen. same (ap (λ (o : Options). is_gen o.run) (some_same (Some options) options asked refl right) ∙ gen);
+    prefix = writes_script options (left source) (left rest) script (taken sink) (taken now) is h.prefix;
+    cut = h.cut;
+  }
+
+  -- a script that is too long was refused
+  pub too_long_read : (options : Options) (n : ℕ) (source rest : S) (sink now : K) → (is_gen options.run ≡ false) × Took (left source) (left rest) 1048577 → (is_gen options.run ≡ true → rest ≡ source) →
+      ScriptEnded options (Err (at_no_place 9)) n (taken sink) (taken now) (writes sink) (writes now) → RunEnded left reads taken writes (Some options) n source rest sink now
+  too_long_read options n source rest sink now long same h = record {
+    played = λ e. no_scene (h.played e);
+    usage = λ e. absurd (h.begun e);
+    wrong = λ none. no_words options none;
+    untouched = λ none. no_words options none;
+    refused = λ e. record { options = options; right = refl; reads = long.0; fault = at_no_place 9; cause = too_long long.1; written = the_fault (Err (at_no_place 9)) (at_no_place 9) (taken sink) (taken now) refl (h.refused e) };
+    read_failed = λ e. absurd (h.read e);
+    silent = λ e. absurd (h.read e);
+    write_failed = h.write_failed;
+    range = h.range;
+    unread = λ asked right gen. same (ap (λ (o : Options). is_gen o.run) (some_same (Some options) options asked refl right) ∙ gen);
+    prefix = writes_too_long options (left source) (left rest) (taken sink) (taken now) long.0 long.1 h.prefix;
+    cut = h.cut;
+  }
+
+  -- what holds of the options that the words give
+  pub ended_as : (asked : Option Options) (options : Options) (n : ℕ) (source rest : S) (sink now : K) → asked ≡ Some options → RunEnded left reads taken writes (Some options) n source rest sink now →
+      RunEnded left reads taken writes asked n source rest sink now
+  ended_as asked options n source rest sink now is h = subst (λ (o : Option Options). RunEnded left reads taken writes o n source rest sink now) (sym is) h

@@ -1,6 +1,7 @@
 -- What the statuses of a run say.
-use Rattle.std.specs.Prelude.{◌≡◌, ℕ, false, List, Option, None, Some, Result, Ok, Err}
+use Rattle.std.specs.Prelude.{◌≡◌, ◌≢◌, ◌≤◌, ◌⊎◌, ℕ, true, false, List, Option, None, Some, Result, Ok, Err}
 use Rattle.std.specs.Io.KnownBytes.{Appends, Consumes, IsAtEnd}
+use Rattle.sf_io.specs.Causes.{Rose}
 use Rattle.sf_io.specs.Streams.{Took, TookPrefix}
 use Rattle.sf_options.specs.declared.options.Options.{Options}
 use Rattle.sf_scene.specs.Scene.{SceneValue}
@@ -10,6 +11,7 @@ use Rattle.sf_record.specs.declared.record.Record.TheVariants as rec
 use Rattle.sf_record.specs.declared.record.Record.{Record}
 use Rattle.sf_record.specs.Records.{record_bytes}
 use Rattle.sf_run.specs.Played.{Played}
+use Rattle.sf_show.specs.Writing.{CutSome}
 use Rattle.sf_app.specs.Shown.{ShowsRun, ShowsRunPart, bytes_shown}
 use Rattle.sf_app.specs.Words.{IsScript, IsTold, is_gen}
 
@@ -66,3 +68,36 @@ PrefixOf options (Err fault) old new = TookPrefix old new (fault_bytes fault)
 abbrev pub WritesPrefix : Option Options → Option (List ℕ) → Option (List ℕ) → Option (List ℕ) → Type 0
 WritesPrefix None left old new = new ≡ old
 WritesPrefix (Some options) left old new = (bytes : List ℕ) → IsTold options left bytes → PrefixOf options (parsed_of bytes) old new
+
+-- how a script that spells this was played: what the status says, and what was written whatever it is; the counts are those
+-- of the sink's faults
+pub record ScriptEnded (options : Options) (spelled : Result SceneValue ScriptFault) (status : ℕ) (taken now : Option (List ℕ)) (before after : ℕ) : Type 0 where
+  pub played : status ≡ 0 → (scene : SceneValue) × (spelled ≡ Ok scene) × ShowsRun options.run options.summary scene taken now
+  pub refused : status ≡ 2 → (fault : ScriptFault) × (spelled ≡ Err fault) × Appends taken now (fault_bytes fault)
+  pub write_failed : status ≡ 4 → Rose before after
+  pub range : status ≤ 5
+  pub begun : status ≢ 1
+  pub read : status ≢ 3
+  pub prefix : PrefixOf options spelled taken now
+  pub cut : CutSome taken now
+
+-- of a source what it has left and the count of its faults, and of a sink what it took and the count of its faults
+module _ {S K : Type 0} (left : S → Option (List ℕ)) (reads : S → ℕ) (taken : K → Option (List ℕ)) (writes : K → ℕ) where
+  -- how a run ended that was asked for: what its status says, and what was read and written whatever it is
+  pub record RunEnded (asked : Option Options) (status : ℕ) (source rest : S) (sink now : K) : Type 0 where
+    pub played : status ≡ 0 → PlayedScript asked (left source) (left rest) (taken sink) (taken now)
+    -- only wrong words are answered by 1; they are answered so but for want of memory to read them
+    pub usage : status ≡ 1 → asked ≡ None
+    pub wrong : asked ≡ None → (status ≡ 1) ⊎ (status ≡ 5)
+    pub untouched : asked ≡ None → (rest ≡ source) × (now ≡ sink)
+    pub refused : status ≡ 2 → RefusedScript asked (left source) (left rest) (taken sink) (taken now)
+    pub read_failed : status ≡ 3 → Rose (reads source) (reads rest)
+    pub silent : status ≡ 3 → now ≡ sink
+    pub write_failed : status ≡ 4 → Rose (writes sink) (writes now)
+    pub range : status ≤ 5
+    -- a generated script is played without reading
+    pub unread : (options : Options) → asked ≡ Some options → is_gen options.run ≡ true → rest ≡ source
+    -- a prefix was written of what the script asks for
+    pub prefix : WritesPrefix asked (left source) (taken sink) (taken now)
+    -- whole records were written, and then at most one that is cut
+    pub cut : CutSome (taken sink) (taken now)

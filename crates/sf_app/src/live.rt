@@ -1,9 +1,6 @@
-ghost use Rattle.std.specs.Prelude.{◌≡◌, ◌≤◌, OnErr, OnOk, IsErrOf};
-ghost use Rattle.sf_io.specs.Causes.{Rose};
-ghost use Rattle.sf_record.specs.declared.encode.RunFault.TheVariants.{WriteFault};
+ghost use Rattle.std.specs.Prelude.{◌≡◌, ◌≤◌};
 ghost use Rattle.sf_actor_set.specs.Scripts.{permits_of};
-ghost use Rattle.sf_live.specs.Runs.{WroteLive};
-ghost use Rattle.sf_show.specs.Writing.{CutSome};
+ghost use Rattle.sf_live.specs.Runs.{LiveEnded};
 
 use sf_actor_set::permits_for;
 use sf_base::NoMemory;
@@ -30,10 +27,7 @@ fn live_with<R: Threads + Wait + Sync, K: Sink, G: Gate + Sync>(
     requires some { 1 ≤ workers }
     requires few { workers ≤ 16 }
     requires counted { permits ≡ permits_of scene.actors }
-    ensures ok { OnOk result (WroteLive scene (K.taken sink.old) (K.taken sink.new)) }
-    ensures err { OnErr result (CutSome (K.taken sink.old) (K.taken sink.new)) }
-    ensures later { K.faults sink.old ≤ K.faults sink.new }
-    ensures failed { IsErrOf result WriteFault → Rose (K.faults sink.old) (K.faults sink.new) }
+    ensures { LiveEnded scene result (K.taken sink.old) (K.taken sink.new) (K.faults sink.old) (K.faults sink.new) }
 {
     match open_turns::<Painted>(alloc, permits) {
         Ok((seat, stock)) => {
@@ -55,10 +49,7 @@ pub fn live<R: Threads + Wait + Sync, K: Sink, G: Gate + Sync>(
 ) -> Result<(), RunFault>
     requires some { 1 ≤ workers }
     requires few { workers ≤ 16 }
-    ensures ok { OnOk result (WroteLive scene (K.taken sink.old) (K.taken sink.new)) }
-    ensures err { OnErr result (CutSome (K.taken sink.old) (K.taken sink.new)) }
-    ensures later { K.faults sink.old ≤ K.faults sink.new }
-    ensures failed { IsErrOf result WriteFault → Rose (K.faults sink.old) (K.faults sink.new) }
+    ensures { LiveEnded scene result (K.taken sink.old) (K.taken sink.new) (K.faults sink.old) (K.faults sink.new) }
 {
     match permits_for(scene.actors.as_slice()) {
         Some(permits) => live_with(rt, alloc, workers, sink, gate, scene, permits),

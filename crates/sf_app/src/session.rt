@@ -1,18 +1,15 @@
-ghost use Rattle.std.specs.Prelude.{◌≡◌, ◌≢◌, ◌≤◌, ◌⊎◌, ℕ, List, None, Some, Ok, Err, OnErr, OnOk, IsErrOf, map, true};
-ghost use Rattle.std.specs.Io.KnownBytes.{Appends};
+ghost use Rattle.std.specs.Prelude.{◌≡◌, ◌≤◌, ◌⊎◌, ℕ, List, Some, Ok, Err, OnErr, OnOk, IsErrOf, map};
 ghost use Rattle.std.specs.String.{string_bytes};
 ghost use Rattle.sf_io.specs.Causes.{Rose};
-ghost use Rattle.sf_io.specs.Streams.{TookPrefix};
 ghost use Rattle.sf_options.specs.Options.{options_of};
 ghost use Rattle.sf_options.specs.declared.options.Options.{Options as OptionsValue};
 ghost use Rattle.sf_record.specs.declared.encode.RunFault.TheVariants.{WriteFault};
 ghost use Rattle.sf_scene.specs.Scene.{SceneValue};
 ghost use Rattle.sf_script.specs.Parse.{parsed_of};
 ghost use Rattle.sf_script.specs.declared.fault.ScriptFault.{ScriptFault};
-ghost use Rattle.sf_show.specs.Writing.{CutSome};
 ghost use Rattle.sf_app.specs.Shown.{ShowsRun, ShowsRunPart};
-ghost use Rattle.sf_app.specs.Statuses.{MeansScript, PlayedScript, PrefixOf, RefusedScript, WritesPrefix, at_no_place, fault_bytes};
-ghost use Rattle.sf_app.specs.Words.{IsTold, is_gen};
+ghost use Rattle.sf_app.specs.Statuses.{MeansScript, RunEnded, ScriptEnded, at_no_place};
+ghost use Rattle.sf_app.specs.Words.{IsTold};
 
 use crate::live::live;
 use crate::summary::show;
@@ -57,12 +54,8 @@ fn at_no_place(cause: u32) -> ScriptFault
 
 // Writes the place of a script's fault.
 fn refuse<K: Sink>(alloc: Global, sink: &mut K, fault: ScriptFault) -> u8
-    ensures faulty { result ≡ 2 → Appends (K.taken sink.old) (K.taken sink.new) (fault_bytes fault) }
-    ensures prefix { TookPrefix (K.taken sink.old) (K.taken sink.new) (fault_bytes fault) }
-    ensures cut { CutSome (K.taken sink.old) (K.taken sink.new) }
-    ensures failed { result ≡ 4 → Rose (K.faults sink.old) (K.faults sink.new) }
-    ensures range { (result ≡ 2) ⊎ ((result ≡ 4) ⊎ (result ≡ 5)) }
-    ensures later { K.faults sink.old ≤ K.faults sink.new }
+    ensures { (options : OptionsValue)
+        → ScriptEnded options (Err fault) result (K.taken sink.old) (K.taken sink.new) (K.faults sink.old) (K.faults sink.new) }
 {
     let record = Record::Sflt(fault);
     match write_record(alloc, sink, &record) {
@@ -105,11 +98,7 @@ fn play_scene<R: Threads + Wait + Sync, K: Sink, G: Gate + Sync>(
 ) -> u8
     requires some { 1 ≤ options.workers }
     requires few { options.workers ≤ 16 }
-    ensures played { result ≡ 0 → ShowsRun options.run options.summary scene (K.taken sink.old) (K.taken sink.new) }
-    ensures part { ShowsRunPart options.run options.summary scene (K.taken sink.old) (K.taken sink.new) }
-    ensures write_failed { result ≡ 4 → Rose (K.faults sink.old) (K.faults sink.new) }
-    ensures range { result ≤ 5 }
-    ensures other { (result ≢ 1) × ((result ≢ 2) × (result ≢ 3)) }
+    ensures { ScriptEnded options (Ok scene) result (K.taken sink.old) (K.taken sink.new) (K.faults sink.old) (K.faults sink.new) }
 {
     match show_run(rt, alloc, options, sink, gate, scene) {
         Ok(()) => DONE,
@@ -129,15 +118,7 @@ fn play_script<R: Threads + Wait + Sync, K: Sink, G: Gate + Sync>(
 ) -> u8
     requires some { 1 ≤ options.workers }
     requires few { options.workers ≤ 16 }
-    ensures played { result ≡ 0 → (scene : SceneValue) × (parsed_of script.now ≡ Ok scene)
-        × ShowsRun options.run options.summary scene (K.taken sink.old) (K.taken sink.new) }
-    ensures refused { result ≡ 2 → (fault : ScriptFault) × (parsed_of script.now ≡ Err fault) × Appends (K.taken sink.old) (K.taken sink.new) (fault_bytes fault) }
-    ensures prefix { PrefixOf options (parsed_of script.now) (K.taken sink.old) (K.taken sink.new) }
-    ensures cut { CutSome (K.taken sink.old) (K.taken sink.new) }
-    ensures write_failed { result ≡ 4 → Rose (K.faults sink.old) (K.faults sink.new) }
-    ensures range { result ≤ 5 }
-    ensures begun { result ≢ 1 }
-    ensures read { result ≢ 3 }
+    ensures { ScriptEnded options (parsed_of script.now) result (K.taken sink.old) (K.taken sink.new) (K.faults sink.old) (K.faults sink.new) }
 {
     match parse(alloc, script) {
         Ok(scene) => play_scene(rt, alloc, options, sink, gate, scene),
@@ -157,16 +138,7 @@ fn play_asked<R: Threads + Wait + Sync, S: Source, K: Sink, G: Gate + Sync>(
 ) -> u8
     requires some { 1 ≤ options.workers }
     requires few { options.workers ≤ 16 }
-    ensures played { result ≡ 0 → PlayedScript (Some options) (S.left source.old) (S.left source.new) (K.taken sink.old) (K.taken sink.new) }
-    ensures refused { result ≡ 2 → RefusedScript (Some options) (S.left source.old) (S.left source.new) (K.taken sink.old) (K.taken sink.new) }
-    ensures read_failed { result ≡ 3 → Rose (S.faults source.old) (S.faults source.new) }
-    ensures silent { result ≡ 3 → sink.new ≡ sink.old }
-    ensures write_failed { result ≡ 4 → Rose (K.faults sink.old) (K.faults sink.new) }
-    ensures range { result ≤ 5 }
-    ensures begun { result ≢ 1 }
-    ensures unread { is_gen options.run ≡ true → source.new ≡ source.old }
-    ensures prefix { WritesPrefix (Some options) (S.left source.old) (K.taken sink.old) (K.taken sink.new) }
-    ensures cut { CutSome (K.taken sink.old) (K.taken sink.new) }
+    ensures { RunEnded S.left S.faults K.taken K.faults (Some options) result source.old source.new sink.old sink.new }
 {
     match script_asked(alloc, options, source) {
         Ok(script) => play_script(rt, alloc, options, &script, sink, gate),
@@ -185,25 +157,8 @@ fn follow<R: Threads + Wait + Sync, S: Source, K: Sink, G: Gate + Sync>(
     sink: &mut K,
     gate: &G,
 ) -> u8
-    ensures played { let asked = options_of (map string_bytes words.now) in
-        result ≡ 0 → PlayedScript asked (S.left source.old) (S.left source.new) (K.taken sink.old) (K.taken sink.new) }
-
-    ensures usage { result ≡ 1 → options_of (map string_bytes words.now) ≡ None }
-    ensures wrong { options_of (map string_bytes words.now) ≡ None → (result ≡ 1) ⊎ (result ≡ 5) }
-    ensures untouched { options_of (map string_bytes words.now) ≡ None → (source.new ≡ source.old) × (sink.new ≡ sink.old) }
-    ensures refused { let asked = options_of (map string_bytes words.now) in
-        result ≡ 2 → RefusedScript asked (S.left source.old) (S.left source.new) (K.taken sink.old) (K.taken sink.new) }
-    ensures read_failed { result ≡ 3 → Rose (S.faults source.old) (S.faults source.new) }
-    ensures silent { result ≡ 3 → sink.new ≡ sink.old }
-    ensures write_failed { result ≡ 4 → Rose (K.faults sink.old) (K.faults sink.new) }
-    ensures range { result ≤ 5 }
-    ensures unread { (options : OptionsValue) → options_of (map string_bytes words.now) ≡ Some options → is_gen options.run ≡ true → source.new ≡ source.old }
-
-    // Whatever the status is, a prefix was written of what the script asks for.
-    ensures prefix { WritesPrefix (options_of (map string_bytes words.now)) (S.left source.old) (K.taken sink.old) (K.taken sink.new) }
-
-    // Whatever the status is, whole records were written, and then at most one that is cut.
-    ensures cut { CutSome (K.taken sink.old) (K.taken sink.new) }
+    ensures { let asked = options_of (map string_bytes words.now) in
+        RunEnded S.left S.faults K.taken K.faults asked result source.old source.new sink.old sink.new }
 {
     match Options::read(alloc, words) {
         Ok(options) => play_asked(rt, alloc, options, source, sink, gate),
@@ -240,28 +195,10 @@ pub fn run<R: Threads + Wait + Sync, S: Source, K: Sink, G: Gate + Sync>(
     // What is written shows records that stand to the script's scene as those of a played run do.
     ensures means { let asked = options_of (map string_bytes words.now) in
         result ≡ 0 → MeansScript asked (S.left source.old) (S.left source.new) (K.taken sink.old) (K.taken sink.new) }
-    ensures played { let asked = options_of (map string_bytes words.now) in
-        result ≡ 0 → PlayedScript asked (S.left source.old) (S.left source.new) (K.taken sink.old) (K.taken sink.new) }
 
-    // Only wrong words are answered by 1; they are answered so but for want of memory to read them.
-    ensures usage { result ≡ 1 → options_of (map string_bytes words.now) ≡ None }
-    ensures wrong { options_of (map string_bytes words.now) ≡ None → (result ≡ 1) ⊎ (result ≡ 5) }
-    ensures untouched { options_of (map string_bytes words.now) ≡ None → (source.new ≡ source.old) × (sink.new ≡ sink.old) }
-    ensures refused { let asked = options_of (map string_bytes words.now) in
-        result ≡ 2 → RefusedScript asked (S.left source.old) (S.left source.new) (K.taken sink.old) (K.taken sink.new) }
-    ensures read_failed { result ≡ 3 → Rose (S.faults source.old) (S.faults source.new) }
-    ensures silent { result ≡ 3 → sink.new ≡ sink.old }
-    ensures write_failed { result ≡ 4 → Rose (K.faults sink.old) (K.faults sink.new) }
-    ensures range { result ≤ 5 }
-
-    // A generated script is played without reading.
-    ensures unread { (options : OptionsValue) → options_of (map string_bytes words.now) ≡ Some options → is_gen options.run ≡ true → source.new ≡ source.old }
-
-    // Whatever the status is, a prefix was written of what the script asks for.
-    ensures prefix { WritesPrefix (options_of (map string_bytes words.now)) (S.left source.old) (K.taken sink.old) (K.taken sink.new) }
-
-    // Whatever the status is, whole records were written, and then at most one that is cut.
-    ensures cut { CutSome (K.taken sink.old) (K.taken sink.new) }
+    // What each status says, and what was read and written whatever it is.
+    ensures ended { let asked = options_of (map string_bytes words.now) in
+        RunEnded S.left S.faults K.taken K.faults asked result source.old source.new sink.old sink.new }
 
     // Right words, a script that is told, and no count of faults that rose: the run is whole, or the script refused, but for want of memory.
     ensures complete { (options : OptionsValue) (bytes : List ℕ) (scene : SceneValue) → options_of (map string_bytes words.now) ≡ Some options

@@ -1,5 +1,5 @@
 -- What a compositor keeps before the first vsync of a run in threads, and what stands at its joins.
-use Rattle.std.proofs.Common.{◌≡◌, ℕ, ◌≤◌, List, [], map, Option, Some, None, Result, Err, inl, inr, ap, ◌∙◌, arith, refl, sym, subst}
+use Rattle.std.proofs.Common.{◌≡◌, ℕ, ◌≤◌, List, [], ◌∷◌, map, Option, Some, None, Result, Ok, Err, inl, inr, ap, ◌∙◌, arith, refl, sym, subst}
 use Rattle.std.specs.Prelude.{IfErr, is_some}
 use Rattle.std.proofs.lemmas.Bool.{false≢true}
 use Rattle.std.proofs.lemmas.List.Elements.{All-nil}
@@ -25,12 +25,13 @@ use Rattle.sf_report.specs.declared.report.VsyncReport.{VsyncReport}
 use Rattle.sf_run.proofs.FrameLemmas.{is_plan}
 use Rattle.sf_run.proofs.LimitLemmas.{few_layers}
 use Rattle.sf_run.specs.Frames.{plan_of}
+use Rattle.sf_run.specs.Played.{opening}
 use Rattle.sf_screen.specs.ScreenLists.{AreShown}
 use Rattle.sf_screen.specs.Screens.{IsShown}
 use Rattle.sf_screen.specs.declared.screens.OutputScreen.{OutputScreen}
-use Rattle.sf_show.specs.Writing.{Writes}
+use Rattle.sf_show.specs.Writing.{CutSome, Writes}
 use Rattle.sf_show.proofs.TurnLemmas.{timelines_within}
-use Rattle.sf_show.proofs.WritingLemmas.{cut_none, some_whole, writes_none}
+use Rattle.sf_show.proofs.WritingLemmas.{cut_none, cut_part, part_whole, some_whole, writes_none}
 use Rattle.sf_shared.specs.declared.first.FirstSeats.{FirstSeats}
 use Rattle.sf_shared.specs.declared.locks.Locks.{Locks}
 use Rattle.sf_shared.specs.First.{HasAll, IsFirst, KnowsNothing}
@@ -49,6 +50,7 @@ use Rattle.sf_live.specs.declared.threads.Joined.{Joined}
 use Rattle.sf_live.specs.Openings.{IsOpen}
 use Rattle.sf_live.specs.Running.{CameTogether, MayRun, Starts, WasCut, run_by}
 use Rattle.sf_live.specs.Resuming.{GoesFrom, HasCome}
+use Rattle.sf_live.specs.Runs.{LiveEnded}
 use Rattle.sf_live.specs.Threads.{HasRun, IsTogether, RunOf}
 use Rattle.sf_live.proofs.Joining.{has_given, has_run}
 
@@ -73,6 +75,18 @@ IsWant WriteFault = ⊥
 
 pub no_write_fault : NoMemory ≡ WriteFault → ⊥
 no_write_fault is = subst IsWant is tt
+
+abbrev IsWanting : {A : Type 0} → Result A RunFault → Type 0
+IsWanting (Ok x) = ⊥
+IsWanting (Err e) = IsWant e
+
+-- a run that ends for want of memory, where whole records were written, and then at most one that is cut
+pub ended_wanting : {A : Type 0} (scene : SceneValue) (start now : Option (List ℕ)) (count : ℕ) → CutSome start now → LiveEnded {A = A} scene (Err NoMemory) start now count count
+ended_wanting scene start now count cut = record { ok = tt; err = cut; later = omega arith; failed = λ is. absurd (subst IsWanting is tt) }
+
+-- the same behind the record that begins it
+pub ended_early : {A : Type 0} (scene : SceneValue) (start now : Option (List ℕ)) (count : ℕ) → Writes start now (opening scene ∷ []) → LiveEnded {A = A} scene (Err NoMemory) start now count count
+ended_early scene start now count begun = ended_wanting scene start now count (cut_part start now (opening scene ∷ []) (part_whole start now (opening scene ∷ []) begun))
 
 abbrev IsMemory : Stopped → Type 0
 IsMemory stopped.NoMemory = Unit {0}

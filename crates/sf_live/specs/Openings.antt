@@ -1,6 +1,7 @@
 -- A scene as it is opened for threads.
-use Rattle.std.specs.Prelude.{◌≡◌, ℕ, ◌<◌, ◌≤◌, List, [], map, Contains}
+use Rattle.std.specs.Prelude.{◌≡◌, ℕ, ◌<◌, ◌≤◌, List, [], ◌∷◌, length, map, Contains}
 use Rattle.std.specs.List.{AllByRecursion, AllZip}
+use Rattle.std.specs.List.Sorted.{IsStrictlyIncreasing}
 use Rattle.atomic_table.specs.Seated.{TableId}
 use Rattle.sf_turns.specs.Counts.{stock_at}
 use Rattle.sf_scene.specs.Limits.{IsWithinLimits}
@@ -10,9 +11,9 @@ use Rattle.sf_steps.specs.Actors.{IsActor}
 use Rattle.sf_actor_set.specs.Opening.{IsSortedFrom, new_actors}
 use Rattle.sf_run.specs.Actors.{mark_declared}
 use Rattle.sf_run.specs.Histories.{rising_queues}
-use Rattle.sf_shared.specs.First.{took_of}
+use Rattle.sf_shared.specs.First.{IsFirst, KnowsNothing, gave_of, took_of}
 use Rattle.sf_shared.specs.Seats.{marks_of}
-use Rattle.sf_threads.specs.Seating.{IsNewcomer}
+use Rattle.sf_threads.specs.Seating.{IsNewcomer, number_of}
 use Rattle.sf_live.specs.declared.opening.Opened.{Opened}
 
 -- The queues are shared as they are declared, by rising number. The actors have done nothing, each with a permit for each of its dequeues. The
@@ -32,3 +33,13 @@ pub record IsOpen {B : Type 0} (scene : SceneValue) (table : TableId) (opened : 
   pub step : opened.first.seats.last.step ≡ 0
   pub no_signals : opened.first.seats.times.knows.signals ≡ []
   pub no_leaves : opened.first.seats.turns.leaves ≡ []
+
+-- What may go on in threads: the first seats are those at these locks, gave no seats yet and know of nothing; the actors are 64 at most, by rising number
+-- above the compositor's, and each can begin with these pictures.
+pub record MayStart {B : Type 0} (table : TableId) (opened : Opened B) : Type 0 where
+  pub first : IsFirst table opened.locks opened.first
+  pub none : gave_of opened.first ≡ []
+  pub unused : KnowsNothing opened.first.seats
+  pub few : length opened.actors.items ≤ 64
+  pub rising : IsStrictlyIncreasing (opened.first.seats.by ∷ map number_of opened.actors.items)
+  pub newcomers : AllByRecursion (IsNewcomer table opened.locks opened.pictures opened.first.seats) opened.actors.items

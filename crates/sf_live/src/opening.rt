@@ -1,13 +1,11 @@
-ghost use Rattle.std.specs.Prelude.{◌≡◌, ◌≤◌, All, true, [], ◌∷◌, length, map, IfOk};
+ghost use Rattle.std.specs.Prelude.{◌≡◌, ◌≤◌, All, true, [], IfOk};
 ghost use Rattle.std.specs.List.{AllByRecursion};
-ghost use Rattle.std.specs.List.Sorted.{IsStrictlyIncreasing};
 ghost use Rattle.sf_scene.specs.declared.step.ActorScript.{ActorScript as ScriptValue};
 ghost use Rattle.sf_turns.specs.Counts.{range};
 ghost use Rattle.sf_actor_set.specs.Scripts.{AreOfScene, permits_of};
 ghost use Rattle.sf_shared.specs.Closing.{HasNoCalls, Opens};
-ghost use Rattle.sf_shared.specs.First.{IsFirst, KnowsNothing, gave_of};
-ghost use Rattle.sf_threads.specs.Seating.{IsNewcomer, number_of};
-ghost use Rattle.sf_live.specs.Openings.{IsOpen};
+ghost use Rattle.sf_shared.specs.First.{IsFirst};
+ghost use Rattle.sf_live.specs.Openings.{IsOpen, MayStart};
 
 use sf_actor::PlainDesk;
 use sf_actor_set::ActorSet;
@@ -65,12 +63,7 @@ pub fn open<B: TableName>(
     requires first { (seat.is_first ≡ true) × (seat.out ≡ 0) }
     requires whole { stock.buffers ≡ range 0 (permits_of scripts) }
     ensures opens { (of : AreOfScene queues.now pictures scripts) → seat.leaves ≡ [] → permits_of scripts ≤ B.table.slots → IfOk result (IsOpen of.scene B.table) }
-    ensures first { IfOk result (λ opened. IsFirst B.table opened.locks opened.first) }
-    ensures none { IfOk result (λ opened. gave_of opened.first ≡ []) }
-    ensures unused { IfOk result (λ opened. KnowsNothing opened.first.seats) }
-    ensures few { IfOk result (λ opened. length opened.actors.items ≤ 64) }
-    ensures rising { IfOk result (λ opened. IsStrictlyIncreasing (opened.first.seats.by ∷ map number_of opened.actors.items)) }
-    ensures newcomers { IfOk result (λ opened. AllByRecursion (IsNewcomer B.table opened.locks opened.pictures opened.first.seats) opened.actors.items) }
+    ensures may { IfOk result (MayStart B.table) }
 {
     let actor_set = ActorSet::new(alloc, queues, pictures, scripts, seat, stock)?;
     let (pictures, actors, desk) = actor_set.into_parts();

@@ -1,12 +1,8 @@
-ghost use Rattle.std.specs.Prelude.{◌≡◌, ◌≤◌, ◌∷◌, [], Some, length, map, IfErr, IfOk};
-ghost use Rattle.std.specs.List.{AllByRecursion};
-ghost use Rattle.std.specs.List.Sorted.{IsStrictlyIncreasing};
+ghost use Rattle.std.specs.Prelude.{◌≡◌, Some, IfErr, IfOk};
 ghost use Rattle.sf_record.specs.declared.encode.RunFault.TheVariants.{WriteFault};
 ghost use Rattle.sf_scene.specs.Scene.{SceneValue};
-ghost use Rattle.sf_shared.specs.First.{IsFirst, KnowsNothing, gave_of};
-ghost use Rattle.sf_threads.specs.Seating.{IsNewcomer, number_of};
 ghost use Rattle.sf_threads.specs.declared.run.Stopped.TheVariants as stopped;
-ghost use Rattle.sf_live.specs.Openings.{IsOpen};
+ghost use Rattle.sf_live.specs.Openings.{IsOpen, MayStart};
 ghost use Rattle.sf_live.specs.Running.{CameTogether, Starts, WasCut};
 
 use crate::opening::Opened;
@@ -49,12 +45,7 @@ pub(crate) fn run_threads<
     opened: Opened<B>,
     compositor: Compositor<'a, K, B>,
 ) -> (Compositor<'a, K, B>, Result<Joined<B>, RunFault>)
-    requires first { IsFirst B.table opened.locks opened.first }
-    requires none { gave_of opened.first ≡ [] }
-    requires unused { KnowsNothing opened.first.seats }
-    requires few { length opened.actors.items ≤ 64 }
-    requires rising { IsStrictlyIncreasing (opened.first.seats.by ∷ map number_of opened.actors.items) }
-    requires newcomers { AllByRecursion (IsNewcomer B.table opened.locks opened.pictures opened.first.seats) opened.actors.items }
+    requires may { MayStart B.table opened }
     requires starts { (scene : SceneValue) × IsOpen scene B.table opened × Starts scene compositor }
     ensures together { (scene : SceneValue) → IsOpen scene B.table opened → Starts scene compositor.entry
         → IfOk result.1 (CameTogether K.taken K.faults ⟦<ReadLease<B> as Lease>⟧ B.table scene compositor.entry result.0) }

@@ -1,20 +1,15 @@
-ghost use Rattle.std.specs.Prelude.{◌≡◌, ◌≤◌, ℕ, List, [], ◌∷◌, true, length, map, IsErrOf, OnErr, OnOk, Option};
-ghost use Rattle.std.specs.List.{AllByRecursion};
-ghost use Rattle.std.specs.List.Sorted.{IsStrictlyIncreasing};
-ghost use Rattle.sf_io.specs.Causes.{Rose};
+ghost use Rattle.std.specs.Prelude.{◌≡◌, ◌≤◌, ℕ, List, [], ◌∷◌, true, Option};
 ghost use Rattle.sf_actor_set.specs.Scripts.{permits_of};
-ghost use Rattle.sf_record.specs.declared.encode.RunFault.TheVariants.{WriteFault};
 ghost use Rattle.sf_run.specs.Played.{opening};
 ghost use Rattle.sf_run.specs.Vsyncs.{rising_timelines};
 ghost use Rattle.sf_scene.specs.Scene.{SceneValue};
-ghost use Rattle.sf_show.specs.Writing.{CutSome, Writes};
-ghost use Rattle.sf_shared.specs.First.{IsFirst, KnowsNothing, gave_of};
+ghost use Rattle.sf_show.specs.Writing.{Writes};
 ghost use Rattle.sf_turns.specs.Counts.{range};
-ghost use Rattle.sf_threads.specs.Seating.{IsNewcomer, number_of};
 ghost use Rattle.sf_shared.specs.declared.locks.Locks.{Locks};
+ghost use Rattle.sf_live.specs.Openings.{MayStart};
 ghost use Rattle.sf_live.specs.Resuming.{GoesFrom, HasCome};
 ghost use Rattle.sf_live.specs.Running.{MayRun};
-ghost use Rattle.sf_live.specs.Runs.{WroteLive};
+ghost use Rattle.sf_live.specs.Runs.{LiveEnded};
 ghost use Rattle.sf_live.specs.Threads.{IsTogether, RunOf};
 
 use crate::opening::{Opened, open};
@@ -60,14 +55,9 @@ fn run_rounds<R: Threads + Wait + Sync, K: Sink, G: Gate, B: TableName>(
     requires few { workers ≤ 16 }
     requires goes { (run : RunOf B) × (locks : Locks B) × (start : Option (List ℕ)) × (IsTogether ⟦<ReadLease<B> as Lease>⟧ B.table run locks joined
         × GoesFrom run start period order decider.handler vsyncs × HasCome run timelines.items plan (K.taken sink.old) screens) }
-    ensures ok { (run : RunOf B) (locks : Locks B) (start : Option (List ℕ)) → IsTogether ⟦<ReadLease<B> as Lease>⟧ B.table run locks joined
+    ensures { (run : RunOf B) (locks : Locks B) (start : Option (List ℕ)) → IsTogether ⟦<ReadLease<B> as Lease>⟧ B.table run locks joined
         → GoesFrom run start period order decider.handler vsyncs → HasCome run timelines.items plan (K.taken sink.old) screens
-        → OnOk result (WroteLive run.scene start (K.taken sink.new)) }
-    ensures err { (run : RunOf B) (locks : Locks B) (start : Option (List ℕ)) → IsTogether ⟦<ReadLease<B> as Lease>⟧ B.table run locks joined
-        → GoesFrom run start period order decider.handler vsyncs → HasCome run timelines.items plan (K.taken sink.old) screens
-        → OnErr result (CutSome start (K.taken sink.new)) }
-    ensures later { K.faults sink.old ≤ K.faults sink.new }
-    ensures failed { IsErrOf result WriteFault → Rose (K.faults sink.old) (K.faults sink.new) }
+        → LiveEnded run.scene result start (K.taken sink.new) (K.faults sink.old) (K.faults sink.new) }
 {
     let mut screens = screens;
     let handler = decider.into_handler();
@@ -104,19 +94,10 @@ fn run_opened<R: Threads + Wait + Sync, K: Sink, G: Gate + Sync, B: TableName + 
 ) -> Result<(), RunFault>
     requires some { 1 ≤ workers }
     requires few { workers ≤ 16 }
-    requires first { IsFirst B.table opened.locks opened.first }
-    requires none { gave_of opened.first ≡ [] }
-    requires unused { KnowsNothing opened.first.seats }
-    requires few_actors { length opened.actors.items ≤ 64 }
-    requires rising { IsStrictlyIncreasing (opened.first.seats.by ∷ map number_of opened.actors.items) }
-    requires newcomers { AllByRecursion (IsNewcomer B.table opened.locks opened.pictures opened.first.seats) opened.actors.items }
+    requires may { MayStart B.table opened }
     requires starts { (scene : SceneValue) × (start : Option (List ℕ)) × MayRun B.table scene start (K.taken sink.old) timelines.items plan period order handler opened }
-    ensures ok { (scene : SceneValue) (start : Option (List ℕ)) → MayRun B.table scene start (K.taken sink.old) timelines.items plan period order handler opened
-        → OnOk result (WroteLive scene start (K.taken sink.new)) }
-    ensures err { (scene : SceneValue) (start : Option (List ℕ)) → MayRun B.table scene start (K.taken sink.old) timelines.items plan period order handler opened
-        → OnErr result (CutSome start (K.taken sink.new)) }
-    ensures later { K.faults sink.old ≤ K.faults sink.new }
-    ensures failed { IsErrOf result WriteFault → Rose (K.faults sink.old) (K.faults sink.new) }
+    ensures { (scene : SceneValue) (start : Option (List ℕ)) → MayRun B.table scene start (K.taken sink.old) timelines.items plan period order handler opened
+        → LiveEnded scene result start (K.taken sink.new) (K.faults sink.old) (K.faults sink.new) }
 {
     let compositor = Compositor {
         alloc,
@@ -176,10 +157,8 @@ fn run_scene<R: Threads + Wait + Sync, K: Sink, G: Gate + Sync, B: TableName + S
     requires fresh { seat.leaves ≡ [] }
     requires whole { stock.buffers ≡ range 0 (permits_of scene.actors) }
     requires sized { permits_of scene.actors ≤ B.table.slots }
-    ensures ok { (start : Option (List ℕ)) → Writes start (K.taken sink.old) (opening scene ∷ []) → OnOk result (WroteLive scene start (K.taken sink.new)) }
-    ensures err { (start : Option (List ℕ)) → Writes start (K.taken sink.old) (opening scene ∷ []) → OnErr result (CutSome start (K.taken sink.new)) }
-    ensures later { K.faults sink.old ≤ K.faults sink.new }
-    ensures failed { IsErrOf result WriteFault → Rose (K.faults sink.old) (K.faults sink.new) }
+    ensures { (start : Option (List ℕ)) → Writes start (K.taken sink.old) (opening scene ∷ [])
+        → LiveEnded scene result start (K.taken sink.new) (K.faults sink.old) (K.faults sink.new) }
 {
     let Ok(plan) = plan_of(alloc, &scene) else {
         return Err(RunFault::NoMemory);
@@ -234,10 +213,7 @@ pub fn live<R: Threads + Wait + Sync, K: Sink, G: Gate + Sync, B: TableName + Se
     requires fresh { seat.leaves ≡ [] }
     requires whole { stock.buffers ≡ range 0 (permits_of scene.actors) }
     requires sized { permits_of scene.actors ≤ B.table.slots }
-    ensures ok { OnOk result (WroteLive scene (K.taken sink.old) (K.taken sink.new)) }
-    ensures err { OnErr result (CutSome (K.taken sink.old) (K.taken sink.new)) }
-    ensures later { K.faults sink.old ≤ K.faults sink.new }
-    ensures failed { IsErrOf result WriteFault → Rose (K.faults sink.old) (K.faults sink.new) }
+    ensures { LiveEnded scene result (K.taken sink.old) (K.taken sink.new) (K.faults sink.old) (K.faults sink.new) }
 {
     let Ok(timelines) = rising_timelines(alloc, scene.timelines.as_slice()) else {
         return Err(RunFault::NoMemory);

@@ -1,5 +1,6 @@
+use Rattle.sf_live.proofs.RunLemmas.{ended_wanting}
 use Rattle.sf_app.proofs.StatusLemmas.{cut_nothing}
 use Rattle.sf_app.proofs.live.live.Goals as goal
 
-pub returns-in-None-clause-err : goal.returns-in-None-clause-err
-returns-in-None-clause-err g c = cut_nothing _
+pub returns-in-None : goal.returns-in-None
+returns-in-None g c = ended_wanting c.args.scene _ _ _ (cut_nothing _)

@@ -1,5 +1,6 @@
+use Rattle.sf_live.proofs.RunLemmas.{ended_wanting}
 use Rattle.sf_app.proofs.StatusLemmas.{cut_nothing}
 use Rattle.sf_app.proofs.live.live_with.Goals as goal
 
-pub returns-in-Err-clause-err : goal.returns-in-Err-clause-err
-returns-in-Err-clause-err g c = cut_nothing _
+pub returns-in-Err : goal.returns-in-Err
+returns-in-Err g c = ended_wanting c.args.scene _ _ _ (cut_nothing _)

@@ -7,21 +7,21 @@ use Rattle.sf_app.proofs.session.run.Goals as goal
 
 pub returns-clause-complete : goal.returns-clause-complete
 returns-clause-complete g c = λ options bytes scene right told spelled calm still.
-    let answers = c.follow.ensures in
-    first_or_last c.follow.result answers.range
-    (λ usage. right_words _ options right (answers.usage usage))
-    (λ refused. no_refusal _ options _ _ _ _ bytes scene right told spelled (answers.refused refused))
-    (λ failed. calm (answers.read_failed failed))
-    (λ failed. still (answers.write_failed failed))
+    let ended = c.follow.ensures in
+    first_or_last c.follow.result ended.range
+    (λ usage. right_words _ options right (ended.usage usage))
+    (λ refused. no_refusal _ options _ _ _ _ bytes scene right told spelled (ended.refused refused))
+    (λ failed. calm (ended.read_failed failed))
+    (λ failed. still (ended.write_failed failed))
 
 pub returns-clause-complete_refusal : goal.returns-clause-complete_refusal
 returns-clause-complete_refusal g c = λ options bytes fault right told wrong calm still.
-    let answers = c.follow.ensures in
-    two_or_last c.follow.result answers.range
-    (λ done. no_play _ options _ _ _ _ bytes fault right told wrong (answers.played done))
-    (λ usage. right_words _ options right (answers.usage usage))
-    (λ failed. calm (answers.read_failed failed))
-    (λ failed. still (answers.write_failed failed))
+    let ended = c.follow.ensures in
+    two_or_last c.follow.result ended.range
+    (λ done. no_play _ options _ _ _ _ bytes fault right told wrong (ended.played done))
+    (λ usage. right_words _ options right (ended.usage usage))
+    (λ failed. calm (ended.read_failed failed))
+    (λ failed. still (ended.write_failed failed))
 
 pub returns-clause-means : goal.returns-clause-means
 returns-clause-means g c = λ done.

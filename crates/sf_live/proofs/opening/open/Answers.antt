@@ -1,4 +1,4 @@
-use Rattle.std.proofs.Common.{◌≤◌, List, ◌∷◌, length, ◌∙◌, ap, sym, subst}
+use Rattle.std.proofs.Common.{◌≤◌, List, ◌∷◌, length, ◌∙◌, ap, rules, sym, subst}
 use Rattle.std.specs.Prelude.{map}
 use Rattle.std.specs.List.{AllByRecursion, AllZip}
 use Rattle.std.specs.List.Sorted.{IsStrictlyIncreasing}
@@ -29,36 +29,32 @@ share-requires g c =
       none_arrived = ap (λ (d : PlainOf g.row.B.Denot). d.arrivals) c.into_parts-pictures.ensures.desk ∙ opens.none_arrived;
     }
 
-pub returns-clause-few : goal.returns-clause-few
-returns-clause-few g c =
-    let actor_set = c.in_ok-actor_set.actor_set in
-    let opens = c.in_ok-actor_set.ensures in
-    let kept = c.into_parts-pictures.ensures.kept in
-    subst (λ (actors : List (Actor g.row.B.Denot)). length actors ≤ 64) (sym c.into_parts-pictures.ensures.actors)
-    (few_opened g.B.TableName.table (picture_at actor_set.pictures) (home_of actor_set.desk) (view_of actor_set.desk) actor_set.actors opens.declared c.args.stock.buffers opens.keep
-    (All-permutation (λ (script : ActorScript). script.number ≤ 64) c.args.scripts opens.declared opens.sorted.permutation c.requires.numbers) kept.numbered
-    (subst IsStrictlyIncreasing (sym (numbers_same actor_set.actors)) kept.rising))
-
-pub returns-clause-rising : goal.returns-clause-rising
-returns-clause-rising g c =
-    let actor_set = c.in_ok-actor_set.actor_set in
-    let kept = c.into_parts-pictures.ensures.kept in
-    let first = c.in_ok-locks.first.seats.by in
-    subst (λ (actors : List (Actor g.row.B.Denot)). IsStrictlyIncreasing (first ∷ map number_of actors)) (sym c.into_parts-pictures.ensures.actors)
-    (rise_behind first actor_set.actors c.in_ok-locks.ensures.opened.number kept.numbered (subst IsStrictlyIncreasing (sym (numbers_same actor_set.actors)) kept.rising))
-
-pub returns-clause-newcomers : goal.returns-clause-newcomers
-returns-clause-newcomers g c =
+pub returns-clause-may : goal.returns-clause-may
+returns-clause-may g c =
     let actor_set = c.in_ok-actor_set.actor_set in
     let opens = c.in_ok-actor_set.ensures in
     let kept = c.into_parts-pictures.ensures.kept in
     let shared = c.in_ok-locks.ensures.opened in
     let locks = c.in_ok-locks.locks in
     let seats = c.in_ok-locks.first.seats in
-    subst (λ (actors : List (Actor g.row.B.Denot)). AllByRecursion (IsNewcomer g.B.TableName.table locks c.into_parts-pictures.result.0 seats) actors) (sym c.into_parts-pictures.ensures.actors)
-    (subst (λ (pictures : List Picture). AllByRecursion (IsNewcomer g.B.TableName.table locks pictures seats) actor_set.actors) (sym c.into_parts-pictures.ensures.pictures)
-    (newcomers g.B.TableName.table locks actor_set.pictures seats (home_of actor_set.desk) (view_of actor_set.desk) actor_set.actors opens.declared c.args.stock.buffers shared.nothing
-    (shared.marks ∙ ap (λ (d : PlainOf g.row.B.Denot). map mark_of d.queues) c.into_parts-pictures.ensures.desk) opens.keep kept.plays))
+    record {
+      first = c.in_ok-locks.ensures.first;
+      none = search rules;
+      unused = shared.nothing;
+      few =
+          subst (λ (actors : List (Actor g.row.B.Denot)). length actors ≤ 64) (sym c.into_parts-pictures.ensures.actors)
+          (few_opened g.B.TableName.table (picture_at actor_set.pictures) (home_of actor_set.desk) (view_of actor_set.desk) actor_set.actors opens.declared c.args.stock.buffers opens.keep
+          (All-permutation (λ (script : ActorScript). script.number ≤ 64) c.args.scripts opens.declared opens.sorted.permutation c.requires.numbers) kept.numbered
+          (subst IsStrictlyIncreasing (sym (numbers_same actor_set.actors)) kept.rising));
+      rising =
+          subst (λ (actors : List (Actor g.row.B.Denot)). IsStrictlyIncreasing (seats.by ∷ map number_of actors)) (sym c.into_parts-pictures.ensures.actors)
+          (rise_behind seats.by actor_set.actors shared.number kept.numbered (subst IsStrictlyIncreasing (sym (numbers_same actor_set.actors)) kept.rising));
+      newcomers =
+          subst (λ (actors : List (Actor g.row.B.Denot)). AllByRecursion (IsNewcomer g.B.TableName.table locks c.into_parts-pictures.result.0 seats) actors) (sym c.into_parts-pictures.ensures.actors)
+          (subst (λ (pictures : List Picture). AllByRecursion (IsNewcomer g.B.TableName.table locks pictures seats) actor_set.actors) (sym c.into_parts-pictures.ensures.pictures)
+          (newcomers g.B.TableName.table locks actor_set.pictures seats (home_of actor_set.desk) (view_of actor_set.desk) actor_set.actors opens.declared c.args.stock.buffers shared.nothing
+          (shared.marks ∙ ap (λ (d : PlainOf g.row.B.Denot). map mark_of d.queues) c.into_parts-pictures.ensures.desk) opens.keep kept.plays));
+    }
 
 pub returns-clause-opens : goal.returns-clause-opens
 returns-clause-opens g c = λ of fresh sized.
@@ -81,7 +77,7 @@ returns-clause-opens g c = λ of fresh sized.
       actors = subst (λ (actors : List (Actor g.row.B.Denot)). AllZip (IsActor g.B.TableName.table) actors (new_actors opens.declared c.args.stock.buffers)) (sym parts.actors)
           (are_actors g.B.TableName.table (picture_at actor_set.pictures) (home_of actor_set.desk) (view_of actor_set.desk) actor_set.actors (new_actors opens.declared c.args.stock.buffers) opens.keep);
       newcomers = subst (λ (pictures : List Picture). AllByRecursion (IsNewcomer g.B.TableName.table c.in_ok-locks.locks pictures c.in_ok-locks.first.seats) c.into_parts-pictures.result.1.items) pictured
-          (returns-clause-newcomers g c);
+          (returns-clause-may g c).newcomers;
       none_taken = shared.took;
       step = shared.step;
       no_signals = ap (λ t. t.knows.signals) shared.times_is ∙ ap (λ (d : PlainOf g.row.B.Denot). d.times.knows.signals) parts.desk ∙ ap (λ k. k.signals) opens.none_raised;

@@ -1,4 +1,5 @@
-use Rattle.std.proofs.Common.{ap, ◌∙◌, subst, [], ◌∷◌}
+use Rattle.std.proofs.Common.{ap, arith, rules, ◌∙◌, subst, [], ◌∷◌}
+use Rattle.sf_compositor.proofs.Rising.{rose_since}
 use Rattle.sf_run.specs.Played.{opening}
 use Rattle.sf_scene.specs.Limits.{IsWithinLimits}
 use Rattle.sf_scene.specs.Scene.{SceneValue}
@@ -7,8 +8,13 @@ use Rattle.sf_show.proofs.TurnLemmas.{timelines_are}
 use Rattle.sf_show.proofs.WritingLemmas.{cut_part}
 use Rattle.sf_live.proofs.scene.live.Goals as goal
 
-pub returns-in-Err-clause-err : goal.returns-in-Err-clause-err
-returns-in-Err-clause-err g c = cut_part _ _ (opening c.args.scene ∷ []) (c.in-Err.ensures.err (opening c.args.scene) c.opening.ensures)
+pub returns-in-Err : goal.returns-in-Err
+returns-in-Err g c = record {
+  ok = tt;
+  err = cut_part _ _ (opening c.args.scene ∷ []) (c.in-Err.ensures.err (opening c.args.scene) c.opening.ensures);
+  later = c.write_made.ensures.later;
+  failed = search rules;
+}
 
 pub run_scene-requires-clause-rising : goal.run_scene-requires-clause-rising
 run_scene-requires-clause-rising g c κs within =
@@ -18,8 +24,15 @@ run_scene-requires-clause-rising g c κs within =
 pub run_scene-requires-clause-begun : goal.run_scene-requires-clause-begun
 run_scene-requires-clause-begun g c κs within = (g.K.Sink.taken c.args.sink.now, c.in-Ok-write_made.ensures.ok (opening c.args.scene) c.opening.ensures)
 
-pub returns-clause-err : goal.returns-clause-err
-returns-clause-err g c = c.run_scene.ensures.err (g.K.Sink.taken c.args.sink.now) (c.in-Ok-write_made.ensures.ok (opening c.args.scene) c.opening.ensures)
-
-pub returns-clause-ok : goal.returns-clause-ok
-returns-clause-ok g c = c.run_scene.ensures.ok (g.K.Sink.taken c.args.sink.now) (c.in-Ok-write_made.ensures.ok (opening c.args.scene) c.opening.ensures)
+pub returns : goal.returns
+returns g c =
+    let wrote = c.in-Ok-write_made.ensures.ok (opening c.args.scene) c.opening.ensures in
+    let ended = c.run_scene.ensures (g.K.Sink.taken c.args.sink.now) wrote in
+    let before = c.write_made.ensures.later in
+    let later = ended.later in
+    record {
+      ok = ended.ok;
+      err = ended.err;
+      later = omega (arith, before, later);
+      failed = λ fails. rose_since _ _ _ before (ended.failed fails);
+    }

@@ -28,46 +28,33 @@ run_rounds-requires-clause-goes g c κs within =
       (came.together, goes_from _ _ _ _ _ _ _ c.in-Ok.joined came c.requires.starts.1 c.args.opened c.args.plan c.args.period c.args.order _ _ c.args.handler m refl refl, has_come _ _ _ _ _ _ _ c.in-Ok.joined came m.planned),
     )
 
-pub returns-in-Err-clause-err : goal.returns-in-Err-clause-err
-returns-in-Err-clause-err g c = λ scene start m.
+pub returns-in-Err : goal.returns-in-Err
+returns-in-Err g c = λ scene start m.
     let was = of_err _ c.run_threads-compositor.result.1 c.in-Err.fault c.in-Err.is c.run_threads-compositor.ensures.cut in
     let name = sym was.same.sink in
-    subst (λ s. CutSome start (g.K.Sink.taken s)) (search rules)
-    (cut_more start _ _ (record { records = opening scene ∷ []; written = m.begun }) was.cut)
+    record {
+      ok = tt;
+      err =
+          subst (λ s. CutSome start (g.K.Sink.taken s)) (search rules)
+          (cut_more start _ _ (record { records = opening scene ∷ []; written = m.begun }) was.cut);
+      later = search rules;
+      failed = search rules;
+    }
 
-pub returns-in-Ok-clause-ok : goal.returns-in-Ok-clause-ok
-returns-in-Ok-clause-ok g c = λ scene start m.
+pub returns-in-Ok : goal.returns-in-Ok
+returns-in-Ok g c = λ scene start m.
     let came = of_ok _ c.run_threads-compositor.result.1 c.in-Ok.joined c.in-Ok.is
     (c.run_threads-compositor.ensures.together scene m.opens (starts_here _ scene m refl refl refl refl c.new.ensures refl c.requires.some c.requires.few)) in
     let name = sym came.same.sink in
-    subst (λ s. OnOk c.run_rounds.result (WroteLive scene start (g.K.Sink.taken s))) (sym (c.sink-1.given.1 name))
-    (c.run_rounds.ensures.ok (run_came _ _ _ _ _ _ _ c.in-Ok.joined came) came.locks start came.together
-    (goes_from _ _ _ _ _ _ _ c.in-Ok.joined came start c.args.opened c.args.plan c.args.period c.args.order _ _ c.args.handler m refl refl) (has_come _ _ _ _ _ _ _ c.in-Ok.joined came m.planned))
-
-pub returns-in-Ok-clause-err : goal.returns-in-Ok-clause-err
-returns-in-Ok-clause-err g c = λ scene start m.
-    let came = of_ok _ c.run_threads-compositor.result.1 c.in-Ok.joined c.in-Ok.is
-    (c.run_threads-compositor.ensures.together scene m.opens (starts_here _ scene m refl refl refl refl c.new.ensures refl c.requires.some c.requires.few)) in
-    let name = sym came.same.sink in
-    subst (λ s. OnErr c.run_rounds.result (CutSome start (g.K.Sink.taken s))) (sym (c.sink-1.given.1 name))
-    (c.run_rounds.ensures.err (run_came _ _ _ _ _ _ _ c.in-Ok.joined came) came.locks start came.together
-    (goes_from _ _ _ _ _ _ _ c.in-Ok.joined came start c.args.opened c.args.plan c.args.period c.args.order _ _ c.args.handler m refl refl) (has_come _ _ _ _ _ _ _ c.in-Ok.joined came m.planned))
-
-pub returns-in-Ok-clause-later : goal.returns-in-Ok-clause-later
-returns-in-Ok-clause-later g c =
-    let m = c.requires.starts.2 in
-    let came = of_ok _ c.run_threads-compositor.result.1 c.in-Ok.joined c.in-Ok.is
-    (c.run_threads-compositor.ensures.together c.requires.starts.0 m.opens (starts_here _ c.requires.starts.0 m refl refl refl refl c.new.ensures refl c.requires.some c.requires.few)) in
-    let name = sym came.same.sink in
+    let ended = c.run_rounds.ensures (run_came _ _ _ _ _ _ _ c.in-Ok.joined came) came.locks start came.together
+    (goes_from _ _ _ _ _ _ _ c.in-Ok.joined came start c.args.opened c.args.plan c.args.period c.args.order _ _ c.args.handler m refl refl) (has_come _ _ _ _ _ _ _ c.in-Ok.joined came m.planned) in
     let rose = came.faults_rise in
-    let later = c.run_rounds.ensures.later in
-    subst (λ s. g.K.Sink.faults c.args.sink.now ≤ g.K.Sink.faults s) (sym (c.sink-1.given.1 name)) (omega (arith, rose, later))
-
-pub returns-in-Ok-clause-failed : goal.returns-in-Ok-clause-failed
-returns-in-Ok-clause-failed g c = λ fails.
-    let m = c.requires.starts.2 in
-    let came = of_ok _ c.run_threads-compositor.result.1 c.in-Ok.joined c.in-Ok.is
-    (c.run_threads-compositor.ensures.together c.requires.starts.0 m.opens (starts_here _ c.requires.starts.0 m refl refl refl refl c.new.ensures refl c.requires.some c.requires.few)) in
-    let name = sym came.same.sink in
-    subst (λ s. Rose (g.K.Sink.faults c.args.sink.now) (g.K.Sink.faults s)) (sym (c.sink-1.given.1 name))
-    (rose_since _ _ _ came.faults_rise (c.run_rounds.ensures.failed fails))
+    let later = ended.later in
+    record {
+      ok = subst (λ s. OnOk c.run_rounds.result (WroteLive scene start (g.K.Sink.taken s))) (sym (c.sink-1.given.1 name)) ended.ok;
+      err = subst (λ s. OnErr c.run_rounds.result (CutSome start (g.K.Sink.taken s))) (sym (c.sink-1.given.1 name)) ended.err;
+      later = subst (λ s. g.K.Sink.faults c.args.sink.now ≤ g.K.Sink.faults s) (sym (c.sink-1.given.1 name)) (omega (arith, rose, later));
+      failed = λ fails.
+          subst (λ s. Rose (g.K.Sink.faults c.args.sink.now) (g.K.Sink.faults s)) (sym (c.sink-1.given.1 name))
+          (rose_since _ _ _ came.faults_rise (ended.failed fails));
+    }

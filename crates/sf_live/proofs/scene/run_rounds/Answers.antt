@@ -21,12 +21,13 @@ write_rounds-written-requires-clause-shown g c κs within =
           (c.go_on-player.ensures.shown r.0 r.1 r.2 r.3.0 (subst (λ (h : HandlerOf ReadLeaseOf). GoesFrom r.0 r.2 c.args.period c.args.order h c.args.vsyncs) (sym c.into_handler-handler.ensures) r.3.1)),
     )
 
-pub returns-clause-ok : goal.returns-clause-ok
-returns-clause-ok g c = λ run locks start t goes come. c.write_rounds-written.ensures.ok run.scene start
-    (shown_so g.B.TableName.table run start (g.K.Sink.taken c.args.sink.now) c.deref.result.now c.args.timelines.items c.args.plan c.args.screens c.go_on-player.result.0 come c.deref.ensures.value
-    (c.go_on-player.ensures.shown run locks start t (subst (λ (h : HandlerOf ReadLeaseOf). GoesFrom run start c.args.period c.args.order h c.args.vsyncs) (sym c.into_handler-handler.ensures) goes)))
-
-pub returns-clause-err : goal.returns-clause-err
-returns-clause-err g c = λ run locks start t goes come. c.write_rounds-written.ensures.err run.scene start
-    (shown_so g.B.TableName.table run start (g.K.Sink.taken c.args.sink.now) c.deref.result.now c.args.timelines.items c.args.plan c.args.screens c.go_on-player.result.0 come c.deref.ensures.value
-    (c.go_on-player.ensures.shown run locks start t (subst (λ (h : HandlerOf ReadLeaseOf). GoesFrom run start c.args.period c.args.order h c.args.vsyncs) (sym c.into_handler-handler.ensures) goes)))
+pub returns : goal.returns
+returns g c = λ run locks start t goes come.
+    let shown = shown_so g.B.TableName.table run start (g.K.Sink.taken c.args.sink.now) c.deref.result.now c.args.timelines.items c.args.plan c.args.screens c.go_on-player.result.0 come c.deref.ensures.value
+    (c.go_on-player.ensures.shown run locks start t (subst (λ (h : HandlerOf ReadLeaseOf). GoesFrom run start c.args.period c.args.order h c.args.vsyncs) (sym c.into_handler-handler.ensures) goes)) in
+    record {
+      ok = c.write_rounds-written.ensures.ok run.scene start shown;
+      err = c.write_rounds-written.ensures.err run.scene start shown;
+      later = c.write_rounds-written.ensures.later;
+      failed = c.write_rounds-written.ensures.failed;
+    }

@@ -1,10 +1,9 @@
-use Rattle.std.proofs.Common.{◌≤◌, [], ◌∷◌, arith, sym, subst}
+use Rattle.std.proofs.Common.{◌≤◌, arith, sym, subst}
 use Rattle.sf_run.proofs.LimitLemmas.{few_layers}
-use Rattle.sf_run.specs.Played.{opening}
-use Rattle.sf_show.proofs.WritingLemmas.{cut_part, part_whole}
 use Rattle.sf_scene.specs.Scene.{SceneValue}
 use Rattle.sf_actor_set.specs.Scripts.{permits_of}
 use Rattle.sf_live.proofs.Starting.{may_run, of_scene}
+use Rattle.sf_live.proofs.RunLemmas.{ended_early}
 use Rattle.sf_live.proofs.scene.run_scene.Goals as goal
 
 pub with_limit-requires-clause-most : goal.with_limit-requires-clause-most
@@ -23,30 +22,19 @@ run_opened-requires-clause-starts g c κs within = (
       c.in-Ok-with_limit.ensures c.most_layers.ensures c.in-Ok.ensures.value c.requires.rising c.requires.begun.1,
 )
 
-pub returns-clause-ok : goal.returns-clause-ok
-returns-clause-ok g c = λ start begun.
-    c.run_opened.ensures.ok c.args.scene start
+pub returns : goal.returns
+returns g c = λ start begun.
+    c.run_opened.ensures c.args.scene start
     (may_run g.B.TableName.table c.args.scene _ _ _ _ _ _ _ _ c.scene.view_is
     (c.in-Ok-open.ensures.opens (of_scene c.args.scene _ _ c.scene.view_is c.scene.invariant c.as_slice.ensures) c.requires.fresh
     (subst (λ (s : SceneValue). permits_of s.actors ≤ g.B.TableName.table.slots) (sym c.scene.view_is) c.requires.sized))
     c.in-Ok-with_limit.ensures c.most_layers.ensures c.in-Ok.ensures.value c.requires.rising begun)
 
-pub returns-clause-err : goal.returns-clause-err
-returns-clause-err g c = λ start begun.
-    c.run_opened.ensures.err c.args.scene start
-    (may_run g.B.TableName.table c.args.scene _ _ _ _ _ _ _ _ c.scene.view_is
-    (c.in-Ok-open.ensures.opens (of_scene c.args.scene _ _ c.scene.view_is c.scene.invariant c.as_slice.ensures) c.requires.fresh
-    (subst (λ (s : SceneValue). permits_of s.actors ≤ g.B.TableName.table.slots) (sym c.scene.view_is) c.requires.sized))
-    c.in-Ok-with_limit.ensures c.most_layers.ensures c.in-Ok.ensures.value c.requires.rising begun)
+pub returns-in_default : goal.returns-in_default
+returns-in_default g c = λ start begun. ended_early c.args.scene start _ _ begun
 
-pub returns-in_default-clause-err : goal.returns-in_default-clause-err
-returns-in_default-clause-err g c = λ start begun. cut_part start (g.K.Sink.taken c.args.sink.now) (opening c.args.scene ∷ [])
-    (part_whole start (g.K.Sink.taken c.args.sink.now) (opening c.args.scene ∷ []) begun)
+pub returns-in_default-open : goal.returns-in_default-open
+returns-in_default-open g c = λ start begun. ended_early c.args.scene start _ _ begun
 
-pub returns-in_default-open-clause-err : goal.returns-in_default-open-clause-err
-returns-in_default-open-clause-err g c = λ start begun. cut_part start (g.K.Sink.taken c.args.sink.now) (opening c.args.scene ∷ [])
-    (part_whole start (g.K.Sink.taken c.args.sink.now) (opening c.args.scene ∷ []) begun)
-
-pub returns-in_default-with_limit-clause-err : goal.returns-in_default-with_limit-clause-err
-returns-in_default-with_limit-clause-err g c = λ start begun. cut_part start (g.K.Sink.taken c.args.sink.now) (opening c.args.scene ∷ [])
-    (part_whole start (g.K.Sink.taken c.args.sink.now) (opening c.args.scene ∷ []) begun)
+pub returns-in_default-with_limit : goal.returns-in_default-with_limit
+returns-in_default-with_limit g c = λ start begun. ended_early c.args.scene start _ _ begun
