@@ -239,7 +239,8 @@ impl<B: TableName> ActorSet<B> {
         requires rising { handler.old.is_spent ≡ false → IsRisingFrom handler.old.last arrived.items (last_of handler.old.last arrived.items) }
         ensures decides { IfOk result (λ told. Decides ⟦<ReadLease<B> as Lease>⟧ handler.old self.old.desk.turns arrived.items seen.now expected told
             handler.new self.new.desk.turns) }
-        ensures stops { OnErr result (Stops ⟦<ReadLease<B> as Lease>⟧ handler.old self.old.desk.turns handler.new self.new.desk.turns) }
+        ensures stops { OnErr result (Stops ⟦<ReadLease<B> as Lease>⟧ handler.old self.old.desk.turns arrived.items seen.now expected
+            handler.new self.new.desk.turns) }
         ensures again { handler.old.is_spent ≡ true → IsErr result }
         ensures turns { self.new.desk ≡ record self.old.desk { turns = self.new.desk.turns } }
         ensures only { OnlyDesk B.table (taken_in self.old.desk.arrivals) self.old self.new }

@@ -99,7 +99,7 @@ fn vsync_through<B: TableName>(
     requires own { turns.old.table ≡ B.table }
     requires rising { handler.old.is_spent ≡ false → IsRisingFrom handler.old.last arrived.items (last_of handler.old.last arrived.items) }
     ensures decides { IfOk result (λ told. Decides ⟦<ReadLease<B> as Lease>⟧ handler.old turns.old arrived.items seen.now expected told handler.new turns.new) }
-    ensures stops { OnErr result (Stops ⟦<ReadLease<B> as Lease>⟧ handler.old turns.old handler.new turns.new) }
+    ensures stops { OnErr result (Stops ⟦<ReadLease<B> as Lease>⟧ handler.old turns.old arrived.items seen.now expected handler.new turns.new) }
     ensures again { handler.old.is_spent ≡ true → IsErr result }
     ensures goes { SeatGoesOn turns.old turns.new }
 {
@@ -116,7 +116,7 @@ pub fn vsync_at<B: TableName>(
 ) -> Result<Vsync<ReadLease<B>>, NoMemory>
     requires rising { handler.old.is_spent ≡ false → IsRisingFrom handler.old.last arrived.items (last_of handler.old.last arrived.items) }
     ensures decides { IfOk result (λ told. Decides ⟦<ReadLease<B> as Lease>⟧ handler.old desk.old.turns arrived.items seen.now expected told handler.new desk.new.turns) }
-    ensures stops { OnErr result (Stops ⟦<ReadLease<B> as Lease>⟧ handler.old desk.old.turns handler.new desk.new.turns) }
+    ensures stops { OnErr result (Stops ⟦<ReadLease<B> as Lease>⟧ handler.old desk.old.turns arrived.items seen.now expected handler.new desk.new.turns) }
     ensures again { handler.old.is_spent ≡ true → IsErr result }
     ensures turns { desk.new ≡ record desk.old { turns = desk.new.turns } }
     ensures goes { GoesOnDesk (taken_in desk.old.arrivals) desk.old desk.new }

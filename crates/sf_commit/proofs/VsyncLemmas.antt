@@ -1,5 +1,5 @@
 -- One vsync, put together from what was decided and what was settled.
-use Rattle.std.proofs.Common.{◌≡◌, ℕ, Bool, true, false, List, [], ◌∷◌, ◌++◌, ◌≤◌, length, map, Option, Some, None, Result, Ok, Err, refl, ap, sym, ◌∙◌, subst, true≢false, arith}
+use Rattle.std.proofs.Common.{inl, inr, ◌≡◌, ℕ, Bool, true, false, List, [], ◌∷◌, ◌++◌, ◌≤◌, length, map, Option, Some, None, Result, Ok, Err, refl, ap, sym, ◌∙◌, subst, true≢false, arith}
 use Rattle.std.specs.Prelude.{IfSome, OnErr, if◌then◌else◌, is_some}
 use Rattle.std.proofs.lemmas.List.{append-nil, append_assoc}
 use Rattle.std.specs.List.{All, AllZip}
@@ -23,7 +23,7 @@ use Rattle.sf_commit.proofs.LendLemmas.{many_along, placed_on, there_after, ther
 use Rattle.sf_commit.proofs.SettleLemmas.{reads-append, then_after}
 use Rattle.sf_commit.proofs.StandingAlong.{stands_decided}
 use Rattle.sf_commit.specs.Following.{DecidesAll, SettlesAll, begun_with}
-use Rattle.sf_commit.specs.Handlers.{Decides, FitsHandler, HandlerOf, IsHandler, IsKept, Stops, last_of, lent_pixels, source_of}
+use Rattle.sf_commit.specs.Handlers.{AreToGo, Decides, FitsHandler, HandlerOf, IsHandler, IsKept, Stops, last_of, lent_pixels, source_of}
 use Rattle.sf_commit.specs.Leases.{AllOn, IsKnownOn, IsReleaseOf, here_if, pictures, pictures_here}
 use Rattle.sf_commit.specs.Lending.{AllKept, AreThere, IsThere, KeepsSome, KeptRead, ends_of, is_at, kept_if, left_if, read_of, reads_of}
 use Rattle.sf_commit.specs.OnLayers.{OnLayer, brought, shown_on}
@@ -293,11 +293,13 @@ module _ {L E R C : Type 0} (lease : Ghosts L E R C) where
   }
 
   -- a vsync that stops before it releases anything, and one that stops afterwards
-  pub stops_early : (old new : HandlerOf L) (eye eye' : E) → new.is_spent ≡ true → new.lent ≡ old.lent → new.kept ≡ old.kept → IsEyeAfter lease eye eye' [] → Stops lease old eye new eye'
-  stops_early old new eye eye' spent lent kept reads = record {
+  pub stops_early : (old new : HandlerOf L) (eye eye' : E) (arrived : List (Arrival L)) (seen : Seen) (expected : ℕ) → new.is_spent ≡ true → new.lent ≡ old.lent → new.kept ≡ old.kept
+      → IsEyeAfter lease eye eye' [] → Stops lease old eye arrived seen expected new eye'
+  stops_early old new eye eye' arrived seen expected spent lent kept reads = record {
     spent = spent;
     lent = lent;
     handed = [];
+    gone = inl refl;
     kept = kept ∙ none_more old.lent;
     reads = subst (IsEyeAfter lease eye eye') (none_left old.lent) reads;
     fits = subst (λ (xs : List (KeptRead L)). AllKept (lease.fits (lease.mark eye)) old.kept → AllKept (lease.fits (lease.mark eye)) xs) (sym kept) (λ all. all);
@@ -311,14 +313,15 @@ module _ {L E R C : Type 0} (lease : Ghosts L E R C) where
       none_left None = refl
       none_left (Some lent) = refl
 
-  pub stops_late : (old new : HandlerOf L) (eye now mid eye' : E) (later : List (KeptRead L)) (gone : List (OnLayer L)) → new.is_spent ≡ true → new.lent ≡ old.lent
-      → (old.lent ≡ None → old.kept ≡ []) → KeepsSome old.kept later gone → AllOn (lease.fits (lease.mark eye)) gone
-      → new.kept ≡ (if is_some old.lent then later else []) → IsEyeAfter lease eye now [] → IsEyeAfter lease now mid []
-      → IsEyeAfter lease mid eye' (if is_some old.lent then [] else ends_of lease later) → Stops lease old eye new eye'
-  stops_late old new eye now mid eye' later gone spent lent unlent some all kept first second third = record {
+  pub stops_late : (old new : HandlerOf L) (eye now mid eye' : E) (arrived : List (Arrival L)) (seen : Seen) (expected : ℕ) (later : List (KeptRead L)) (gone : List (OnLayer L))
+      → new.is_spent ≡ true → new.lent ≡ old.lent → (old.lent ≡ None → old.kept ≡ []) → (some : KeepsSome old.kept later gone) → AreToGo lease old eye arrived seen expected eye' some.handed
+      → AllOn (lease.fits (lease.mark eye)) gone → new.kept ≡ (if is_some old.lent then later else []) → IsEyeAfter lease eye now [] → IsEyeAfter lease now mid []
+      → IsEyeAfter lease mid eye' (if is_some old.lent then [] else ends_of lease later) → Stops lease old eye arrived seen expected new eye'
+  stops_late old new eye now mid eye' arrived seen expected later gone spent lent unlent some goes all kept first second third = record {
     spent = spent;
     lent = lent;
-    handed = reads_of some.handed;
+    handed = some.handed;
+    gone = inr goes;
     kept = kept ∙ kept_after old.lent old.kept later (reads_of some.handed) unlent some.kept;
     reads = subst (IsEyeAfter lease eye eye') (left_after old.lent old.kept later (reads_of some.handed) unlent some.kept)
         (then_after lease eye mid eye' [] (if is_some old.lent then [] else ends_of lease later) (then_after lease eye now mid [] [] first second) third);
@@ -329,6 +332,7 @@ module _ {L E R C : Type 0} (lease : Ghosts L E R C) where
   -- a vsync that came as far as the releases, of which some were made
   pub record Tried (old : HandlerOf L) (facts : FactsOf) (q : QueuesOf L) (on : List (OnLayer L)) (eye now mid : E) (arrived : List (Arrival L)) (seen : Seen) (expected : ℕ)
       (stage made : StageOf L) (waits : List (ℕ × Hold)) (later : QueuesOf L) (noted : FactsOf) (all : List (KeptRead L)) : Type 0 where
+    pub frames : facts.frames ≡ old.frames
     pub queues : q ≡ record { pending = old.pending; last = old.last }
     pub on_is : on ≡ old.on
     pub decides : DecidesAll lease old.tree on facts q eye arrived seen expected stage waits later noted now
@@ -380,9 +384,26 @@ module _ {L E R C : Type 0} (lease : Ghosts L E R C) where
         part (Some x) there = there
 
     pub tried_stops : (new : HandlerOf L) (eye' : E) → new.is_spent ≡ true → new.lent ≡ old.lent → new.kept ≡ (if is_some old.lent then all else [])
-        → IsEyeAfter lease mid eye' (if is_some old.lent then [] else ends_of lease all) → Stops lease old eye new eye'
+        → IsEyeAfter lease mid eye' (if is_some old.lent then [] else ends_of lease all) → Stops lease old eye arrived seen expected new eye'
     tried_stops new eye' spent lent kept left =
-        stops_late old new eye now mid eye' all made.gone spent lent t.unlent t.some tried_gone kept t.decides.eye_is t.settled_eye left
+        let d = t.decides in
+        stops_late old new eye now mid eye' arrived seen expected all made.gone spent lent t.unlent t.some
+        (record {
+          looked = d.looked;
+          looks = subst (λ (x : QueuesOf L). AllZip (IsLookedArrival lease) (x.pending ++ arrived) d.looked) t.queues d.looks;
+          shown = shown_later eye now eye' d.looked (λ l knows. left.keeps l (t.settled_eye.keeps l knows)) d.shown;
+          end = d.end;
+          decided = record {
+            taken = d.decided.taken;
+            leads = subst (λ (b : Round L). Leads lease.shown seen expected b d.decided.taken d.end)
+                (λ i. record { stage = record { tree = old.tree; on = t.on_is i; commits = []; gone = [] }; pending = d.looked; frames = t.frames i; fresh = [] })
+                d.decided.leads;
+            rests = d.decided.rests;
+          };
+          left = t.some.left;
+          all = t.some.all ∙ ap (λ (x : StageOf L). x.gone) (sym t.stage_is ∙ d.stage_is);
+        })
+        tried_gone kept t.decides.eye_is t.settled_eye left
 
   -- a vsync that stops before the releases
   pub kept_early : (old new : HandlerOf L) (contents later : List Picture) (b has_changed : Bool) → IsKept lease old contents b → new.on ≡ [] → later ≡ [] → new.is_spent ≡ true → new.lent ≡ old.lent
@@ -567,6 +588,7 @@ module _ {L E R C : Type 0} (lease : Ghosts L E R C) where
   kept_as h contents b c same kept = subst (IsKept lease h contents) (sym same) kept
 
   -- the same said of a vsync that stops, whatever it answers with
-  pub stops_same : {A F : Type 0} (answer : Result A F) (old same new : HandlerOf L) (eye eye' : E) → old ≡ same → Stops lease old eye new eye' → OnErr answer (Stops lease same eye new eye')
-  stops_same (Ok x) old same new eye eye' at stops = tt
-  stops_same (Err e) old same new eye eye' at stops = subst (λ (h : HandlerOf L). Stops lease h eye new eye') at stops
+  pub stops_same : {A F : Type 0} (answer : Result A F) (old same new : HandlerOf L) (eye eye' : E) (arrived : List (Arrival L)) (seen : Seen) (expected : ℕ)
+      → old ≡ same → Stops lease old eye arrived seen expected new eye' → OnErr answer (Stops lease same eye arrived seen expected new eye')
+  stops_same (Ok x) old same new eye eye' arrived seen expected at stops = tt
+  stops_same (Err e) old same new eye eye' arrived seen expected at stops = subst (λ (h : HandlerOf L). Stops lease h eye arrived seen expected new eye') at stops

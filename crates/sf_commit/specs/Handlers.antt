@@ -1,5 +1,5 @@
 -- What the compositor holds between two vsyncs, and what a vsync makes of it.
-use Rattle.std.specs.Prelude.{◌≡◌, ℕ, ◌≤◌, Bool, true, false, List, [], ◌∷◌, ◌++◌, length, map, Option, Some, None, IfSome}
+use Rattle.std.specs.Prelude.{◌≡◌, ◌⊎◌, ℕ, ◌≤◌, Bool, true, false, List, [], ◌∷◌, ◌++◌, length, map, Option, Some, None, IfSome}
 use Rattle.std.specs.List.{All, AllZip, find, position}
 use Rattle.std.specs.Option.{option_map, unwrap_or}
 use Rattle.sf_base.specs.declared.fences.Seen.{Seen}
@@ -134,12 +134,23 @@ module _ {L E R C : Type 0} (lease : Ghosts L E R C) where
     pub decided : Decided lease.shown seen expected (begun old looked) end
     pub settled : Settles old eye arrived end seen expected told new eye'
 
-  -- what a vsync leaves for want of memory: what was lent is lent still. Of the buffers that were to go it handed some
-  -- back, whose reads are left, or kept while buffers are lent
-  pub record Stops (old : HandlerOf L) (eye : E) (new : HandlerOf L) (eye' : E) : Type 0 where
+  -- buffers that go, or the first of them, once a vsync has looked at all that is pending and has decided
+  pub record AreToGo (old : HandlerOf L) (eye : E) (arrived : List (Arrival L)) (seen : Seen) (expected : ℕ) (eye' : E) (handed : List (OnLayer L)) : Type 0 where
+    pub looked : List (Arrival L)
+    pub looks : AllZip (IsLookedArrival lease) (old.pending ++ arrived) looked
+    pub shown : AllLeases (IsShownTo lease eye eye') looked
+    pub end : Round L
+    pub decided : Decided lease.shown seen expected (begun old looked) end
+    pub left : List (OnLayer L)
+    pub all : handed ++ left ≡ end.stage.gone
+
+  -- What a vsync leaves for want of memory: what was lent is lent still. It handed back nothing, or some of the buffers that
+  -- go once all is decided, whose reads are left, or kept while buffers are lent.
+  pub record Stops (old : HandlerOf L) (eye : E) (arrived : List (Arrival L)) (seen : Seen) (expected : ℕ) (new : HandlerOf L) (eye' : E) : Type 0 where
     pub spent : new.is_spent ≡ true
     pub lent : new.lent ≡ old.lent
-    pub handed : List (KeptRead L)
-    pub kept : new.kept ≡ old.kept ++ kept_if old.lent handed
-    pub reads : IsEyeAfter lease eye eye' (ends_of lease (left_if old.lent handed))
+    pub handed : List (OnLayer L)
+    pub gone : (handed ≡ []) ⊎ AreToGo old eye arrived seen expected eye' handed
+    pub kept : new.kept ≡ old.kept ++ kept_if old.lent (reads_of handed)
+    pub reads : IsEyeAfter lease eye eye' (ends_of lease (left_if old.lent (reads_of handed)))
     pub fits : AllKept (lease.fits (lease.mark eye)) old.kept → AllKept (lease.fits (lease.mark eye)) new.kept

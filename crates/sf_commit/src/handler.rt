@@ -151,7 +151,7 @@ where
         requires brought { AllLeases (L.fits (L.mark eye.old)) arrived.items }
         requires rising { self.old.is_spent ≡ false → IsRisingFrom self.old.last arrived.items (last_of self.old.last arrived.items) }
         ensures decides { IfOk result (λ told. Decides L.Lease self.old eye.old arrived.items seen.now expected told self.new eye.new) }
-        ensures stops { OnErr result (Stops L.Lease self.old eye.old self.new eye.new) }
+        ensures stops { OnErr result (Stops L.Lease self.old eye.old arrived.items seen.now expected self.new eye.new) }
         ensures again { self.old.is_spent ≡ true → IsErr result }
         ensures mark { L.mark eye.new ≡ L.mark eye.old }
         ensures keeps { (l : L) → L.knows eye.old l → L.knows eye.new l }

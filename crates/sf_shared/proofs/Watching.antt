@@ -39,6 +39,6 @@ seat_goes_on old new made mark leaves keeps = record {
 
 -- the ends that a vsync makes, whether it found memory or not
 pub vsync_ends : {R C : Type 0} (lease : Ghosts ReadLeaseOf SeatView R C) (old new : HandlerOf ReadLeaseOf) (eye after : SeatView) (arrived : List (Arrival ReadLeaseOf)) (seen : Seen) (expected : ℕ) (result : Result (VsyncOf ReadLeaseOf) NoMemory)
-    → IfOk result (λ told. Decides lease old eye arrived seen expected told new after) → OnErr result (Stops lease old eye new after) → (made : List (ℕ × ℕ)) × (lease.ends after ≡ lease.ends eye ++ made)
+    → IfOk result (λ told. Decides lease old eye arrived seen expected told new after) → OnErr result (Stops lease old eye arrived seen expected new after) → (made : List (ℕ × ℕ)) × (lease.ends after ≡ lease.ends eye ++ made)
 vsync_ends lease old new eye after arrived seen expected (Ok told) decides stops = (_, decides.settled.reads.ends)
 vsync_ends lease old new eye after arrived seen expected (Err e) decides stops = (_, stops.reads.ends)

@@ -67,7 +67,7 @@ fn vsync_through<B: TableName>(
     requires own { turns.old.table ≡ B.table }
     requires rising { handler.old.is_spent ≡ false → IsRisingFrom handler.old.last arrived.items (last_of handler.old.last arrived.items) }
     ensures decides { IfOk result (λ told. Decides ⟦<ReadLease<B> as Lease>⟧ handler.old turns.old arrived.items seen.now expected told handler.new turns.new) }
-    ensures stops { OnErr result (Stops ⟦<ReadLease<B> as Lease>⟧ handler.old turns.old handler.new turns.new) }
+    ensures stops { OnErr result (Stops ⟦<ReadLease<B> as Lease>⟧ handler.old turns.old arrived.items seen.now expected handler.new turns.new) }
     ensures again { handler.old.is_spent ≡ true → IsErr result }
     ensures goes { SeatGoesOn turns.old turns.new }
 {
@@ -142,7 +142,7 @@ impl<B: TableName> Seats<B> {
         requires own { self.old.turns.table ≡ B.table }
         requires rising { handler.old.is_spent ≡ false → IsRisingFrom handler.old.last arrived.items (last_of handler.old.last arrived.items) }
         ensures decides { IfOk result (λ told. Decides ⟦<ReadLease<B> as Lease>⟧ handler.old self.old.turns arrived.items seen.now expected told handler.new self.new.turns) }
-        ensures stops { OnErr result (Stops ⟦<ReadLease<B> as Lease>⟧ handler.old self.old.turns handler.new self.new.turns) }
+        ensures stops { OnErr result (Stops ⟦<ReadLease<B> as Lease>⟧ handler.old self.old.turns arrived.items seen.now expected handler.new self.new.turns) }
         ensures again { handler.old.is_spent ≡ true → IsErr result }
         ensures same { self.new ≡ record self.old { turns = self.new.turns } }
         ensures goes { SeatGoesOn self.old.turns self.new.turns }

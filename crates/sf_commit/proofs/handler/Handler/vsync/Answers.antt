@@ -99,6 +99,7 @@ leave_unlent-requires-clause-fits g c =
     c.in_ok-stage.stage c.in_ok-stage.held.items c.decide_all.new.queues c.decide_all.new.facts c.decide_all.new.eye) c.replace-tree.ensures.value c.in_ok-stage.ensures.decides in
     let t : Tried g.L.Lease h inside.facts inside.queues c.in_ok-on.on.items c.args.eye.now c.decide_all.new.eye c.settle_all-settled.new.eye c.args.arrived.items c.args.seen.now c.args.expected
     c.in_ok-stage.stage made c.in_ok-stage.held.items c.decide_all.new.queues c.decide_all.new.facts c.settle_all-settled.new.kept.items = record {
+      frames = refl;
       queues = refl;
       on_is = on;
       decides = decides;
@@ -137,6 +138,7 @@ leave_unlent-requires-clause-there g c =
     c.in_ok-stage.stage c.in_ok-stage.held.items c.decide_all.new.queues c.decide_all.new.facts c.decide_all.new.eye) c.replace-tree.ensures.value c.in_ok-stage.ensures.decides in
     let t : Tried g.L.Lease h inside.facts inside.queues c.in_ok-on.on.items c.args.eye.now c.decide_all.new.eye c.settle_all-settled.new.eye c.args.arrived.items c.args.seen.now c.args.expected
     c.in_ok-stage.stage made c.in_ok-stage.held.items c.decide_all.new.queues c.decide_all.new.facts c.settle_all-settled.new.kept.items = record {
+      frames = refl;
       queues = refl;
       on_is = on;
       decides = decides;
@@ -237,6 +239,7 @@ invariant_of-self-in_err-on-2 g c =
     c.in_ok-stage.stage c.in_ok-stage.held.items c.decide_all.new.queues c.decide_all.new.facts c.decide_all.new.eye) c.replace-tree.ensures.value c.in_ok-stage.ensures.decides in
     let t : Tried g.L.Lease h inside.facts inside.queues c.in_ok-on.on.items c.args.eye.now c.decide_all.new.eye c.settle_all-settled.new.eye c.args.arrived.items c.args.seen.now c.args.expected
     c.in_ok-stage.stage made c.in_ok-stage.held.items c.decide_all.new.queues c.decide_all.new.facts c.settle_all-settled.new.kept.items = record {
+      frames = refl;
       queues = refl;
       on_is = on;
       decides = decides;
@@ -282,6 +285,7 @@ invariant_of-self-in_err-make g c =
     c.in_ok-stage.stage c.in_ok-stage.held.items c.decide_all.new.queues c.decide_all.new.facts c.decide_all.new.eye) c.replace-tree.ensures.value c.in_ok-stage.ensures.decides in
     let t : Tried g.L.Lease h inside.facts inside.queues c.in_ok-on.on.items c.args.eye.now c.decide_all.new.eye c.settle_all-settled.new.eye c.args.arrived.items c.args.seen.now c.args.expected
     c.in_ok-stage.stage made c.in_ok-stage.held.items c.decide_all.new.queues c.decide_all.new.facts c.settle_all-settled.new.kept.items = record {
+      frames = refl;
       queues = refl;
       on_is = on;
       decides = decides;
@@ -412,7 +416,7 @@ returns-clause-decides g c =
 
 pub returns-then-self-clause-stops : goal.returns-then-self-clause-stops
 returns-then-self-clause-stops g c =
-    stops_early g.L.Lease c.args.self.now _ c.args.eye.now _ (ap (λ (x : HandlerOf g.row.L.Denot). x.is_spent) (sym c.self.view_is) ∙ c.if-self.true) refl refl (eye_same g.L.Lease c.args.eye.now)
+    stops_early g.L.Lease c.args.self.now _ c.args.eye.now _ c.args.arrived.items c.args.seen.now c.args.expected (ap (λ (x : HandlerOf g.row.L.Denot). x.is_spent) (sym c.self.view_is) ∙ c.if-self.true) refl refl (eye_same g.L.Lease c.args.eye.now)
 
 pub returns-in_err-new-clause-stops : goal.returns-in_err-new-clause-stops
 returns-in_err-new-clause-stops g c =
@@ -429,7 +433,7 @@ returns-in_err-new-clause-stops g c =
       lent = option_map (λ lent. lent.value) inside.lent;
       kept = inside.kept.items;
     } in
-    stops_same g.L.Lease _ h _ _ c.args.eye.now _ c.self.view_is (stops_early g.L.Lease h _ c.args.eye.now _ refl refl refl (eye_same g.L.Lease c.args.eye.now))
+    stops_same g.L.Lease _ h _ _ c.args.eye.now _ c.args.arrived.items c.args.seen.now c.args.expected c.self.view_is (stops_early g.L.Lease h _ c.args.eye.now _ c.args.arrived.items c.args.seen.now c.args.expected refl refl refl (eye_same g.L.Lease c.args.eye.now))
 
 pub returns-in_err-on-clause-stops : goal.returns-in_err-on-clause-stops
 returns-in_err-on-clause-stops g c =
@@ -446,7 +450,7 @@ returns-in_err-on-clause-stops g c =
       lent = option_map (λ lent. lent.value) inside.lent;
       kept = inside.kept.items;
     } in
-    stops_same g.L.Lease _ h _ _ c.args.eye.now _ c.self.view_is (stops_early g.L.Lease h _ c.args.eye.now _ refl refl refl (eye_same g.L.Lease c.args.eye.now))
+    stops_same g.L.Lease _ h _ _ c.args.eye.now _ c.args.arrived.items c.args.seen.now c.args.expected c.self.view_is (stops_early g.L.Lease h _ c.args.eye.now _ c.args.arrived.items c.args.seen.now c.args.expected refl refl refl (eye_same g.L.Lease c.args.eye.now))
 
 pub returns-in_err-stage-clause-stops : goal.returns-in_err-stage-clause-stops
 returns-in_err-stage-clause-stops g c =
@@ -463,7 +467,7 @@ returns-in_err-stage-clause-stops g c =
       lent = option_map (λ lent. lent.value) inside.lent;
       kept = inside.kept.items;
     } in
-    stops_same g.L.Lease _ h _ _ c.args.eye.now _ c.self.view_is (stops_early g.L.Lease h _ c.args.eye.now _ refl refl refl (c.decide_all.ensures.eye))
+    stops_same g.L.Lease _ h _ _ c.args.eye.now _ c.args.arrived.items c.args.seen.now c.args.expected c.self.view_is (stops_early g.L.Lease h _ c.args.eye.now _ c.args.arrived.items c.args.seen.now c.args.expected refl refl refl (c.decide_all.ensures.eye))
 
 pub returns-in_err-on-2-clause-stops : goal.returns-in_err-on-2-clause-stops
 returns-in_err-on-2-clause-stops g c =
@@ -488,6 +492,7 @@ returns-in_err-on-2-clause-stops g c =
     c.in_ok-stage.stage c.in_ok-stage.held.items c.decide_all.new.queues c.decide_all.new.facts c.decide_all.new.eye) c.replace-tree.ensures.value c.in_ok-stage.ensures.decides in
     let t : Tried g.L.Lease h inside.facts inside.queues c.in_ok-on.on.items c.args.eye.now c.decide_all.new.eye c.settle_all-settled.new.eye c.args.arrived.items c.args.seen.now c.args.expected
     c.in_ok-stage.stage made c.in_ok-stage.held.items c.decide_all.new.queues c.decide_all.new.facts c.settle_all-settled.new.kept.items = record {
+      frames = refl;
       queues = refl;
       on_is = on;
       decides = decides;
@@ -503,7 +508,7 @@ returns-in_err-on-2-clause-stops g c =
     let is_lent = c.is_some-is_lent.ensures ∙ sym (some_map (λ lent. lent.value) inside.lent) in
     let kept = c.leave_unlent.ensures.kept ∙ ap (λ (b : Bool). if b then c.settle_all-settled.new.kept.items else []) is_lent in
     let left = subst (λ (b : Bool). IsEyeAfter g.L.Lease c.settle_all-settled.new.eye c.leave_unlent.new.eye (if b then [] else ends_of g.L.Lease c.settle_all-settled.new.kept.items)) is_lent c.leave_unlent.ensures.reads in
-    stops_same g.L.Lease _ h _ _ c.args.eye.now c.leave_unlent.new.eye c.self.view_is
+    stops_same g.L.Lease _ h _ _ c.args.eye.now c.leave_unlent.new.eye c.args.arrived.items c.args.seen.now c.args.expected c.self.view_is
     (tried_stops g.L.Lease h inside.facts inside.queues c.in_ok-on.on.items c.args.eye.now c.decide_all.new.eye c.settle_all-settled.new.eye c.args.arrived.items c.args.seen.now c.args.expected
     c.in_ok-stage.stage made c.in_ok-stage.held.items c.decide_all.new.queues c.decide_all.new.facts c.settle_all-settled.new.kept.items t _ c.leave_unlent.new.eye refl refl kept left)
 
@@ -530,6 +535,7 @@ returns-in_err-make-clause-stops g c =
     c.in_ok-stage.stage c.in_ok-stage.held.items c.decide_all.new.queues c.decide_all.new.facts c.decide_all.new.eye) c.replace-tree.ensures.value c.in_ok-stage.ensures.decides in
     let t : Tried g.L.Lease h inside.facts inside.queues c.in_ok-on.on.items c.args.eye.now c.decide_all.new.eye c.settle_all-settled.new.eye c.args.arrived.items c.args.seen.now c.args.expected
     c.in_ok-stage.stage made c.in_ok-stage.held.items c.decide_all.new.queues c.decide_all.new.facts c.settle_all-settled.new.kept.items = record {
+      frames = refl;
       queues = refl;
       on_is = on;
       decides = decides;
@@ -545,7 +551,7 @@ returns-in_err-make-clause-stops g c =
     let is_lent = c.is_some-is_lent.ensures ∙ sym (some_map (λ lent. lent.value) inside.lent) in
     let kept = c.leave_unlent.ensures.kept ∙ ap (λ (b : Bool). if b then c.settle_all-settled.new.kept.items else []) is_lent in
     let left = subst (λ (b : Bool). IsEyeAfter g.L.Lease c.settle_all-settled.new.eye c.leave_unlent.new.eye (if b then [] else ends_of g.L.Lease c.settle_all-settled.new.kept.items)) is_lent c.leave_unlent.ensures.reads in
-    stops_same g.L.Lease _ h _ _ c.args.eye.now c.leave_unlent.new.eye c.self.view_is
+    stops_same g.L.Lease _ h _ _ c.args.eye.now c.leave_unlent.new.eye c.args.arrived.items c.args.seen.now c.args.expected c.self.view_is
     (tried_stops g.L.Lease h inside.facts inside.queues c.in_ok-on.on.items c.args.eye.now c.decide_all.new.eye c.settle_all-settled.new.eye c.args.arrived.items c.args.seen.now c.args.expected
     c.in_ok-stage.stage made c.in_ok-stage.held.items c.decide_all.new.queues c.decide_all.new.facts c.settle_all-settled.new.kept.items t _ c.leave_unlent.new.eye refl refl kept left)
 
