@@ -1,5 +1,5 @@
 -- An actor's trace keeps what it keeps where what is known grows without an entry of it.
-use Rattle.std.proofs.Common.{◌≡◌, ℕ, false, ◌==◌, List, [], ◌∷◌, ◌++◌, inl, inr, length, filter, arith, ap, ◌∙◌, sym, refl, subst, Option, Some, None}
+use Rattle.std.proofs.Common.{◌≡◌, ℕ, false, ◌==◌, Bool, List, [], ◌∷◌, ◌++◌, inl, inr, length, filter, arith, ap, ◌∙◌, sym, refl, subst, Option, Some, None}
 use Rattle.std.specs.Prelude.{map, get_or, Contains}
 use Rattle.std.specs.List.{All, AllPairs, AllZip, list_any}
 use Rattle.std.proofs.lemmas.Bool.{cases_Bool, or_parts}
@@ -22,7 +22,7 @@ use Rattle.sf_actor.specs.declared.tried.Reply.{Reply}
 use Rattle.sf_actor.specs.Asking.{call_of}
 use Rattle.sf_actor.specs.Draws.{EntersCounted, IsInOrder, entered_in}
 use Rattle.sf_actor.specs.Keeping.{TraceKept}
-use Rattle.sf_actor.specs.Known.{AreAmong, Call, GoesOn, Known, Rise, Share, ShareGoesOn, is_sent_by, own_calls, plain_arrival, share_of, told_by}
+use Rattle.sf_actor.specs.Known.{AreAmong, Call, GoesOn, Known, Rise, Share, ShareGoesOn, arrivals_told, is_sent_by, own_calls, plain_arrival, share_of, told_by}
 use Rattle.sf_actor.specs.Points.{detached_fence, waited_fence}
 use Rattle.sf_actor.specs.Rights.{BringsGiven, EndsIn, HoldsAcquired, IsOfCall, SendsAcquired, Turn, WasGivenAt, WasPaid, issued_turn}
 use Rattle.sf_actor.specs.Parts.{turn_held}
@@ -139,8 +139,9 @@ module _ {B : Type 0} where
         ap (λ (m : QueueMark). own_calls actor m (new.calls queue)) (goes.marks queue)
         ∙ own_same actor (old.marks queue) (old.calls queue) (new.calls queue) (goes.calls queue);
     arrivals =
-        ap (λ (xs : List (Arrival ReadLeaseOf)). filter (is_sent_by actor) xs) goes.arrivals.joined
-        ∙ own_arrivals actor old.arrivals goes.arrivals.later goes.arrivals.none;
+        ap (λ (tells : Bool). arrivals_told tells (filter (is_sent_by actor) new.arrivals)) goes.tells
+        ∙ ap (arrivals_told old.tells)
+        (ap (λ (xs : List (Arrival ReadLeaseOf)). filter (is_sent_by actor) xs) goes.arrivals.joined ∙ own_arrivals actor old.arrivals goes.arrivals.later goes.arrivals.none);
     values = goes.values;
     signals = goes.signals;
     left = goes.left;

@@ -1,5 +1,5 @@
 -- What calls of a desk let grow: for the caller, and for any other actor.
-use Rattle.std.proofs.Common.{◌≡◌, ◌≢◌, ℕ, ◌+◌, ◌-◌, ◌≤◌, ◌==◌, true, false, List, [], ◌∷◌, ◌++◌, inl, inr, arith, ap, ◌∙◌, sym, refl, subst}
+use Rattle.std.proofs.Common.{◌≡◌, ◌≢◌, ℕ, ◌+◌, ◌-◌, ◌≤◌, ◌==◌, true, false, List, [], ◌∷◌, ◌++◌, length, inl, inr, arith, ap, ◌∙◌, sym, refl, subst}
 use Rattle.std.proofs.lemmas.Bool.{cases_Bool, eq-eqb, eqb-true, false≢true, ne_eqb}
 use Rattle.std.proofs.lemmas.List.{append-nil}
 use Rattle.std.proofs.lemmas.List.Elements.{Contains-append_left}
@@ -67,6 +67,7 @@ module _ {B : Type 0} where
   pub goes_same : (actor : ℕ) (known : Known B) → GoesOn actor known known
   goes_same actor known = record {
     marks = λ queue. refl;
+    tells = refl;
     calls = λ queue. calls_same actor (known.calls queue) (known.calls queue) refl;
     arrivals = arrives_same actor known.arrivals;
     values = λ t low high. omega arith;
@@ -88,6 +89,7 @@ module _ {B : Type 0} where
   pub goes_twice : (actor : ℕ) (old mid new : Known B) → GoesOn actor old mid → GoesOn actor mid new → GoesOn actor old new
   goes_twice actor old mid new first second = record {
     marks = λ queue. second.marks queue ∙ first.marks queue;
+    tells = second.tells ∙ first.tells;
     calls = λ queue. calls_twice actor (old.calls queue) (mid.calls queue) (new.calls queue) (first.calls queue) (second.calls queue);
     arrivals = arrives_twice actor old.arrivals mid.arrivals new.arrivals first.arrivals second.arrivals;
     values = λ t low high. let a = first.values t low high in let b = second.values t low high in omega (arith, a, b);
@@ -100,6 +102,7 @@ module _ {B : Type 0} where
   times_go : (actor : ℕ) (home : DeskHome) (view : DeskView B) (times : Knows) → Rise (values_of view.times.known) (values_of times.known) → AreAmong view.times.signals times.signals → GoesOn actor (known_of home view) (known_of home (record view { times = times }))
   times_go actor home view times values signals = record {
     marks = λ queue. refl;
+    tells = refl;
     calls = λ queue. calls_same actor (view.calls queue) (view.calls queue) refl;
     arrivals = arrives_same actor view.arrivals;
     values = values;
@@ -112,6 +115,7 @@ module _ {B : Type 0} where
   turns_go : (actor : ℕ) (home : DeskHome) (view : DeskView B) (turns : SeatView) → AreAmong view.turns.leaves turns.leaves → CountsRise view.turns.seen turns.seen → GoesOn actor (known_of home view) (known_of home (record view { turns = turns }))
   turns_go actor home view turns leaves seen = record {
     marks = λ queue. refl;
+    tells = refl;
     calls = λ queue. calls_same actor (view.calls queue) (view.calls queue) refl;
     arrivals = arrives_same actor view.arrivals;
     values = rise-same view.times.known;
@@ -149,6 +153,7 @@ module _ {B : Type 0} where
       subst (λ (v : DeskView B). GoesOn actor (known_of home old) (known_of home v)) (sym same)
       (record {
         marks = λ q. refl;
+        tells = refl;
         calls = λ q. elim (cases_Bool (q == queue)) [
           | inl met ↦ subst (λ (n : ℕ). GoesOnWithout actor (old.calls n) (new.calls n)) (sym (eqb-true q queue met)) here
           | inr unmet ↦ calls_same actor (old.calls q) (new.calls q) (others q (λ e. apart q unmet e))
@@ -186,10 +191,11 @@ module _ {B : Type 0} where
   -- over a desk that is exact, a transaction that is sent is only the caller's
   pub send_alone : (actor : ℕ) (home : DeskHome) (old new : DeskView B) (by step : ℕ) (txn : Contents ReadLeaseOf) (number : ℕ) → home.is_exact ≡ true → by ≢ actor → MadeSend home old new by step txn number → GoesOn actor (known_of home old) (known_of home new)
   send_alone actor home old new by step txn number exact apart made =
-      let arrived : Arrival ReadLeaseOf = record { number = number; actor = record { 0 = by }; step = step; txn = txn } in
+      let arrived : Arrival ReadLeaseOf = record { number = length made.earlier + 1; actor = record { 0 = by }; step = step; txn = txn } in
       subst (λ (view : DeskView B). GoesOn actor (known_of home old) (known_of home view)) (sym made.same)
       (record {
         marks = λ queue. refl;
+        tells = refl;
         calls = λ queue. calls_same actor (old.calls queue) (old.calls queue) refl;
         arrivals = record {
           later = arrived ∷ [];

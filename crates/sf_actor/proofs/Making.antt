@@ -19,7 +19,7 @@ use Rattle.sf_actor.specs.declared.done.Done.{Done}
 use Rattle.sf_actor.specs.Asking.{Asked, call_of, overtaken_by}
 use Rattle.sf_actor.specs.Desks.{DeskHome, DeskView, MadeCall, known_of, mark_among}
 use Rattle.sf_actor.specs.Draws.{entered_at}
-use Rattle.sf_actor.specs.Known.{AreAmong, Call, CountsRise, Rise, Share, ShareGoesOn, call_after, is_sent_by, own_calls, share_of, told_by}
+use Rattle.sf_actor.specs.Known.{AreAmong, Call, CountsRise, Rise, Share, ShareGoesOn, arrivals_told, call_after, is_sent_by, own_calls, share_of, told_by}
 use Rattle.sf_actor.specs.Rights.{BringsGiven, EndsIn, IsFrom, MadeWith, QueuesPicture, brought_turn}
 use Rattle.sf_actor.specs.Steps.{sent_by, used_by, was_done}
 use Rattle.sf_actor.specs.Tales.{IsMade, made_on}
@@ -72,7 +72,7 @@ module _ {B : Type 0} where
             ∙ own_newest by mark asked reply made.earlier
             ∙ ap (λ (xs : List (Call B)). xs ++ call_after mark made.earlier (entry by asked reply) ∷ []) (own_same by mark (old.calls queue) made.earlier made.goes_on);
         others = λ other apart. ap (own_calls by (mark_among home.marks other)) (made.changes.others other apart);
-        arrivals = ap (λ (view : DeskView B). filter (is_sent_by by) view.arrivals) same;
+        arrivals = ap (λ (view : DeskView B). arrivals_told home.tells (filter (is_sent_by by) view.arrivals)) same;
         values = rise_same (known_of home old).values (known_of home new).values (ap (λ (view : DeskView B). (known_of home view).values) same);
         signals = among_same old.times.signals new.times.signals (ap (λ (view : DeskView B). view.times.signals) same);
         left = among_same old.turns.leaves new.turns.leaves (ap (λ (view : DeskView B). view.turns.leaves) same);

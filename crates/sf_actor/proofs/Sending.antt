@@ -1,9 +1,9 @@
 -- What an actor keeps where it sends a transaction: its number is empty then, and the transaction has arrived.
-use Rattle.std.proofs.Common.{◌≡◌, ℕ, ◌+◌, ◌<◌, ◌==◌, true, List, [], ◌∷◌, ◌++◌, length, filter, arith, ap, ◌∙◌, sym, refl, subst, Option, Some, None}
+use Rattle.std.proofs.Common.{◌≡◌, ℕ, ◌+◌, ◌<◌, ◌==◌, Bool, true, false, List, [], ◌∷◌, ◌++◌, length, filter, arith, ap, ◌∙◌, sym, refl, subst, Option, Some, None}
 use Rattle.std.specs.Prelude.{Contains}
 use Rattle.std.specs.Option.{option_map}
 use Rattle.std.proofs.lemmas.Bool.{eq-eqb}
-use Rattle.std.proofs.lemmas.List.{append-nil}
+use Rattle.std.proofs.lemmas.List.{append-nil, map-append}
 use Rattle.std.proofs.lemmas.List.Elements.{All-push, filter-append}
 use Rattle.sf_base.specs.declared.fences.Seen.{Seen}
 use Rattle.sf_picture.specs.declared.picture.Picture.{Picture}
@@ -15,7 +15,7 @@ use Rattle.sf_txn.specs.Transactions.{Contents}
 use Rattle.sf_actor.specs.declared.done.Answered.TheVariants as answered
 use Rattle.sf_actor.specs.declared.done.Done.{Done}
 use Rattle.sf_actor.specs.Desks.{DeskHome, DeskView, MadeSend, known_of, mark_among}
-use Rattle.sf_actor.specs.Known.{AreAmong, Rise, is_sent_by, own_calls, plain_txn, share_of}
+use Rattle.sf_actor.specs.Known.{AreAmong, Rise, arrivals_told, is_sent_by, number_told, own_calls, plain_txn, share_of}
 use Rattle.sf_actor.specs.Names.{FrameOf, Holdings, with_transaction}
 use Rattle.sf_actor.specs.Rights.{SendsAcquired}
 use Rattle.sf_actor.specs.Steps.{addressed, holdings_next, sent_by, used_by}
@@ -50,6 +50,12 @@ own_last by arrivals earlier arrived own same =
     let met : (arrived.actor.0 == by) ≡ true = eq-eqb arrived.actor.0 by own in
     filter-append (is_sent_by by) earlier (arrived ∷ []) ∙ ap (λ (xs : List (Arrival ReadLeaseOf)). xs ++ filter (is_sent_by by) (arrived ∷ [])) same ∙ (rw met refl)
 
+-- an arrival behind others, as its sender is told of it
+told_push : (tells : Bool) (arrivals : List (Arrival ReadLeaseOf)) (arrived : Arrival ReadLeaseOf)
+    → arrivals_told tells (arrivals ++ arrived ∷ []) ≡ arrivals_told tells arrivals ++ record arrived { number = number_told tells arrived.number } ∷ []
+told_push true arrivals arrived = refl
+told_push false arrivals arrived = map-append (λ (a : Arrival ReadLeaseOf). record a { number = 0 }) arrivals (arrived ∷ [])
+
 module _ {B : Type 0} where
   pub send_keeps : (pictures : ℕ → Picture) (actor : ActorOf B) (n token number : ℕ) (txn : Contents ReadLeaseOf) (home : DeskHome) (old new : DeskView B) → next_step actor ≡ Some (step.Apply n token) → ActorKept pictures actor (share_of actor.script.number (known_of home old)) → refusal_of pictures (past_of actor).holdings (step.Apply n token) ≡ None → n < length actor.parts.transactions → contents_in actor.parts n ≡ Some txn → MadeSend home old new actor.script.number (length actor.trace + 1) (under token txn) number → ActorKept pictures (stepped actor (record { step = step.Apply n token; answered = answered.Sent number }) (with_contents actor.parts n None)) (share_of actor.script.number (known_of home new))
   send_keeps pictures actor n token number txn home old new is_next is unrefused low there made =
@@ -62,6 +68,7 @@ module _ {B : Type 0} where
       let after = share_of by (known_of home new) in
       let same = made.same in
       let arrived : Arrival ReadLeaseOf = record { number = number; actor = record { 0 = by }; step = length actor.trace + 1; txn = under token txn } in
+      let placed : Arrival ReadLeaseOf = record arrived { number = length made.earlier + 1 } in
       let sends : sent_by past.holdings s ≡ Some (addressed token (plain_txn txn)) = ap (option_map (addressed token)) (transactions_told pictures actor before n is ∙ ap (option_map plain_txn) there) in
       let calls : (queue : ℕ) → after.calls queue ≡ before.calls queue = λ queue. ap (λ (view : DeskView B). own_calls by (mark_among home.marks queue) (view.calls queue)) same in
       let rise = rise_same before.values after.values (ap (λ (view : DeskView B). (known_of home view).values) same) in
@@ -74,9 +81,12 @@ module _ {B : Type 0} where
             (tt, subst (λ (sent : Option (Contents FrameOf)). AnswersCall None sent (answered.Sent number)) (sym sends) (number, refl));
         calls = calls;
         arrivals =
-            ap (filter (is_sent_by by)) made.last
-            ∙ own_last by old.arrivals made.earlier arrived refl
-            (ap (filter (is_sent_by by)) made.goes_on.joined ∙ own_arrivals by old.arrivals made.goes_on.later made.goes_on.none);
+            ap (arrivals_told home.tells)
+            (ap (filter (is_sent_by by)) made.last
+            ∙ own_last by old.arrivals made.earlier placed refl
+            (ap (filter (is_sent_by by)) made.goes_on.joined ∙ own_arrivals by old.arrivals made.goes_on.later made.goes_on.none))
+            ∙ told_push home.tells (filter (is_sent_by by) old.arrivals) placed
+            ∙ ap (λ (n : ℕ). before.arrivals ++ record arrived { number = n } ∷ []) (sym made.told);
         sent = sym (ap (λ (sent : Option (Contents FrameOf)). sent_with at.place (answered.Sent number) sent) sends);
         sends = All-push (SendsAcquired before.calls) [] arrived (λ k d below. absurd (omega (arith, below))) (is.acquired n txn there);
         values = rise;

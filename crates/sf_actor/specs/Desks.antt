@@ -16,14 +16,15 @@ use Rattle.sf_token.specs.Pending.{Arrival}
 use Rattle.sf_turns.specs.Counts.{IsExact}
 use Rattle.sf_turns.specs.Views.{SeatView}
 use Rattle.sf_txn.specs.Transactions.{Contents}
-use Rattle.sf_actor.specs.Known.{ArriveWithout, Known}
+use Rattle.sf_actor.specs.Known.{ArriveWithout, Known, number_told}
 
 -- What no call of a desk changes: the marks of its queues; whether all that happens goes through it, so that what it knows
--- is exact; the tables that its passes and seats are of; the callers that it serves; and, where it is exact, how many of its
--- arrivals a compositor has taken.
+-- is exact; whether it tells a sender the place of its transaction among the arrivals; the tables that its passes and seats
+-- are of; the callers that it serves; and, where it is exact, how many of its arrivals a compositor has taken.
 pub record DeskHome : Type 0 where
   pub marks : List QueueMark
   pub is_exact : Bool
+  pub tells : Bool
   pub tables : List TableId
   pub serves : ℕ → Bool
   pub taken : ℕ
@@ -62,6 +63,7 @@ module _ {B : Type 0} where
   abbrev pub known_of : DeskHome → DeskView B → Known B
   known_of home view = record {
     marks = mark_among home.marks;
+    tells = home.tells;
     calls = view.calls;
     arrivals = view.arrivals;
     values = values_of view.times.known;
@@ -101,13 +103,15 @@ module _ {B : Type 0} where
     pub alone : home.is_exact ≡ true → new.calls queue ≡ old.calls queue
     pub looked : home.is_exact ≡ false → old.locked < new.locked
 
-  -- a transaction that was sent: it is the last of the arrivals that are known now, its number is its place, and the arrivals
-  -- before it go on from those that were known with none of the caller's
+  -- a transaction that was sent: it is the last of the arrivals that are known now, and the arrivals before it go on from those
+  -- that were known with none of the caller's; the caller is told its place among them, or 0 where the desk tells no place, and
+  -- then nothing else is known to have arrived
   pub record MadeSend (home : DeskHome) (old new : DeskView B) (by step : ℕ) (txn : Contents ReadLeaseOf) (number : ℕ) : Type 0 where
     pub same : new ≡ record old { arrivals = new.arrivals; locked = new.locked }
     pub earlier : List (Arrival ReadLeaseOf)
-    pub last : new.arrivals ≡ earlier ++ record { number = number; actor = record { 0 = by }; step = step; txn = txn } ∷ []
-    pub place : number ≡ length earlier + 1
+    pub last : new.arrivals ≡ earlier ++ record { number = length earlier + 1; actor = record { 0 = by }; step = step; txn = txn } ∷ []
+    pub told : number ≡ number_told home.tells (length earlier + 1)
+    pub untold : home.tells ≡ false → earlier ≡ old.arrivals
     pub goes_on : ArriveWithout by old.arrivals earlier
     pub alone : home.is_exact ≡ true → earlier ≡ old.arrivals
     pub locked : old.locked ≤ new.locked

@@ -1,6 +1,6 @@
 -- What is known of a run: the calls on each queue with their tokens, the arrivals, what was seen of the timelines, the
 -- signals that were made, the turns that were left, and how many turns of a buffer were seen to have left.
-use Rattle.std.specs.Prelude.{◌≡◌, ℕ, ◌≤◌, ◌==◌, Bool, false, if◌then◌else◌, List, [], ◌∷◌, ◌++◌, filter, map, Contains}
+use Rattle.std.specs.Prelude.{◌≡◌, ℕ, ◌≤◌, ◌==◌, Bool, true, false, if◌then◌else◌, List, [], ◌∷◌, ◌++◌, filter, map, Contains}
 use Rattle.std.specs.List.{list_any}
 use Rattle.sf_base.specs.Fences.{value_of}
 use Rattle.sf_base.specs.Points.{greatest}
@@ -16,9 +16,11 @@ use Rattle.sf_txn.specs.Transactions.{Contents}
 use Rattle.sf_actor.specs.Names.{FrameOf}
 use Rattle.sf_actor.specs.Tales.{OwnOf}
 
--- the queues' marks and calls by the numbers of queues, the newest call first, and the arrivals in order
+-- the queues' marks and calls by the numbers of queues, the newest call first; whether a sender is told its place; and the
+-- arrivals in order
 pub record Known (B : Type 0) : Type 0 where
   pub marks : ℕ → QueueMark
+  pub tells : Bool
   pub calls : ℕ → List (Made B)
   pub arrivals : List (Arrival ReadLeaseOf)
   pub values : Seen
@@ -53,11 +55,21 @@ pub record Share (B : Type 0) : Type 0 where
 abbrev pub is_sent_by : ℕ → Arrival ReadLeaseOf → Bool
 is_sent_by actor arrived = arrived.actor.0 == actor
 
+-- the number that a sender is told of its transaction: its place among the arrivals, or 0 where no place is told
+abbrev pub number_told : Bool → ℕ → ℕ
+number_told true number = number
+number_told false number = 0
+
+-- arrivals with the numbers that their senders were told
+abbrev pub arrivals_told : {L : Type 0} → Bool → List (Arrival L) → List (Arrival L)
+arrivals_told true arrivals = arrivals
+arrivals_told {L} false arrivals = map (λ (arrived : Arrival L). record arrived { number = 0 }) arrivals
+
 module _ {B : Type 0} where
   abbrev pub share_of : ℕ → Known B → Share B
   share_of actor known = record {
     calls = λ queue. own_calls actor (known.marks queue) (known.calls queue);
-    arrivals = filter (is_sent_by actor) known.arrivals;
+    arrivals = arrivals_told known.tells (filter (is_sent_by actor) known.arrivals);
     values = known.values;
     signals = known.signals;
     left = known.left;
@@ -106,6 +118,7 @@ pub record ArriveWithout (actor : ℕ) (old new : List (Arrival ReadLeaseOf)) : 
 -- what is known grows without an entry of the actor
 pub record GoesOn {B : Type 0} (actor : ℕ) (old new : Known B) : Type 0 where
   pub marks : (queue : ℕ) → new.marks queue ≡ old.marks queue
+  pub tells : new.tells ≡ old.tells
   pub calls : (queue : ℕ) → GoesOnWithout actor (old.calls queue) (new.calls queue)
   pub arrivals : ArriveWithout actor old.arrivals new.arrivals
   pub values : Rise old.values new.values

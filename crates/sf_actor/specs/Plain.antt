@@ -39,6 +39,7 @@ module _ {B : Type 0} where
   home_of desk = record {
     marks = map mark_of desk.queues;
     is_exact = true;
+    tells = true;
     tables = desk.times.table ∷ [];
     serves = λ by. true;
     taken = taken_in desk.arrivals;
@@ -67,7 +68,7 @@ pub record WaitsOn {B : Type 0} (old new : ObjectOf B) (by : ℕ) (asked : ℕ �
   pub same : new ≡ old
   pub not_yet : Answers (mark_of old) old.calls by asked waits
 
--- a transaction was sent: it is the last that arrived, and its number is its place
+-- a transaction was sent: it is the last that arrived, and its sender is told its place
 pub record IsSentTo (old new : Calls ReadLeaseOf SeatView ReadLeaseOf Issued) (by step : ℕ) (txn : Contents ReadLeaseOf) (number : ℕ) : Type 0 where
-  pub last : sent new ≡ sent old ++ record { number = number; actor = record { 0 = by }; step = step; txn = txn } ∷ []
+  pub last : sent new ≡ sent old ++ record { number = length (sent old) + 1; actor = record { 0 = by }; step = step; txn = txn } ∷ []
   pub place : number ≡ length (sent old) + 1

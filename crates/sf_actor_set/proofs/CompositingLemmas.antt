@@ -104,7 +104,7 @@ module _ {B : Type 0} where
     home = refl;
     goes = λ actor apart.
         let same = goes_same actor (known_of (home_of desk) (view_of desk)) in
-        record { marks = same.marks; calls = same.calls; arrivals = same.arrivals; values = same.values; signals = same.signals; left = goes_on.left; counts = goes_on.counts };
+        record { marks = same.marks; tells = same.tells; calls = same.calls; arrivals = same.arrivals; values = same.values; signals = same.signals; left = goes_on.left; counts = goes_on.counts };
   }
 
   -- a reply to a release ends no drawing

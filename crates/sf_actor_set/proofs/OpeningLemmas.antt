@@ -15,7 +15,7 @@ use Rattle.sf_token.specs.Pending.{Arrival}
 use Rattle.sf_turns.specs.Counts.{stock_at}
 use Rattle.sf_turns.proofs.Tallies.{stock_at-append}
 use Rattle.sf_actor.specs.Desks.{DeskHome, DeskView, mark_among}
-use Rattle.sf_actor.specs.Known.{is_sent_by, own_calls}
+use Rattle.sf_actor.specs.Known.{arrivals_told, is_sent_by, own_calls}
 use Rattle.sf_actor.specs.Plain.{calls_among}
 use Rattle.sf_actor.specs.Tries.{dequeues_in, is_dequeue}
 use Rattle.sf_steps.specs.Actors.{IsActor, IsNew, new_actor}
@@ -37,6 +37,10 @@ needs script = dequeues_in script.steps
 
 pub permits_cons : (script : ActorScript) (scripts : List ActorScript) → permits_of (script ∷ scripts) ≡ needs script + permits_of scripts
 permits_cons script scripts = sum_by-cons needs script scripts
+
+none_told : (tells : Bool) → arrivals_told {L = ReadLeaseOf} tells [] ≡ []
+none_told true = refl
+none_told false = refl
 
 -- a part of a stock has each number at most as often
 halves : (b n : ℕ) (stock : List ℕ) → stock_at b (take n stock) + stock_at b (drop n stock) ≡ stock_at b stock
@@ -75,7 +79,7 @@ module _ {B : Type 0} where
   new_known : (home : DeskHome) (view : DeskView B) (script : ActorScript) (stock : List ℕ) → KnowsNone view → IsOnce stock → dequeues_in script.steps ≤ length stock → IsNew home view script stock
   new_known home view script stock none once enough = record {
     no_calls = λ queue. ap (λ (calls : List (Made B)). own_calls script.number (mark_among home.marks queue) calls) (none.calls queue);
-    no_arrivals = ap (λ (arrivals : List (Arrival ReadLeaseOf)). filter (is_sent_by script.number) arrivals) none.arrivals;
+    no_arrivals = ap (λ (arrivals : List (Arrival ReadLeaseOf)). arrivals_told home.tells (filter (is_sent_by script.number) arrivals)) none.arrivals ∙ none_told home.tells;
     once = once;
     enough = enough;
   }

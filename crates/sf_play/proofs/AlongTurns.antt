@@ -229,7 +229,7 @@ module _ {B : Type 0} where
 
       turn_now : actor_turn scene s.old.script.number (world_so so play) ≡ turn
       turn_now =
-          desk_turn scene so.actors (home_of play.actor_set.desk) (view_of play.actor_set.desk) (view_of actor_set.desk) place s.old s.new s.tries.0 (vsyncs_in so.events) play.vsyncs stands.of_scene.limits refl s.here s.tries.1
+          desk_turn scene so.actors (home_of play.actor_set.desk) (view_of play.actor_set.desk) (view_of actor_set.desk) place s.old s.new s.tries.0 (vsyncs_in so.events) play.vsyncs stands.of_scene.limits refl refl s.here s.tries.1
           (knows_so table scene so play stands knows) runs_now calls_now (sent_numbered actor_set.desk.arrivals) first
           ∙ (λ i. record {
             events = event.Reply (reply_shown s.tries.0) ∷ [];
@@ -243,7 +243,7 @@ module _ {B : Type 0} where
 
       traces_now : (actor : ℕ) → trace_among later_so.actors actor ≡ with_list (trace_among so.actors) s.old.script.number (trace_among so.actors s.old.script.number ++ s.tries.1.done ∷ []) actor
       traces_now =
-          traces scene so.actors (home_of play.actor_set.desk) (view_of play.actor_set.desk) (view_of actor_set.desk) place s.old s.new s.tries.0 (vsyncs_in so.events) play.vsyncs stands.of_scene.limits refl s.here s.tries.1
+          traces scene so.actors (home_of play.actor_set.desk) (view_of play.actor_set.desk) (view_of actor_set.desk) place s.old s.new s.tries.0 (vsyncs_in so.events) play.vsyncs stands.of_scene.limits refl refl s.here s.tries.1
           (knows_so table scene so play stands knows) runs_now calls_now (sent_numbered actor_set.desk.arrivals)
 
       takes_now : TakesTurn scene s.old.script.number (world_so so play) turn

@@ -13,12 +13,12 @@ use Rattle.sf_token.specs.Pending.{Arrival}
 use Rattle.sf_txn.specs.Buffers.{Buffer}
 use Rattle.sf_scene.specs.Scene.{SceneValue}
 use Rattle.sf_actor.specs.Desks.{DeskHome, DeskView, known_of, mark_among}
-use Rattle.sf_actor.specs.Known.{is_sent_by, plain_arrival, plain_buffer, share_of}
+use Rattle.sf_actor.specs.Known.{arrivals_told, is_sent_by, plain_arrival, plain_buffer, share_of}
 use Rattle.sf_actor.specs.Rights.{HoldsAcquired, SendsAcquired, Takes, WasTaken}
 use Rattle.sf_actor.specs.Tales.{sent_as}
 use Rattle.sf_actor.specs.Traces.{SentStep}
 use Rattle.sf_actor.specs.Tries.{ActorOf}
-use Rattle.sf_run.proofs.Bringing.{is_numbered, own_is}
+use Rattle.sf_run.proofs.Bringing.{is_numbered, own_is, told_has}
 use Rattle.sf_run.proofs.Keeping.{of_all}
 use Rattle.sf_run.proofs.Members.{has_filter, has_map}
 use Rattle.sf_run.proofs.Sent.{IsShown, sent_shown}
@@ -57,10 +57,13 @@ module _ {B : Type 0} where
         let by = is_numbered scene ofs home view number actors (All-contains (λ (a : Arrival ReadLeaseOf). Contains (map number_of ofs) a.actor.0) view.arrivals arrived senders there) in
         let actor = by.of.script.number in
         let own : Contains (filter (is_sent_by actor) view.arrivals) arrived = has_filter (is_sent_by actor) view.arrivals arrived (eq-eqb arrived.actor.0 actor (sym by.is)) there in
-        let sends = All-contains (SendsAcquired (share_of actor (known_of home view)).calls) (filter (is_sent_by actor) view.arrivals) arrived by.keeps.kept.kept.sends own in
-        let plain = has_map plain_arrival (filter (is_sent_by actor) view.arrivals) arrived own in
-        let sent = subst (λ (xs : List SentStep). Contains xs (sent_as (plain_arrival arrived))) by.keeps.kept.kept.is.sent (has_map sent_as (map plain_arrival (filter (is_sent_by actor) view.arrivals)) (plain_arrival arrived) plain) in
-        let shown = sent_shown by.of.trace (sent_as (plain_arrival arrived)) sent in
+        let told = arrivals_told home.tells (filter (is_sent_by actor) view.arrivals) in
+        let it = told_has home.tells (filter (is_sent_by actor) view.arrivals) arrived own in
+        let told_it : Arrival ReadLeaseOf = record arrived { number = it.0 } in
+        let sends = All-contains (SendsAcquired (share_of actor (known_of home view)).calls) told told_it by.keeps.kept.kept.sends it.1 in
+        let plain = has_map plain_arrival told told_it it.1 in
+        let sent = subst (λ (xs : List SentStep). Contains xs (sent_as (plain_arrival told_it))) by.keeps.kept.kept.is.sent (has_map sent_as (map plain_arrival told) (plain_arrival told_it) plain) in
+        let shown = sent_shown by.of.trace (sent_as (plain_arrival told_it)) sent in
         of_all (λ (b : Buffer ReadLeaseOf). IsBufferLent view b.shown b.lease) arrived.txn.buffers (λ b among. record {
           lent = taken_lent actor b.lease (All-contains (HoldsAcquired (share_of actor (known_of home view)).calls) arrived.txn.buffers b sends among);
           shows = All-contains IsShown (map plain_buffer arrived.txn.buffers) (plain_buffer b) shown (has_map plain_buffer arrived.txn.buffers b among);

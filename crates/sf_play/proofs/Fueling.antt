@@ -1,5 +1,5 @@
 -- Each turn lessens what is left of a play.
-use Rattle.std.proofs.Common.{◌≡◌, ◌≢◌, ℕ, zero, suc, ◌+◌, ◌-◌, ◌*◌, ◌≤◌, Bool, true, List, [], ◌∷◌, ◌++◌, length, drop, filter, map, set, take, Option, Some, None, refl, sym, ap, ◌∙◌, subst, inl, inr, arith}
+use Rattle.std.proofs.Common.{◌≡◌, ◌≢◌, ℕ, zero, suc, ◌+◌, ◌-◌, ◌*◌, ◌≤◌, Bool, true, false, List, [], ◌∷◌, ◌++◌, length, drop, filter, map, set, take, Option, Some, None, refl, sym, ap, ◌∙◌, subst, inl, inr, arith}
 use Rattle.std.specs.Prelude.{Contains, slice_get}
 use Rattle.std.specs.List.{flat_map, sum_by}
 use Rattle.std.proofs.lemmas.Bool.{cases_eq, eq-eqb, false≢true}
@@ -19,7 +19,7 @@ use Rattle.sf_actor.specs.declared.done.Answered.TheVariants as answered
 use Rattle.sf_actor.specs.declared.done.Done.{Done}
 use Rattle.sf_actor.specs.declared.tried.Stepped.TheVariants as stepped
 use Rattle.sf_actor.specs.Desks.{DeskHome, DeskView, known_of}
-use Rattle.sf_actor.specs.Known.{GoesOn, is_sent_by, plain_arrival}
+use Rattle.sf_actor.specs.Known.{GoesOn, arrivals_told, is_sent_by, plain_arrival}
 use Rattle.sf_actor.specs.Names.{FrameOf}
 use Rattle.sf_actor.specs.Steps.{sent_by}
 use Rattle.sf_actor.specs.Tales.{sent_as, step_done}
@@ -84,13 +84,18 @@ few_weigh now (arrived ∷ later) =
     short now None = omega arith
     short now (Some desired) = omega arith
 
+-- senders are told of as many arrivals as there are
+told_length : (tells : Bool) (arrivals : List (Arrival ReadLeaseOf)) → length (arrivals_told tells arrivals) ≡ length arrivals
+told_length true arrivals = refl
+told_length false arrivals = length-map arrivals (λ (a : Arrival ReadLeaseOf). record a { number = 0 })
+
 module _ {B : Type 0} where
   -- what an actor sent is as many as its trace sends
   pub sent_many : (pictures : ℕ → Picture) (home : DeskHome) (view : DeskView B) (of : ActorOf B) → Keeps pictures home of view
       → length (filter (is_sent_by of.script.number) view.arrivals) ≡ length (sends_of of.trace)
   sent_many pictures home view of keeps =
-      let own = filter (is_sent_by of.script.number) view.arrivals in
-      sym (length-map own plain_arrival) ∙ sym (length-map (map plain_arrival own) sent_as) ∙ ap (λ (xs : List SentStep). length xs) keeps.kept.kept.is.sent
+      let own = arrivals_told home.tells (filter (is_sent_by of.script.number) view.arrivals) in
+      sym (told_length home.tells (filter (is_sent_by of.script.number) view.arrivals)) ∙ sym (length-map own plain_arrival) ∙ sym (length-map (map plain_arrival own) sent_as) ∙ ap (λ (xs : List SentStep). length xs) keeps.kept.kept.is.sent
 
   -- one arrival more, at most
   pub record OneMore (before after : DeskView B) : Type 0 where

@@ -74,7 +74,7 @@ module _ {B : Type 0} (whole : Whole B) (apart : AreApart whole.marks) (buffers 
     (actors : flat_map (λ (local : Local B). local.actors) locals ≡ new_actors scripts stock) (pendings : flat_map (λ (local : Local B). local.pending) locals ≡ [])
     (ons : flat_map (λ (local : Local B). local.on) locals ≡ []) (leaves : flat_map (λ (local : Local B). local.leaves) locals ≡ []) where
   home : DeskHome
-  home = record { marks = whole.marks; is_exact = true; tables = []; serves = λ by. true; taken = 0 }
+  home = record { marks = whole.marks; is_exact = true; tells = true; tables = []; serves = λ by. true; taken = 0 }
 
   view : DeskView B
   view = (state_at whole (λ lock. 0) locals).view

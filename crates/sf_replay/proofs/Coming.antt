@@ -191,11 +191,11 @@ module _ {B : Type 0} (whole : Whole B) (pictures : ℕ → Picture) (home : Des
   sends_comes : (s : Step) (txn token arrival : ℕ) (tries : DoesTry pictures home was is s before after old new (tried.Sent arrival)) → ((answer : Answered) → written.written_by (holdings_of before) s answer ≡ [])
       → Sends home by number txn token before after old new arrival → LiftsSend whole Holds by was is old new
   sends_comes s txn token arrival tries none sends = record {
-    number = arrival;
+    number = length sends.made.earlier + 1;
     txn = record sends.sent { token = record { 0 = token } };
     earlier = sends.made.earlier;
     last = sends.made.last;
-    place = sends.made.place;
+    place = refl;
     goes_on = sends.made.goes_on;
     calls = ap (λ (view : DeskView B). view.calls) sends.made.same;
     lifts = λ more history step e whole_is is_send others later heights next unused holds.

@@ -50,7 +50,7 @@ use Rattle.sf_replay.specs.Members.{mine, total_in}
 module _ {B : Type 0} (table : TableId) (pictures : ℕ → Picture) (locks : Locks B) where
   -- what is kept over a desk is kept over that of other seats of the same caller
   keeps_there : (of : ActorOf B) (old new : Seats B) (view : DeskView B) → new.by ≡ old.by → Keeps pictures (home_of locks old) of view → Keeps pictures (home_of locks new) of view
-  keeps_there of old new view same keeps = subst (λ (n : ℕ). Keeps pictures (record { marks = marks_of locks; is_exact = false; tables = tables_of locks; serves = λ by. by == n; taken = 0 }) of view) (sym same) keeps
+  keeps_there of old new view same keeps = subst (λ (n : ℕ). Keeps pictures (record { marks = marks_of locks; is_exact = false; tells = true; tables = tables_of locks; serves = λ by. by == n; taken = 0 }) of view) (sym same) keeps
 
   -- what is known of a moment stays known
   pub try_sound : (before after : Moment B) → IsTry table pictures locks before after → IsSound table pictures locks after

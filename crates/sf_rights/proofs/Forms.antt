@@ -166,5 +166,5 @@ module _ {B : Type 0} (pictures : ℕ → Picture) (home : DeskHome) (place : �
       cancel [] ys zs same = same
       cancel (x ∷ xs) ys zs same = cancel xs ys zs (cc)
 
-      added : tries.sends ≡ record { number = arrival; actor = record { 0 = before.by.0 }; step = length tries.was.trace + 1; txn = record sends.sent { token = record { 0 = token } } } ∷ []
-      added = cancel old.view.arrivals tries.sends _ (sym tries.sent ∙ sends.made.last ∙ ap (λ (xs : List (Arrival ReadLeaseOf)). xs ++ record { number = arrival; actor = record { 0 = before.by.0 }; step = length tries.was.trace + 1; txn = record sends.sent { token = record { 0 = token } } } ∷ []) (sends.made.alone tries.exact))
+      added : tries.sends ≡ record { number = length sends.made.earlier + 1; actor = record { 0 = before.by.0 }; step = length tries.was.trace + 1; txn = record sends.sent { token = record { 0 = token } } } ∷ []
+      added = cancel old.view.arrivals tries.sends _ (sym tries.sent ∙ sends.made.last ∙ ap (λ (xs : List (Arrival ReadLeaseOf)). xs ++ record { number = length sends.made.earlier + 1; actor = record { 0 = before.by.0 }; step = length tries.was.trace + 1; txn = record sends.sent { token = record { 0 = token } } } ∷ []) (sends.made.alone tries.exact))

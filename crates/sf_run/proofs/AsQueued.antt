@@ -78,11 +78,11 @@ step_found : (scene : SceneValue) (entry : Entry) (script : ActorScript) → fin
 unfolding entry_shown
 step_found scene entry script found = ap (λ (o : Option ActorScript). step_in o entry.step) found
 
-pub has_of_step : (scene : SceneValue) (run : Run) (arrivals : List (Arrival FrameOf)) (queue : QueueDecl) (entry : Entry) (frame number : ℕ) (crop : Rect) (buffer : CommittedBuffer)
-    → All (EachStep (KnowsPicture scene.pictures)) scene.actors → AreTraced scene run arrivals → AreReplies queue.width queue.height (run.calls queue.number)
+pub has_of_step : (tells : Bool) (scene : SceneValue) (run : Run) (arrivals : List (Arrival FrameOf)) (queue : QueueDecl) (entry : Entry) (frame number : ℕ) (crop : Rect) (buffer : CommittedBuffer)
+    → All (EachStep (KnowsPicture scene.pictures)) scene.actors → AreTraced tells scene run arrivals → AreReplies queue.width queue.height (run.calls queue.number)
     → Contains (run.calls queue.number) entry → IsQueued entry frame number crop → has_actor scene.actors entry.caller.0 ≡ true → ShowsSo buffer number crop
     → HasOfStep (picture_at scene.pictures) buffer (step_of_entry scene (Some (entry_shown entry)))
-has_of_step scene run arrivals queue entry frame number crop buffer known traced legal called queued calls shows =
+has_of_step tells scene run arrivals queue entry frame number crop buffer known traced legal called queued calls shows =
     let pictures = picture_at scene.pictures in
     let is_caller : ActorScript → Bool = λ script. script.number == entry.caller.0 in
     let some = one_passes is_caller scene.actors calls in
@@ -90,7 +90,7 @@ has_of_step scene run arrivals queue entry frame number crop buffer known traced
     let script = found.one in
     let trace = run.trace script.number in
     let same : script.number ≡ entry.caller.0 = eqb-true script.number entry.caller.0 found.passes in
-    let is = All-contains (IsTraced scene run arrivals) scene.actors script traced found.there in
+    let is = All-contains (IsTraced tells scene run arrivals) scene.actors script traced found.there in
     let own = has_filter (λ (e : Entry). e.caller.0 == script.number) (reverse (run.calls queue.number)) entry (eq-eqb entry.caller.0 script.number (sym same))
     (has_reverse (run.calls queue.number) entry called) in
     let made = zip_has IsMade (made_on queue.number (made_by pictures trace)) (calls_of script.number (run.calls queue.number)) entry (is.made queue.number) own in

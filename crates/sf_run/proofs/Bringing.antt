@@ -1,5 +1,5 @@
 -- What arrivals bring was queued: over a desk, and by the steps of the scene's actors.
-use Rattle.std.proofs.Common.{◌≡◌, ℕ, ◌==◌, Bool, true, List, [], ◌∷◌, map, filter, Option, refl, sym, ap, ◌∙◌, subst, inl, inr}
+use Rattle.std.proofs.Common.{◌≡◌, ℕ, ◌==◌, Bool, true, false, List, [], ◌∷◌, map, filter, Option, refl, sym, ap, ◌∙◌, subst, inl, inr}
 use Rattle.std.specs.Prelude.{All, Contains, if◌then◌else◌}
 use Rattle.std.specs.List.{list_any}
 use Rattle.std.proofs.lemmas.Bool.{cases_Bool, eq-eqb, eqb-true, or_left, or_right}
@@ -25,7 +25,7 @@ use Rattle.sf_scene.specs.declared.declarations.QueueDecl.{QueueDecl}
 use Rattle.sf_scene.specs.declared.step.ActorScript.{ActorScript}
 use Rattle.sf_actor.specs.Asking.{shown_of}
 use Rattle.sf_actor.specs.Desks.{DeskHome, DeskView, mark_among}
-use Rattle.sf_actor.specs.Known.{Call, call_after, frame_of, is_sent_by as sends, own_calls, plain_arrival, plain_buffer}
+use Rattle.sf_actor.specs.Known.{Call, arrivals_told, call_after, frame_of, is_sent_by as sends, own_calls, plain_arrival, plain_buffer}
 use Rattle.sf_actor.specs.Names.{FrameOf}
 use Rattle.sf_actor.specs.Rights.{HoldsAcquired, SendsAcquired, Takes}
 use Rattle.sf_actor.specs.Scripts.{picture_at}
@@ -58,6 +58,12 @@ any_passes p (a ∷ xs) x there met = elim (has_cases a x xs there) [
   | inl same ↦ or_left (p a) (list_any p xs) (ap p same ∙ met)
   | inr c ↦ or_right (p a) (list_any p xs) (any_passes p xs x c met)
 ]
+
+-- an arrival is among those of which their senders were told, whatever number they were told
+pub told_has : (tells : Bool) (arrivals : List (Arrival ReadLeaseOf)) (arrival : Arrival ReadLeaseOf) → Contains arrivals arrival
+    → (n : ℕ) × Contains (arrivals_told tells arrivals) (record arrival { number = n })
+told_has true arrivals arrival there = (arrival.number, there)
+told_has false arrivals arrival there = (0, has_map (λ (a : Arrival ReadLeaseOf). record a { number = 0 }) arrivals arrival there)
 
 module _ {B : Type 0} where
   -- the lease of an acquired frame
@@ -177,11 +183,14 @@ module _ {B : Type 0} where
       let kept = by.keeps.kept.kept in
       let own = has_filter (sends number) view.arrivals arrival (eq-eqb arrival.actor.0 number (sym by.is)) there in
       let called : ℕ → List (Call B) = λ queue. own_calls number (mark_among home.marks queue) (view.calls queue) in
-      let acquired = All-contains (SendsAcquired called) (filter (sends number) view.arrivals) arrival kept.sends own in
+      let told = arrivals_told home.tells (filter (sends number) view.arrivals) in
+      let it = told_has home.tells (filter (sends number) view.arrivals) arrival own in
+      let told_it : Arrival ReadLeaseOf = record arrival { number = it.0 } in
+      let acquired = All-contains (SendsAcquired called) told told_it kept.sends it.1 in
       let was = All-contains (HoldsAcquired called) arrival.txn.buffers buffer acquired inside in
       let takes = takes_as {made = was.0.made} buffer.lease was.0.made.call.1 was.0.made.reply.gives refl refl was.2 in
-      let sent = has_map sent_as (map plain_arrival (filter (sends number) view.arrivals)) (plain_arrival arrival) (has_map plain_arrival (filter (sends number) view.arrivals) arrival own) in
-      let shown = sent_shown by.of.trace (sent_as (plain_arrival arrival)) (subst (λ (xs : List SentStep). Contains xs (sent_as (plain_arrival arrival))) kept.is.sent sent) in
+      let sent = has_map sent_as (map plain_arrival told) (plain_arrival told_it) (has_map plain_arrival told told_it it.1) in
+      let shown = sent_shown by.of.trace (sent_as (plain_arrival told_it)) (subst (λ (xs : List SentStep). Contains xs (sent_as (plain_arrival told_it))) kept.is.sent sent) in
       record {
         made = was.0.made;
         there = own_is number (mark_among home.marks buffer.lease.queue.0) (view.calls buffer.lease.queue.0) was.0 was.1;
@@ -203,10 +212,10 @@ module _ {B : Type 0} where
       subst (IsBuffer scene home view) brought.2 is
 
   -- it is shown as it was queued
-  as_queued : (scene : SceneValue) (ofs : List (ActorOf B)) (home : DeskHome) (view : DeskView B) (shown : CommittedBuffer) → IsWithinLimits scene → AreActors scene ofs home view
-      → AreCalls scene ofs home view → AreArrivals ofs view → AreTraced scene (run_of ofs home view) (arrivals_of view) → IsBrought (arrivals_of view) shown
+  as_queued : (scene : SceneValue) (ofs : List (ActorOf B)) (home : DeskHome) (view : DeskView B) (shown : CommittedBuffer) (tells : Bool) → IsWithinLimits scene → AreActors scene ofs home view
+      → AreCalls scene ofs home view → AreArrivals ofs view → AreTraced tells scene (run_of ofs home view) (arrivals_of view) → IsBrought (arrivals_of view) shown
       → IsAsQueued scene (map (history_shown (run_of ofs home view)) (rising_queues scene)) shown
-  as_queued scene ofs home view shown limits actors calls senders traced brought =
+  as_queued scene ofs home view shown tells limits actors calls senders traced brought =
       let run = run_of ofs home view in
       let histories = map (history_shown run) (rising_queues scene) in
       let it = is_buffer scene ofs home view brought.arrived brought.buffer actors calls senders brought.there brought.inside in
@@ -218,19 +227,19 @@ module _ {B : Type 0} where
       let mark = All-contains (λ (queue : QueueDecl). mark_among home.marks queue.number ≡ mark_declared queue) scene.queues on.queue calls.marks on.declared in
       let legal = subst (λ (m : QueueMark). AreReplies m.width m.height (run.calls on.queue.number)) mark (told_legal (mark_among home.marks on.queue.number) (view.calls on.queue.number)) in
       let found = queueing_found scene run on.queue on.entry frame.1.frame frame.1.picture frame.1.crop ranges.low ranges.high on.declared legal on.called on.queued in
-      let so = has_of_step scene run (arrivals_of view) on.queue on.entry frame.1.frame frame.1.picture frame.1.crop now limits.known_pictures traced legal on.called on.queued on.calls
+      let so = has_of_step tells scene run (arrivals_of view) on.queue on.entry frame.1.frame frame.1.picture frame.1.crop now limits.known_pictures traced legal on.called on.queued on.calls
       (record { picture = refl; crop_is = refl }) in
       subst (IsAsQueued scene histories) (sym same)
       (subst (λ (n : ℕ). HasOfStep (picture_at scene.pictures) now (step_of_entry scene (queueing_of histories n frame.1.frame))) on.number
       (subst (λ (e : Option HistoryEntry). HasOfStep (picture_at scene.pictures) now (step_of_entry scene e)) (sym found) so))
 
-  pub show_as_queued : (scene : SceneValue) (ofs : List (ActorOf B)) (home : DeskHome) (view : DeskView B) (histories : List QueueHistory) (commits : List Commit) → IsWithinLimits scene
-      → AreActors scene ofs home view → AreCalls scene ofs home view → AreArrivals ofs view → AreTraced scene (run_of ofs home view) (arrivals_of view)
+  pub show_as_queued : (scene : SceneValue) (ofs : List (ActorOf B)) (home : DeskHome) (view : DeskView B) (histories : List QueueHistory) (commits : List Commit) (tells : Bool) → IsWithinLimits scene
+      → AreActors scene ofs home view → AreCalls scene ofs home view → AreArrivals ofs view → AreTraced tells scene (run_of ofs home view) (arrivals_of view)
       → histories ≡ map (history_shown (run_of ofs home view)) (rising_queues scene) → ShowBrought (arrivals_of view) commits → ShowAsQueued scene histories commits
-  show_as_queued scene ofs home view histories commits limits actors calls senders traced told brought =
+  show_as_queued scene ofs home view histories commits tells limits actors calls senders traced told brought =
       subst (λ (hs : List QueueHistory). ShowAsQueued scene hs commits) (sym told)
       (All-weaker (λ (commit : Commit). All (IsBrought (arrivals_of view)) commit.buffers)
       (λ (commit : Commit). All (IsAsQueued scene (map (history_shown (run_of ofs home view)) (rising_queues scene))) commit.buffers)
       (λ (commit : Commit). All-weaker (IsBrought (arrivals_of view)) (IsAsQueued scene (map (history_shown (run_of ofs home view)) (rising_queues scene)))
-      (λ (shown : CommittedBuffer). as_queued scene ofs home view shown limits actors calls senders traced) commit.buffers)
+      (λ (shown : CommittedBuffer). as_queued scene ofs home view shown tells limits actors calls senders traced) commit.buffers)
       commits brought)

@@ -12,7 +12,7 @@ use Rattle.sf_run.specs.Commits.{CommitInOrder}
 use Rattle.sf_run.specs.Frames.{ShowImages}
 use Rattle.sf_run.specs.Histories.{released_in}
 use Rattle.sf_run.specs.Holds.{AreHeld, uncommitted}
-use Rattle.sf_run.specs.Played.{Fits, Shows, end_of, vsyncs_told}
+use Rattle.sf_run.specs.Played.{FitsWhere, Shows, end_of, vsyncs_told}
 use Rattle.sf_run.specs.Progress.{HasPlayed}
 use Rattle.sf_run.specs.Runs.{signals_in, written_in}
 use Rattle.sf_run.specs.Stages.{bare_round}
@@ -32,7 +32,7 @@ pub fits : {B : Type 0} (scene : SceneValue) (ofs : List (ActorOf B)) (home : De
     → CommitInOrder (arrivals_of view) (written_in scene (run_of ofs home view)) (commits_in (vsyncs_in shows.events)) (vsyncs_told scene (arrivals_of view) shows.events)
     → ShowImages scene (vsyncs_told scene (arrivals_of view) shows.events)
     → AreHeld (end_of scene (run_of ofs home view) (vsyncs_told scene (arrivals_of view) shows.events)) (uncommitted (arrivals_of view) (commits_in (vsyncs_in shows.events))) shows.held
-    → AreStuck scene (run_of ofs home view) shows.stuck → Fits scene shows (run_of ofs home view) (arrivals_of view)
+    → AreStuck scene (run_of ofs home view) shows.stuck → FitsWhere home.tells scene shows (run_of ofs home view) (arrivals_of view)
 fits {B} scene ofs home view shows limits actors signals calls senders tell turns vsyncs commits frames holds ends =
     let traced = are_traced scene ofs home view actors signals in
     let brought = show_brought (arrivals_of view) (bare_round scene) (vsyncs_in shows.events) commits.results in
@@ -45,7 +45,7 @@ fits {B} scene ofs home view shows limits actors signals calls senders tell turn
       commits = commits;
       calls = are_histories scene ofs home view (released_in (vsyncs_told scene (arrivals_of view) shows.events)) shows.histories actors calls tell.releases tell.histories;
       frames = frames;
-      buffers = show_as_queued scene ofs home view shows.histories (commits_in (vsyncs_in shows.events)) limits actors calls senders traced tell.histories brought;
+      buffers = show_as_queued scene ofs home view shows.histories (commits_in (vsyncs_in shows.events)) home.tells limits actors calls senders traced tell.histories brought;
       holds = holds;
       ends = ends;
     }
@@ -57,7 +57,7 @@ pub played_fits : {B : Type 0} (scene : SceneValue) (ofs : List (ActorOf B)) (ho
     → HasPlayed frame_of scene (written_in scene (run_of ofs home view)) (arrivals_of view) (vsyncs_in shows.events) handler
     → ShowImages scene (vsyncs_told scene (arrivals_of view) shows.events)
     → AreHeld (end_of scene (run_of ofs home view) (vsyncs_told scene (arrivals_of view) shows.events)) (uncommitted (arrivals_of view) (commits_in (vsyncs_in shows.events))) shows.held
-    → AreStuck scene (run_of ofs home view) shows.stuck → Fits scene shows (run_of ofs home view) (arrivals_of view)
+    → AreStuck scene (run_of ofs home view) shows.stuck → FitsWhere home.tells scene shows (run_of ofs home view) (arrivals_of view)
 played_fits {B} scene ofs home view shows handler limits actors signals calls senders tell turns vsyncs played frames holds ends =
     fits scene ofs home view shows limits actors signals calls senders tell turns vsyncs
     (in_order frame_of scene (written_in scene (run_of ofs home view)) (arrivals_of view) (vsyncs_in shows.events) handler played) frames holds ends

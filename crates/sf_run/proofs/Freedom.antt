@@ -14,7 +14,7 @@ use Rattle.sf_run.specs.Commits.{CommitInOrder}
 use Rattle.sf_run.specs.Frames.{ShowImages}
 use Rattle.sf_run.specs.Histories.{AreHistories, released_in}
 use Rattle.sf_run.specs.Holds.{AreHeld, uncommitted}
-use Rattle.sf_run.specs.Played.{Fits, Shows, end_of}
+use Rattle.sf_run.specs.Played.{FitsWhere, Shows, end_of}
 use Rattle.sf_run.specs.Replies.{AnswerSteps, replies_due, replies_in, replies_to}
 use Rattle.sf_run.specs.Runs.{signals_in, written_in}
 use Rattle.sf_run.specs.Stages.{told_of}
@@ -54,10 +54,10 @@ answered_free scene run old new same answers = record {
   of_none_else = all_by_actor (λ reply. has_actor scene.actors reply.actor ≡ true) (replies_in new) (replies_in old) same answers.of_none_else;
 }
 
-pub order_is_free : (scene : SceneValue) (shows : Shows) (run : Run) (arrivals : List (Arrival FrameOf)) (events : List Event)
+pub order_is_free : (tells : Bool) (scene : SceneValue) (shows : Shows) (run : Run) (arrivals : List (Arrival FrameOf)) (events : List Event)
     → vsyncs_in events ≡ vsyncs_in shows.events → ((actor : ℕ) → replies_to actor events ≡ replies_to actor shows.events)
-    → Fits scene shows run arrivals → Fits scene (record shows { events = events }) run arrivals
-order_is_free scene shows run arrivals events vsyncs replies fits = record {
+    → FitsWhere tells scene shows run arrivals → FitsWhere tells scene (record shows { events = events }) run arrivals
+order_is_free tells scene shows run arrivals events vsyncs replies fits = record {
   traces = fits.traces;
   turns = fits.turns;
   replies = answered_free scene run shows.events events replies fits.replies;

@@ -148,15 +148,16 @@ module _ {B : Type 0} where
             (λ (buffer : Buffer ReadLeaseOf). has buffer.lease.queue.0) txn.buffers (there.frames number txn is);
       }
 
-  pub keeps_home : (pictures : ℕ → Picture) (home other : DeskHome) (view : DeskView B) (of : ActorOf B) → other.marks ≡ home.marks → Keeps pictures home of view → Keeps pictures other of view
-  keeps_home pictures home other view of same keeps = record {
-    kept = subst (λ (known : Known B). ActorKept pictures of (share_of of.script.number known)) (known_home home other view same) keeps.kept;
+  pub keeps_home : (pictures : ℕ → Picture) (home other : DeskHome) (view : DeskView B) (of : ActorOf B) → other.marks ≡ home.marks → other.tells ≡ home.tells → Keeps pictures home of view → Keeps pictures other of view
+  keeps_home pictures home other view of same told keeps = record {
+    kept = subst (λ (known : Known B). ActorKept pictures of (share_of of.script.number known)) (known_home home other view same told) keeps.kept;
     there = there_home home other of.parts same keeps.there;
   }
     where
-      known_home : (home other : DeskHome) (view : DeskView B) → other.marks ≡ home.marks → known_of home view ≡ known_of other view
-      known_home home other view same = λ i. record {
+      known_home : (home other : DeskHome) (view : DeskView B) → other.marks ≡ home.marks → other.tells ≡ home.tells → known_of home view ≡ known_of other view
+      known_home home other view same told = λ i. record {
         marks = mark_among (sym same i);
+        tells = sym told i;
         calls = view.calls;
         arrivals = view.arrivals;
         values = values_of view.times.known;
@@ -165,12 +166,12 @@ module _ {B : Type 0} where
         counts = view.turns.seen;
       }
 
-  pub actors_home : (scene : SceneValue) (ofs : List (ActorOf B)) (home other : DeskHome) (view : DeskView B) → other.marks ≡ home.marks → AreActors scene ofs home view → AreActors scene ofs other view
-  actors_home scene ofs home other view same actors = record {
+  pub actors_home : (scene : SceneValue) (ofs : List (ActorOf B)) (home other : DeskHome) (view : DeskView B) → other.marks ≡ home.marks → other.tells ≡ home.tells → AreActors scene ofs home view → AreActors scene ofs other view
+  actors_home scene ofs home other view same told actors = record {
     scripts = actors.scripts;
     apart = actors.apart;
     keep = All-weaker (λ (of : ActorOf B). Keeps (picture_at scene.pictures) home of view) (λ (of : ActorOf B). Keeps (picture_at scene.pictures) other of view)
-        (λ of. keeps_home (picture_at scene.pictures) home other view of same) ofs actors.keep;
+        (λ of. keeps_home (picture_at scene.pictures) home other view of same told) ofs actors.keep;
   }
 
   pub calls_home : (scene : SceneValue) (ofs : List (ActorOf B)) (home other : DeskHome) (view : DeskView B) → other.marks ≡ home.marks → AreCalls scene ofs home view → AreCalls scene ofs other view
@@ -187,10 +188,10 @@ module _ {B : Type 0} where
       subst (λ (marks : List QueueMark). All (λ (queue : QueueDecl). AllZip IsReleased (released_on queue.number released) (calls_of 0 (told (mark_among marks queue.number) (view.calls queue.number)))) scene.queues)
       (sym same) releases
 
-  pub tell_home : (scene : SceneValue) (ofs : List (ActorOf B)) (home other : DeskHome) (view : DeskView B) (events : List Event) (released : List Released) → other.marks ≡ home.marks
+  pub tell_home : (scene : SceneValue) (ofs : List (ActorOf B)) (home other : DeskHome) (view : DeskView B) (events : List Event) (released : List Released) → other.marks ≡ home.marks → other.tells ≡ home.tells
       → TellRun scene ofs home view events released → TellRun scene ofs other view events released
-  tell_home scene ofs home other view events released same tell = record {
-    actors = actors_home scene ofs home other view same tell.actors;
+  tell_home scene ofs home other view events released same told tell = record {
+    actors = actors_home scene ofs home other view same told tell.actors;
     signals = tell.signals;
     callers = tell.callers;
     senders = tell.senders;

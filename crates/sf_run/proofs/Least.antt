@@ -180,7 +180,7 @@ are_answered final =
     subst (All (IsAnswered (picture_at []) final)) (sym places_are)
     (All-from_recursion (IsAnswered (picture_at []) final) places (each_answered final))
 
-is_trace : IsTraced least_scene run arrivals least_script
+is_trace : IsTraced true least_scene run arrivals least_script
 is_trace = record {
   first = refl;
   answered = are_answered (final_values least_scene run);
@@ -284,7 +284,7 @@ none_held end = refl
 pub fits : Fits least_scene least_shows run arrivals
 unfolding vsyncs_in commits_in
 fits = record {
-  traces = one (IsTraced least_scene run arrivals) least_script is_trace;
+  traces = one (IsTraced true least_scene run arrivals) least_script is_trace;
   turns = in_turn;
   replies = answers;
   arrive = arrive;

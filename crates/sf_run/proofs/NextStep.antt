@@ -56,7 +56,7 @@ use Rattle.sf_record.specs.declared.event.VsyncReport.{VsyncReport}
 use Rattle.sf_run.specs.Actors.{AreActors, AreCalls, arrivals_of, mark_declared, number_of, run_of, script_of, told_on, trace_among}
 use Rattle.sf_run.specs.Arrivals.{number_of as number_shown}
 use Rattle.sf_run.specs.Histories.{Released}
-use Rattle.sf_run.specs.Runs.{IsTraced, final_values}
+use Rattle.sf_run.specs.Runs.{AreTraced, IsTraced, final_values}
 use Rattle.sf_run.specs.Stepping.{CallsMore, DoesOneMore, DrawsInTime, KnowsRun, RefusesOpen, TellsFirst}
 use Rattle.sf_run.specs.Telling.{AreNumbered, place_of}
 use Rattle.sf_run.specs.Replies.{reply_shown}
@@ -174,7 +174,7 @@ abbrev token_with : WriteLeaseOf → Work → Token
 token_with lease w = Lent lease.queue (write_token lease.queue lease) (drawn_picture w)
 
 module _ {B : Type 0} (scene : SceneValue) (ofs : List (ActorOf B)) (home : DeskHome) (before after : DeskView B) (place : ℕ) (old new : ActorOf B) (reply : Told) (reports : List VsyncReport) (vsyncs : ℕ)
-    (limits : IsWithinLimits scene) (exact : home.is_exact ≡ true) (here : slice_get ofs place ≡ Some old) (does : DoesStep (picture_at scene.pictures) home old before new after reply)
+    (limits : IsWithinLimits scene) (exact : home.is_exact ≡ true) (tells : home.tells ≡ true) (here : slice_get ofs place ≡ Some old) (does : DoesStep (picture_at scene.pictures) home old before new after reply)
     (was : KnowsRun scene ofs home before) (is : KnowsRun scene (set ofs place new) home after) (calls : AreCalls scene (set ofs place new) home after) (numbered : AreNumbered after.arrivals) where
   abbrev world : World
   world = record { run = run_of ofs home before; arrivals = arrivals_of before; reports = reports; vsyncs = vsyncs }
@@ -248,11 +248,12 @@ module _ {B : Type 0} (scene : SceneValue) (ofs : List (ActorOf B)) (home : Desk
 
   does_one_more : DoesOneMore scene world old.script does.done (run_of (set ofs place new) home after) since
   does_one_more = record {
-    before = All-contains (IsTraced scene (run_of ofs home before) (arrivals_of before)) scene.actors old.script
-        (are_traced scene ofs home before was.actors (record { all = was.knows; made = was.signals })) in_scene;
-    after = subst (λ (arrivals : List (Arrival FrameOf)). IsTraced scene (run_of (set ofs place new) home after) arrivals old.script) (sym arrivals_are)
-        (All-contains (IsTraced scene (run_of (set ofs place new) home after) (arrivals_of after)) scene.actors old.script
-        (are_traced scene (set ofs place new) home after is.actors (record { all = is.knows; made = is.signals })) in_scene);
+    before = All-contains (IsTraced true scene (run_of ofs home before) (arrivals_of before)) scene.actors old.script
+        (subst (λ (t : Bool). AreTraced t scene (run_of ofs home before) (arrivals_of before)) tells (are_traced scene ofs home before was.actors (record { all = was.knows; made = was.signals }))) in_scene;
+    after = subst (λ (arrivals : List (Arrival FrameOf)). IsTraced true scene (run_of (set ofs place new) home after) arrivals old.script) (sym arrivals_are)
+        (All-contains (IsTraced true scene (run_of (set ofs place new) home after) (arrivals_of after)) scene.actors old.script
+        (subst (λ (t : Bool). AreTraced t scene (run_of (set ofs place new) home after) (arrivals_of after)) tells
+        (are_traced scene (set ofs place new) home after is.actors (record { all = is.knows; made = is.signals }))) in_scene);
     traces = traces;
     calls = calls_more;
     declared = λ queue entry told'. let made = told_has (mark_among home.marks queue) (after.calls queue) entry told' in calls.declared queue made.0 made.1;

@@ -23,7 +23,7 @@ use Rattle.sf_scene.specs.Scene.{SceneValue}
 use Rattle.sf_scene.specs.declared.step.ActorScript.{ActorScript}
 use Rattle.sf_actor.specs.declared.done.Done.{Done}
 use Rattle.sf_actor.specs.Desks.{DeskHome, DeskView, mark_among, values_of}
-use Rattle.sf_actor.specs.Known.{AreAmong, Rise, call_after, is_sent_by as sends, own_calls, plain_arrival, told_by}
+use Rattle.sf_actor.specs.Known.{AreAmong, Rise, arrivals_told, call_after, is_sent_by as sends, own_calls, plain_arrival, told_by}
 use Rattle.sf_actor.specs.Scripts.{picture_at, with_points}
 use Rattle.sf_actor.specs.Tales.{IsMade, IsTraceOf, made_on, sent_as}
 use Rattle.sf_actor.specs.Traces.{made_by}
@@ -97,6 +97,15 @@ own_arrived actor (arrived ∷ later) =
       | inr unmet ↦ rw unmet rest
     ]
 
+-- what senders are told of arrivals does not depend on their rights
+told_plain : (tells : Bool) (arrivals : List (Arrival ReadLeaseOf)) → arrivals_told tells (map plain_arrival arrivals) ≡ map plain_arrival (arrivals_told tells arrivals)
+told_plain true arrivals = refl
+told_plain false arrivals = unnumbered arrivals
+  where
+    unnumbered : (arrivals : List (Arrival ReadLeaseOf)) → arrivals_told false (map plain_arrival arrivals) ≡ map plain_arrival (arrivals_told false arrivals)
+    unnumbered [] = refl
+    unnumbered (arrived ∷ later) = ap (λ xs. record (plain_arrival arrived) { number = 0 } ∷ xs) (unnumbered later)
+
 module _ {B : Type 0} where
   -- calls with tokens tell plain ones, each of whose replies is what those before it say
   pub told_legal : (mark : QueueMark) (calls : List (Made B)) → AreReplies mark.width mark.height (told mark calls)
@@ -168,24 +177,25 @@ module _ {B : Type 0} where
       omega (arith, known, signalled, among, final)
 
   -- an actor that keeps what it keeps is traced
-  traced_by : (scene : SceneValue) (ofs : List (ActorOf B)) (home : DeskHome) (view : DeskView B) (of : ActorOf B) → AreActors scene ofs home view → KnowsSignals scene ofs home view → Contains ofs of → Keeps (picture_at scene.pictures) home of view → IsTraced scene (run_of ofs home view) (arrivals_of view) of.script
+  traced_by : (scene : SceneValue) (ofs : List (ActorOf B)) (home : DeskHome) (view : DeskView B) (of : ActorOf B) → AreActors scene ofs home view → KnowsSignals scene ofs home view → Contains ofs of → Keeps (picture_at scene.pictures) home of view → IsTraced home.tells scene (run_of ofs home view) (arrivals_of view) of.script
   traced_by scene ofs home view of actors knows there keeps =
       let run = run_of ofs home view in
       let final = final_values scene run in
       let pictures = picture_at scene.pictures in
       let is = keeps.kept.kept.is in
-      subst (λ (trace : List Done). IsTraceOf pictures of.script (own_in run (arrivals_of view) final of.script.number) trace (replies_of of.script.number trace)) (sym (trace_here ofs of actors.apart there)) (record {
+      subst (λ (trace : List Done). IsTraceOf pictures of.script (own_in home.tells run (arrivals_of view) final of.script.number) trace (replies_of of.script.number trace)) (sym (trace_here ofs of actors.apart there)) (record {
         first = is.first;
         answered = answered_on pictures (values_of view.times.known) final of.trace (rise_to_final scene ofs home view knows) is.answered;
         replied = refl;
         made = λ queue.
             subst (λ (entries : List Entry). AllZip IsMade (made_on queue (made_by pictures of.trace)) entries)
             (sym (own_told of.script.number (mark_among home.marks queue) (view.calls queue))) (is.made queue);
-        sent = ap (λ xs. map sent_as xs) (own_arrived of.script.number view.arrivals) ∙ is.sent;
+        sent = ap (λ xs. map sent_as (arrivals_told home.tells xs)) (own_arrived of.script.number view.arrivals)
+            ∙ ap (λ xs. map sent_as xs) (told_plain home.tells (filter (sends of.script.number) view.arrivals)) ∙ is.sent;
       })
 
-  pub are_traced : (scene : SceneValue) (ofs : List (ActorOf B)) (home : DeskHome) (view : DeskView B) → AreActors scene ofs home view → KnowsSignals scene ofs home view → AreTraced scene (run_of ofs home view) (arrivals_of view)
+  pub are_traced : (scene : SceneValue) (ofs : List (ActorOf B)) (home : DeskHome) (view : DeskView B) → AreActors scene ofs home view → KnowsSignals scene ofs home view → AreTraced home.tells scene (run_of ofs home view) (arrivals_of view)
   are_traced scene ofs home view actors knows k d low =
       let script = get_or scene.actors k d in
       let by = played_by scene ofs home view script actors (Contains-get_or scene.actors k d low) in
-      subst (IsTraced scene (run_of ofs home view) (arrivals_of view)) by.is (traced_by scene ofs home view by.of actors knows by.there by.keeps)
+      subst (IsTraced home.tells scene (run_of ofs home view) (arrivals_of view)) by.is (traced_by scene ofs home view by.of actors knows by.there by.keeps)

@@ -1,7 +1,7 @@
 -- What a played run means: a relation between a scene and the records of a run. It speaks of these alone, and of
 -- no state of a program, so that it can be said of any way to play a scene. What the records do not show - the traces with
 -- their whole answers, the calls on queues with their whole replies, the transactions with their operations - is some that fits.
-use Rattle.std.specs.Prelude.{◌≡◌, List, ◌∷◌, ◌++◌, All, map}
+use Rattle.std.specs.Prelude.{◌≡◌, Bool, true, List, ◌∷◌, ◌++◌, All, map}
 use Rattle.std.specs.List.{flat_map}
 use Rattle.sf_token.specs.Pending.{Arrival}
 use Rattle.sf_scene.specs.Scene.{SceneValue}
@@ -53,9 +53,10 @@ vsyncs_told scene arrivals events = told_of scene arrivals (vsyncs_in events)
 abbrev pub end_of : SceneValue → Run → List VsyncAt → EndOf
 end_of scene run told = record { written = written_in scene run; frames = (round_at_end (bare_round scene) told).frames; values = final_values scene run }
 
--- What is shown fits a run with these arrivals: the parts, one sentence each.
-pub record Fits (scene : SceneValue) (shows : Shows) (run : Run) (arrivals : List (Arrival FrameOf)) : Type 0 where
-  pub traces : AreTraced scene run arrivals
+-- What is shown fits a run with these arrivals: the parts, one sentence each. Who sends a transaction is told its place among
+-- the arrivals, or not.
+pub record FitsWhere (tells : Bool) (scene : SceneValue) (shows : Shows) (run : Run) (arrivals : List (Arrival FrameOf)) : Type 0 where
+  pub traces : AreTraced tells scene run arrivals
   pub turns : DrawAfterOwed scene run
   pub replies : AnswerSteps scene run shows.events
   pub arrive : ArriveInOrder scene arrivals shows.arrived
@@ -67,14 +68,21 @@ pub record Fits (scene : SceneValue) (shows : Shows) (run : Run) (arrivals : Lis
   pub holds : AreHeld (end_of scene run (vsyncs_told scene arrivals shows.events)) (uncommitted arrivals (commits_in (vsyncs_in shows.events))) shows.held
   pub ends : AreStuck scene run shows.stuck
 
+-- so it does where each is told its place
+abbrev pub Fits : SceneValue → Shows → Run → List (Arrival FrameOf) → Type 0
+Fits = FitsWhere true
+
 -- The records of a run in their order, and what they mean. Each number fits its field, so that the bytes determine the records.
-pub record Played (scene : SceneValue) (records : List Record) : Type 0 where
+pub record PlayedWhere (tells : Bool) (scene : SceneValue) (records : List Record) : Type 0 where
   pub shows : Shows
   pub order : records ≡ records_of scene shows
   pub fit : All RecordFits records
   pub run : Run
   pub arrivals : List (Arrival FrameOf)
-  pub fits : Fits scene shows run arrivals
+  pub fits : FitsWhere tells scene shows run arrivals
+
+abbrev pub Played : SceneValue → List Record → Type 0
+Played = PlayedWhere true
 
 -- the replies to an actor's steps, as events
 abbrev pub reply_events : Run → ActorScript → List Event

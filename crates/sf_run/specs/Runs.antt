@@ -8,6 +8,7 @@ use Rattle.sf_token.specs.Pending.{Arrival}
 use Rattle.sf_scene.specs.Limits.{most_actors}
 use Rattle.sf_scene.specs.Scene.{SceneValue}
 use Rattle.sf_scene.specs.declared.step.ActorScript.{ActorScript}
+use Rattle.sf_actor.specs.Known.{arrivals_told}
 use Rattle.sf_actor.specs.Makers.{Run}
 use Rattle.sf_actor.specs.Names.{FrameOf}
 use Rattle.sf_actor.specs.Points.{reached_by}
@@ -58,20 +59,22 @@ calls_of caller calls = filter (λ entry. entry.caller.0 == caller) (reverse cal
 abbrev pub is_sent_by : ℕ → Arrival FrameOf → Bool
 is_sent_by actor arrived = arrived.actor.0 == actor
 
--- what is one actor's: its calls on each queue and its arrivals; and the final values
-abbrev pub own_in : Run → List (Arrival FrameOf) → Seen → ℕ → OwnOf
-own_in run arrivals final actor = record {
+-- what is one actor's: its calls on each queue; its arrivals, with their numbers or, where no place is told, with 0; and the
+-- final values
+abbrev pub own_in : Bool → Run → List (Arrival FrameOf) → Seen → ℕ → OwnOf
+own_in tells run arrivals final actor = record {
   calls = λ queue. calls_of actor (run.calls queue);
-  arrivals = filter (is_sent_by actor) arrivals;
+  arrivals = arrivals_told tells (filter (is_sent_by actor) arrivals);
   values = final;
 }
 
 -- Traces. Each actor's is one of its script: each step is answered as the table of steps says after those before it, where
 -- it waited for points they are signalled in the end, and the actor's calls and arrivals are those of these steps, in order.
-abbrev pub IsTraced : SceneValue → Run → List (Arrival FrameOf) → ActorScript → Type 0
-IsTraced scene run arrivals script =
+-- A step that sends is answered by the number of its arrival, or by 0 where no place is told.
+abbrev pub IsTraced : Bool → SceneValue → Run → List (Arrival FrameOf) → ActorScript → Type 0
+IsTraced tells scene run arrivals script =
     let trace = run.trace script.number in
-    IsTraceOf (picture_at scene.pictures) script (own_in run arrivals (final_values scene run) script.number) trace (replies_of script.number trace)
+    IsTraceOf (picture_at scene.pictures) script (own_in tells run arrivals (final_values scene run) script.number) trace (replies_of script.number trace)
 
-abbrev pub AreTraced : SceneValue → Run → List (Arrival FrameOf) → Type 0
-AreTraced scene run arrivals = All (IsTraced scene run arrivals) scene.actors
+abbrev pub AreTraced : Bool → SceneValue → Run → List (Arrival FrameOf) → Type 0
+AreTraced tells scene run arrivals = All (IsTraced tells scene run arrivals) scene.actors

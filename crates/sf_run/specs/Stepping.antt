@@ -55,8 +55,8 @@ DrawsInTime scene world script other = Unit {0}
 -- An actor did one step more: its trace is one of its script before and after it, no one else's trace grew, what was called and
 -- what arrived since is its own, arrivals are numbered, and each reply is what the calls before it say.
 pub record DoesOneMore (scene : SceneValue) (world : World) (script : ActorScript) (done : Done) (later : Run) (arrived : List (Arrival FrameOf)) : Type 0 where
-  pub before : IsTraced scene world.run world.arrivals script
-  pub after : IsTraced scene later (world.arrivals ++ arrived) script
+  pub before : IsTraced true scene world.run world.arrivals script
+  pub after : IsTraced true scene later (world.arrivals ++ arrived) script
   pub traces : (actor : ℕ) → later.trace actor ≡ with_list world.run.trace script.number (world.run.trace script.number ++ done ∷ []) actor
   pub calls : (queue : ℕ) → CallsMore script.number (world.run.calls queue) (later.calls queue)
   pub declared : (queue : ℕ) (entry : Entry) → Contains (later.calls queue) entry → has_queue scene.queues queue ≡ true

@@ -1,4 +1,4 @@
-ghost use Rattle.std.specs.Prelude.{◌≡◌, ℕ, List, Contains, map};
+ghost use Rattle.std.specs.Prelude.{◌≡◌, ℕ, Bool, List, Contains, map};
 ghost use Rattle.sf_calls.specs.Histories.{IsLegal};
 ghost use Rattle.sf_surface.specs.Histories.{Answers, Made};
 ghost use Rattle.sf_surface.specs.Tokens.{ReadLeaseOf};
@@ -24,7 +24,7 @@ use sf_turns::TableName;
 pub fn actors_are_traced<B: TableName>()
     ensures { (scene : SceneValue) (ofs : List (ActorOf B)) (home : DeskHome) (view : DeskView B)
         → AreActors scene ofs home view → KnowsSignals scene ofs home view
-        → AreTraced scene (run_of ofs home view) (arrivals_of view) }
+        → AreTraced home.tells scene (run_of ofs home view) (arrivals_of view) }
 {}
 
 /// A frame that was acquired was queued by a call on the same queue: its lease has the number of
@@ -46,9 +46,9 @@ pub fn acquired_frames_show_pictures<B: TableName>()
 /// the desk's calls, each buffer of a commit has the picture and the crop of the step that queued its
 /// frame.
 pub fn buffers_show_as_queued<B: TableName>()
-    ensures { (scene : SceneValue) (ofs : List (ActorOf B)) (home : DeskHome) (view : DeskView B) (histories : List QueueHistory) (commits : List CommitRecord)
+    ensures { (scene : SceneValue) (ofs : List (ActorOf B)) (home : DeskHome) (view : DeskView B) (histories : List QueueHistory) (commits : List CommitRecord) (tells : Bool)
         → IsWithinLimits scene → AreActors scene ofs home view → AreCalls scene ofs home view → AreArrivals ofs view
-        → AreTraced scene (run_of ofs home view) (arrivals_of view)
+        → AreTraced tells scene (run_of ofs home view) (arrivals_of view)
         → histories ≡ map (history_shown (run_of ofs home view)) (rising_queues scene)
         → ShowBrought (arrivals_of view) commits → ShowAsQueued scene histories commits }
 {}

@@ -1,4 +1,4 @@
-ghost use Rattle.std.specs.Prelude.{◌≡◌, ℕ, List, [], ◌∷◌, map};
+ghost use Rattle.std.specs.Prelude.{◌≡◌, ℕ, Bool, List, [], ◌∷◌, map};
 ghost use Rattle.std.specs.List.{flat_map};
 ghost use Rattle.sf_record.specs.declared.event.Event.{Event as EventValue};
 ghost use Rattle.sf_record.specs.declared.record.Commit.{Commit as CommitValue};
@@ -16,16 +16,16 @@ ghost use Rattle.sf_run.specs.Frames.{HasOneOutput, frame_after, shown_after};
 ghost use Rattle.sf_run.specs.Histories.{history_shown, released_in};
 ghost use Rattle.sf_run.specs.Holds.{AreHeld, uncommitted};
 ghost use Rattle.sf_run.specs.Least.{least_records, least_scene};
-ghost use Rattle.sf_run.specs.Played.{Fits, Played, Shows};
+ghost use Rattle.sf_run.specs.Played.{FitsWhere, Played, Shows};
 ghost use Rattle.sf_run.specs.Replies.{replies_due, replies_to};
 ghost use Rattle.sf_run.specs.Vsyncs.{commits_in, vsyncs_in};
 
 /// What a run means leaves free in which order replies to different actors and vsyncs stand: where
 /// each actor's replies and the vsyncs are the same, the same runs fit.
 pub fn the_order_of_replies_is_free()
-    ensures { (scene : SceneValue) (shows : Shows) (run : Run) (arrivals : List (Arrival FrameOf)) (events : List EventValue)
+    ensures { (tells : Bool) (scene : SceneValue) (shows : Shows) (run : Run) (arrivals : List (Arrival FrameOf)) (events : List EventValue)
         → vsyncs_in events ≡ vsyncs_in shows.events → ((actor : ℕ) → replies_to actor events ≡ replies_to actor shows.events)
-        → Fits scene shows run arrivals → Fits scene (record shows { events = events }) run arrivals }
+        → FitsWhere tells scene shows run arrivals → FitsWhere tells scene (record shows { events = events }) run arrivals }
 {}
 
 /// A vsync of a scene without further displays, captures, hit tests, stacks and mirrors shows one

@@ -85,12 +85,13 @@ pub fn a_step_is_the_next_of_a_play()
         → IsNotReady scene world.run script (Some s) → actor_turn scene script.number world ≡ idle world }
 {}
 
-/// Over an exact desk a step that an actor does is its next turn of the play, where a buffer whose
+/// Over an exact desk that tells places a step that an actor does is its next turn of the play, where a buffer whose
 /// earlier turns have all left has no older draw that is owed.
 pub fn a_done_step_is_a_turn<B: TableName>()
     ensures { (scene : SceneValue) (ofs : List (ActorOf B)) (home : DeskHome) (before after : DeskView B) (place : ℕ) (old new : ActorOf B) (reply : ReplyValue)
         (reports : List ReportValue) (vsyncs : ℕ)
-        → IsWithinLimits scene → home.is_exact ≡ true → slice_get ofs place ≡ Some old → DoesStep (picture_at scene.pictures) home old before new after reply
+        → IsWithinLimits scene → home.is_exact ≡ true → home.tells ≡ true → slice_get ofs place ≡ Some old
+        → DoesStep (picture_at scene.pictures) home old before new after reply
         → KnowsRun scene ofs home before → KnowsRun scene (slice_set ofs place new) home after → AreCalls scene (slice_set ofs place new) home after
         → AreNumbered after.arrivals
         → TellsFirst scene (run_of ofs home before) old before

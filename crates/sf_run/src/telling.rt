@@ -12,7 +12,7 @@ ghost use Rattle.sf_run.specs.Commits.{CommitInOrder};
 ghost use Rattle.sf_run.specs.Frames.{ShowImages};
 ghost use Rattle.sf_run.specs.Histories.{AreHistories, Released, history_shown, rising_queues};
 ghost use Rattle.sf_run.specs.Holds.{AreHeld, uncommitted};
-ghost use Rattle.sf_run.specs.Played.{Fits, Shows, end_of, vsyncs_told};
+ghost use Rattle.sf_run.specs.Played.{FitsWhere, Shows, end_of, vsyncs_told};
 ghost use Rattle.sf_run.specs.Replies.{AnswerSteps};
 ghost use Rattle.sf_run.specs.Runs.{signals_in, written_in};
 ghost use Rattle.sf_run.specs.Stuck.{AreStuck};
@@ -56,5 +56,5 @@ pub fn what_actors_tell_fits<B: TableName>()
         → ShowImages scene (vsyncs_told scene (arrivals_of view) shows.events)
         → AreHeld (end_of scene (run_of ofs home view) (vsyncs_told scene (arrivals_of view) shows.events))
         (uncommitted (arrivals_of view) (commits_in (vsyncs_in shows.events))) shows.held
-        → AreStuck scene (run_of ofs home view) shows.stuck → Fits scene shows (run_of ofs home view) (arrivals_of view) }
+        → AreStuck scene (run_of ofs home view) shows.stuck → FitsWhere home.tells scene shows (run_of ofs home view) (arrivals_of view) }
 {}

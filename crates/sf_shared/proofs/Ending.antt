@@ -244,6 +244,7 @@ module _ {B : Type 0} where
         let taken = is.took seats there in
         record {
           marks = λ queue. ap (λ (ms : List QueueMark). mark_among ms queue) (closed_marks locks.queues.items first.seats.queues.items desk.queues left.queues);
+          tells = refl;
           calls = λ queue.
               subst (λ (calls : List (Made B)). GoesOnWithout seats.by (calls_known seats.queues.items queue) calls) (sym (calls_left queue))
               (closed_goes first.seats.by seats.by queue locks.queues.items first.seats.queues.items seats.queues.items desk.queues is.own.queues taken.own.queues left.queues taken.queues);

@@ -25,9 +25,7 @@ sent_one v w brought given step txn answer number marked is sends =
     let place : number ≡ length (sent (unstamped before)) + 1 = legal.0.1 in
     record {
       earlier = sent (unstamped before);
-      last =
-          ap (λ (log : List ArrivalEntry). sent (unstamped log)) made.newest.1
-          ∙ ap (λ (n : ℕ). sent (unstamped before) ++ record { number = n; actor = record { 0 = v.by }; step = step; txn = txn } ∷ []) (sym place);
+      last = ap (λ (log : List ArrivalEntry). sent (unstamped log)) made.newest.1;
       place = place;
       goes_on =
           sent_goes v.by (unstamped v.seen) (unstamped before)

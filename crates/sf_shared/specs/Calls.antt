@@ -35,7 +35,7 @@ module _ {B : Type 0} where
 -- a transaction was sent: it is the last that is known to have arrived, and those before it go on without one of the caller
 pub record SentOne (old new : ArrivalsPass) (step : ℕ) (txn : Contents ReadLeaseOf) (number : ℕ) : Type 0 where
   pub earlier : List (Arrival ReadLeaseOf)
-  pub last : sent (unstamped new.seen) ≡ earlier ++ record { number = number; actor = record { 0 = old.by }; step = step; txn = txn } ∷ []
+  pub last : sent (unstamped new.seen) ≡ earlier ++ record { number = length earlier + 1; actor = record { 0 = old.by }; step = step; txn = txn } ∷ []
   pub place : number ≡ length earlier + 1
   pub goes_on : ArriveWithout old.by (sent (unstamped old.seen)) earlier
 

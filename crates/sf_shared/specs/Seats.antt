@@ -1,5 +1,5 @@
 -- What one caller brings to what is shared: passes at locks, and seats.
-use Rattle.std.specs.Prelude.{◌≡◌, ℕ, ◌+◌, ◌<◌, ◌≤◌, ◌==◌, Bool, false, if◌then◌else◌}
+use Rattle.std.specs.Prelude.{◌≡◌, ℕ, ◌+◌, ◌<◌, ◌≤◌, ◌==◌, Bool, true, false, if◌then◌else◌}
 use Rattle.std.specs.Prelude.{Option, Some, None, List, [], ◌∷◌, ◌++◌, map, sum_by, Contains}
 use Rattle.std.specs.List.{AllZip}
 use Rattle.atomic_table.specs.Seated.{TableId}
@@ -57,6 +57,7 @@ module _ {B : Type 0} where
   home_of locks seats = record {
     marks = marks_of locks;
     is_exact = false;
+    tells = true;
     tables = tables_of locks;
     serves = λ by. by == seats.by;
     taken = 0;

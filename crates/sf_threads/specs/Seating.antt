@@ -1,5 +1,5 @@
 -- The first seats give seats to actors, one after the other.
-use Rattle.std.specs.Prelude.{◌≡◌, ◌==◌, ℕ, false, List, []}
+use Rattle.std.specs.Prelude.{◌≡◌, ◌==◌, ℕ, true, false, List, []}
 use Rattle.std.specs.List.{FoldsTo}
 use Rattle.atomic_table.specs.Seated.{TableId}
 use Rattle.sf_picture.specs.declared.picture.Picture.{Picture}
@@ -23,6 +23,7 @@ module _ {B : Type 0} where
   home_for locks number = record {
     marks = marks_of locks;
     is_exact = false;
+    tells = true;
     tables = tables_of locks;
     serves = λ by. by == number;
     taken = 0;
