@@ -5,5 +5,6 @@ pub mod Eyes
 pub mod First
 pub mod Moves
 pub mod Passes
+pub mod Queues
 pub mod Seats
 pub mod Shared

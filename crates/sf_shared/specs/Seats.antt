@@ -5,11 +5,7 @@ use Rattle.std.specs.List.{AllZip}
 use Rattle.atomic_table.specs.Seated.{TableId}
 use Rattle.sf_base.specs.declared.ids.QueueId.{QueueId}
 use Rattle.sf_calls.specs.Histories.{calls_by}
-use Rattle.sf_calls.specs.Views.{PassView}
-use Rattle.sf_calls.specs.declared.object.Entry.{Entry}
 use Rattle.sf_stamped.specs.Stamps.{stamp_of, unstamped}
-use Rattle.sf_surface.specs.declared.call.QCall.{QCall}
-use Rattle.sf_surface.specs.declared.call.QReply.{QReply}
 use Rattle.sf_surface.specs.declared.mark.QueueMark.{QueueMark}
 use Rattle.sf_surface.specs.Histories.{Made}
 use Rattle.sf_surface.specs.Objects.{mark_of}
@@ -21,13 +17,7 @@ use Rattle.sf_shared.specs.declared.locks.Locks.{Locks}
 use Rattle.sf_shared.specs.declared.locks.QueueLock.{QueueLock}
 use Rattle.sf_shared.specs.declared.seats.Seats.{Seats}
 use Rattle.sf_shared.specs.Arriving.{ArrivalEntry, Arriving}
-
--- calls on a queue with their stamps, and what a pass at a queue's lock shows
-abbrev pub QueueEntry : Type 0 → Type 0
-QueueEntry B = Entry (ℕ × (ℕ × QCall B)) (ℕ × QReply B)
-
-abbrev pub QueuePass : Type 0 → Type 0
-QueuePass B = PassView (ℕ × (ℕ × QCall B)) (ℕ × QReply B) QueueMark
+pub use Rattle.sf_shared.specs.Queues.{QueueEntry, QueuePass}
 
 -- the mark that a pass knows of its queue
 abbrev pub mark_in : Option QueueMark → QueueMark

@@ -8,10 +8,10 @@ ghost use Rattle.sf_shared.specs.Seats.{IsPassOf, lock_mark, moment, sent_in, ta
 use crate::arrivals::StampedArrivals;
 use crate::clock::Clock;
 use crate::locks::QueueLock;
+use crate::queue_seat::QueueSeat;
 use sf_base::NoMemory;
 use sf_calls::{CallFault, CallLock, Pass};
-use sf_stamped::Stamped;
-use sf_surface::{QCall, QReply, QueueObject, ReadLease};
+use sf_surface::{QCall, QReply, ReadLease};
 use sf_token::{ArriveCall, ArriveReply};
 use sf_turns::TableName;
 use sf_txn::Transaction;
@@ -22,7 +22,7 @@ use std::sync::Wait;
 pub(crate) fn call_one<R: Wait, B: TableName>(
     rt: &R,
     lock: &QueueLock<B>,
-    pass: &mut Pass<Stamped<QueueObject<B>>>,
+    pass: &mut QueueSeat<B>,
     last: &mut Clock,
     step: u32,
     call: QCall<B>,
@@ -43,7 +43,7 @@ pub(crate) fn call_one<R: Wait, B: TableName>(
     if step < last.step {
         return Err(CallFault::NoMemory(call));
     }
-    match pass.call(&lock.lock, rt, (last.stamp, (step, call))) {
+    match pass.call(lock, rt, (last.stamp, (step, call))) {
         Ok((stamp, reply)) => {
             *last = Clock { step, stamp };
             Ok(reply)

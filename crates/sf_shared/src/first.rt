@@ -5,11 +5,9 @@ ghost use Rattle.sf_shared.specs.Passes.{IsAt, IsFirstPass, KeepsOwn, MayGive, a
 
 use crate::clock::Clock;
 use crate::locks::{Locks, QueueLock};
+use crate::queue_seat::QueueSeat;
 use crate::seats::{Seats, SeatsParts};
 use sf_base::NoMemory;
-use sf_calls::Pass;
-use sf_stamped::Stamped;
-use sf_surface::QueueObject;
 use sf_turns::TableName;
 use std::alloc::Global;
 use std::snapshot::Snapshot;
@@ -26,9 +24,9 @@ pub struct FirstSeats<B: TableName> {
 fn split_passes<B: TableName>(
     alloc: Global,
     locks: &[QueueLock<B>],
-    firsts: &mut [Pass<Stamped<QueueObject<B>>>],
+    firsts: &mut [QueueSeat<B>],
     by: u32,
-) -> Result<Vec<Pass<Stamped<QueueObject<B>>>>, NoMemory>
+) -> Result<Vec<QueueSeat<B>>, NoMemory>
     requires own { AllZip IsAt locks.now firsts.old }
     requires long { length locks.now ≡ length firsts.old }
     requires first { AllByRecursion (MayGive by) firsts.old }
@@ -37,10 +35,8 @@ fn split_passes<B: TableName>(
 {
     let mut passes = Vec::new(alloc);
     for place in 0..firsts.len() {
-        let pass = firsts[place].split(&locks[place].lock, by);
-        if passes.push(pass).is_err() {
-            return Err(NoMemory);
-        }
+        let pass = firsts[place].split(&locks[place], by);
+        passes.push(pass)?;
     }
     Ok(passes)
 }
@@ -48,8 +44,8 @@ fn split_passes<B: TableName>(
 /// Takes a caller's passes in.
 fn meet_passes<B: TableName>(
     locks: &[QueueLock<B>],
-    firsts: &mut [Pass<Stamped<QueueObject<B>>>],
-    passes: Vec<Pass<Stamped<QueueObject<B>>>>,
+    firsts: &mut [QueueSeat<B>],
+    passes: Vec<QueueSeat<B>>,
 )
     requires own { AllZip IsAt locks.now firsts.old }
     requires theirs { AllZip IsAt locks.now passes.items }
@@ -63,7 +59,7 @@ fn meet_passes<B: TableName>(
         let Some(pass) = passes.next() else {
             unreachable!()
         };
-        firsts[place].meet(&locks[place].lock, pass);
+        firsts[place].meet(&locks[place], pass);
     }
 }
 
@@ -118,9 +114,7 @@ impl<B: TableName> FirstSeats<B> {
         ensures meets { IfOk result (λ done. Meets seats self.old self.new) }
     {
         let kept = Snapshot::of(&seats);
-        if self.took.push(kept).is_err() {
-            return Err(NoMemory);
-        }
+        self.took.push(kept)?;
         let SeatsParts {
             by: _,
             last,

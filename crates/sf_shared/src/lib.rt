@@ -12,6 +12,7 @@ mod compositing;
 mod first;
 mod laws;
 mod locks;
+mod queue_seat;
 mod seats;
 mod shared;
 
@@ -20,5 +21,6 @@ pub use clock::Clock;
 pub use first::FirstSeats;
 pub use laws::first_seats_stay_first;
 pub use locks::{Locks, QueueLock};
+pub use queue_seat::QueueSeat;
 pub use seats::Seats;
 pub use shared::SharedDesk;

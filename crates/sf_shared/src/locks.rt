@@ -12,10 +12,11 @@ ghost use Rattle.sf_shared.specs.Seats.{AreSeats, home_of, is_lock, view_of};
 use crate::arrivals::StampedArrivals;
 use crate::clock::Clock;
 use crate::first::FirstSeats;
+use crate::queue_seat::QueueSeat;
 use crate::seats::{Seats, SeatsParts};
 use sf_actor::PlainDesk;
 use sf_base::{NoMemory, QueueId};
-use sf_calls::{CallLock, Pass};
+use sf_calls::CallLock;
 use sf_picture::Painted;
 use sf_stamped::Stamped;
 use sf_surface::{QueueObject, ReadLease};
@@ -27,7 +28,6 @@ use std::marker::Brand;
 use std::snapshot::Snapshot;
 
 /// A queue under a lock, with its number.
-#[derive(Drop)]
 pub struct QueueLock<B: TableName> {
     pub(crate) number: QueueId,
     pub(crate) lock: CallLock<Stamped<QueueObject<B>>>,
@@ -47,7 +47,7 @@ pub struct Locks<B: TableName> {
 fn open_queue<B: TableName>(
     alloc: Global,
     object: QueueObject<B>,
-) -> Result<(QueueLock<B>, Pass<Stamped<QueueObject<B>>>), NoMemory>
+) -> Result<(QueueLock<B>, QueueSeat<B>), NoMemory>
     requires { object.calls ≡ [] }
     ensures { IfOk result (λ opened. IsOpened object opened.0 opened.1) }
 {
@@ -60,9 +60,12 @@ fn open_queue<B: TableName>(
                 lock,
                 opened,
             },
-            pass,
+            QueueSeat::of(pass),
         )),
-        Err(_) => Err(NoMemory),
+        Err(refused) => {
+            drop(refused);
+            Err(NoMemory)
+        }
     }
 }
 
@@ -70,7 +73,7 @@ fn open_queue<B: TableName>(
 fn open_queues<B: TableName>(
     alloc: Global,
     objects: Vec<QueueObject<B>>,
-) -> Result<(Vec<QueueLock<B>>, Vec<Pass<Stamped<QueueObject<B>>>>), NoMemory>
+) -> Result<(Vec<QueueLock<B>>, Vec<QueueSeat<B>>), NoMemory>
     requires { AllByRecursion HasNoCalls objects.items }
     ensures { IfOk result (λ opened. AreOpened objects.items opened.0.items opened.1.items) }
 {
@@ -78,37 +81,17 @@ fn open_queues<B: TableName>(
     let mut passes = Vec::new(alloc);
     for object in objects {
         let (lock, pass) = open_queue(alloc, object)?;
-        if locks.push(lock).is_err() || passes.push(pass).is_err() {
-            return Err(NoMemory);
-        }
+        locks.push(lock)?;
+        passes.push(pass)?;
     }
     Ok((locks, passes))
-}
-
-/// A queue out of its lock.
-fn close_queue<B: TableName>(
-    lock: QueueLock<B>,
-    pass: Pass<Stamped<QueueObject<B>>>,
-) -> Result<QueueObject<B>, NoMemory>
-    requires own { IsLast lock pass }
-    ensures { IfOk result (IsClosed lock pass) }
-{
-    let QueueLock {
-        number: _,
-        lock,
-        opened: _,
-    } = lock;
-    match lock.close(pass) {
-        Ok(stamped) => Ok(stamped.into_object()),
-        Err(_) => Err(NoMemory),
-    }
 }
 
 /// The queues out of their locks.
 fn close_queues<B: TableName>(
     alloc: Global,
     locks: Vec<QueueLock<B>>,
-    passes: Vec<Pass<Stamped<QueueObject<B>>>>,
+    passes: Vec<QueueSeat<B>>,
 ) -> Result<Vec<QueueObject<B>>, NoMemory>
     requires { AllZip IsLast locks.items passes.items }
     ensures { IfOk result (λ objects. AreClosed locks.items passes.items objects.items) }
@@ -119,10 +102,7 @@ fn close_queues<B: TableName>(
         let Some(pass) = passes.next() else {
             unreachable!()
         };
-        let object = close_queue(lock, pass)?;
-        if objects.push(object).is_err() {
-            return Err(NoMemory);
-        }
+        objects.push(lock.close(pass))?;
     }
     Ok(objects)
 }
@@ -217,9 +197,37 @@ impl<B: TableName> Locks<B> {
         } = seats.into_parts();
         let queues = close_queues(alloc, queues, passes)?;
         let Ok(arrivals) = arrivals.close(pass) else {
-            return Err(NoMemory);
+            unreachable!()
         };
         Ok(PlainDesk::new(queues, arrivals.into_arrivals(), table, times, turns))
+    }
+}
+
+impl<B: TableName> QueueLock<B> {
+    /// The queue out of its lock.
+    fn close(self, seat: QueueSeat<B>) -> QueueObject<B>
+        requires own { IsLast self seat }
+        ensures { IsClosed self seat result }
+    {
+        let QueueLock {
+            number: _,
+            lock,
+            opened: _,
+        } = self;
+        match lock.close(seat.into_pass()) {
+            Ok(stamped) => stamped.into_object(),
+            Err(_refused) => unreachable!(),
+        }
+    }
+}
+
+impl<B: TableName> Drop for QueueLock<B> {
+    fn drop(self) {
+        let QueueLock {
+            number: _,
+            lock: _,
+            opened: _,
+        } = self;
     }
 }
 

@@ -2,11 +2,11 @@ use crate::arrivals::StampedArrivals;
 use crate::calls::{call_one, send_one};
 use crate::clock::Clock;
 use crate::locks::Locks;
+use crate::queue_seat::QueueSeat;
 use sf_base::{NoMemory, QueueId};
 use sf_calls::{CallFault, Pass};
 use sf_picture::Painted;
-use sf_stamped::Stamped;
-use sf_surface::{QCall, QReply, QueueObject, ReadLease};
+use sf_surface::{QCall, QReply, ReadLease};
 use sf_times::TimeSeat;
 use sf_turns::{TableName, TurnSeat};
 use sf_txn::Transaction;
@@ -18,7 +18,7 @@ pub struct Seats<B: TableName> {
     // Its last call, of all locks.
     pub(crate) last: Clock,
     // In the order of the locks.
-    pub(crate) queues: Vec<Pass<Stamped<QueueObject<B>>>>,
+    pub(crate) queues: Vec<QueueSeat<B>>,
     pub(crate) arrivals: Pass<StampedArrivals<B>>,
     pub(crate) times: TimeSeat,
     pub(crate) turns: TurnSeat<Painted>,
@@ -28,7 +28,7 @@ pub struct Seats<B: TableName> {
 pub(crate) struct SeatsParts<B: TableName> {
     pub(crate) by: u32,
     pub(crate) last: Clock,
-    pub(crate) queues: Vec<Pass<Stamped<QueueObject<B>>>>,
+    pub(crate) queues: Vec<QueueSeat<B>>,
     pub(crate) arrivals: Pass<StampedArrivals<B>>,
     pub(crate) times: TimeSeat,
     pub(crate) turns: TurnSeat<Painted>,

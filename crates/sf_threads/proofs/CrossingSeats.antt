@@ -3,7 +3,7 @@ use mathlib.Core.List.{[], ◌∷◌}
 use denote.RattleType.{RattleType}
 use denote.Builtin.{u32, u64, unit}
 use denote.Struct.Tuple.{Tuple}
-use denote.Param.Send.{IsSend, IsSync, sendable}
+use denote.Param.Send.{IsSend, IsSync, sendable, view_send}
 use denote.Param.SendFields.{declared_send, declared_sync}
 use Rattle.std.proofs.Crossing.{Vec-send, Vec-sync, crosses}
 use Rattle.sf_calls.specs.contracts.pass.Pass as pass
@@ -12,6 +12,8 @@ use Rattle.sf_shared.specs.contracts.arrivals.StampedArrivals as arrived
 use Rattle.sf_shared.specs.contracts.arrivals.StampedArrivalsObject.TheImpl as arriving
 use Rattle.sf_shared.specs.contracts.locks.Locks as locks
 use Rattle.sf_shared.specs.contracts.locks.QueueLock as queue_lock
+use Rattle.sf_shared.specs.contracts.queue_seat.QueueSeat as queue_seat
+use Rattle.sf_shared.specs.contracts.queue_seat.QueueSeat.TheInside as queue_seat_inside
 use Rattle.sf_shared.specs.contracts.seats.Seats as seats
 use Rattle.sf_stamped.specs.contracts.stamped.Stamped as stamped
 use Rattle.sf_stamped.specs.contracts.stamped.StampedObject.TheImpl as stamping
@@ -54,6 +56,9 @@ module _ (B : RattleType) (T : naming.Ghosts B.Denot) where
   queue_pass_send = pass_send Queue QueueCall QueueReply QueueCall QueueReply mark.the_row
       (stamping.ghosts (queue.the_row B T) Asked (reply.the_row B T) Asked (reply.the_row B T) mark.the_row (queued.ghosts B T queued.no_dict) stamping.no_dict) stamped_queue_send
 
+  queue_seat_send : IsSend (queue_seat.the_row B T)
+  queue_seat_send = view_send _ _ _ _ _ (declared_send (queue_seat_inside.the_type B T) (queue_pass_send, tt))
+
   abbrev ArriveCall : RattleType
   ArriveCall = Tuple (u64 ∷ Call B T ∷ [])
 
@@ -66,7 +71,7 @@ module _ (B : RattleType) (T : naming.Ghosts B.Denot) where
     (
       clock_shown.the_send,
       (
-        Vec-send QueuePass queue_pass_send,
+        Vec-send (queue_seat.the_row B T) queue_seat_send,
         (
           pass_send (arrived.the_row B T) ArriveCall ArriveReply ArriveCall ArriveReply unit (arriving.ghosts B T arriving.no_dict) (arrived_send B T),
           (time_seat_shown.the_send, (seat_send, tt)),

@@ -1,6 +1,7 @@
-use Rattle.std.proofs.Common.{◌≡◌, ◌<◌, ◌≤◌, length, ap, ◌∙◌, arith, rules}
+use Rattle.std.proofs.Common.{◌≡◌, ◌<◌, ◌≤◌, length, ap, ◌∙◌, sym, arith, rules}
 use Rattle.std.proofs.lemmas.List.{nil_from_length}
 use Rattle.std.specs.Vec.Iter.{into_iter_items}
+use Rattle.sf_shared.specs.declared.locks.QueueLock.{QueueLock}
 use Rattle.sf_shared.specs.Passes.{IsAt, IsFirstPass}
 use Rattle.sf_shared.specs.Seats.{QueuePass}
 use Rattle.sf_shared.proofs.Meeting.{meet_ends, meet_goes_on, meet_more, meet_starts, met_there, note_own}
@@ -27,7 +28,8 @@ meet-requires-clause-own g c =
     let long = c.requires.long.0 in
     let low : at.place < length c.args.locks.now = omega arith in
     ap (λ (p : QueuePass g.row.B.Denot). p.table) (met_there c.args.firsts.now at.firsts c.args.passes.items _ at.place c.index-firsts-place.result at.invariant)
-    ∙ zip_at IsAt c.args.locks.now c.args.firsts.now at.place c.index-locks-place.result c.index-firsts-place.result c.requires.own low
+    ∙ (zip_at IsAt c.args.locks.now c.args.firsts.now at.place c.index-locks-place.result c.index-firsts-place.result c.requires.own low
+    ∙ ap (λ (l : QueueLock g.row.B.Denot). l.lock) (sym c.index-locks-place.is))
 
 pub meet-requires-clause-theirs : goal.meet-requires-clause-theirs
 meet-requires-clause-theirs g c =
@@ -37,6 +39,7 @@ meet-requires-clause-theirs g c =
     let low : at.place < length c.args.locks.now = omega arith in
     note_own c.args.locks.now c.args.firsts.now at.firsts c.args.passes.items (into_iter_items at.passes) (into_iter_items c.next.new.self) at.place c.in-Some.pass c.index-locks-place.result
     at.invariant c.in-Some.ensures.items c.requires.theirs low
+    ∙ ap (λ (l : QueueLock g.row.B.Denot). l.lock) (sym c.index-locks-place.is)
 
 pub meet-requires-clause-first : goal.meet-requires-clause-first
 meet-requires-clause-first g c =

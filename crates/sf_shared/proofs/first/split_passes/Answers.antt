@@ -1,6 +1,7 @@
-use Rattle.std.proofs.Common.{◌≡◌, ◌<◌, ◌≤◌, ◌++◌, ◌∷◌, [], length, ap, ◌∙◌, sym, subst, arith, rules}
+use Rattle.std.proofs.Common.{◌<◌, ◌≤◌, ◌∷◌, length, ap, ◌∙◌, sym, subst, arith}
 use Rattle.std.specs.Prelude.{Contains}
 use Rattle.sf_calls.specs.Passes.{given, giving}
+use Rattle.sf_shared.specs.declared.locks.QueueLock.{QueueLock}
 use Rattle.sf_shared.specs.Passes.{IsAt, MayGive}
 use Rattle.sf_shared.specs.Seats.{QueuePass}
 use Rattle.sf_shared.proofs.Passing.{zip_at}
@@ -17,7 +18,9 @@ split-pass-requires-clause-own g c =
     let long = c.requires.long in
     let low : at.place < length c.args.locks.now = omega arith in
     let same = same_there (giving c.args.by) (given c.args.by) c.args.firsts.now at.firsts at.passes.items at.place c.index-firsts-place.result at.invariant in
-    ap (λ (p : QueuePass g.row.B.Denot). p.table) same ∙ zip_at IsAt c.args.locks.now c.args.firsts.now at.place c.index-locks-place.result c.index-firsts-place.result c.requires.own low
+    ap (λ (p : QueuePass g.row.B.Denot). p.table) same
+    ∙ (zip_at IsAt c.args.locks.now c.args.firsts.now at.place c.index-locks-place.result c.index-firsts-place.result c.requires.own low
+    ∙ ap (λ (l : QueueLock g.row.B.Denot). l.lock) (sym c.index-locks-place.is))
 
 pub split-pass-requires-clause-first : goal.split-pass-requires-clause-first
 split-pass-requires-clause-first g c =
@@ -41,9 +44,8 @@ loop-place-preserved g c =
     let at = c.loop-place in
     let test = c.loop-place-test.true in
     let low : at.place < length c.args.firsts.now = omega arith in
-    let pushed : c.push.new.self.items ≡ at.passes.items ++ c.split-pass.result ∷ [] = search rules in
     goes_on (giving c.args.by) (given c.args.by) c.args.firsts.now at.firsts at.passes.items at.place c.index-firsts-place.result c.split-pass.new.self c.split-pass.result c.push.new.self.items
-    at.invariant low c.split-pass.ensures.kept c.split-pass.ensures.given pushed
+    at.invariant low c.split-pass.ensures.kept c.split-pass.ensures.given c.in_ok-push.ensures.items
 
 pub returns-clause-gives : goal.returns-clause-gives
 returns-clause-gives g c =

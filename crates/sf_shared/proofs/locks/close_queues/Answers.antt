@@ -1,4 +1,4 @@
-use Rattle.std.proofs.Common.{◌≡◌, ◌++◌, ◌∷◌, [], List, subst, rules}
+use Rattle.std.proofs.Common.{◌≡◌, ◌∷◌, List, subst, rules}
 use Rattle.std.proofs.lemmas.List.{nil_from_length}
 use Rattle.std.specs.Vec.Iter.{into_iter_items}
 use Rattle.std.specs.List.{AllZip}
@@ -21,8 +21,8 @@ unreachable-requires g c =
     has_pass (into_iter_items c.next.new.self) (into_iter_items at.passes) c.in-Some.lock
     (subst (λ (ls : List (QueueLock g.row.B.Denot)). AllZip IsLast ls (into_iter_items at.passes)) steps at.invariant.last) none
 
-pub close_queue-requires : goal.close_queue-requires
-close_queue-requires g c =
+pub close-requires : goal.close-requires
+close-requires g c =
     let at = c.loop-lock in
     let steps : into_iter_items at.lock-iterator ≡ c.in-Some.lock ∷ into_iter_items c.next.new.self = c.in-Some.ensures.steps.0 in
     let last =
@@ -37,9 +37,8 @@ loop-lock-preserved g c =
     let so =
     subst (λ (ps : List (QueuePass g.row.B.Denot)). CloseSoFar c.args.locks.items (c.in-Some.lock ∷ into_iter_items c.next.new.self) c.args.passes.items ps at.objects.items) c.in-Some-next.ensures.items
     (subst (λ (ls : List (QueueLock g.row.B.Denot)). CloseSoFar c.args.locks.items ls c.args.passes.items (into_iter_items at.passes) at.objects.items) steps at.invariant) in
-    let object_last : c.push.new.self.items ≡ at.objects.items ++ c.in_ok-object.object ∷ [] = search rules in
     close_goes_on c.args.locks.items (into_iter_items c.next.new.self) c.args.passes.items (into_iter_items c.next-in-loop-lock.new.self) at.objects.items c.push.new.self.items c.in-Some.lock
-    c.in-Some-next.pass c.in_ok-object.object so c.in_ok-object.ensures object_last
+    c.in-Some-next.pass c.close.result so c.close.ensures c.in_ok-push.ensures.items
 
 pub returns : goal.returns
 returns g c =

@@ -1,4 +1,4 @@
-use Rattle.std.proofs.Common.{◌≡◌, ◌++◌, ◌∷◌, [], List, subst, rules}
+use Rattle.std.proofs.Common.{◌≡◌, ◌∷◌, List, subst, rules}
 use Rattle.std.proofs.lemmas.List.{nil_from_length}
 use Rattle.std.specs.Vec.Iter.{into_iter_items}
 use Rattle.sf_surface.specs.Objects.{ObjectOf}
@@ -21,10 +21,8 @@ loop-object-preserved g c =
     let at = c.loop-object in
     let steps : into_iter_items at.object-iterator ≡ c.in-Some.object ∷ into_iter_items c.next.new.self = c.in-Some.ensures.steps.0 in
     let so = subst (λ (os : List (ObjectOf g.row.B.Denot)). OpenSoFar c.args.objects.items os at.locks.items at.passes.items) steps at.invariant in
-    let lock_last : c.push.new.self.items ≡ at.locks.items ++ c.in_ok-lock.lock ∷ [] = search rules in
-    let pass_last : c.push-else-is_err.new.self.items ≡ at.passes.items ++ c.in_ok-lock.pass ∷ [] = search rules in
-    open_goes_on c.args.objects.items (into_iter_items c.next.new.self) at.locks.items c.push.new.self.items at.passes.items c.push-else-is_err.new.self.items c.in-Some.object c.in_ok-lock.lock
-    c.in_ok-lock.pass so c.in_ok-lock.ensures lock_last pass_last
+    open_goes_on c.args.objects.items (into_iter_items c.next.new.self) at.locks.items c.push.new.self.items at.passes.items c.push-in-loop-object.new.self.items c.in-Some.object c.in_ok-lock.lock
+    c.in_ok-lock.pass so c.in_ok-lock.ensures c.in_ok-push.ensures.items c.in_ok-push-2.ensures.items
 
 pub returns : goal.returns
 returns g c =

@@ -1,4 +1,4 @@
-use Rattle.std.proofs.Common.{◌≡◌, ◌∙◌, ◌++◌, ◌∷◌, [], List, ap, arith, length, refl, rules, subst, sym}
+use Rattle.std.proofs.Common.{◌∙◌, List, ap, arith, length, refl, subst, sym}
 use Rattle.std.specs.List.{AllByRecursion, AllZip}
 use Rattle.std.specs.Vec.{with_items}
 use Rattle.std.proofs.Math.Nat.{le-max_left}
@@ -48,8 +48,8 @@ meet_passes-requires-clause-first g c =
     subst (λ (ps : List (QueuePass g.row.B.Denot)). AllByRecursion IsFirstPass ps) (sym c.deref_mut.ensures.value)
     (first_passes (gave_of first) first.seats.queues.items c.requires.first.queues)
 
-pub returns-clause-first : goal.returns-clause-first
-returns-clause-first g c =
+pub returns : goal.returns
+returns g c =
     let old = c.args.self.now in
     let parts = c.into_parts-queues.result in
     let seats : Seats g.row.B.Denot = record { by = parts.by; last = parts.last; queues = parts.queues; arrivals = parts.arrivals; times = parts.times; turns = parts.turns } in
@@ -70,7 +70,7 @@ returns-clause-first g c =
     let long = ap (λ (ps : List (QueuePass g.row.B.Denot)). length ps) met ∙ met_long old.seats.queues.items seats.queues.items in
     let whole = with_items_is old.seats.queues c.meet_passes.new.firsts (omega (arith, many, long)) in
     let own = subst (λ (ps : List (QueuePass g.row.B.Denot)). AllZip KeepsOwn ps c.meet_passes.new.firsts) c.deref_mut.ensures.value c.meet_passes.ensures.own_calls in
-    let pushed : c.push.new.self.items ≡ old.took.items ++ c.of-kept.result ∷ [] = search rules in
+    let pushed = c.in_ok-push.ensures.items in
     let m : IsMet seats old new = record {
       took = took_one old.took.items c.push.new.self.items c.of-kept.result seats pushed (c.of-kept.ensures ∙ c.into_parts-queues.ensures);
       many = one_longer old.took.items c.push.new.self.items c.of-kept.result pushed;
@@ -84,42 +84,7 @@ returns-clause-first g c =
       times = c.join.ensures.both;
       turns = c.join-2.ensures.both;
     } in
-    first_after g.B.TableName.table c.args.locks.now seats old new c.requires.first theirs m c.requires.out
-
-pub returns-clause-meets : goal.returns-clause-meets
-returns-clause-meets g c =
-    let old = c.args.self.now in
-    let parts = c.into_parts-queues.result in
-    let seats : Seats g.row.B.Denot = record { by = parts.by; last = parts.last; queues = parts.queues; arrivals = parts.arrivals; times = parts.times; turns = parts.turns } in
-    let theirs = subst (AreSeats g.B.TableName.table c.args.locks.now) c.into_parts-queues.ensures c.requires.theirs in
-    let new : FirstSeats g.row.B.Denot = record {
-      seats = record {
-        by = old.seats.by;
-        last = record { step = old.seats.last.step; stamp = c.max-first.result };
-        queues = with_items old.seats.queues c.meet_passes.new.firsts;
-        arrivals = c.meet.new.self;
-        times = c.join.new.self;
-        turns = c.join-2.new.self;
-      };
-      took = c.push.new.self;
-    } in
-    let met = c.meet_passes.ensures.met ∙ ap (λ (ps : List (QueuePass g.row.B.Denot)). all_met ps seats.queues.items) c.deref_mut.ensures.value in
-    let many = old.seats.queues.ok.0 in
-    let long = ap (λ (ps : List (QueuePass g.row.B.Denot)). length ps) met ∙ met_long old.seats.queues.items seats.queues.items in
-    let whole = with_items_is old.seats.queues c.meet_passes.new.firsts (omega (arith, many, long)) in
-    let own = subst (λ (ps : List (QueuePass g.row.B.Denot)). AllZip KeepsOwn ps c.meet_passes.new.firsts) c.deref_mut.ensures.value c.meet_passes.ensures.own_calls in
-    let pushed : c.push.new.self.items ≡ old.took.items ++ c.of-kept.result ∷ [] = search rules in
-    let m : IsMet seats old new = record {
-      took = took_one old.took.items c.push.new.self.items c.of-kept.result seats pushed (c.of-kept.ensures ∙ c.into_parts-queues.ensures);
-      many = one_longer old.took.items c.push.new.self.items c.of-kept.result pushed;
-      number = refl;
-      step = refl;
-      stamp = (let a = c.max-first.ensures in let b = le-max_left old.seats.last.stamp seats.last.stamp in omega (arith, a, b));
-      queues = whole ∙ met;
-      own_calls = subst (λ (ps : List (QueuePass g.row.B.Denot)). AllZip KeepsOwn old.seats.queues.items ps) (sym whole) own;
-      arrivals = c.meet.ensures.both;
-      own_arrivals = record { begins = c.meet.ensures.begins; calls = c.meet.ensures.own_calls };
-      times = c.join.ensures.both;
-      turns = c.join-2.ensures.both;
-    } in
-    subst (λ (s : Seats g.row.B.Denot). Meets s old new) (sym c.into_parts-queues.ensures) (meets_after g.B.TableName.table c.args.locks.now seats old new c.requires.first theirs m)
+    record {
+      first = first_after g.B.TableName.table c.args.locks.now seats old new c.requires.first theirs m c.requires.out;
+      meets = subst (λ (s : Seats g.row.B.Denot). Meets s old new) (sym c.into_parts-queues.ensures) (meets_after g.B.TableName.table c.args.locks.now seats old new c.requires.first theirs m);
+    }

@@ -32,8 +32,8 @@ split_passes-requires-clause-first g c =
     subst (λ (ps : List (QueuePass g.row.B.Denot)). AllByRecursion (MayGive c.args.by) ps) (sym c.deref_mut.ensures.value)
     (may_give c.args.by g.B.TableName.table c.args.locks.now c.args.self.now c.requires.first c.requires.fresh)
 
-pub returns-clause-first : goal.returns-clause-first
-returns-clause-first g c =
+pub returns : goal.returns
+returns g c =
     let new : FirstSeats g.row.B.Denot = record {
       seats = record {
         by = c.args.self.now.seats.by;
@@ -72,130 +72,9 @@ returns-clause-first g c =
       given_times = c.split-3.ensures.given;
       given_turns = c.in_ok-turns.ensures.ok.1;
     } in
-    first_after c.args.by g.B.TableName.table c.args.locks.now old new seats c.requires.first c.requires.unused s
-
-pub returns-clause-gives : goal.returns-clause-gives
-returns-clause-gives g c =
-    let new : FirstSeats g.row.B.Denot = record {
-      seats = record {
-        by = c.args.self.now.seats.by;
-        last = c.args.self.now.seats.last;
-        queues = with_items c.args.self.now.seats.queues c.split_passes.new.firsts;
-        arrivals = c.split-2.new.self;
-        times = c.split-3.new.self;
-        turns = c.split.new.self;
-      };
-      took = c.args.self.now.took;
-    } in
-    let seats : Seats g.row.B.Denot = record {
-      by = c.args.by;
-      last = record { step = 0; stamp = c.args.self.now.seats.last.stamp };
-      queues = c.in_ok-queues.queues;
-      arrivals = c.split-2.result;
-      times = c.split-3.result;
-      turns = c.in_ok-turns.turns;
-    } in
-    let old = c.args.self.now in
-    let gives = c.in_ok-queues.ensures.gives ∙ ap (map (giving c.args.by)) c.deref_mut.ensures.value in
-    let many = old.seats.queues.ok.0 in
-    let long = ap (λ (ps : List (QueuePass g.row.B.Denot)). length ps) gives ∙ length-map old.seats.queues.items (giving c.args.by) in
-    let whole = with_items_is old.seats.queues c.split_passes.new.firsts (omega (arith, many, long)) in
-    let s : IsSplit c.args.by old new seats = record {
-      took = refl;
-      number = refl;
-      last = refl;
-      queues = whole ∙ gives;
-      arrivals = c.split-2.ensures.kept;
-      times = c.split-3.ensures.kept;
-      turns = c.in_ok-turns.ensures.ok.0;
-      given_number = refl;
-      given_queues = c.in_ok-queues.ensures.given ∙ ap (map (given c.args.by)) c.deref_mut.ensures.value;
-      given_arrivals = c.split-2.ensures.given;
-      given_times = c.split-3.ensures.given;
-      given_turns = c.in_ok-turns.ensures.ok.1;
-    } in
-    gives_after c.args.by g.B.TableName.table c.args.locks.now old new seats c.requires.first c.requires.unused s
-
-pub returns-clause-seats : goal.returns-clause-seats
-returns-clause-seats g c =
-    let new : FirstSeats g.row.B.Denot = record {
-      seats = record {
-        by = c.args.self.now.seats.by;
-        last = c.args.self.now.seats.last;
-        queues = with_items c.args.self.now.seats.queues c.split_passes.new.firsts;
-        arrivals = c.split-2.new.self;
-        times = c.split-3.new.self;
-        turns = c.split.new.self;
-      };
-      took = c.args.self.now.took;
-    } in
-    let seats : Seats g.row.B.Denot = record {
-      by = c.args.by;
-      last = record { step = 0; stamp = c.args.self.now.seats.last.stamp };
-      queues = c.in_ok-queues.queues;
-      arrivals = c.split-2.result;
-      times = c.split-3.result;
-      turns = c.in_ok-turns.turns;
-    } in
-    let old = c.args.self.now in
-    let gives = c.in_ok-queues.ensures.gives ∙ ap (map (giving c.args.by)) c.deref_mut.ensures.value in
-    let many = old.seats.queues.ok.0 in
-    let long = ap (λ (ps : List (QueuePass g.row.B.Denot)). length ps) gives ∙ length-map old.seats.queues.items (giving c.args.by) in
-    let whole = with_items_is old.seats.queues c.split_passes.new.firsts (omega (arith, many, long)) in
-    let s : IsSplit c.args.by old new seats = record {
-      took = refl;
-      number = refl;
-      last = refl;
-      queues = whole ∙ gives;
-      arrivals = c.split-2.ensures.kept;
-      times = c.split-3.ensures.kept;
-      turns = c.in_ok-turns.ensures.ok.0;
-      given_number = refl;
-      given_queues = c.in_ok-queues.ensures.given ∙ ap (map (given c.args.by)) c.deref_mut.ensures.value;
-      given_arrivals = c.split-2.ensures.given;
-      given_times = c.split-3.ensures.given;
-      given_turns = c.in_ok-turns.ensures.ok.1;
-    } in
-    seats_given c.args.by g.B.TableName.table c.args.locks.now old new seats c.requires.first c.requires.unused s
-
-pub returns-clause-given : goal.returns-clause-given
-returns-clause-given g c =
-    let new : FirstSeats g.row.B.Denot = record {
-      seats = record {
-        by = c.args.self.now.seats.by;
-        last = c.args.self.now.seats.last;
-        queues = with_items c.args.self.now.seats.queues c.split_passes.new.firsts;
-        arrivals = c.split-2.new.self;
-        times = c.split-3.new.self;
-        turns = c.split.new.self;
-      };
-      took = c.args.self.now.took;
-    } in
-    let seats : Seats g.row.B.Denot = record {
-      by = c.args.by;
-      last = record { step = 0; stamp = c.args.self.now.seats.last.stamp };
-      queues = c.in_ok-queues.queues;
-      arrivals = c.split-2.result;
-      times = c.split-3.result;
-      turns = c.in_ok-turns.turns;
-    } in
-    let old = c.args.self.now in
-    let gives = c.in_ok-queues.ensures.gives ∙ ap (map (giving c.args.by)) c.deref_mut.ensures.value in
-    let many = old.seats.queues.ok.0 in
-    let long = ap (λ (ps : List (QueuePass g.row.B.Denot)). length ps) gives ∙ length-map old.seats.queues.items (giving c.args.by) in
-    let whole = with_items_is old.seats.queues c.split_passes.new.firsts (omega (arith, many, long)) in
-    let s : IsSplit c.args.by old new seats = record {
-      took = refl;
-      number = refl;
-      last = refl;
-      queues = whole ∙ gives;
-      arrivals = c.split-2.ensures.kept;
-      times = c.split-3.ensures.kept;
-      turns = c.in_ok-turns.ensures.ok.0;
-      given_number = refl;
-      given_queues = c.in_ok-queues.ensures.given ∙ ap (map (given c.args.by)) c.deref_mut.ensures.value;
-      given_arrivals = c.split-2.ensures.given;
-      given_times = c.split-3.ensures.given;
-      given_turns = c.in_ok-turns.ensures.ok.1;
-    } in
-    given_is c.args.by g.B.TableName.table c.args.locks.now old new seats c.requires.first c.requires.unused s
+    record {
+      first = first_after c.args.by g.B.TableName.table c.args.locks.now old new seats c.requires.first c.requires.unused s;
+      gives = gives_after c.args.by g.B.TableName.table c.args.locks.now old new seats c.requires.first c.requires.unused s;
+      seats = seats_given c.args.by g.B.TableName.table c.args.locks.now old new seats c.requires.first c.requires.unused s;
+      given = given_is c.args.by g.B.TableName.table c.args.locks.now old new seats c.requires.first c.requires.unused s;
+    }

@@ -31,8 +31,8 @@ close-requires-clause-took_all g c =
     let is_first = subst (IsFirst g.B.TableName.table c.args.self) same c.requires.first in
     last_arrivals g.B.TableName.table c.args.self first is_first (subst HasAll same c.requires.all)
 
-pub returns-clause-closed : goal.returns-clause-closed
-returns-clause-closed g c =
+pub returns : goal.returns
+returns g c =
     let parts = c.into_parts-passes.result in
     let whole : Seats g.row.B.Denot = record { by = parts.by; last = parts.last; queues = parts.queues; arrivals = parts.arrivals; times = parts.times; turns = parts.turns } in
     let first : FirstSeats g.row.B.Denot = record { seats = whole; took = c.args.first.took } in
@@ -49,65 +49,10 @@ returns-clause-closed g c =
       times = ap (λ (d : PlainOf g.row.B.Denot). d.times) c.new.ensures;
       turns = ap (λ (d : PlainOf g.row.B.Denot). d.turns) c.new.ensures;
     } in
-    subst (λ (f : FirstSeats g.row.B.Denot). Closes c.args.self f c.new.result) (sym same) (closes g.B.TableName.table c.args.self first c.new.result is_first left)
-
-pub returns-clause-ordered : goal.returns-clause-ordered
-returns-clause-ordered g c =
-    let parts = c.into_parts-passes.result in
-    let whole : Seats g.row.B.Denot = record { by = parts.by; last = parts.last; queues = parts.queues; arrivals = parts.arrivals; times = parts.times; turns = parts.turns } in
-    let first : FirstSeats g.row.B.Denot = record { seats = whole; took = c.args.first.took } in
-    let same : c.args.first ≡ first = ap (λ (s : Seats g.row.B.Denot). let f : FirstSeats g.row.B.Denot = record { seats = s; took = c.args.first.took } in f) c.into_parts-passes.ensures in
-    let is_first = subst (IsFirst g.B.TableName.table c.args.self) same c.requires.first in
-    let closed = c.in-Ok.ensures in
-    let legal = subst (λ (log : List ArrivalEntry). IsLegal (AnswersStamped AnswersCall) log) closed.history closed.legal in
-    let left : IsLeft c.args.self first c.new.result = record {
-      queues = subst (λ (d : PlainOf g.row.B.Denot). AreClosed c.args.self.queues.items first.seats.queues.items d.queues) (sym c.new.ensures) c.in_ok-queues.ensures;
-      arrivals = ap (λ (d : PlainOf g.row.B.Denot). d.arrivals) c.new.ensures ∙ c.into_arrivals.ensures ∙ ap unstamped closed.history;
-      rise = rises first.seats.arrivals.seen (legal_without AnswersCall first.seats.arrivals.seen legal).1;
-      taken = λ p there. subst (λ (log : List ArrivalEntry). GoesOnWithout p.0 p.1 log) closed.history (closed.taken p there);
-      callers = λ b not. sym (ap (λ (log : List ArrivalEntry). calls_by b log) closed.history) ∙ closed.callers b not;
-      times = ap (λ (d : PlainOf g.row.B.Denot). d.times) c.new.ensures;
-      turns = ap (λ (d : PlainOf g.row.B.Denot). d.turns) c.new.ensures;
-    } in
-    subst (λ (f : FirstSeats g.row.B.Denot). IsOrdered f) (sym same) (ordered g.B.TableName.table c.args.self first c.new.result is_first left)
-
-pub returns-clause-goes_on : goal.returns-clause-goes_on
-returns-clause-goes_on g c =
-    let parts = c.into_parts-passes.result in
-    let whole : Seats g.row.B.Denot = record { by = parts.by; last = parts.last; queues = parts.queues; arrivals = parts.arrivals; times = parts.times; turns = parts.turns } in
-    let first : FirstSeats g.row.B.Denot = record { seats = whole; took = c.args.first.took } in
-    let same : c.args.first ≡ first = ap (λ (s : Seats g.row.B.Denot). let f : FirstSeats g.row.B.Denot = record { seats = s; took = c.args.first.took } in f) c.into_parts-passes.ensures in
-    let is_first = subst (IsFirst g.B.TableName.table c.args.self) same c.requires.first in
-    let closed = c.in-Ok.ensures in
-    let legal = subst (λ (log : List ArrivalEntry). IsLegal (AnswersStamped AnswersCall) log) closed.history closed.legal in
-    let left : IsLeft c.args.self first c.new.result = record {
-      queues = subst (λ (d : PlainOf g.row.B.Denot). AreClosed c.args.self.queues.items first.seats.queues.items d.queues) (sym c.new.ensures) c.in_ok-queues.ensures;
-      arrivals = ap (λ (d : PlainOf g.row.B.Denot). d.arrivals) c.new.ensures ∙ c.into_arrivals.ensures ∙ ap unstamped closed.history;
-      rise = rises first.seats.arrivals.seen (legal_without AnswersCall first.seats.arrivals.seen legal).1;
-      taken = λ p there. subst (λ (log : List ArrivalEntry). GoesOnWithout p.0 p.1 log) closed.history (closed.taken p there);
-      callers = λ b not. sym (ap (λ (log : List ArrivalEntry). calls_by b log) closed.history) ∙ closed.callers b not;
-      times = ap (λ (d : PlainOf g.row.B.Denot). d.times) c.new.ensures;
-      turns = ap (λ (d : PlainOf g.row.B.Denot). d.turns) c.new.ensures;
-    } in
-    goes g.B.TableName.table c.args.self first c.new.result is_first left
-
-pub returns-clause-nobody : goal.returns-clause-nobody
-returns-clause-nobody g c =
-    let parts = c.into_parts-passes.result in
-    let whole : Seats g.row.B.Denot = record { by = parts.by; last = parts.last; queues = parts.queues; arrivals = parts.arrivals; times = parts.times; turns = parts.turns } in
-    let first : FirstSeats g.row.B.Denot = record { seats = whole; took = c.args.first.took } in
-    let same : c.args.first ≡ first = ap (λ (s : Seats g.row.B.Denot). let f : FirstSeats g.row.B.Denot = record { seats = s; took = c.args.first.took } in f) c.into_parts-passes.ensures in
-    let is_first = subst (IsFirst g.B.TableName.table c.args.self) same c.requires.first in
-    let closed = c.in-Ok.ensures in
-    let legal = subst (λ (log : List ArrivalEntry). IsLegal (AnswersStamped AnswersCall) log) closed.history closed.legal in
-    let left : IsLeft c.args.self first c.new.result = record {
-      queues = subst (λ (d : PlainOf g.row.B.Denot). AreClosed c.args.self.queues.items first.seats.queues.items d.queues) (sym c.new.ensures) c.in_ok-queues.ensures;
-      arrivals = ap (λ (d : PlainOf g.row.B.Denot). d.arrivals) c.new.ensures ∙ c.into_arrivals.ensures ∙ ap unstamped closed.history;
-      rise = rises first.seats.arrivals.seen (legal_without AnswersCall first.seats.arrivals.seen legal).1;
-      taken = λ p there. subst (λ (log : List ArrivalEntry). GoesOnWithout p.0 p.1 log) closed.history (closed.taken p there);
-      callers = λ b not. sym (ap (λ (log : List ArrivalEntry). calls_by b log) closed.history) ∙ closed.callers b not;
-      times = ap (λ (d : PlainOf g.row.B.Denot). d.times) c.new.ensures;
-      turns = ap (λ (d : PlainOf g.row.B.Denot). d.turns) c.new.ensures;
-    } in
-    λ by not. nobody g.B.TableName.table c.args.self first c.new.result is_first left by
-    (λ there. not (subst (λ (f : FirstSeats g.row.B.Denot). Contains (f.seats.by ∷ gave_of f) by) (sym same) there))
+    record {
+      closed = subst (λ (f : FirstSeats g.row.B.Denot). Closes c.args.self f c.new.result) (sym same) (closes g.B.TableName.table c.args.self first c.new.result is_first left);
+      ordered = subst (λ (f : FirstSeats g.row.B.Denot). IsOrdered f) (sym same) (ordered g.B.TableName.table c.args.self first c.new.result is_first left);
+      goes_on = goes g.B.TableName.table c.args.self first c.new.result is_first left;
+      nobody = λ by not. nobody g.B.TableName.table c.args.self first c.new.result is_first left by
+          (λ there. not (subst (λ (f : FirstSeats g.row.B.Denot). Contains (f.seats.by ∷ gave_of f) by) (sym same) there));
+    }

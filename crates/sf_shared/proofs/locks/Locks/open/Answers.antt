@@ -7,8 +7,8 @@ use Rattle.sf_shared.specs.Closing.{AreOpened}
 use Rattle.sf_shared.proofs.Opening.{IsMade, first_made, opens_made}
 use Rattle.sf_shared.proofs.locks.Locks.open.Goals as goal
 
-pub returns-clause-first : goal.returns-clause-first
-returns-clause-first g c =
+pub returns : goal.returns
+returns g c =
     let locks : Locks g.row.B.Denot = record { queues = c.in_ok-queues.queues; arrivals = c.in-Ok.lock; times = c.args.table } in
     let seats = c.of.ensures.seats in
     let m : IsMade c.args.queues.items c.args.times c.args.turns locks c.of.result = record {
@@ -21,20 +21,7 @@ returns-clause-first g c =
       turns_is = ap (λ (s : Seats g.row.B.Denot). s.turns) seats;
       took = c.of.ensures.took;
     } in
-    first_made g.B.TableName.table c.args.queues.items c.args.times c.args.turns locks c.of.result c.requires.alone c.requires.own_turns c.requires.first.0 c.requires.first.1 m
-
-pub returns-clause-opened : goal.returns-clause-opened
-returns-clause-opened g c =
-    let locks : Locks g.row.B.Denot = record { queues = c.in_ok-queues.queues; arrivals = c.in-Ok.lock; times = c.args.table } in
-    let seats = c.of.ensures.seats in
-    let m : IsMade c.args.queues.items c.args.times c.args.turns locks c.of.result = record {
-      queues = subst (λ (s : Seats g.row.B.Denot). AreOpened c.args.queues.items locks.queues.items s.queues.items) (sym seats) c.in_ok-queues.ensures;
-      number = ap (λ (s : Seats g.row.B.Denot). s.by) seats;
-      step = ap (λ (s : Seats g.row.B.Denot). s.last.step) seats;
-      arrivals = ap (λ (s : Seats g.row.B.Denot). s.arrivals) seats ∙ c.in-Ok.ensures.ok ∙ ap (λ (log : List ArrivalEntry). first_pass c.in-Ok.lock 0 tt log) c.new.ensures;
-      times_is = ap (λ (s : Seats g.row.B.Denot). s.times) seats;
-      own_times = c.requires.own_times;
-      turns_is = ap (λ (s : Seats g.row.B.Denot). s.turns) seats;
-      took = c.of.ensures.took;
-    } in
-    opens_made g.B.TableName.table c.args.queues.items c.args.times c.args.turns locks c.of.result c.requires.alone c.requires.own_turns c.requires.first.0 c.requires.first.1 m
+    record {
+      first = first_made g.B.TableName.table c.args.queues.items c.args.times c.args.turns locks c.of.result c.requires.alone c.requires.own_turns c.requires.first.0 c.requires.first.1 m;
+      opened = opens_made g.B.TableName.table c.args.queues.items c.args.times c.args.turns locks c.of.result c.requires.alone c.requires.own_turns c.requires.first.0 c.requires.first.1 m;
+    }

@@ -1,5 +1,6 @@
 use Rattle.std.proofs.Common.{List, ◌∙◌, ap, subst, sym}
 use Rattle.sf_calls.specs.Histories.{GoesOnWithout, IsLegal, calls_by}
+use Rattle.sf_calls.specs.Passes.{TookAll}
 use Rattle.sf_stamped.specs.Stamps.{AnswersStamped, unstamped}
 use Rattle.sf_stamped.proofs.StampLemmas.{legal_without, rises}
 use Rattle.sf_surface.specs.Histories.{Answers}
@@ -8,8 +9,11 @@ use Rattle.sf_shared.specs.Closing.{IsClosed, IsLast}
 use Rattle.sf_shared.specs.Seats.{QueueEntry, QueuePass, mark_in}
 use Rattle.sf_shared.proofs.locks.QueueLock.close.Goals as goal
 
-pub returns-in-Ok : goal.returns-in-Ok
-returns-in-Ok g c =
+pub close-requires-clause-took_all : goal.close-requires-clause-took_all
+close-requires-clause-took_all g c = subst (λ (p : QueuePass g.row.B.Denot). TookAll p.gave p.took) (sym c.into_pass.ensures) c.requires.own.took_all
+
+pub returns : goal.returns
+returns g c =
     let closed = c.in-Ok.ensures in
     let pass = c.into_pass.result in
     let own = subst (IsLast c.args.self) (sym c.into_pass.ensures) c.requires.own in
