@@ -1,11 +1,13 @@
 -- The pixels of a crop that stands at a place.
-use Rattle.std.proofs.Common.{◌≡◌, ℕ, suc, ◌+◌, ◌-◌, ◌*◌, ◌<◌, ◌≤◌, Bool, true, false, ◌&&◌, List, refl, sym, arith, ℤ, pos, negsuc, neg_ℤ, ◌+ℤ◌, ◌≤ℤ◌, int_le, int_lt}
+use Rattle.std.proofs.Common.{◌≡◌, ℕ, suc, ◌+◌, ◌-◌, ◌*◌, ◌<◌, ◌≤◌, Bool, true, false, ◌&&◌, List, refl, sym, ap, arith, ℤ, pos, negsuc, neg_ℤ, ◌+ℤ◌, ◌≤ℤ◌, int_le, int_lt}
+use Rattle.std.proofs.lemmas.Bool.{true_from_ne_false}
 use Rattle.std.proofs.lemmas.Int.{ints}
 use Rattle.std.proofs.Math.Nat.{mul-le-mul_right}
 use Rattle.sf_base.specs.declared.geometry.Rect.{Rect}
 use Rattle.sf_picture.specs.declared.picture.Picture.{Picture}
 use Rattle.sf_base.specs.Bytes.{pixel_in}
 use Rattle.sf_picture.specs.Pixels.{pixel_at, ShowsPicture}
+use Rattle.sf_picture.specs.Solid.{IsSolid}
 use Rattle.sf_base.specs.Geometry.{is_within, LiesWithin}
 use Rattle.sf_view.specs.Contents.{unsigned}
 
@@ -70,3 +72,59 @@ crop_pixel picture bytes rect across down y left right column row k shows lies o
     let there : unsigned ((pos (left + k) +ℤ neg_ℤ across) +ℤ rect.x) ≡ column + k = omega (arith, moved, is_column) in
     let at : (row * picture.width + column) + k ≡ row * picture.width + (column + k) = omega arith in
     rw (at, there, sym is_row) (shows.pixels (column + k) row (omega (arith, narrow, low_k)) low)
+
+-- the rows of a crop that is as wide as its picture start at column 0
+pub column_none : (width extent column : ℕ) (place edge : ℤ) → 0 < width → is_within place extent (pos 0) ≡ true → is_within place extent (pos (width - 1)) ≡ true → pos 0 ≤ℤ edge → (edge +ℤ pos extent) ≤ℤ pos width → column ≡ unsigned ((pos 0 +ℤ neg_ℤ place) +ℤ edge) → column ≡ 0
+column_none width extent column place edge some first last low high is =
+    let narrow = columns_below 0 width extent width column place edge some first last low high is in
+    omega (arith, narrow)
+
+-- so many rows further down is so many times a row further on
+rows_on : (from top y w : ℕ) → top ≤ y → (from + (y - top)) * w ≡ from * w + (y - top) * w
+rows_on from top y w down = omega arith
+
+-- a pixel of rows of a crop that is as wide as its picture
+pub rows_pixel : (picture : Picture) (bytes : List ℕ) (rect : Rect) (across down : ℤ) (w top x y from : ℕ) → w ≡ picture.width → ShowsPicture picture bytes → LiesWithin rect picture.width picture.height → 0 < w → is_within across rect.width (pos 0) ≡ true → is_within across rect.width (pos (w - 1)) ≡ true → is_within down rect.height (pos top) ≡ true → is_within down rect.height (pos y) ≡ true → from ≡ unsigned ((pos top +ℤ neg_ℤ down) +ℤ rect.y) * picture.width + unsigned ((pos 0 +ℤ neg_ℤ across) +ℤ rect.x) → x < w → top ≤ y → pixel_in bytes (from + ((y - top) * w + x)) ≡ pixel_at picture (unsigned ((pos x +ℤ neg_ℤ across) +ℤ rect.x)) (unsigned ((pos y +ℤ neg_ℤ down) +ℤ rect.y))
+rows_pixel picture bytes rect across down w top x y from is_w shows lies some first last upper within is wide after =
+    let column : unsigned ((pos 0 +ℤ neg_ℤ across) +ℤ rect.x) ≡ 0 = column_none w rect.width _ across rect.x some first last lies.across.low (rw is_w lies.across.high) refl in
+    let low : unsigned ((pos y +ℤ neg_ℤ down) +ℤ rect.y) < picture.height = place_below y rect.height picture.height down rect.y within lies.down.low lies.down.high in
+    let moved_down = place_moved top y rect.height down rect.y after upper lies.down.low in
+    let moved_across = place_moved 0 x rect.width across rect.x (omega arith) first lies.across.low in
+    let there : unsigned ((pos x +ℤ neg_ℤ across) +ℤ rect.x) ≡ x = omega (arith, moved_across, column) in
+    let rows = rows_on (unsigned ((pos top +ℤ neg_ℤ down) +ℤ rect.y)) top y picture.width after in
+    let row : unsigned ((pos y +ℤ neg_ℤ down) +ℤ rect.y) * picture.width ≡ (unsigned ((pos top +ℤ neg_ℤ down) +ℤ rect.y) + (y - top)) * picture.width = ap (λ (n : ℕ). n * picture.width) moved_down in
+    let same : (y - top) * w ≡ (y - top) * picture.width = ap (λ (n : ℕ). (y - top) * n) is_w in
+    let at : from + ((y - top) * w + x) ≡ unsigned ((pos y +ℤ neg_ℤ down) +ℤ rect.y) * picture.width + x = omega (arith, is, column, rows, row, same) in
+    rw (at, there) (shows.pixels x (unsigned ((pos y +ℤ neg_ℤ down) +ℤ rect.y)) (omega (arith, wide, is_w)) low)
+
+-- each pixel of a crop of a solid picture is solid
+pub crop_solid : (picture : Picture) (rect : Rect) (across down : ℤ) (y left right at : ℕ) → IsSolid picture → LiesWithin rect picture.width picture.height → left < right → is_within across rect.width (pos left) ≡ true → is_within across rect.width (pos (right - 1)) ≡ true → is_within down rect.height (pos y) ≡ true → left ≤ at → at < right → (pixel_at picture (unsigned ((pos at +ℤ neg_ℤ across) +ℤ rect.x)) (unsigned ((pos y +ℤ neg_ℤ down) +ℤ rect.y))).a ≡ 255
+crop_solid picture rect across down y left right at solid lies ordered first last within from to =
+    let narrow = columns_below left right rect.width picture.width _ across rect.x ordered first last lies.across.low lies.across.high refl in
+    let moved = place_moved left at rect.width across rect.x from first lies.across.low in
+    let low = place_below y rect.height picture.height down rect.y within lies.down.low lies.down.high in
+    solid.alphas _ _ (omega (arith, narrow, moved, to)) low
+
+-- from the first pixel of rows to the first one of the last of them
+pub rows_between : (from last w column r q top bottom : ℕ) → from ≡ r * w + column → last ≡ q * w + column → q ≡ r + ((bottom - 1) - top) → top < bottom → last ≡ from + ((bottom - 1) - top) * w
+rows_between from last w column r q top bottom is_from is_last moved ordered =
+    let row : q * w ≡ (r + ((bottom - 1) - top)) * w = ap (λ (n : ℕ). n * w) moved in
+    let rows : (r + ((bottom - 1) - top)) * w ≡ r * w + ((bottom - 1) - top) * w = omega arith in
+    omega (arith, is_from, is_last, row, rows)
+
+pub rows_count : (w top bottom : ℕ) → top < bottom → ((bottom - 1) - top) * w + w ≡ (bottom - top) * w
+rows_count w top bottom ordered =
+    let one : bottom - top ≡ suc ((bottom - 1) - top) = omega arith in
+    let more : suc ((bottom - 1) - top) * w ≡ ((bottom - 1) - top) * w + w = omega arith in
+    let same : (bottom - top) * w ≡ suc ((bottom - 1) - top) * w = ap (λ (n : ℕ). n * w) one in
+    omega (arith, more, same)
+
+both_true : (a b : Bool) → a ≡ true → b ≡ true → (a && b) ≡ true
+both_true a b p q = rw (p, q) refl
+
+-- between two points of a span all are in it
+pub within_between : (place : ℤ) (extent first last at : ℕ) → is_within place extent (pos first) ≡ true → is_within place extent (pos last) ≡ true → first ≤ at → at ≤ last → is_within place extent (pos at) ≡ true
+within_between place extent first last at f l after before =
+    let p : int_le place (pos first) ≡ true = both_left _ _ f in
+    let q : int_lt (pos last) (place +ℤ pos extent) ≡ true = both_right (int_le place (pos last)) _ l in
+    both_true _ _ (true_from_ne_false (int_le place (pos at)) (λ no. omega (arith, ints, p, after, no))) (true_from_ne_false (int_lt (pos at) (place +ℤ pos extent)) (λ no. omega (arith, ints, q, before, no)))

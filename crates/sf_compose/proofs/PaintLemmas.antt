@@ -155,3 +155,45 @@ its_point left right top bottom a b p q r s = grind (arith, nat_tests)
 -- a loop over the rows of an area that ended
 pub Paints-ended : (w base left right top y bottom : ℕ) (f : ℕ → ℕ → Rgba → Rgba) (old new : List ℕ) → Paints w base (is_in_box left right top y) f old new → y ≡ bottom → Paints w base (is_in_box left right top bottom) f old new
 Paints-ended w base left right top y bottom f old new a ended = subst (λ (n : ℕ). Paints w base (is_in_box left right top n) f old new) ended a
+
+-- rows of a frame that follow one another
+pub Paints-rows : (w base left right top bottom start end : ℕ) (f : ℕ → ℕ → Rgba → Rgba) (g : ℕ → Rgba → Rgba) (old new : List ℕ) → left ≡ 0 → right ≡ w → start ≡ (top - base) * w → end ≡ (bottom - base) * w → base ≤ top → top ≤ bottom → PaintsSpan old new start end g → ((x y : ℕ) → x < w → top ≤ y → y < bottom → start ≤ (y - base) * w + x → (y - base) * w + x < end → g ((y - base) * w + x) (pixel_in old ((y - base) * w + x)) ≡ f x y (pixel_in old ((y - base) * w + x))) → Paints w base (is_in_box left right top bottom) f old new
+Paints-rows w base left right top bottom start end f g old new is_left is_right is_start is_end first ordered span same = rw (is_left, is_right) (record {
+  size = span.size;
+  pixels = λ x y wide low. elim (cases_lt y top) [
+    | inl higher ↦
+        let before : (y - base) * w + x < start = rw is_start (row_before w x (y - base) (top - base) wide (omega arith)) in
+        let no : is_in_box 0 w top bottom x y ≡ false = grind (arith, nat_tests) in
+        rw no (span.below ((y - base) * w + x) before)
+    | inr from ↦ elim (cases_lt y bottom) [
+      | inl within ↦
+          let after : start ≤ (y - base) * w + x = rw is_start (rows_after w x (top - base) (y - base) (omega arith)) in
+          let before : (y - base) * w + x < end = rw is_end (row_before w x (y - base) (bottom - base) wide (omega arith)) in
+          let yes : is_in_box 0 w top bottom x y ≡ true = its_point 0 w top bottom x y (omega arith) wide from within in
+          rw yes (span.inside ((y - base) * w + x) after before ∙ same x y wide from within after before)
+      | inr lower ↦
+          let after : end ≤ (y - base) * w + x = rw is_end (rows_after w x (bottom - base) (y - base) (omega arith)) in
+          let no : is_in_box 0 w top bottom x y ≡ false = grind (arith, nat_tests) in
+          rw no (span.above ((y - base) * w + x) after)
+    ]
+  ];
+})
+  where
+    row_before : (w x y z : ℕ) → x < w → y < z → y * w + x < z * w
+    row_before w x y z in_row before =
+        let h : suc y * w ≤ z * w = mul-le-mul_right w before in
+        let e : suc y * w ≡ y * w + w = omega arith in
+        omega (arith, h, e)
+
+    rows_after : (w x y z : ℕ) → y ≤ z → y * w ≤ z * w + x
+    rows_after w x y z after =
+        let h : y * w ≤ z * w = mul-le-mul_right w after in
+        omega (arith, h)
+
+-- how far a pixel of rows is from the first of them
+pub rows_back : (w base top x y : ℕ) → base ≤ top → top ≤ y → ((y - base) * w + x) - (top - base) * w ≡ (y - top) * w + x
+rows_back w base top x y first after =
+    let both : y - base ≡ (y - top) + (top - base) = omega arith in
+    let rows : (y - base) * w ≡ ((y - top) + (top - base)) * w = ap (λ (n : ℕ). n * w) both in
+    let apart : ((y - top) + (top - base)) * w ≡ (y - top) * w + (top - base) * w = omega arith in
+    omega (arith, rows, apart)

@@ -1,55 +1,15 @@
--- Pixels whose alphas are 255: how lanes tell them, and that they hide what they are painted over.
-use Rattle.std.proofs.Common.{◌≡◌, ℕ, zero, suc, ◌+◌, ◌-◌, ◌*◌, ◌/◌, ◌<◌, ◌≤◌, Bool, true, false, List, [], ◌∷◌, length, get_or, slice_index, refl, sym, ◌∙◌, inl, inr, arith, map, subst}
+-- Pixels whose alphas are 255 hide what they are painted over.
+use Rattle.std.proofs.Common.{◌≡◌, ℕ, ◌+◌, ◌-◌, ◌*◌, ◌/◌, ◌<◌, ◌≤◌, Bool, true, false, List, length, get_or, slice_index, refl, sym, ◌∙◌, inl, inr, arith, subst}
 use Rattle.std.proofs.lemmas.Bool.{cases_lt}
-use Rattle.std.proofs.lemmas.Simd.{get_or-chunk, get_or-put_chunk_below, get_or-put_chunk_at, get_or_wider, length-chunk, length-put_chunk, Each1-get_or}
-use lib.Lanes.{chunk, put_chunk, mask_l, number_l, digits_l, Each1}
+use Rattle.std.proofs.lemmas.Simd.{get_or-chunk, get_or-put_chunk_below, get_or-put_chunk_at, length-chunk, length-put_chunk}
+use lib.Lanes.{chunk, put_chunk}
 use Rattle.sf_base.specs.Blend.{blended, product}
 use Rattle.sf_base.specs.Bytes.{FillsSpan, pixel_in}
 use Rattle.sf_base.specs.Paint.{painted}
 use Rattle.sf_base.specs.declared.pixel.Rgba.{Rgba}
+use Rattle.sf_view.specs.Contents.{source_of}
 use Rattle.sf_compose.specs.Solid.{CopiesBelow, CopiesTo}
 use Rattle.sf_compose.proofs.SpanLemmas.{pixel_same}
-
--- no lane passes a test whose mask is empty
-pub empty_mask : (p : ℕ → Bool) (xs : List ℕ) (j : ℕ) → mask_l (map p xs) ≡ 0 → j < length xs → p (get_or xs j 0) ≡ false
-empty_mask p [] j e h = absurd (omega arith)
-empty_mask p (x ∷ xs) zero e h = by_test (p x) refl
-  where
-    by_test : (b : Bool) → p x ≡ b → p x ≡ false
-    by_test false t = t
-    by_test true t =
-        let one : 1 + 2 * mask_l (map p xs) ≡ 0 = rw t at e in
-        absurd (omega (arith, one))
-empty_mask p (x ∷ xs) (suc j) e h = empty_mask p xs j (omega (arith, e)) (omega arith)
-
-four : (ys : List ℕ) → length ys ≡ 4 → number_l 256 ys ≡ get_or ys 0 0 + 256 * get_or ys 1 0 + 65536 * get_or ys 2 0 + 16777216 * get_or ys 3 0
-four [] h = absurd (omega arith)
-four (x ∷ []) h = absurd (omega arith)
-four (x ∷ y ∷ []) h = absurd (omega arith)
-four (x ∷ y ∷ z ∷ []) h = absurd (omega arith)
-four (x ∷ y ∷ z ∷ w ∷ []) h = omega arith
-four (x ∷ y ∷ z ∷ w ∷ v ∷ ys) h = absurd (omega arith)
-
-highest : (number x y z w : ℕ) → number ≡ x + 256 * y + 65536 * z + 16777216 * w → x < 256 → y < 256 → z < 256 → w < 256 → 4278190080 ≤ number → w ≡ 255
-highest number x y z w is a b c d high = omega arith
-
-byte_at : (a : List ℕ) → length a ≡ 64 → Each1 (λ x. x < 256) a → (i : ℕ) → i < 64 → get_or a i 0 < 256
-byte_at a long small i h = Each1-get_or (λ x. x < 256) a i 0 (omega (arith, long, h)) small
-
--- the alpha of a pixel whose word is among the highest
-pub alpha_highest : (a : List ℕ) → length a ≡ 64 → Each1 (λ x. x < 256) a → (j : ℕ) → j < 16 → 4278190080 ≤ slice_index (digits_l 4294967296 16 (number_l 256 a)) j → slice_index a (4 * j + 3) ≡ 255
-alpha_highest a long small j h high =
-    let word : get_or (digits_l 4294967296 16 (number_l 256 a)) j 0 ≡ number_l 256 (chunk (4 * j) 4 a) = get_or_wider 256 4 4294967296 16 a j refl small h in
-    let sum : number_l 256 (chunk (4 * j) 4 a) ≡ get_or (chunk (4 * j) 4 a) 0 0 + 256 * get_or (chunk (4 * j) 4 a) 1 0 + 65536 * get_or (chunk (4 * j) 4 a) 2 0 + 16777216 * get_or (chunk (4 * j) 4 a) 3 0
-    = four (chunk (4 * j) 4 a) (length-chunk (4 * j) 4 a (omega (arith, long, h))) in
-    let r : get_or (chunk (4 * j) 4 a) 0 0 ≡ get_or a (4 * j + 0) 0 = get_or-chunk (4 * j) 4 a 0 0 (omega arith) in
-    let g : get_or (chunk (4 * j) 4 a) 1 0 ≡ get_or a (4 * j + 1) 0 = get_or-chunk (4 * j) 4 a 1 0 (omega arith) in
-    let b : get_or (chunk (4 * j) 4 a) 2 0 ≡ get_or a (4 * j + 2) 0 = get_or-chunk (4 * j) 4 a 2 0 (omega arith) in
-    let w : get_or (chunk (4 * j) 4 a) 3 0 ≡ get_or a (4 * j + 3) 0 = get_or-chunk (4 * j) 4 a 3 0 (omega arith) in
-    highest (number_l 256 (chunk (4 * j) 4 a)) (get_or a (4 * j + 0) 0) (get_or a (4 * j + 1) 0) (get_or a (4 * j + 2) 0) (get_or a (4 * j + 3) 0)
-    (rw (← r, ← g, ← b, ← w) sum)
-    (byte_at a long small (4 * j + 0) (omega (arith, h))) (byte_at a long small (4 * j + 1) (omega (arith, h))) (byte_at a long small (4 * j + 2) (omega (arith, h))) (byte_at a long small (4 * j + 3) (omega (arith, h)))
-    (subst (λ (n : ℕ). 4278190080 ≤ n) word high)
 
 -- nothing is copied yet
 pub copied_none : (source new : List ℕ) → length new ≡ length source → CopiesTo 0 source new
@@ -132,3 +92,17 @@ pub painted_whole : (under p : Rgba) → p.r ≤ 255 → p.g ≤ 255 → p.b ≤
 unfolding painted
 painted_whole under p r g b solid =
     rw (channel_of under.r p.r p.a solid r, channel_of under.g p.g p.a solid g, channel_of under.b p.b p.a solid b, channel_of under.a p.a p.a solid (omega (arith, solid))) refl
+
+-- what is moved of a pixel whose alpha is 255 is what is painted of it over any other, opaque or not
+pub moved_whole : (opaque : Bool) (under p q : Rgba) → p ≡ q → p.r ≤ 255 → p.g ≤ 255 → p.b ≤ 255 → q.a ≡ 255 → p ≡ painted under (source_of opaque q) 255
+moved_whole opaque under p q same r g b solid = by_opaque opaque
+  where
+    whole : p ≡ painted under q 255
+    whole = sym (subst (λ (z : Rgba). painted under z 255 ≡ p) same (painted_whole under p r g b (subst (λ (z : Rgba). z.a ≡ 255) (sym same) solid)))
+
+    stays : record q { a = 255 } ≡ q
+    stays = rw solid refl
+
+    by_opaque : (b : Bool) → p ≡ painted under (source_of b q) 255
+    by_opaque true = subst (λ (z : Rgba). p ≡ painted under z 255) (sym stays) whole
+    by_opaque false = whole

@@ -1,5 +1,4 @@
-ghost use Rattle.std.specs.Prelude.{◌≡◌, ◌+◌, ◌-◌, ◌*◌, ◌<◌, ◌≤◌, ℕ, length, map, pos, true, IsTrue, ◌&&◌, ◌≤ℤ◌, ◌+ℤ◌, neg_ℤ};
-ghost use Rattle.std.specs.List.{between};
+ghost use Rattle.std.specs.Prelude.{◌≡◌, ◌+◌, ◌-◌, ◌*◌, ◌<◌, ◌≤◌, ℕ, length, map, pos, true, IsTrue, ◌&&◌, ◌+ℤ◌, neg_ℤ};
 ghost use Rattle.sf_base.specs.Paint.{painted};
 ghost use Rattle.sf_base.specs.Bytes.{pixel_in};
 ghost use Rattle.sf_base.specs.declared.pixel.Rgba.{Rgba as RgbaValue};
@@ -17,11 +16,13 @@ ghost use Rattle.sf_view.specs.Contents.{source_of, unsigned};
 use crate::area::{Area, cut};
 use crate::band::{Band, row_start};
 use crate::contents::read;
+use crate::crop::{Crop, crop_row};
 use crate::ground::may_hide;
+use crate::moving::move_crop;
 use crate::pixels::Pixels;
 use crate::spans::{copy_pixels, paint_colour, paint_pixels};
 use crate::turned::{Turned, copy_turned, paint_turned};
-use sf_base::{Rect, Rgba};
+use sf_base::Rgba;
 use sf_layer::Shown;
 use sf_picture::Painted;
 use sf_view::{Content, Drawn};
@@ -45,65 +46,6 @@ pub fn paint_area(frame: &mut [u8], band: Band, area: Area, colour: Rgba, alpha:
             alpha,
         );
     }
-}
-
-// What a layer shows of a picture: a crop, whose corner stands at a place.
-#[derive(Clone, Copy)]
-struct Crop {
-    rect: Rect,
-    place: (i32, i32),
-    opaque: bool,
-    alpha: u8,
-}
-
-// The coordinate of a picture at a point, where the edge of a crop stands at a place.
-fn coordinate(at: u32, place: i32, edge: i32) -> usize
-    requires placed { place ≤ℤ pos at }
-    requires cropped { pos 0 ≤ℤ edge }
-    ensures { result ≡ unsigned ((pos at +ℤ neg_ℤ place) +ℤ edge) }
-{
-    (i64::from(at) - i64::from(place) + i64::from(edge)) as usize
-}
-
-// The number of the picture's pixel that a crop shows at a point of a row from one on and before
-// another: that of the first. The others follow it.
-fn crop_start(picture: &Painted, crop: Crop, y: u32, left: u32, right: u32) -> usize
-    requires crop { LiesWithin crop.rect picture.now.width picture.now.height }
-    requires ordered { left < right }
-    requires first { is_within crop.place.0 crop.rect.width (pos left) ≡ true }
-    requires last { is_within crop.place.0 crop.rect.width (pos (right - 1)) ≡ true }
-    requires down { is_within crop.place.1 crop.rect.height (pos y) ≡ true }
-    ensures place { result ≡ unsigned ((pos y +ℤ neg_ℤ crop.place.1) +ℤ crop.rect.y) * picture.now.width
-        + unsigned ((pos left +ℤ neg_ℤ crop.place.0) +ℤ crop.rect.x) }
-    ensures room { result + (right - left) ≤ picture.now.width * picture.now.height }
-{
-    let column = coordinate(left, crop.place.0, crop.rect.x);
-    let row = coordinate(y, crop.place.1, crop.rect.y);
-    row * picture.picture().width as usize + column
-}
-
-// So many pixels of bytes, from one on.
-fn pixels_from(bytes: &[u8], from: usize, count: usize) -> &[u8]
-    requires { 4 * (from + count) ≤ length bytes.now }
-    ensures { result.now ≡ between (4 * from) (4 * (from + count)) bytes.now }
-{
-    &bytes[4 * from..4 * (from + count)]
-}
-
-// The pixels of a crop at the points of a row from one on and before another.
-fn crop_row(picture: &Painted, crop: Crop, y: u32, left: u32, right: u32) -> &[u8]
-    requires crop { LiesWithin crop.rect picture.now.width picture.now.height }
-    requires ordered { left < right }
-    requires first { is_within crop.place.0 crop.rect.width (pos left) ≡ true }
-    requires last { is_within crop.place.0 crop.rect.width (pos (right - 1)) ≡ true }
-    requires down { is_within crop.place.1 crop.rect.height (pos y) ≡ true }
-    ensures size { length result.now ≡ 4 * (right - left) }
-    ensures pixels { (k : ℕ) → k < right - left → pixel_in result.now k ≡ pixel_at picture.now
-        (unsigned ((pos (left + k) +ℤ neg_ℤ crop.place.0) +ℤ crop.rect.x))
-        (unsigned ((pos y +ℤ neg_ℤ crop.place.1) +ℤ crop.rect.y)) }
-{
-    let from = crop_start(picture, crop, y, left, right);
-    pixels_from(picture.bytes(), from, (right - left) as usize)
 }
 
 // Paints the points of a row from one on and before another, where the row starts at a pixel of the frame.
@@ -180,6 +122,10 @@ fn paint_crop(picture: &Painted, crop: Crop, frame: &mut [u8], band: Band, area:
     if area.left >= area.right || area.top >= area.bottom {
         return;
     }
+    if crop.alpha == 255 && picture.is_solid() {
+        move_crop(picture, crop, frame, band, area);
+        return;
+    }
     for y in area.top..area.bottom {
         let row = row_start(band, y);
         paint_crop_row(picture, crop, frame, row, y, area.left, area.right);
@@ -202,6 +148,10 @@ fn copy_crop(picture: &Painted, crop: Crop, frame: &mut [u8], band: Band, area: 
 {
     if area.left >= area.right || area.top >= area.bottom {
         return false;
+    }
+    if picture.is_solid() {
+        move_crop(picture, crop, frame, band, area);
+        return true;
     }
     for y in area.top..area.bottom {
         let row = row_start(band, y);

@@ -1,24 +1,9 @@
-ghost use Rattle.std.specs.Prelude.{◌≡◌, ℕ, ◌+◌, ◌*◌, ◌/◌, ◌%◌, ◌<◌, ◌≤◌, length, slice_index, IsTrue};
+ghost use Rattle.std.specs.Prelude.{◌≡◌, ℕ, ◌+◌, ◌*◌, ◌/◌, ◌%◌, ◌<◌, ◌≤◌, length, IsTrue};
 ghost use Rattle.sf_compose.specs.Solid.{CopiesBelow};
 
 use sf_base::{get_pixel, put_pixel};
+use sf_picture::are_solid;
 use std::simd::prelude::*;
-
-// Whether no lane is below the least word whose highest byte is 255.
-#[inline(always)]
-fn are_highest(words: u32x16) -> bool
-    ensures { IsTrue result → (j : ℕ) → j < 16 → 4278190080 ≤ slice_index words j }
-{
-    words.simd_lt(u32x16::splat(0xff00_0000)).to_bitmask() == 0
-}
-
-// Whether each of sixteen pixels has an alpha of 255.
-#[inline(always)]
-fn are_solid(pixels: u8x64) -> bool
-    ensures { IsTrue result → (j : ℕ) → j < 16 → slice_index pixels (4 * j + 3) ≡ 255 }
-{
-    are_highest(u32x16::from_le_bytes(pixels))
-}
 
 // Copies pixels as long as each of sixteen has an alpha of 255, and says how many are copied.
 #[inline(always)]

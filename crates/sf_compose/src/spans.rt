@@ -53,6 +53,16 @@ pub fn paint_pixels(frame: &mut [u8], start: usize, end: usize, row: &[u8], opaq
     }
 }
 
+// Moves pixels over those from one number on and before another.
+pub fn move_pixels(frame: &mut [u8], start: usize, end: usize, row: &[u8])
+    requires ordered { start ≤ end }
+    requires within { 4 * end ≤ length frame.old }
+    requires same { length row.now ≡ 4 * end - 4 * start }
+    ensures { PaintsSpan frame.old frame.new start end (λ i under. pixel_in row.now (i - start)) }
+{
+    frame[4 * start..4 * end].copy_from_slice(row);
+}
+
 // Copies pixels over those from one number on and before another, and tells whether all of them hide
 // what was there. If not, some of them may be copied.
 pub fn copy_pixels(frame: &mut [u8], start: usize, end: usize, row: &[u8]) -> bool

@@ -1,2 +1,3 @@
 pub mod SameLemmas
+pub mod SolidLemmas
 pub mod SpanLemmas

@@ -7,8 +7,10 @@ mod cover;
 mod fill;
 mod painted;
 mod picture;
+mod solid;
 mod spans;
 
 pub use fill::Fill;
 pub use painted::{Painted, paint};
 pub use picture::{Picture, blank};
+pub use solid::are_solid;

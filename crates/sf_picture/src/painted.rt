@@ -1,30 +1,35 @@
-ghost use Rattle.std.specs.Prelude.{◌≡◌, ◌*◌, ◌≤◌, IfOk, IfErr, length, take};
-ghost use Rattle.sf_picture.specs.Pixels.{HasSize, ShowsPicture};
+ghost use Rattle.std.specs.Prelude.{◌≡◌, ◌*◌, ◌≤◌, ◌↔◌, IfOk, IfErr, IsTrue, length, take};
+ghost use Rattle.sf_picture.specs.Pixels.{HasSize, IsPainted, ShowsPicture};
+ghost use Rattle.sf_picture.specs.Solid.{IsSolid};
 ghost use Rattle.sf_picture.specs.Spans.{ShowsFills};
 
 use crate::cover::TRANSPARENT;
 use crate::picture::Picture;
+use crate::solid::are_all_solid;
 use crate::spans::{covers_all, fill_span, paint_fill};
 use sf_base::{NoMemory, seen_as};
 use std::alloc::Global;
 use std::marker::Model;
 
 /// A picture with its pixels as a reader sees them: four bytes each, in the order red, green, blue,
-/// alpha, row by row from the top. Contracts see the picture alone, since it tells the bytes.
+/// alpha, row by row from the top. Contracts see the picture alone, since it tells the bytes. Whether
+/// all alphas are 255 is found once, when it is painted.
 pub struct Painted {
     picture: Picture,
     bytes: Vec<u8>,
+    solid: bool,
 }
 
 impl Model for Painted {
     ghost use Rattle.sf_picture.specs.declared.picture.Picture.{Picture};
     ghost use Rattle.sf_picture.specs.Pixels.{IsPainted};
+    ghost use Rattle.sf_picture.specs.Solid.{TellsSolid};
 
     ghost Value = { Picture };
 
     ghost view = { λ p. p.picture };
 
-    ghost invariant = { λ p. IsPainted p.picture p.bytes.items };
+    ghost invariant = { λ p. IsPainted p.picture p.bytes.items × TellsSolid p.solid p.picture };
 }
 
 impl Painted {
@@ -43,6 +48,13 @@ impl Painted {
         &self.bytes
     }
 
+    /// Whether each pixel has an alpha of 255.
+    pub fn is_solid(&self) -> bool
+        ensures { IsTrue result ↔ IsSolid self.now }
+    {
+        self.solid
+    }
+
     /// The same block of pixels with another picture of the same size. It takes no memory.
     pub fn repaint(self, picture: Picture) -> Painted
         requires size { HasSize picture }
@@ -53,9 +65,23 @@ impl Painted {
         let Painted {
             picture: _,
             mut bytes,
+            solid: _,
         } = self;
         paint_all(&mut bytes, &picture);
-        Painted { picture, bytes }
+        with_pixels(picture, bytes)
+    }
+}
+
+/// A picture with its pixels.
+fn with_pixels(picture: Picture, bytes: Vec<u8>) -> Painted
+    requires { IsPainted picture bytes.items }
+    ensures { result ≡ picture }
+{
+    let solid = are_all_solid(&bytes);
+    Painted {
+        picture,
+        bytes,
+        solid,
     }
 }
 
@@ -110,7 +136,7 @@ pub fn paint(alloc: Global, picture: Picture) -> Result<Painted, (NoMemory, Pict
     match vec![in alloc; 0u8; count] {
         Ok(mut bytes) => {
             paint_all(&mut bytes, &picture);
-            Ok(Painted { picture, bytes })
+            Ok(with_pixels(picture, bytes))
         }
         Err(_) => Err((NoMemory, picture)),
     }
@@ -121,6 +147,7 @@ impl Drop for Painted {
         let Painted {
             picture: _,
             bytes: _,
+            solid: _,
         } = self;
     }
 }

@@ -1,4 +1,4 @@
-use Rattle.std.proofs.Common.{◌+◌, ◌-◌, ◌*◌, ℕ, arith, pos, neg_ℤ, ◌+ℤ◌, ap}
+use Rattle.std.proofs.Common.{◌+◌, ◌-◌, ◌*◌, ℕ, arith, pos, neg_ℤ, ◌+ℤ◌, ap, false}
 use Rattle.sf_base.specs.Bytes.{pixel_in}
 use Rattle.sf_base.specs.Paint.{painted}
 use Rattle.sf_picture.specs.Pixels.{pixel_at}
@@ -51,3 +51,10 @@ pub returns-clause-spared : goal.returns-clause-spared
 returns-clause-spared c =
     Spares-painted _ _ (is_in_box c.args.area.left c.args.area.right c.args.area.top c.loop-y.y) _ _ _ _ (c.loop-y.invariant (λ x y. opaque_black))
     (λ a b t. beside_rows c.args.area.left c.args.area.right c.args.area.top c.args.area.bottom c.loop-y.y a b (omega arith) t)
+
+pub returns-then-is_solid-clause-spared : goal.returns-then-is_solid-clause-spared
+returns-then-is_solid-clause-spared c =
+    Spares-painted _ _ _ _ _ _ _ (c.move_crop.ensures false (λ x y under. opaque_black)) (λ a b t. t)
+
+pub returns-then-is_solid-clause-copied : goal.returns-then-is_solid-clause-copied
+returns-then-is_solid-clause-copied c = λ yes below. c.move_crop.ensures false (λ x y under. below x y)

@@ -5,7 +5,7 @@ use mir.Val.{SFits}
 use Rattle.sf_picture.specs.declared.picture.Picture.{Picture}
 use Rattle.sf_view.specs.Contents.{unsigned}
 use Rattle.sf_compose.proofs.CropLemmas.{columns_below, place_below, row_room, row_small}
-use Rattle.sf_compose.proofs.layer.crop_start.Goals as goal
+use Rattle.sf_compose.proofs.crop.crop_start.Goals as goal
 
 pub overflow_mul-result : goal.overflow_mul-result
 overflow_mul-result c =

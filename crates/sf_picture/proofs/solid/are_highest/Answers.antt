@@ -2,8 +2,8 @@ use Rattle.std.proofs.Common.{◌≡◌, ◌∙◌, ltb, map, sym, arith, w32}
 use Rattle.std.proofs.lemmas.Bool.{eqb-true, ltb-false}
 use Rattle.std.proofs.lemmas.Simd.{bitmask_splat}
 use lib.Lanes.{mask_l}
-use Rattle.sf_compose.proofs.SolidLemmas.{empty_mask}
-use Rattle.sf_compose.proofs.solid.are_highest.Goals as goal
+use Rattle.sf_picture.proofs.SolidLemmas.{empty_mask}
+use Rattle.sf_picture.proofs.solid.are_highest.Goals as goal
 
 pub returns : goal.returns
 returns c = λ yes j h.

@@ -4,7 +4,7 @@ use Rattle.sf_base.specs.Bytes.{pixel_in}
 use Rattle.sf_view.specs.Contents.{unsigned}
 use Rattle.sf_compose.proofs.CropLemmas.{crop_pixel}
 use Rattle.sf_compose.proofs.SpanLemmas.{pixel_between}
-use Rattle.sf_compose.proofs.layer.crop_row.Goals as goal
+use Rattle.sf_compose.proofs.crop.crop_row.Goals as goal
 
 pub pixels_from-requires : goal.pixels_from-requires
 pixels_from-requires c = omega (arith, c.bytes.ensures.size, c.crop_start-from.ensures.room, c.requires.ordered)
