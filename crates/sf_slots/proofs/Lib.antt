@@ -14,3 +14,4 @@ pub mod RefusalTable
 pub mod Chains
 pub mod FreeSlots
 pub mod Configured
+pub mod Counts

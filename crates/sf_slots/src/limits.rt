@@ -5,7 +5,7 @@ ghost use Rattle.sf_slots.specs.declared.slot.SlotState.TheVariants as state;
 ghost use Rattle.sf_slots.specs.Told.{usable, usable_with, forbids, has_free, is_in, is_bare, lowest_bare, slot_for};
 ghost use Rattle.sf_slots.specs.Queue.{Queue, IsFreeSlot, IsSound, slot_in, told_of, emptied, unmarked, retired, retired_all, configured, given_up, without_marks};
 
-use crate::rings::{slot_of, take_right};
+use crate::rings::take_right;
 use crate::settings::Settings;
 use crate::slot::{Slot, SlotState};
 use crate::slots::{Slots, empty};
@@ -20,14 +20,11 @@ fn first_bare(slots: &[Slot], usable: usize) -> Option<usize>
     slots[..usable].iter().position(|slot| slot.is_bare())
 }
 
-/// A slot whose buffer does not count as requested.
-fn unmark(slot: Slot) -> Slot
-    ensures { result ≡ unmarked slot }
+/// A slot's buffer does not count as requested.
+fn unmark(slot: &mut Slot)
+    ensures { slot.new ≡ unmarked slot.old }
 {
-    Slot {
-        requested: false,
-        ..slot
-    }
+    slot.requested = false;
 }
 
 fn unmark_slots(slots: &mut Vec<Slot>)
@@ -35,8 +32,7 @@ fn unmark_slots(slots: &mut Vec<Slot>)
     ensures { slots.new.items ≡ map unmarked slots.old.items }
 {
     for at in 0..64u32 {
-        let was = slot_of(slots, at);
-        slots[at as usize] = unmark(was);
+        unmark(&mut slots[at as usize]);
     }
 }
 
@@ -45,8 +41,7 @@ fn empty_slots(slots: &mut Vec<Slot>)
     ensures { slots.new.items ≡ map emptied slots.old.items }
 {
     for at in 0..64u32 {
-        let was = slot_of(slots, at);
-        slots[at as usize] = empty(was);
+        empty(&mut slots[at as usize]);
     }
 }
 
@@ -102,6 +97,7 @@ impl<R: Drop> Slots<R> {
     fn lowest_bare(&self) -> Option<u32>
         ensures value { result ≡ lowest_bare (told_of self.now) }
         ensures free { IfSome result (IsFreeSlot self.now) }
+        ensures sound { IsSound self.now }
     {
         match first_bare(&self.slots, self.usable() as usize) {
             Some(slot) => Some(slot as u32),
@@ -115,12 +111,16 @@ impl<R: Drop> Slots<R> {
         ensures free { IfSome result (IsFreeSlot self.now) }
         ensures sound { IsSound self.now }
     {
-        let freed = self.first_freed();
-        let bare = self.lowest_bare();
         if with_buffer {
-            freed.or(bare)
+            match self.first_freed() {
+                Some(slot) => Some(slot),
+                None => self.lowest_bare(),
+            }
         } else {
-            bare.or(freed)
+            match self.lowest_bare() {
+                Some(slot) => Some(slot),
+                None => self.first_freed(),
+            }
         }
     }
 
@@ -143,7 +143,7 @@ impl<R: Drop> Slots<R> {
         requires { slot.0 < 64 }
         ensures { self.new ≡ retired self.old slot.0 }
     {
-        if self.slot(slot).is_in(SlotState::Free) {
+        if self.slots[slot.0 as usize].is_in(SlotState::Free) {
             let _ = self.clear(slot);
         }
     }

@@ -8,7 +8,7 @@ ghost use Rattle.sf_slots.specs.declared.item.Item.{Item};
 ghost use Rattle.sf_slots.specs.Queue.{Queue, slot_in, last_in, is_droppable, replacing, slot_replaced, appended, enqueued, handed_over, dropping, IsLentWith};
 
 use crate::item::Item;
-use crate::rings::{push, put_right, slot_of};
+use crate::rings::{push, put_right};
 use crate::slot::{Slot, SlotState};
 use crate::slots::Slots;
 use circular_buffer::HeapCircularBuffer;
@@ -39,11 +39,7 @@ fn keep_back<R: Drop>(
         crop: _,
         right,
     } = item;
-    let was = slot_of(slots, slot.0);
-    slots[slot.0 as usize] = Slot {
-        state: SlotState::Free,
-        ..was
-    };
+    slots[slot.0 as usize].state = SlotState::Free;
     put_right(rights, slot.0, right);
     push(freed, slot.0);
 }
@@ -82,12 +78,9 @@ impl<R: Drop> Slots<R> {
     {
         match self.items.pop_front() {
             Some(item) => {
-                let was = slot_of(&self.slots, item.slot.0);
-                self.slots[item.slot.0 as usize] = Slot {
-                    state: SlotState::Acquired,
-                    fence: Fence::none(),
-                    ..was
-                };
+                let slot = &mut self.slots[item.slot.0 as usize];
+                slot.state = SlotState::Acquired;
+                slot.fence = Fence::none();
                 item
             }
             None => unreachable!(),
@@ -142,13 +135,10 @@ impl<R: Drop> Slots<R> {
         requires numbered { self.old.settings.frames < 2 ^ 64 - 1 }
         ensures { self.new ≡ appended self.old item }
     {
-        let was = slot_of(&self.slots, item.slot.0);
-        self.slots[item.slot.0 as usize] = Slot {
-            state: SlotState::Queued,
-            frame: item.frame,
-            fence: item.fence,
-            ..was
-        };
+        let slot = &mut self.slots[item.slot.0 as usize];
+        slot.state = SlotState::Queued;
+        slot.frame = item.frame;
+        slot.fence = item.fence;
         self.settings.queued = true;
         self.settings.frames += 1;
         push_item(&mut self.items, item);

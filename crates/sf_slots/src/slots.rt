@@ -1,5 +1,5 @@
 ghost use Rattle.std.specs.Prelude.{◌≡◌, ◌<◌, ◌≤◌, ◌+◌, [], ◌∷◌, ◌++◌, IfOk, IsSome};
-ghost use Rattle.std.specs.Prelude.{length, map, replicate, slice_index_or, true, false, ◌-◌, ◌^◌, count_by};
+ghost use Rattle.std.specs.Prelude.{length, map, replicate, take, slice_index_or, true, false, ◌-◌, ◌^◌, count_by};
 ghost use Rattle.sf_slots.specs.declared.slot.SlotState.TheVariants as state;
 ghost use Rattle.sf_slots.specs.Told.{unused, usable, count_in, is_in, forbids};
 ghost use Rattle.sf_slots.specs.Queue.{Queue, IsSound, slot_in, right_in, told_of, empty_queue, lent, taken, seated, next_held, marked, returned, cleared, emptied, IsOut};
@@ -51,24 +51,22 @@ impl<R> Model for Slots<R> {
     }) };
 }
 
-/// How many slots are in a state.
-fn count_slots(slots: &[Slot], state: SlotState) -> usize
-    ensures { result ≡ count_by (is_in state) slots.now }
+/// How many slots with numbers below this are in a state.
+fn count_below(slots: &[Slot], end: usize, state: SlotState) -> usize
+    requires { end ≤ length slots.now }
+    ensures { result ≡ count_by (is_in state) (take end slots.now) }
 {
-    slots.iter().filter(|slot| slot.is_in(state)).count()
+    slots[..end].iter().filter(|slot| slot.is_in(state)).count()
 }
 
-/// A slot without its buffer.
-pub(crate) fn empty(slot: Slot) -> Slot
-    ensures { result ≡ emptied slot }
+/// Takes the buffer out of a slot.
+pub(crate) fn empty(slot: &mut Slot)
+    ensures { slot.new ≡ emptied slot.old }
 {
-    Slot {
-        state: SlotState::Free,
-        held: None,
-        requested: false,
-        fence: Fence::none(),
-        ..slot
-    }
+    slot.state = SlotState::Free;
+    slot.held = None;
+    slot.requested = false;
+    slot.fence = Fence::none();
 }
 
 /// The slots as they are at first: free and without buffers.
@@ -177,11 +175,14 @@ impl<R: Drop> Slots<R> {
         self.slots[slot.0 as usize].frame
     }
 
-    /// How many slots are in a state.
+    /// How many slots are in a state. Those that may not be used are free.
     pub fn count(&self, state: SlotState) -> u32
         ensures { result ≡ count_in state (told_of self.now) }
     {
-        count_slots(&self.slots, state) as u32
+        if let SlotState::Free = state {
+            return count_below(&self.slots, 64, state) as u32;
+        }
+        count_below(&self.slots, self.usable() as usize, state) as u32
     }
 
     /// How many slots may be used, those with the lowest numbers.
@@ -208,15 +209,13 @@ impl<R: Drop> Slots<R> {
         ensures fence { result.1 ≡ (slot_in self.old slot.0).fence }
         ensures after { self.new ≡ lent self.old slot.0 }
     {
-        let was = slot_of(&self.slots, slot.0);
         let right = take_right(&mut self.rights, slot.0);
-        self.slots[slot.0 as usize] = Slot {
-            state: SlotState::Dequeued,
-            fence: Fence::none(),
-            ..was
-        };
+        let lent = &mut self.slots[slot.0 as usize];
+        let fence = lent.fence;
+        lent.state = SlotState::Dequeued;
+        lent.fence = Fence::none();
         remove(&mut self.freed, slot.0);
-        (right, was.fence)
+        (right, fence)
     }
 
     /// Gives a free slot that may be used to the consumer, with frame number 0 and no fence. Its right, where it has a
@@ -227,14 +226,11 @@ impl<R: Drop> Slots<R> {
         ensures right { result ≡ right_in self.old slot.0 }
         ensures after { self.new ≡ taken self.old slot.0 }
     {
-        let was = slot_of(&self.slots, slot.0);
         let right = take_right(&mut self.rights, slot.0);
-        self.slots[slot.0 as usize] = Slot {
-            state: SlotState::Acquired,
-            frame: 0,
-            fence: Fence::none(),
-            ..was
-        };
+        let taken = &mut self.slots[slot.0 as usize];
+        taken.state = SlotState::Acquired;
+        taken.frame = 0;
+        taken.fence = Fence::none();
         remove(&mut self.freed, slot.0);
         right
     }
@@ -247,18 +243,15 @@ impl<R: Drop> Slots<R> {
         ensures held { result ≡ next_held self.old width height }
         ensures after { self.new ≡ seated self.old slot.0 width height requested }
     {
-        let was = slot_of(&self.slots, slot.0);
         self.settings.buffers += 1;
         let held = Held {
             number: self.settings.buffers,
             width,
             height,
         };
-        self.slots[slot.0 as usize] = Slot {
-            held: Some(held),
-            requested,
-            ..was
-        };
+        let seated = &mut self.slots[slot.0 as usize];
+        seated.held = Some(held);
+        seated.requested = requested;
         held
     }
 
@@ -268,11 +261,7 @@ impl<R: Drop> Slots<R> {
         requires lent { (slot_in self.old slot.0).state ≡ state.Dequeued }
         ensures { self.new ≡ marked self.old slot.0 }
     {
-        let was = slot_of(&self.slots, slot.0);
-        self.slots[slot.0 as usize] = Slot {
-            requested: true,
-            ..was
-        };
+        self.slots[slot.0 as usize].requested = true;
     }
 
     /// Takes back the buffer of a slot that is out: the slot is free, holds the right and the fence,
@@ -283,12 +272,9 @@ impl<R: Drop> Slots<R> {
         requires buffer { IsSome (slot_in self.old slot.0).held }
         ensures { self.new ≡ returned self.old slot.0 right fence }
     {
-        let was = slot_of(&self.slots, slot.0);
-        self.slots[slot.0 as usize] = Slot {
-            state: SlotState::Free,
-            fence,
-            ..was
-        };
+        let freed = &mut self.slots[slot.0 as usize];
+        freed.state = SlotState::Free;
+        freed.fence = fence;
         put_right(&mut self.rights, slot.0, right);
         push(&mut self.freed, slot.0);
     }
@@ -301,9 +287,8 @@ impl<R: Drop> Slots<R> {
         ensures right { result ≡ right_in self.old slot.0 }
         ensures after { self.new ≡ cleared self.old slot.0 }
     {
-        let was = slot_of(&self.slots, slot.0);
         let right = take_right(&mut self.rights, slot.0);
-        self.slots[slot.0 as usize] = empty(was);
+        empty(&mut self.slots[slot.0 as usize]);
         remove(&mut self.freed, slot.0);
         right
     }

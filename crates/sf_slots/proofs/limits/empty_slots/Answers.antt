@@ -1,5 +1,5 @@
 use Rattle.std.proofs.Common.{arith, ◌∙◌}
-use Rattle.std.proofs.lemmas.List.{length-set}
+use Rattle.std.proofs.lemmas.List.{get_or_default, length-set}
 use Rattle.std.proofs.lemmas.List.Edits.{map_over_more}
 use Rattle.sf_slots.specs.Queue.{emptied}
 use Rattle.sf_slots.specs.Told.{unused}
@@ -8,7 +8,7 @@ use Rattle.sf_slots.proofs.limits.empty_slots.Goals as goal
 
 pub loop-at-preserved : goal.loop-at-preserved
 loop-at-preserved c = record {
-  changed = rw (c.empty.ensures, c.slot_of-was.ensures, c.deref.ensures.value) (map_over_more emptied c.args.slots.now.items c.loop-at.slots.items c.loop-at.at _ (omega (arith, c.requires)) c.loop-at.invariant.changed (get_or-own c.loop-at.slots.items c.loop-at.at unused (omega (arith, c.loop-at.invariant.sized))));
+  changed = rw (c.empty.ensures, c.index_mut.ensures.value ∙ get_or_default c.loop-at.slots.items c.loop-at.at c.index_mut.result.now unused (omega (arith, c.loop-at.invariant.sized))) (map_over_more emptied c.args.slots.now.items c.loop-at.slots.items c.loop-at.at _ (omega (arith, c.requires)) c.loop-at.invariant.changed (get_or-own c.loop-at.slots.items c.loop-at.at unused (omega (arith, c.loop-at.invariant.sized))));
   sized = rw length-set c.loop-at.invariant.sized;
 }
 

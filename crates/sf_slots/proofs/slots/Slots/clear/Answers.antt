@@ -1,11 +1,15 @@
+use Rattle.std.proofs.Common.{◌≡◌, ◌∙◌, arith, slice_index_or}
+use Rattle.std.proofs.lemmas.List.{get_or_default}
 use Rattle.sf_slots.proofs.Sound.{IsSound-cleared}
+use Rattle.sf_slots.specs.Told.{unused}
 use Rattle.sf_slots.proofs.slots.Slots.clear.Goals as goal
 
 pub invariant_of-self : goal.invariant_of-self
 invariant_of-self g c =
+    let known : c.index_mut.result.now ≡ slice_index_or c.self.inside.slots.items c.args.slot.0 unused = c.index_mut.ensures.value ∙ get_or_default c.self.inside.slots.items c.args.slot.0 c.index_mut.result.now unused (omega (arith, c.requires.below, c.self.invariant.sound.sized)) in
     let other = rw (← c.self.view_is) at c.requires.other in
     record {
       for_freed = rw c.remove.ensures c.self.invariant.for_freed;
       for_items = c.self.invariant.for_items;
-      sound = rw (c.take_right-right.ensures.after, c.remove.ensures, c.empty.ensures, c.slot_of-was.ensures, c.deref.ensures.value) (IsSound-cleared c.self.invariant.sound c.args.slot.0 other);
+      sound = rw (c.take_right-right.ensures.after, c.remove.ensures, c.empty.ensures, known) (IsSound-cleared c.self.invariant.sound c.args.slot.0 other);
     }

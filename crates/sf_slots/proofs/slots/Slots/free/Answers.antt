@@ -1,6 +1,8 @@
-use Rattle.std.proofs.Common.{arith}
+use Rattle.std.proofs.Common.{◌≡◌, ◌∙◌, arith, slice_index_or}
+use Rattle.std.proofs.lemmas.List.{get_or_default}
 use Rattle.sf_slots.proofs.Sound.{IsSound-returned}
 use Rattle.sf_slots.proofs.Lists.{has_room, absent_from}
+use Rattle.sf_slots.specs.Told.{unused}
 use Rattle.sf_slots.proofs.slots.Slots.free.Goals as goal
 
 pub push-requires : goal.push-requires
@@ -12,10 +14,11 @@ push-requires g c =
 
 pub invariant_of-self : goal.invariant_of-self
 invariant_of-self g c =
+    let known : c.index_mut-freed.result.now ≡ slice_index_or c.self.inside.slots.items c.args.slot.0 unused = c.index_mut-freed.ensures.value ∙ get_or_default c.self.inside.slots.items c.args.slot.0 c.index_mut-freed.result.now unused (omega (arith, c.requires.below, c.self.invariant.sound.sized)) in
     let out = rw (← c.self.view_is) at c.requires.out in
     let buffer = rw (← c.self.view_is) at c.requires.buffer in
     record {
       for_freed = rw c.push.ensures c.self.invariant.for_freed;
       for_items = c.self.invariant.for_items;
-      sound = rw (c.put_right.ensures, c.push.ensures, c.slot_of-was.ensures, c.deref.ensures.value) (IsSound-returned c.self.invariant.sound c.args.slot.0 c.args.right c.args.fence c.requires.below out buffer);
+      sound = rw (c.put_right.ensures, c.push.ensures, known) (IsSound-returned c.self.invariant.sound c.args.slot.0 c.args.right c.args.fence c.requires.below out buffer);
     }
