@@ -1,4 +1,4 @@
 pub mod StackLemmas
 pub mod HitLemmas
-pub mod MakingLemmas
 pub mod KeepingLemmas
+pub mod AboveLemmas

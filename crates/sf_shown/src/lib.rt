@@ -5,10 +5,12 @@
 //! them. Here stands what these share, and what follows from the definitions alone.
 #![tactic(auto)]
 
+mod above;
 mod below;
 mod laws;
 mod making;
 
+pub use above::{Wanted, found_above};
 pub use below::under;
 pub use laws::{a_hit_is_in_front, stacks_may_be_left_out};
 pub use making::tree_of;

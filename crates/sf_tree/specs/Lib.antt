@@ -13,3 +13,4 @@ pub mod ChangeAnswers
 pub mod Search
 pub mod Answers
 pub mod Known
+pub mod Ranking

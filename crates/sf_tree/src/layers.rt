@@ -39,7 +39,8 @@ impl Layers {
     }
 
     pub fn as_slice(&self) -> &[Layer]
-        ensures { result.now ≡ self.now }
+        ensures value { result.now ≡ self.now }
+        ensures distinct { IsDistinct self.now }
     {
         &self.list
     }

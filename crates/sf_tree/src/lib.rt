@@ -5,6 +5,7 @@
 mod apply;
 mod changes;
 mod cycles;
+mod given;
 mod journal;
 mod laws;
 mod layers;

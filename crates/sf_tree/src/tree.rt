@@ -1,13 +1,14 @@
-ghost use Rattle.std.specs.Prelude.{◌≡◌, ◌≤◌, [], length, IfOk, IfErr, OnOk, OnErr, option_copied};
+ghost use Rattle.std.specs.Prelude.{◌≡◌, ◌≤◌, ◌<◌, [], length, IfOk, IfErr, IfSome, OnOk, OnErr, option_copied};
 ghost use Rattle.std.specs.List.{All};
 ghost use Rattle.sf_layer.specs.Ranges.{IsOperation};
 ghost use Rattle.sf_tree.specs.Answers.{IsRejection};
 ghost use Rattle.sf_tree.specs.Changes.{after};
 ghost use Rattle.sf_tree.specs.DrawOrder.{draw_order};
-ghost use Rattle.sf_tree.specs.Kept.{IsTree};
+ghost use Rattle.sf_tree.specs.Kept.{IsLayerInRange, IsOfKind, IsTree};
 ghost use Rattle.sf_tree.specs.Layers.{index_of, layer_of};
 
 use crate::apply::{ApplyFault, apply_all};
+use crate::given::{layers_of, steps_end};
 use crate::layers::Layers;
 use crate::order;
 use sf_base::{LayerId, NoMemory};
@@ -57,6 +58,30 @@ impl Tree {
             most,
             layers: Layers::new(alloc),
         })
+    }
+
+    /// A tree of these layers, in this order, for at most so many, which are at most 9,216. None
+    /// where no tree has them: a number stands twice, a parent or a relative layer is not among them,
+    /// or a layer reaches itself.
+    pub fn of_layers(alloc: Global, most: u32, list: &[Layer]) -> Result<Option<Tree>, NoMemory>
+        requires limit { most ≤ 9216 }
+        requires few { length list.now ≤ most }
+        requires numbered { All (λ layer. 0 < layer.number.0) list.now }
+        requires in_range { All IsLayerInRange list.now }
+        requires of_kind { All IsOfKind list.now }
+        ensures { IfOk result (λ made. IfSome made (λ tree. tree ≡ record { layers = list.now; most = most })) }
+    {
+        let Some(layers) = layers_of(alloc, list)? else {
+            return Ok(None);
+        };
+        if !steps_end(alloc, &layers)? {
+            return Ok(None);
+        }
+        Ok(Some(Tree {
+            alloc,
+            most,
+            layers,
+        }))
     }
 
     /// All layers, in the order of their creation.
