@@ -62,7 +62,7 @@ fn cut_layers(alloc: Global, kept: &[Layer], id: LayerId) -> Result<Vec<Layer>, 
 /// The tree of a layer with all that reaches it by parents, in the order of creation, as if the
 /// layer hung from the root at its upper left corner and were relative to none. Each other layer
 /// keeps all that it has, but is relative to none where what it is relative to is not among them.
-/// None exactly where the layer is not in the tree. The tree is made by operations alone.
+/// None exactly where the layer is not in the tree.
 pub fn cut(alloc: Global, tree: &Tree, layer: LayerId) -> Result<Option<Tree>, NoMemory>
     ensures { IfOk result (λ cut. cut ≡ cut_of tree.now.layers layer) }
 {

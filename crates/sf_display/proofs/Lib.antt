@@ -1,1 +1,2 @@
 pub mod NarrowingLemmas
+pub mod IndexLemmas

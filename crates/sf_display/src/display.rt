@@ -1,60 +1,37 @@
-ghost use Rattle.std.specs.Prelude.{◌≡◌, IfOk, find};
-ghost use Rattle.std.specs.Option.{option_copied};
+ghost use Rattle.std.specs.Option.{option_map_or};
+ghost use Rattle.std.specs.Prelude.{◌≡◌, IfOk, map};
+ghost use Rattle.sf_display.specs.Index.{declared_for};
+ghost use Rattle.sf_shown.specs.Above.{found_above};
+ghost use Rattle.sf_shown.specs.Displays.{order_on, stack_on};
+ghost use Rattle.sf_shown.specs.declared.above.Wanted.TheVariants as wanted;
 ghost use Rattle.sf_view.specs.Views.{IsDisplay, ViewsInOrder};
-ghost use Rattle.sf_shown.specs.Displays.{declared, is_of, is_top, order_on, stack_on};
 
+use crate::declared::Declared;
 use sf_base::{LayerId, NoMemory};
-use sf_layer::{Layer, Parent};
+use sf_shown::{Wanted, found_above};
 use sf_tree::Tree;
-use sf_view::{View, ancestry, view_in_order};
+use sf_view::{View, view_in_order};
 use std::alloc::Global;
 
-/// Whether a layer hangs from the root.
-fn is_top(layer: &Layer) -> bool
-    ensures { result ≡ is_top layer.now }
+/// The stack that is declared for a layer, if there is one, 0 where none is.
+fn stack_of(declared: &Declared, layer: Option<LayerId>) -> u32
+    ensures { result ≡ option_map_or (declared_for declared.now) layer 0 }
 {
-    match layer.parent {
-        Parent::Root => true,
-        Parent::Layer(_) | Parent::Nothing => false,
-    }
-}
-
-/// The first of these layers that hangs from the root, if one does.
-fn top_of(way: &[Layer]) -> Option<&Layer>
-    ensures { option_copied result ≡ find is_top way.now }
-{
-    way.iter().find(|layer| is_top(layer))
-}
-
-/// What is declared first for the layer of this number, with its stack, if anything is.
-fn stack_of(stacks: &[(u32, u32)], number: u32) -> Option<&(u32, u32)>
-    ensures { option_copied result ≡ find (is_of number) stacks.now }
-{
-    stacks.iter().find(|pair| pair.0 == number)
-}
-
-/// The stack that is declared for a layer, 0 where none is.
-fn declared(stacks: &[(u32, u32)], layer: &Layer) -> u32
-    ensures { result ≡ declared stacks.now layer.now }
-{
-    match stack_of(stacks, layer.number.0) {
-        Some(pair) => pair.1,
+    match layer {
+        Some(id) => declared.of(id),
         None => 0,
     }
 }
 
-/// The stack that the layer of this number is on, 0 where there is no such layer.
-#[tactic(auto, unfolding(sf_shown::specs::Displays::stack_on))]
-fn stack_on(alloc: Global, tree: &Tree, stacks: &[(u32, u32)], id: LayerId) -> Result<u32, NoMemory>
-    ensures { IfOk result (λ stack. stack ≡ stack_on tree.now.layers stacks.now id) }
+/// The stack that the layer of this number is on, 0 where there is no such layer. Of each layer of the
+/// tree it is known which one above it hangs from the root.
+fn stack_on(tree: &Tree, tops: &[Option<LayerId>], declared: &Declared, id: LayerId) -> u32
+    requires { tops.now ≡ map (found_above wanted.Top tree.now.layers) tree.now.layers }
+    ensures { result ≡ stack_on tree.now.layers declared.now id }
 {
-    let Some(layer) = tree.layer(id) else {
-        return Ok(0);
-    };
-    let way = ancestry(alloc, tree, layer)?;
-    match top_of(&way) {
-        Some(top) => Ok(declared(stacks, top)),
-        None => Ok(0),
+    match tree.index_of(id) {
+        Some(index) => stack_of(declared, tops[index]),
+        None => 0,
     }
 }
 
@@ -67,10 +44,12 @@ fn order_on(
 ) -> Result<Vec<LayerId>, NoMemory>
     ensures { IfOk result (λ order. order.items ≡ order_on tree.now.layers stacks.now stack) }
 {
+    let tops = found_above(alloc, tree, Wanted::Top)?;
+    let declared = Declared::new(alloc, stacks)?;
     let all = tree.draw_order()?;
     let mut order = Vec::new(alloc);
     for id in &all {
-        if stack_on(alloc, tree, stacks, *id)? == stack {
+        if stack_on(tree, &tops, &declared, *id) == stack {
             order.push(*id)?;
         }
     }

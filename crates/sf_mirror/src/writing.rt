@@ -2,7 +2,7 @@ ghost use Rattle.std.specs.Prelude.{◌≡◌, ◌≤◌, ◌+◌, IfOk, OnOk, l
 ghost use Rattle.sf_shown.specs.Copies.{mirrors, number_of, with_copies, written};
 ghost use Rattle.sf_shown.specs.Making.{CanBeMade};
 
-use crate::copies::copy_all;
+use crate::copies::{Copies, copy_all};
 use crate::naming::name_all;
 use sf_base::{LayerId, NoMemory};
 use sf_layer::{Kind, Layer};
@@ -53,7 +53,7 @@ fn push_copies(
     let id = LayerId(pair.1);
     let originals = under(alloc, tree, id)?;
     let mut taken = numbers(alloc, layers)?;
-    let names = name_all(alloc, &mut taken, &originals)?;
+    let names = Copies::new(alloc, name_all(alloc, &mut taken, &originals)?)?;
     let mut copies = copy_all(alloc, LayerId(pair.0), id, &names, &originals)?;
     layers.append(&mut copies)?;
     Ok(())
@@ -69,8 +69,7 @@ fn push_copies(
 /// Each other copy hangs from the copy of its layer's parent, and is relative to the copy of what its
 /// layer is relative to, or to none where that was not copied. It keeps all else, the buffer too.
 ///
-/// There are at most 8 mirrors, and at most 1,024 layers in the tree; the new one can have 9,216. It
-/// is made by operations alone.
+/// There are at most 8 mirrors, and at most 1,024 layers in the tree; the new one can have 9,216.
 pub fn written(alloc: Global, tree: &Tree, pairs: &[(u32, u32)]) -> Result<Tree, NoMemory>
     requires few { length pairs.now ≤ 8 }
     requires small { length tree.now.layers ≤ 1024 }

@@ -18,15 +18,15 @@ name_all-requires c =
 
 pub returns-clause-can : goal.returns-clause-can
 returns-clause-can c =
-    let kept = c.deref-4.ensures.value ∙ c.in_ok-originals.ensures.value in
-    let made = c.in_ok-copies.ensures.value ∙ ap (map (copied (record { 0 = c.args.pair.now.0 }) (record { 0 = c.args.pair.now.1 }) c.deref-3.result.now)) kept in
+    let kept = c.deref-3.ensures.value ∙ c.in_ok-originals.ensures.value in
+    let made = c.in_ok-copies.ensures.value ∙ ap (map (copied (record { 0 = c.args.pair.now.0 }) (record { 0 = c.args.pair.now.1 }) c.in_ok-names.names)) kept in
     subst CanBeMade (sym (c.in_ok-append.ensures.items ∙ ap (λ (l : List Layer). c.args.layers.now.items ++ l) made))
-    (can_copies c.args.tree.now.most c.args.tree.now.layers c.args.layers.now.items (record { 0 = c.args.pair.now.0 }) (record { 0 = c.args.pair.now.1 }) c.deref-3.result.now c.in_ok-originals.ensures.kept c.requires.can c.requires.few
+    (can_copies c.args.tree.now.most c.args.tree.now.layers c.args.layers.now.items (record { 0 = c.args.pair.now.0 }) (record { 0 = c.args.pair.now.1 }) c.in_ok-names.names c.in_ok-originals.ensures.kept c.requires.can c.requires.few
     (subst (λ (l : List Layer). All (λ (copy : Layer). 0 < copy.number.0) l) made c.in_ok-copies.ensures.numbered))
 
 pub returns-clause-long : goal.returns-clause-long
 returns-clause-long c =
-    let kept = c.deref-4.ensures.value ∙ c.in_ok-originals.ensures.value in
-    let made = c.in_ok-copies.ensures.value ∙ ap (map (copied (record { 0 = c.args.pair.now.0 }) (record { 0 = c.args.pair.now.1 }) c.deref-3.result.now)) kept in
+    let kept = c.deref-3.ensures.value ∙ c.in_ok-originals.ensures.value in
+    let made = c.in_ok-copies.ensures.value ∙ ap (map (copied (record { 0 = c.args.pair.now.0 }) (record { 0 = c.args.pair.now.1 }) c.in_ok-names.names)) kept in
     subst (λ (l : List Layer). length l ≤ length c.args.layers.now.items + length c.args.tree.now.layers) (sym (c.in_ok-append.ensures.items ∙ ap (λ (l : List Layer). c.args.layers.now.items ++ l) made))
-    (long_copies c.args.tree.now.layers c.args.layers.now.items (record { 0 = c.args.pair.now.0 }) (record { 0 = c.args.pair.now.1 }) c.deref-3.result.now)
+    (long_copies c.args.tree.now.layers c.args.layers.now.items (record { 0 = c.args.pair.now.0 }) (record { 0 = c.args.pair.now.1 }) c.in_ok-names.names)
