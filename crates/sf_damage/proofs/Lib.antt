@@ -1,6 +1,9 @@
 mod DiffersLemmas
+mod GatheredLemmas
+mod HalvingLemmas
 mod ListLemmas
 mod MeetingLemmas
+mod SharedLemmas
 mod SplitLemmas
 mod StackLemmas
 pub mod VisibleLemmas

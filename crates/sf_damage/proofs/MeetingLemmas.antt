@@ -12,7 +12,7 @@ use Rattle.sf_damage.specs.Meeting.{meets, spans_meet}
 span_point : (start other at : ℤ) (extent many : ℕ) → is_within start extent at ≡ true → is_within other many at ≡ true → spans_meet start extent other many ≡ true
 span_point start other at extent many a b = grind (arith, ints, nat_tests)
 
-rects_point : (r q : Rect) (x y : ℤ) → covers r x y ≡ true → covers q x y ≡ true → meets r q ≡ true
+pub rects_point : (r q : Rect) (x y : ℤ) → covers r x y ≡ true → covers q x y ≡ true → meets r q ≡ true
 unfolding covers
 rects_point r q x y a b =
     let one = and_parts (is_within r.x r.width x) _ a in

@@ -1,9 +1,10 @@
 -- Where two views of a display differ.
-use Rattle.std.specs.Prelude.{◌≡◌, ◌≢◌, ◌↔◌, ℕ, ℤ, List, [], false, map, filter, IsTrue}
+use Rattle.std.specs.Prelude.{◌≡◌, ◌≢◌, ◌↔◌, ℕ, ℤ, Bool, List, [], false, map, filter, IsTrue}
 use Rattle.std.specs.List.{All}
 use Rattle.sf_base.specs.declared.geometry.Rect.{Rect}
 use Rattle.sf_picture.specs.declared.picture.Picture.{Picture}
 use Rattle.sf_region.specs.Points.{has, IsInBounds}
+use Rattle.sf_damage.specs.Meeting.{meets}
 use Rattle.sf_view.specs.Stacks.{Sheet, sheet_of, stack, view_image}
 use Rattle.sf_view.specs.Views.{ViewOf, is_in_clip}
 use Rattle.sf_view.specs.declared.drawn.Drawn.{Drawn}
@@ -35,3 +36,14 @@ pub record IsSameBeside (olds news : List Drawn) (region : List Rect) : Type 0 w
 -- each clip is within the bounds of regions
 abbrev pub AreNear : List Drawn → Type 0
 AreNear layers = All (λ drawn. IsInBounds drawn.clip) layers
+
+abbrev pub clip_of : Drawn → Rect
+clip_of drawn = drawn.clip
+
+-- a layer's clip and a rectangle meet in both directions
+abbrev pub meets_clip : Rect → Drawn → Bool
+meets_clip rect drawn = meets drawn.clip rect
+
+-- a region has a point exactly where the stacks of two lists differ
+pub record DamagesLists (olds news : List Drawn) (region : List Rect) : Type 0 where
+  pub points : (x y : ℤ) → IsTrue (has region x y) ↔ (stack_in olds x y ≢ stack_in news x y)

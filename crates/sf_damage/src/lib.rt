@@ -8,9 +8,12 @@
 mod changes;
 mod damaged;
 mod differing;
+mod gathered;
+mod halving;
 mod laws;
 mod parts;
 mod same;
+mod shared;
 mod shown;
 
 pub use damaged::dirty;

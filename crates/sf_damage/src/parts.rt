@@ -23,7 +23,7 @@ fn spans_meet(start: i32, extent: u32, other: i32, many: u32) -> bool
 }
 
 // Whether two rectangles may share a point.
-fn meets(one: &Rect, other: &Rect) -> bool
+pub fn meets(one: &Rect, other: &Rect) -> bool
     ensures { result ≡ meets one.now other.now }
 {
     spans_meet(one.x, one.width, other.x, other.width)
