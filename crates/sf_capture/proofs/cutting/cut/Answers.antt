@@ -7,7 +7,5 @@ use Rattle.sf_capture.proofs.cutting.cut.Goals as goal
 pub tree_of-requires : goal.tree_of-requires
 tree_of-requires c =
     let kept = c.deref.ensures.value ∙ c.in_ok-kept.ensures.value in
-    record {
-      can = subst CanBeMade (sym (c.deref-2.ensures.value ∙ (c.in_ok-layers.ensures ∙ (λ i. map (cut_layer (kept i) c.args.layer) (kept i)))))
-          (can_cut c.args.tree.now.most c.args.tree.now.layers c.args.layer c.layer.ensures.kept);
-    }
+    subst CanBeMade (sym (c.deref-2.ensures.value ∙ (c.in_ok-layers.ensures ∙ (λ i. map (cut_layer (kept i) c.args.layer) (kept i)))))
+    (can_cut c.args.tree.now.most c.args.tree.now.layers c.args.layer c.layer.ensures.kept)
