@@ -1,5 +1,5 @@
 -- What a taker keeps, as its pass takes and as it gives.
-use Rattle.std.proofs.Common.{◌≡◌, ℕ, zero, suc, ◌+◌, ◌-◌, ◌*◌, ◌<◌, ◌≤◌, ◌^◌, min, max, inl, inr, List, [], ◌∷◌, ◌++◌, length, get_or, map, take, sym, refl, ap, ◌∙◌, subst, append_assoc, append-nil, arith, le_refl, le_trans, ⊎_elim}
+use Rattle.std.proofs.Common.{◌≡◌, ℕ, zero, suc, ◌+◌, ◌-◌, ◌*◌, ◌<◌, ◌≤◌, ◌^◌, min, max, inl, inr, List, [], ◌∷◌, ◌++◌, length, get_or, map, take, drop, sym, refl, ap, ◌∙◌, subst, append_assoc, append-nil, arith, le_refl, le_trans, ⊎_elim}
 use Rattle.std.specs.List.{All, Contains}
 use Rattle.std.proofs.lemmas.List.Elements.{Contains-append_left, Contains-append_right, All-weaker, All-more, All-push, All-nil, All-cons, All-head, All-tail}
 use Rattle.std.proofs.lemmas.List.{take-append-le, length-append}
@@ -11,7 +11,7 @@ use Rattle.sf_intake.specs.declared.protocol.Knows.{Knows}
 use Rattle.sf_intake.specs.Posts.{Post, Begins, before, arrivals, newest_of, numbered, posts_by, IsNumberedFrom}
 use Rattle.sf_intake.specs.Rule.{opened, giving, hearing, Takes, IsDry}
 use Rattle.atomic_blocks.specs.Laid.{WebId}
-use Rattle.sf_intake.specs.Views.{IsTaker, TakerView, SenderView, taker_view, HasAllHeard, HasPopped, IsSameTaker, IsBeginningOf, AreGiven, HasHanded, HasTaken, FoundEmpty, HasGrown, HasHeard, HasFinished, AreSenders, hearing_of}
+use Rattle.sf_intake.specs.Views.{IsTaker, TakerView, SenderView, taker_view, HasAllHeard, HasPopped, IsSameTaker, IsBeginningOf, AreGiven, HasHanded, HasTaken, FoundEmpty, HasGrown, HasHeard, HasTakenRest, AreSenders, hearing_of}
 use Rattle.sf_intake.proofs.Posting.{begins_both}
 
 module _ {A : Type 0} where
@@ -26,6 +26,10 @@ module _ {A : Type 0} where
 
   pub before_is : (xs ys all : List A) → xs ++ ys ≡ all → before all ys ≡ xs
   before_is xs ys all e = ap (λ (l : List A). before l ys) (sym e) ∙ before_end xs ys
+
+  -- a list of which all is cut off, and nothing is left
+  pub all_cut : (all first rest : List A) → first ≡ all → rest ≡ [] → all ≡ first ++ rest
+  all_cut all first rest e none = sym (append-nil all) ∙ (λ i. sym e i ++ sym none i)
 
   -- a list whose end is known is what is before it, and then that end
   pub before_whole : (xs ys all : List A) → xs ++ ys ≡ all → before all ys ++ ys ≡ all
@@ -45,6 +49,10 @@ take_enough zero [] h = refl
 take_enough (suc n) [] h = refl
 take_enough zero (x ∷ xs) h = absurd (omega arith)
 take_enough {X} (suc n) (x ∷ xs) h = ap (λ (l : List X). x ∷ l) (take_enough n xs (omega arith))
+
+-- a vector whose elements were lent and came back as they were
+pub written_back : {X : Type 0} (xs ys : List X) (n : ℕ) → ys ≡ xs → n ≡ length xs → take n (ys ++ drop (length ys) xs) ≡ xs
+written_back {X} xs ys n e f = ap (λ (l : List X). take n (l ++ drop (length l) xs)) e ∙ (take-append-le n xs (drop (length xs) xs) (omega (arith, f)) ∙ take_enough n xs (omega (arith, f)))
 
 module _ {L : Type 0} where
   pub arrivals-snoc : (n : ℕ) (ts : List (Post L)) (x : Post L) → arrivals n (ts ++ x ∷ []) ≡ arrivals n ts ++ numbered (n + length ts) x ∷ []
@@ -206,25 +214,14 @@ module _ {L : Type 0} where
       bound = omega arith;
     }
 
-    pub whole_rest : (t : TakerView L) (v : Knows (Post L)) (web : WebId) (waiting : List (Arrival L)) (last empties : ℕ) → taker_view web v waiting empties ≡ t → IsTaker holds v waiting last
-        → t.given ++ waiting ≡ arrivals 1 t.taken
-    whole_rest t v web waiting last empties is k = subst (λ (u : TakerView L). u.given ++ waiting ≡ arrivals 1 u.taken) is k.waits
-
-    pub given_rest : (t : TakerView L) (v : Knows (Post L)) (web : WebId) (waiting : List (Arrival L)) (last empties : ℕ) → taker_view web v waiting empties ≡ t → IsTaker holds v waiting last
-        → AreGiven holds t.made (length t.given) waiting
-    given_rest t v web waiting last empties is k =
-        let k2 : IsTaker holds v (waiting ++ []) last = subst (λ (l : List (Arrival L)). IsTaker holds v l last) (sym (append-nil waiting)) k in
-        subst (λ (u : TakerView L). AreGiven holds u.made (length u.given) waiting) is
-        (subst (λ (l : List (Arrival L)). AreGiven holds v.made (length (before (arrivals 1 v.taken) l)) waiting) (append-nil waiting) (are_given v waiting [] last k2))
-
     pub rest_theirs : (t : TakerView L) (v : Knows (Post L)) (web : WebId) (waiting : List (Arrival L)) (last empties : ℕ) → taker_view web v waiting empties ≡ t → IsTaker holds v waiting last
         → All (λ (a : Arrival L). Contains t.made a.actor.0) (t.given ++ waiting)
     rest_theirs t v web waiting last empties is k =
         subst (λ (u : TakerView L). All (λ (a : Arrival L). Contains u.made a.actor.0) (u.given ++ waiting)) is (all_theirs v waiting last k)
 
     pub handed_over : (t : TakerView L) (v : Knows (Post L)) (web : WebId) (waiting list rest : List (Arrival L)) (last empties : ℕ) → taker_view web v waiting empties ≡ t → waiting ≡ list ++ rest
-        → IsTaker holds v waiting last → length list ≤ 4096 → (length list < 4096 → rest ≡ []) → HasHanded holds t (taker_view web v rest empties) list
-    handed_over t v web waiting list rest last empties is cut k few short =
+        → IsTaker holds v waiting last → HasHanded holds t (taker_view web v rest empties) list
+    handed_over t v web waiting list rest last empties is cut k =
         let k2 : IsTaker holds v (list ++ rest) last = subst (λ (l : List (Arrival L)). IsTaker holds v l last) cut k in
         subst (λ (u : TakerView L). HasHanded holds u (taker_view web v rest empties) list) (ap (λ (l : List (Arrival L)). taker_view web v l empties) (sym cut) ∙ is) record {
           intake = refl;
@@ -235,17 +232,20 @@ module _ {L : Type 0} where
           given = handed_given v list rest last k2;
           whole = (handed v list rest last k2).waits;
           waited = refl;
-          few = few;
-          short = short;
           each = are_given v list rest last k2;
         }
 
     pub handed_keeps : (v : Knows (Post L)) (waiting list rest : List (Arrival L)) (last : ℕ) → waiting ≡ list ++ rest → IsTaker holds v waiting last → IsTaker holds v rest last
     handed_keeps v waiting list rest last cut k = handed v list rest last (subst (λ (l : List (Arrival L)). IsTaker holds v l last) cut k)
 
+    -- where nothing waits any more, all that waited was given
+    pub all_handed : (b c : TakerView L) (list : List (Arrival L)) → HasHanded holds b c list → c.waiting ≡ [] → b.waiting ≡ list
+    all_handed b c list h none = h.waited ∙ (ap (λ (l : List (Arrival L)). list ++ l) none ∙ append-nil list)
+
     -- a taker that popped, and then gave
-    pub popped_and_gave : (a b c : TakerView L) (list : List (Arrival L)) → HasPopped a b → (length b.waiting < 4096 → FoundEmpty a b) → HasHanded holds b c list → HasTaken holds a c list
-    popped_and_gave a b c list p dry h = record {
+    pub popped_and_gave : (a b c : TakerView L) (list : List (Arrival L)) → HasPopped a b → (length b.waiting < 4096 → FoundEmpty a b) → HasHanded holds b c list
+        → length list ≤ 4096 → (length list < 4096 → c.waiting ≡ []) → HasTaken holds a c list
+    popped_and_gave a b c list p dry h few short = record {
       intake = h.intake ∙ p.same.intake;
       made = h.made ∙ p.same.made;
       heard = h.heard ∙ p.heard;
@@ -253,11 +253,11 @@ module _ {L : Type 0} where
       whole = h.whole;
       given = h.given ∙ ap (λ (l : List (Arrival L)). l ++ list) p.same.given;
       first = (p.first.0, sym h.waited ∙ p.first.1);
-      few = h.few;
+      few = few;
       each = subst (λ (z : List ℕ × List (Arrival L)). AreGiven holds z.0 (length z.1) list) (λ i. (p.same.made i, p.same.given i)) h.each;
-      dry = λ few.
-          let all : b.waiting ≡ list = h.waited ∙ (ap (λ (l : List (Arrival L)). list ++ l) (h.short few) ∙ append-nil list) in
-          let found = dry (subst (λ (l : List (Arrival L)). length l < 4096) (sym all) few) in
+      dry = λ less.
+          let all : b.waiting ≡ list = all_handed b c list h (short less) in
+          let found = dry (subst (λ (l : List (Arrival L)). length l < 4096) (sym all) less) in
           record {
             counted = subst (λ (n : ℕ). HasGrown a.empties n) (sym h.empties) found.counted;
             heard = λ q in'. subst (λ (l : List (Post L)). Begins q.1 (posts_by q.0 l)) (sym h.taken) (found.heard q (subst (λ (l : List (ℕ × List (Post L))). Contains l q) h.heard in'));
@@ -280,6 +280,9 @@ module _ {L : Type 0} where
 
   pub heard_first : (a b c : TakerView L) → HasHeard a b → HasPopped b c → Begins a.waiting c.waiting
   heard_first a b c h p = (p.first.0, p.first.1 ∙ ap (λ (l : List (Arrival L)). l ++ p.first.0) h.waiting)
+
+  pub heard_taken : (a b c : TakerView L) → HasHeard a b → HasPopped b c → Begins a.taken c.taken
+  heard_taken a b c h p = (p.taken.0, p.taken.1 ∙ ap (λ (l : List (Post L)). l ++ p.taken.0) h.taken)
 
   pub heard_none : (a : TakerView L) → HasHeard a a
   heard_none a = record { same = record { intake = refl; made = refl; given = refl }; taken = refl; waiting = refl }
@@ -307,31 +310,42 @@ module _ {L : Type 0} where
       let P : SenderView L → Type 0 = λ z. IsBeginningOf z t.taken in
       All-more P senders i s lt all (subst P f (subst (λ (w : TakerView L). IsBeginningOf s w.taken) e one))
 
-  pub finished : (holds : L → Type 0) (a b c : TakerView L) (senders : List (SenderView L)) (list : List (Arrival L)) → HasHeard a b → HasPopped b c → HasAllHeard c → AreSenders a senders
+  -- a taker that heard all senders, popped until the queue was empty, and gave all that waited
+  pub rest_taken : (holds : L → Type 0) (a b c d : TakerView L) (senders : List (SenderView L)) (list : List (Arrival L)) → HasHeard a b → HasPopped b c → HasAllHeard c → AreSenders a senders
       → All (λ (z : SenderView L). Contains b.heard (z.by.0, z.sent)) senders → All (λ (z : SenderView L). IsBeginningOf z c.taken) senders
-      → list ≡ c.waiting → AreGiven holds c.made (length c.given) list → All (λ (x : Arrival L). Contains c.made x.actor.0) (c.given ++ list)
-      → c.given ++ list ≡ arrivals 1 c.taken → HasFinished holds a senders list
-  finished holds a b c senders list h p dry are heard begun is each theirs whole =
-      let made : c.made ≡ a.made = p.same.made ∙ h.same.made in
-      let given : c.given ≡ a.given = p.same.given ∙ h.same.given in
+      → HasHanded holds c d list → d.waiting ≡ [] → All (λ (x : Arrival L). Contains c.made x.actor.0) (c.given ++ list) → HasTakenRest holds a d senders list
+  rest_taken holds a b c d senders list h p dry are heard begun k none theirs =
+      let same = heard_popped a b c h p in
       let first = heard_first a b c h p in
       record {
-        taken = c.taken;
-        begins = (p.taken.0, p.taken.1 ∙ ap (λ (l : List (Post L)). l ++ p.taken.0) h.taken);
-        whole = ap (λ (l : List (Arrival L)). l ++ list) (sym given) ∙ whole;
-        first = (first.0, is ∙ first.1);
-        exact = λ k d lt.
-            let s : SenderView L = get_or senders k d in
-            let told : Contains c.heard (s.by.0, s.sent) = subst (λ (l : List (ℕ × List (Post L))). Contains l (s.by.0, s.sent)) (sym p.heard) (heard k d lt) in
-            begins_both (posts_by s.by.0 c.taken) s.sent (begun k d lt) (dry (s.by.0, s.sent) told);
-        theirs = subst (All (λ (x : Arrival L). Contains (map (λ (z : SenderView L). z.by.0) senders) x.actor.0)) (λ i. given i ++ list)
-            (All-weaker (λ (x : Arrival L). Contains c.made x.actor.0) (λ (x : Arrival L). Contains (map (λ (z : SenderView L). z.by.0) senders) x.actor.0)
-            (λ x q. are.all x.actor.0 (subst (λ (l : List ℕ). Contains l x.actor.0) made q)) (c.given ++ list) theirs);
-        each = subst (λ (z : List ℕ × List (Arrival L)). AreGiven holds z.0 (length z.1) list) (λ i. (made i, given i)) each;
+        finished = record {
+          taken = c.taken;
+          begins = heard_taken a b c h p;
+          whole = ap (λ (l : List (Arrival L)). l ++ list) (sym same.given)
+              ∙ (sym k.given ∙ (sym (append-nil d.given) ∙ (ap (λ (l : List (Arrival L)). d.given ++ l) (sym none) ∙ (k.whole ∙ ap (arrivals 1) k.taken))));
+          first = (first.0, sym (all_handed holds c d list k none) ∙ first.1);
+          exact = λ j e lt.
+              let s : SenderView L = get_or senders j e in
+              let told : Contains c.heard (s.by.0, s.sent) = subst (λ (l : List (ℕ × List (Post L))). Contains l (s.by.0, s.sent)) (sym p.heard) (heard j e lt) in
+              begins_both (posts_by s.by.0 c.taken) s.sent (begun j e lt) (dry (s.by.0, s.sent) told);
+          theirs = subst (All (λ (x : Arrival L). Contains (map (λ (z : SenderView L). z.by.0) senders) x.actor.0)) (λ i. same.given i ++ list)
+              (All-weaker (λ (x : Arrival L). Contains c.made x.actor.0) (λ (x : Arrival L). Contains (map (λ (z : SenderView L). z.by.0) senders) x.actor.0)
+              (λ x q. are.all x.actor.0 (subst (λ (l : List ℕ). Contains l x.actor.0) same.made q)) (c.given ++ list) theirs);
+          each = subst (λ (z : List ℕ × List (Arrival L)). AreGiven holds z.0 (length z.1) list) (λ i. (same.made i, same.given i)) k.each;
+        };
+        intake = k.intake ∙ same.intake;
+        made = k.made ∙ same.made;
+        taken = k.taken;
+        given = k.given ∙ ap (λ (l : List (Arrival L)). l ++ list) same.given;
+        none = none;
       }
 
   pub all_taken : (P : SenderView L → Type 0) (xs : List (SenderView L)) (n : ℕ) → length xs ≤ n → All P (take n xs) → All P xs
   all_taken P xs n le all = subst (All P) (take_enough n xs le) all
+
+  -- an element that is read from one of two equal lists is that of the other
+  pub read_same : (xs ys : List (SenderView L)) (i : ℕ) (r : SenderView L) → xs ≡ ys → r ≡ get_or xs i r → get_or xs i r ≡ get_or ys i (get_or xs i r)
+  read_same xs ys i r e is = ap (λ (l : List (SenderView L)). get_or l i r) e ∙ ap (λ (d : SenderView L). get_or ys i d) is
 
   pub popped_on : (a b c : TakerView L) → HasPopped a b → HasPopped b c → HasPopped a c
   popped_on a b c p q = record {

@@ -151,6 +151,15 @@ module _ {L : Type 0} where
     pub theirs : All (λ (arrived : Arrival L). Contains (map (λ (s : SenderView L). s.by.0) senders) arrived.actor.0) (t.given ++ list)
     pub each : AreGiven holds t.made (length t.given) list
 
+  -- a taker that gave the rest, as `finish` does, and stays: that list counts as given, and nothing waits
+  pub record HasTakenRest (holds : L → Type 0) (old new : TakerView L) (senders : List (SenderView L)) (list : List (Arrival L)) : Type 0 where
+    pub finished : HasFinished holds old senders list
+    pub intake : new.intake ≡ old.intake
+    pub made : new.made ≡ old.made
+    pub taken : new.taken ≡ finished.taken
+    pub given : new.given ≡ old.given ++ list
+    pub none : new.waiting ≡ []
+
   -- a taker that heard more, and is as it was else
   pub record HasHeard (old new : TakerView L) : Type 0 where
     pub same : IsSameTaker old new
@@ -167,6 +176,4 @@ module _ {L : Type 0} where
     pub given : new.given ≡ old.given ++ list
     pub whole : new.given ++ new.waiting ≡ arrivals 1 new.taken
     pub waited : old.waiting ≡ list ++ new.waiting
-    pub few : length list ≤ 4096
-    pub short : length list < 4096 → new.waiting ≡ []
     pub each : AreGiven holds old.made (length old.given) list

@@ -1,9 +1,9 @@
-ghost use Rattle.std.specs.Prelude.{◌≡◌, ◌<◌, ◌+◌, ◌++◌, true, false, length, IfOk, IfErr, OnOk, OnErr, None, Contains};
+ghost use Rattle.std.specs.Prelude.{◌≡◌, ◌<◌, ◌≤◌, ◌+◌, ◌++◌, true, false, [], length, IfOk, IfErr, OnOk, OnErr, None, Contains};
 ghost use Rattle.std.specs.List.{All};
 ghost use Rattle.sf_intake.specs.Passes.{IsPassOf, known};
-ghost use Rattle.sf_intake.specs.Posts.{Begins, arrivals, newest_of};
+ghost use Rattle.sf_intake.specs.Posts.{Begins, newest_of};
 ghost use Rattle.sf_intake.specs.Rule.{giving, given, opened};
-ghost use Rattle.sf_intake.specs.Views.{AreGiven, AreSenders, FoundEmpty, HasAllHeard, HasFinished, HasHanded, HasHeard, HasPopped, HasTaken};
+ghost use Rattle.sf_intake.specs.Views.{AreSenders, FoundEmpty, HasAllHeard, HasFinished, HasHanded, HasHeard, HasPopped, HasTaken, HasTakenRest};
 ghost use Rattle.sf_intake.specs.Views.{IsBeginningOf, IsSameTaker, first_taker, hearing_of, making, new_sender};
 
 use crate::intake::{Intake, IntakePass};
@@ -178,13 +178,24 @@ impl<L: Lease + Drop, N: LeaseHome<L>> Taker<L, N> {
         Ok(())
     }
 
+    /// Gives all that waits, in the order in which it was taken.
+    fn give_rest(&mut self) -> Vec<Arrived<L>>
+        ensures handed { HasHanded N.holds self.old self.new result.items }
+        ensures none { self.new.waiting ≡ [] }
+        ensures theirs { All (λ arrived. Contains self.old.made arrived.actor.0) (self.old.given ++ result.items) }
+    {
+        mem::replace(&mut self.waiting, Vec::new(self.alloc))
+    }
+
     /// Gives what waits, at most so many, in the order in which it was taken.
     fn hand_over(&mut self) -> Result<Vec<Arrived<L>>, NoMemory>
         ensures ok { IfOk result (λ list. HasHanded N.holds self.old self.new list.items) }
+        ensures few { IfOk result (λ list. length list.items ≤ 4096) }
+        ensures short { IfOk result (λ list. length list.items < 4096 → self.new.waiting ≡ []) }
         ensures err { OnErr result (self.new ≡ self.old) }
     {
         if self.waiting.len() <= MOST_TAKEN {
-            return Ok(mem::replace(&mut self.waiting, Vec::new(self.alloc)));
+            return Ok(self.give_rest());
         }
         match self.waiting.split_off(MOST_TAKEN) {
             Ok(rest) => Ok(mem::replace(&mut self.waiting, rest)),
@@ -224,12 +235,12 @@ impl<L: Lease + Drop, N: LeaseHome<L>> Taker<L, N> {
     }
 
     /// The taker hears what each of these senders sent.
-    fn hear_each(&mut self, intake: &Intake<L, N>, senders: &mut Vec<Sender<L>>)
+    fn hear_each(&mut self, intake: &Intake<L, N>, senders: &mut [Sender<L>])
         requires own { self.old.intake ≡ intake.now }
-        requires theirs { All (λ sender. sender.intake ≡ intake.now) senders.old.items }
+        requires theirs { All (λ sender. sender.intake ≡ intake.now) senders.old }
         ensures same { HasHeard self.old self.new }
-        ensures senders { senders.new.items ≡ senders.old.items }
-        ensures heard { All (λ sender. Contains self.new.heard (sender.by.0, sender.sent)) senders.old.items }
+        ensures senders { senders.new ≡ senders.old }
+        ensures heard { All (λ sender. Contains self.new.heard (sender.by.0, sender.sent)) senders.old }
     {
         for i in 0..senders.len() {
             self.hear(intake, &mut senders[i]);
@@ -237,16 +248,39 @@ impl<L: Lease + Drop, N: LeaseHome<L>> Taker<L, N> {
     }
 
     /// Tells of each of these senders that of what was taken, its own is what it sent first.
-    fn compare_each<R: Wait>(&mut self, intake: &Intake<L, N>, rt: &R, senders: &mut Vec<Sender<L>>)
+    fn compare_each<R: Wait>(&mut self, intake: &Intake<L, N>, rt: &R, senders: &mut [Sender<L>])
         requires own { self.old.intake ≡ intake.now }
-        requires theirs { All (λ sender. sender.intake ≡ intake.now) senders.old.items }
+        requires theirs { All (λ sender. sender.intake ≡ intake.now) senders.old }
         ensures same { self.new ≡ self.old }
-        ensures senders { senders.new.items ≡ senders.old.items }
-        ensures begins { All (λ sender. IsBeginningOf sender self.old.taken) senders.old.items }
+        ensures senders { senders.new ≡ senders.old }
+        ensures begins { All (λ sender. IsBeginningOf sender self.old.taken) senders.old }
     {
         for i in 0..senders.len() {
             self.compare(intake, rt, &mut senders[i]);
         }
+    }
+
+    /// Takes the rest, once all has been sent: these are all the senders. What was given before and this
+    /// list have of each sender exactly what it sent, in its order, each once, and nothing waits then.
+    /// Intake, taker and senders stay, so more can be sent and taken. Want of memory gives nothing, and
+    /// keeps what was taken for the next answer.
+    pub fn take_rest<R: Wait>(
+        &mut self,
+        intake: &Intake<L, N>,
+        rt: &R,
+        senders: &mut [Sender<L>],
+    ) -> Result<Vec<Arrived<L>>, NoMemory>
+        requires own { self.old.intake ≡ intake.now }
+        requires senders { AreSenders self.old senders.old }
+        ensures ok { IfOk result (λ list. HasTakenRest N.holds self.old self.new senders.old list.items) }
+        ensures senders { senders.new ≡ senders.old }
+        ensures err { OnErr result (IsSameTaker self.old self.new × Begins self.old.taken self.new.taken
+            × Begins self.old.waiting self.new.waiting) }
+    {
+        self.hear_each(intake, senders);
+        self.drain(intake, rt)?;
+        self.compare_each(intake, rt, senders);
+        Ok(self.give_rest())
     }
 
     /// Takes the rest, once all has been sent: these are all the senders. What was given before and this
@@ -266,33 +300,10 @@ impl<L: Lease + Drop, N: LeaseHome<L>> Taker<L, N> {
     {
         let mut taker = self;
         let mut senders = senders;
-        taker.hear_each(&intake, &mut senders);
-        match taker.drain(&intake, rt) {
-            Ok(()) => {
-                taker.compare_each(&intake, rt, &mut senders);
-                Ok(taker.give_rest())
-            }
+        match taker.take_rest(&intake, rt, &mut senders) {
+            Ok(rest) => Ok(rest),
             Err(_) => Err((NoMemory, taker, intake, senders)),
         }
-    }
-
-    /// Gives all that waits.
-    fn give_rest(self) -> Vec<Arrived<L>>
-        ensures waits { result.items ≡ self.waiting }
-        ensures whole { self.given ++ result.items ≡ arrivals 1 self.taken }
-        ensures each { AreGiven N.holds self.made (length self.given) result.items }
-        ensures theirs { All (λ arrived. Contains self.made arrived.actor.0) (self.given ++ result.items) }
-    {
-        let Taker {
-            pass: _,
-            alloc: _,
-            last: _,
-            waiting,
-            newest: _,
-            empties: _,
-            home: _,
-        } = self;
-        waiting
     }
 }
 

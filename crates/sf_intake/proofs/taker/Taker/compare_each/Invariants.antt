@@ -6,6 +6,6 @@ use Rattle.sf_intake.proofs.taker.Taker.compare_each.Given as goal
 abbrev pub invariant-loop-i : goal.invariant-loop-i
 invariant-loop-i g l = record {
   same : l.self ≡ l.fn.self;
-  senders : l.senders.items ≡ l.fn.senders.items;
-  begins : All (λ (s : SenderView g.row.L.Denot). IsBeginningOf s l.fn.self.taken) (take l.i l.fn.senders.items);
+  senders : l.senders ≡ l.fn.senders;
+  begins : All (λ (s : SenderView g.row.L.Denot). IsBeginningOf s l.fn.self.taken) (take l.i l.fn.senders);
 }
