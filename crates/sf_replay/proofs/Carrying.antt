@@ -6,9 +6,10 @@ use Rattle.std.proofs.lemmas.List.Elements.{Contains-append_cases}
 use Rattle.sf_surface.specs.declared.mark.QueueMark.{QueueMark}
 use Rattle.sf_surface.specs.Histories.{Made, told_reply}
 use Rattle.sf_surface.specs.Tokens.{ReadLeaseOf}
+use Rattle.sf_token.specs.Pending.{Arrival}
 use Rattle.sf_rights.specs.Calls.{buffers_in, made_of}
 use Rattle.sf_rights.specs.States.{State}
-use Rattle.sf_replay.specs.Cuts.{AllGoBack, AreParts, AreUnspent, AreUnused, Event, GoesBack, IsBlock, IsPart, Lifts, Local, Moves, Returns, Whole, all_now, before, calls_at, heights_after, IsNext, many_of, now, spot_of, state_at, stock_in, with_back}
+use Rattle.sf_replay.specs.Cuts.{AllGoBack, AreParts, AreUnspent, AreUnused, Event, Forwards, GoesBack, GoesForward, IsBlock, IsPart, Lifts, Local, Moves, Returns, Whole, all_now, before, calls_at, heights_after, IsNext, many_of, now, spot_of, state_at, stock_in, with_back, with_sent}
 use Rattle.sf_replay.specs.Orders.{AreDone, Does, IsCut, Order, Passes, Spot, all_events, events_in, raised, times_at}
 use Rattle.sf_replay.specs.Orders.Order.{Call, End, Pass, Still}
 use Rattle.sf_replay.proofs.Fronts.{front_begins, front_length}
@@ -51,6 +52,7 @@ module _ {B : Type 0} (whole : Whole B) (Holds : State B → Type 0) where
   not_among [] later local spot all = all
   not_among (Moves other there ∷ earlier) later local spot all = all
   not_among (Returns lease there ∷ earlier) later local spot all = not_among earlier later local spot all.1
+  not_among (Forwards arrived there ∷ earlier) later local spot all = not_among earlier later local spot all.1
 
   alone : (earlier later : List (Event B)) (local : Local B) (spot : Option Spot) (next : Local B) → IsBlock whole Holds (earlier ++ Moves local spot ∷ later) next → IsAlone earlier later local spot next
   alone [] [] local spot next block = record { none_before = refl; none_behind = refl; lifts = block }
@@ -58,6 +60,7 @@ module _ {B : Type 0} (whole : Whole B) (Holds : State B → Type 0) where
   alone (Moves other there ∷ []) later local spot next block = absurd block
   alone (Moves other there ∷ event ∷ earlier) later local spot next block = absurd block
   alone (Returns lease there ∷ earlier) later local spot next block = absurd (not_among earlier later local spot block.1)
+  alone (Forwards arrived there ∷ earlier) later local spot next block = absurd (not_among earlier later local spot block.1)
 
   -- a block with a return is one of returns
   all_back : (earlier later : List (Event B)) (lease : ReadLeaseOf) (spot : Spot) (next : Local B) → IsBlock whole Holds (earlier ++ Returns lease spot ∷ later) next → AllGoBack whole Holds (earlier ++ Returns lease spot ∷ later)
@@ -65,39 +68,90 @@ module _ {B : Type 0} (whole : Whole B) (Holds : State B → Type 0) where
   all_back (Moves other there ∷ []) later lease spot next block = absurd block
   all_back (Moves other there ∷ event ∷ earlier) later lease spot next block = absurd block
   all_back (Returns other there ∷ earlier) later lease spot next block = block
+  all_back (Forwards other there ∷ earlier) later lease spot next block = block
+
+  all_forward : (earlier later : List (Event B)) (arrived : Arrival ReadLeaseOf) (spot : Spot) (next : Local B) → IsBlock whole Holds (earlier ++ Forwards arrived spot ∷ later) next → AllGoBack whole Holds (earlier ++ Forwards arrived spot ∷ later)
+  all_forward [] later arrived spot next block = block
+  all_forward (Moves other there ∷ []) later arrived spot next block = absurd block
+  all_forward (Moves other there ∷ event ∷ earlier) later arrived spot next block = absurd block
+  all_forward (Returns other there ∷ earlier) later arrived spot next block = block
+  all_forward (Forwards other there ∷ earlier) later arrived spot next block = block
 
   pub back_block : (events : List (Event B)) (next : Local B) → AllGoBack whole Holds events → IsBlock whole Holds events next
   back_block [] next all = tt
   back_block (Moves local spot ∷ later) next all = absurd all
   back_block (Returns lease spot ∷ later) next all = all
+  back_block (Forwards arrived spot ∷ later) next all = all
 
   back_without : (earlier later : List (Event B)) (lease : ReadLeaseOf) (spot : Spot) → AllGoBack whole Holds (earlier ++ Returns lease spot ∷ later) → AllGoBack whole Holds (earlier ++ later)
   back_without [] later lease spot all = all.1
   back_without (Moves local there ∷ earlier) later lease spot all = absurd all
   back_without (Returns other there ∷ earlier) later lease spot all = (all.0, back_without earlier later lease spot all.1)
+  back_without (Forwards other there ∷ earlier) later lease spot all = (all.0, back_without earlier later lease spot all.1)
+
+  forward_without : (earlier later : List (Event B)) (arrived : Arrival ReadLeaseOf) (spot : Spot) → AllGoBack whole Holds (earlier ++ Forwards arrived spot ∷ later) → AllGoBack whole Holds (earlier ++ later)
+  forward_without [] later arrived spot all = all.1
+  forward_without (Moves local there ∷ earlier) later arrived spot all = absurd all
+  forward_without (Returns other there ∷ earlier) later arrived spot all = (all.0, forward_without earlier later arrived spot all.1)
+  forward_without (Forwards other there ∷ earlier) later arrived spot all = (all.0, forward_without earlier later arrived spot all.1)
 
   back_here : (earlier later : List (Event B)) (lease : ReadLeaseOf) (spot : Spot) → AllGoBack whole Holds (earlier ++ Returns lease spot ∷ later) → GoesBack whole Holds lease spot
   back_here [] later lease spot all = all.0
   back_here (Moves local there ∷ earlier) later lease spot all = absurd all
   back_here (Returns other there ∷ earlier) later lease spot all = back_here earlier later lease spot all.1
+  back_here (Forwards other there ∷ earlier) later lease spot all = back_here earlier later lease spot all.1
+
+  forward_here : (earlier later : List (Event B)) (arrived : Arrival ReadLeaseOf) (spot : Spot) → AllGoBack whole Holds (earlier ++ Forwards arrived spot ∷ later) → GoesForward whole Holds arrived spot
+  forward_here [] later arrived spot all = all.0
+  forward_here (Moves local there ∷ earlier) later arrived spot all = absurd all
+  forward_here (Returns other there ∷ earlier) later arrived spot all = forward_here earlier later arrived spot all.1
+  forward_here (Forwards other there ∷ earlier) later arrived spot all = forward_here earlier later arrived spot all.1
 
   -- the frames that a block gives back
   leases_in : List (Event B) → List ReadLeaseOf
   leases_in [] = []
   leases_in (Moves local spot ∷ later) = leases_in later
   leases_in (Returns lease spot ∷ later) = lease ∷ leases_in later
+  leases_in (Forwards arrived spot ∷ later) = leases_in later
 
-  before_back : (events : List (Event B)) (next : Local B) → AllGoBack whole Holds events → before events next ≡ record next { on = leases_in events ++ next.on }
-  unfolding leases_in
+  -- the transactions that a block puts among the arrivals
+  sends_in : List (Event B) → List (Arrival ReadLeaseOf)
+  sends_in [] = []
+  sends_in (Moves local spot ∷ later) = sends_in later
+  sends_in (Returns lease spot ∷ later) = sends_in later
+  sends_in (Forwards arrived spot ∷ later) = arrived ∷ sends_in later
+
+  before_back : (events : List (Event B)) (next : Local B) → AllGoBack whole Holds events → before events next ≡ record next { pending = sends_in events ++ next.pending; on = leases_in events ++ next.on }
+  unfolding leases_in sends_in
   before_back [] next all = refl
   before_back (Moves local spot ∷ later) next all = absurd all
   before_back (Returns lease spot ∷ later) next all = ap (with_back lease) (before_back later next all.1)
+  before_back (Forwards arrived spot ∷ later) next all = ap (with_sent arrived) (before_back later next all.1)
 
   leases_joined : (earlier later : List (Event B)) → leases_in (earlier ++ later) ≡ leases_in earlier ++ leases_in later
   unfolding leases_in
   leases_joined [] later = refl
   leases_joined (Moves local spot ∷ earlier) later = leases_joined earlier later
   leases_joined (Returns lease spot ∷ earlier) later = ap (λ (xs : List ReadLeaseOf). lease ∷ xs) (leases_joined earlier later)
+  leases_joined (Forwards arrived spot ∷ earlier) later = leases_joined earlier later
+
+  sends_joined : (earlier later : List (Event B)) → sends_in (earlier ++ later) ≡ sends_in earlier ++ sends_in later
+  unfolding sends_in
+  sends_joined [] later = refl
+  sends_joined (Moves local spot ∷ earlier) later = sends_joined earlier later
+  sends_joined (Returns lease spot ∷ earlier) later = sends_joined earlier later
+  sends_joined (Forwards arrived spot ∷ earlier) later = ap (λ (xs : List (Arrival ReadLeaseOf)). arrived ∷ xs) (sends_joined earlier later)
+
+  before_split : (earlier later : List (Event B)) (next : Local B) → AllGoBack whole Holds (earlier ++ later)
+      → before (earlier ++ later) next ≡ record next { pending = sends_in earlier ++ (sends_in later ++ next.pending); on = leases_in earlier ++ (leases_in later ++ next.on) }
+  before_split earlier later next all =
+      before_back (earlier ++ later) next all ∙ (λ i. record next { pending = sends i; on = leases i })
+    where
+      sends : sends_in (earlier ++ later) ++ next.pending ≡ sends_in earlier ++ (sends_in later ++ next.pending)
+      sends = ap (λ (xs : List (Arrival ReadLeaseOf)). xs ++ next.pending) (sends_joined earlier later) ∙ append_assoc (sends_in earlier) (sends_in later) next.pending
+
+      leases : leases_in (earlier ++ later) ++ next.on ≡ leases_in earlier ++ (leases_in later ++ next.on)
+      leases = ap (λ (xs : List ReadLeaseOf). xs ++ next.on) (leases_joined earlier later) ∙ append_assoc (leases_in earlier) (leases_in later) next.on
 
   stock_back : (events : List (Event B)) (next : Local B) → AllGoBack whole Holds events → stock_in (before events next) ≡ stock_in next
   stock_back events next all = ap stock_in (before_back events next all)
@@ -223,13 +277,23 @@ module _ {B : Type 0} (whole : Whole B) (Holds : State B → Type 0) where
             ap (λ (b : List (Event B)). before (b ++ does.event ∷ does.later) next) single.none_before
             ∙ ap (λ (e : Event B). before (e ∷ does.later) next) is
 
+    left_unspent : AllGoBack whole Holds (does.earlier ++ does.later) → AreUnspent whole Holds ((does.earlier ++ does.later) ∷ does.blocks) here.last
+    unfolding next
+    left_unspent all number queue place left_there makes =
+        let some = unspent does.blocks here.last here.part.2 number queue place
+        (subst (λ (stock : List ℕ). Contains stock number) (stock_back (does.earlier ++ does.later) next all) left_there) makes in
+        let joined = times_joined spot_of (suc queue, place) (does.earlier ++ does.later) (events_in spot_of does.blocks) in
+        omega (arith, some, joined)
+
     returned : (lease : ReadLeaseOf) (spot : Spot) → does.event ≡ Returns lease spot → spot.1 ≡ heights spot.0 → IsDone (Some spot)
-    unfolding next leases_in
+    unfolding next leases_in sends_in
     returned lease spot is next_is = record {
-      all_left = left_parts (back_block (does.earlier ++ does.later) next all_without, unspent_left, here.part.2);
-      then = subst (λ (ls : List (Local B)). Holds (state_at whole (raised heights spot.0) ls)) (sym (left_now ∙ ap (λ (l : Local B). here.earlier ++ l ∷ here.later) after_is))
-          (back_here does.earlier does.later lease spot all here.earlier here.later next (leases_in does.earlier) (leases_in does.later ++ next.on) heights next_is
-          (subst (λ (ls : List (Local B)). Holds (state_at whole heights ls)) (rest_now ∙ ap (λ (l : Local B). here.earlier ++ l ∷ here.later) before_is) holds));
+      all_left = left_parts (back_block (does.earlier ++ does.later) next all_without, left_unspent all_without, here.part.2);
+      then = subst (λ (ls : List (Local B)). Holds (state_at whole (raised heights spot.0) ls)) (sym (left_now ∙ ap (λ (l : Local B). here.earlier ++ l ∷ here.later) (before_split does.earlier does.later next all_without)))
+          (back_here does.earlier does.later lease spot all here.earlier here.later (record next { pending = sends_in does.earlier ++ (sends_in does.later ++ next.pending) })
+          (leases_in does.earlier) (leases_in does.later ++ next.on) heights next_is
+          (subst (λ (ls : List (Local B)). Holds (state_at whole heights ls)) (rest_now ∙ ap (λ (l : Local B). here.earlier ++ l ∷ here.later)
+          (ap (λ (e : Event B). before (does.earlier ++ e ∷ does.later) next) is ∙ before_split does.earlier (Returns lease spot ∷ does.later) next all)) holds));
     }
       where
         all : AllGoBack whole Holds (does.earlier ++ Returns lease spot ∷ does.later)
@@ -238,35 +302,36 @@ module _ {B : Type 0} (whole : Whole B) (Holds : State B → Type 0) where
         all_without : AllGoBack whole Holds (does.earlier ++ does.later)
         all_without = back_without does.earlier does.later lease spot all
 
-        unspent_left : AreUnspent whole Holds ((does.earlier ++ does.later) ∷ does.blocks) here.last
-        unspent_left number queue place left_there makes =
-            let some = unspent does.blocks here.last here.part.2 number queue place
-            (subst (λ (stock : List ℕ). Contains stock number) (stock_back (does.earlier ++ does.later) next all_without) left_there) makes in
-            let joined = times_joined spot_of (suc queue, place) (does.earlier ++ does.later) (events_in spot_of does.blocks) in
-            omega (arith, some, joined)
+    forwarded : (arrived : Arrival ReadLeaseOf) (spot : Spot) → does.event ≡ Forwards arrived spot → spot.1 ≡ heights spot.0 → IsDone (Some spot)
+    unfolding next leases_in sends_in
+    forwarded arrived spot is next_is = record {
+      all_left = left_parts (back_block (does.earlier ++ does.later) next all_without, left_unspent all_without, here.part.2);
+      then = subst (λ (ls : List (Local B)). Holds (state_at whole (raised heights spot.0) ls)) (sym (left_now ∙ ap (λ (l : Local B). here.earlier ++ l ∷ here.later) (before_split does.earlier does.later next all_without)))
+          (forward_here does.earlier does.later arrived spot all here.earlier here.later (record next { on = leases_in does.earlier ++ (leases_in does.later ++ next.on) })
+          (sends_in does.earlier) (sends_in does.later ++ next.pending) heights next_is
+          (subst (λ (ls : List (Local B)). Holds (state_at whole heights ls)) (rest_now ∙ ap (λ (l : Local B). here.earlier ++ l ∷ here.later)
+          (ap (λ (e : Event B). before (does.earlier ++ e ∷ does.later) next) is ∙ before_split does.earlier (Forwards arrived spot ∷ does.later) next all)) holds));
+    }
+      where
+        all : AllGoBack whole Holds (does.earlier ++ Forwards arrived spot ∷ does.later)
+        all = all_forward does.earlier does.later arrived spot next (subst (λ (e : Event B). IsBlock whole Holds (does.earlier ++ e ∷ does.later) next) is here.part.0)
 
-        before_is : before (does.earlier ++ does.event ∷ does.later) next ≡ record next { on = leases_in does.earlier ++ lease ∷ (leases_in does.later ++ next.on) }
-        before_is =
-            ap (λ (e : Event B). before (does.earlier ++ e ∷ does.later) next) is
-            ∙ before_back (does.earlier ++ Returns lease spot ∷ does.later) next all
-            ∙ ap (λ (xs : List ReadLeaseOf). record next { on = xs ++ next.on }) (leases_joined does.earlier (Returns lease spot ∷ does.later))
-            ∙ ap (λ (xs : List ReadLeaseOf). record next { on = xs }) (append_assoc (leases_in does.earlier) (lease ∷ leases_in does.later) next.on)
-
-        after_is : before (does.earlier ++ does.later) next ≡ record next { on = leases_in does.earlier ++ (leases_in does.later ++ next.on) }
-        after_is =
-            before_back (does.earlier ++ does.later) next all_without
-            ∙ ap (λ (xs : List ReadLeaseOf). record next { on = xs ++ next.on }) (leases_joined does.earlier does.later)
-            ∙ ap (λ (xs : List ReadLeaseOf). record next { on = xs }) (append_assoc (leases_in does.earlier) (leases_in does.later) next.on)
+        all_without : AllGoBack whole Holds (does.earlier ++ does.later)
+        all_without = forward_without does.earlier does.later arrived spot all
 
     still : (event : Event B) → does.event ≡ event → spot_of event ≡ None → IsDone None
     still (Moves local spot) is none = subst IsDone none (moved local spot is (subst (λ (o : Option Spot). IsNext o heights) (sym none) tt))
     still (Returns lease spot) is none = absurd (none_some spot none)
+    still (Forwards arrived spot) is none = absurd (none_some spot none)
 
     called : (event : Event B) (at : Spot) → does.event ≡ event → spot_of event ≡ Some at → at.1 ≡ heights at.0 → IsDone (Some at)
     called (Moves local spot) at is some next_is = subst IsDone some (moved local spot is (subst (λ (o : Option Spot). IsNext o heights) (sym some) next_is))
     called (Returns lease spot) at is some next_is =
         let same = same_some spot at some in
         subst (λ (s : Spot). IsDone (Some s)) same (returned lease spot is (subst (λ (s : Spot). s.1 ≡ heights s.0) (sym same) next_is))
+    called (Forwards arrived spot) at is some next_is =
+        let same = same_some spot at some in
+        subst (λ (s : Spot). IsDone (Some s)) same (forwarded arrived spot is (subst (λ (s : Spot). s.1 ≡ heights s.0) (sym same) next_is))
 
   passed : (heights : ℕ → ℕ) (rest left : List (List (List (Event B)))) → Passes spot_of rest left → (lasts : List (Local B)) → AreParts whole Holds rest lasts
       → AreParts whole Holds left lasts × (all_now left lasts ≡ all_now rest lasts)

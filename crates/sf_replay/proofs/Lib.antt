@@ -1,5 +1,6 @@
 mod Apart
 mod Arrivals
+mod Arriving
 mod Assembling
 mod Backing
 mod Beginning
@@ -12,7 +13,9 @@ mod Counting
 mod Decided
 mod Deciding
 mod Declared
+mod Delaying
 mod Ending
+mod Forwarding
 mod Fronts
 mod Giving
 mod Happening

@@ -32,7 +32,7 @@ use Rattle.sf_replay.proofs.Lifting.{front_after, front_before}
 use Rattle.sf_replay.proofs.Locals.{gets_at, same_at}
 use Rattle.sf_replay.proofs.Quieting.{actors_sum, on_sum, read_gets}
 
-suc_apart : (queue : ℕ) → (suc queue == 0) ≡ false
+pub suc_apart : (queue : ℕ) → (suc queue == 0) ≡ false
 suc_apart queue = elim (cases_Bool (suc queue == 0)) [
   | inl met ↦ let same = eqb-true (suc queue) 0 met in absurd (omega (arith, same))
   | inr unmet ↦ unmet

@@ -34,10 +34,12 @@ pub record Whole (B : Type 0) : Type 0 where
   pub view : DeskView B
   pub arriving : Calls ReadLeaseOf SeatView ReadLeaseOf Issued
 
--- What a caller does at once: it comes from what it holds to what it holds next, maybe by a call. Or it gives a frame back in a call.
+-- What a caller does at once: it comes from what it holds to what it holds next, maybe by a call. Or it gives a frame back in a call; or
+-- what it sent before is put among the arrivals in a call.
 pub data Event (B : Type 0) : Type 0 where
   Moves : Local B → Option Spot → Event B
   Returns : ReadLeaseOf → Spot → Event B
+  Forwards : Arrival ReadLeaseOf → Spot → Event B
 
 -- an event is next, where so many calls are done; and how many are done after it
 abbrev pub IsNext : Option Spot → (ℕ → ℕ) → Type 0
@@ -56,6 +58,7 @@ module _ {B : Type 0} where
   abbrev pub spot_of : Event B → Option Spot
   spot_of (Moves local spot) = spot
   spot_of (Returns lease spot) = Some spot
+  spot_of (Forwards arrived spot) = Some spot
 
   -- the lock of the arrivals is 0, and that of a queue one more than its number
   abbrev pub many_of : Whole B → ℕ → ℕ
@@ -82,11 +85,16 @@ module _ {B : Type 0} where
   abbrev pub with_back : ReadLeaseOf → Local B → Local B
   with_back lease local = record local { on = lease ∷ local.on }
 
+  -- it sent one more, which is on its way
+  abbrev pub with_sent : Arrival ReadLeaseOf → Local B → Local B
+  with_sent arrived local = record local { pending = arrived ∷ local.pending }
+
   -- what a caller holds before a block of events, and before all that it has yet to do
   abbrev pub before : List (Event B) → Local B → Local B
   before [] next = next
   before (Moves local spot ∷ later) next = local
   before (Returns lease spot ∷ later) next = with_back lease (before later next)
+  before (Forwards arrived spot ∷ later) next = with_sent arrived (before later next)
 
   abbrev pub now : List (List (Event B)) → Local B → Local B
   now [] last = last
@@ -133,17 +141,26 @@ module _ {B : Type 0} where
         → Holds (state_at whole heights (others ++ record local { on = earlier ++ lease ∷ rest } ∷ later))
         → Holds (state_at whole (raised heights spot.0) (others ++ record local { on = earlier ++ rest } ∷ later))
 
+    abbrev pub GoesForward : Arrival ReadLeaseOf → Spot → Type 0
+    GoesForward arrived spot =
+        (others later : List (Local B)) (local : Local B) (earlier rest : List (Arrival ReadLeaseOf)) (heights : ℕ → ℕ) → IsNext (Some spot) heights
+        → Holds (state_at whole heights (others ++ record local { pending = earlier ++ arrived ∷ rest } ∷ later))
+        → Holds (state_at whole (raised heights spot.0) (others ++ record local { pending = earlier ++ rest } ∷ later))
+
+    -- each of these goes back, or forward
     abbrev pub AllGoBack : List (Event B) → Type 0
     AllGoBack [] = Unit {0}
     AllGoBack (Moves local spot ∷ later) = ⊥
     AllGoBack (Returns lease spot ∷ later) = GoesBack lease spot × AllGoBack later
+    AllGoBack (Forwards arrived spot ∷ later) = GoesForward arrived spot × AllGoBack later
 
-    -- a block is one event of a caller, or frames that it gives back
+    -- a block is one event of a caller, or frames that it gives back and transactions that are put among the arrivals
     abbrev pub IsBlock : List (Event B) → Local B → Type 0
     IsBlock [] next = Unit {0}
     IsBlock (Moves local spot ∷ []) next = Lifts local spot next
     IsBlock (Moves local spot ∷ other ∷ later) next = ⊥
     IsBlock (Returns lease spot ∷ later) next = AllGoBack (Returns lease spot ∷ later)
+    IsBlock (Forwards arrived spot ∷ later) next = AllGoBack (Forwards arrived spot ∷ later)
 
     -- each call that made a buffer with a permit which the caller has left is yet to come
     abbrev pub AreUnspent : List (List (Event B)) → Local B → Type 0

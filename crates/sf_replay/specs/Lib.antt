@@ -1,8 +1,10 @@
 pub mod Cuts
+pub mod Delays
 pub mod Joining
 pub mod Lifts
 pub mod Members
 pub mod Orders
 pub mod Rights
+pub mod Sends
 pub mod Stamped
 pub mod Tries
