@@ -1,76 +1,39 @@
--- Where the transactions that were sent stand among the calls on the arrivals.
-use Rattle.std.proofs.Common.{◌≡◌, ℕ, suc, ◌+◌, ◌<◌, ◌==◌, ◌⊎◌, Bool, true, false, List, [], ◌∷◌, ◌++◌, arith, ap, ◌∙◌, sym, refl, inl, inr, length}
-use Rattle.std.specs.Prelude.{◌&&◌, if◌then◌else◌}
-use Rattle.std.specs.List.{list_any}
-use Rattle.std.proofs.lemmas.Bool.{cases_Bool, cases_lt, eq-eqb, eqb-true, or_parts}
-use Rattle.std.proofs.lemmas.List.{append-nil, append_assoc, length-append}
+-- What a caller sent, and the calls on the arrivals that put it there.
+use Rattle.std.proofs.Common.{◌≡◌, ℕ, zero, suc, ◌+◌, ◌<◌, ◌≤◌, ◌==◌, ◌⊎◌, true, false, List, [], ◌∷◌, ◌++◌, arith, ap, ◌∙◌, sym, refl, inl, inr, length, filter, Some}
+use Rattle.std.specs.Prelude.{if◌then◌else◌, nat_le, slice_get}
+use Rattle.std.proofs.lemmas.Bool.{cases_Bool, cases_lt, eq-eqb, eqb-true, le-leb, leb-true}
+use Rattle.std.proofs.lemmas.List.{append-nil, append_assoc, length-append, map-append}
+use Rattle.std.proofs.lemmas.List.Elements.{filter-append}
 use Rattle.sf_calls.specs.declared.object.Entry.{Entry}
+use Rattle.sf_calls.specs.Histories.{calls_by}
 use Rattle.sf_surface.specs.Tokens.{ReadLeaseOf}
 use Rattle.sf_token.specs.Arrivals.{is_take, sent}
 use Rattle.sf_token.specs.declared.arrivals.ArriveCall.TheVariants as arrive
 use Rattle.sf_token.specs.Pending.{Arrival}
 use Rattle.sf_txn.specs.Transactions.{Contents}
-use Rattle.sf_actor.specs.Known.{ArriveWithout, is_sent_by}
+use Rattle.sf_actor.specs.Known.{ArriveWithout, arrivals_told, is_sent_by}
+use Rattle.sf_actor.proofs.GoingOn.{own_arrivals}
 use Rattle.sf_shared.specs.Arriving.{ArrivalCalls, Arrived, Arriving}
-use Rattle.sf_replay.proofs.Counting.{mine_other}
+use Rattle.sf_replay.proofs.Counting.{mine_more, others_mine}
 use Rattle.sf_replay.specs.Members.{bit, mine}
 
--- the place of the call that sent the transaction after so many
-abbrev pub send_at : ℕ → ArrivalCalls → ℕ
-send_at n [] = 0
-send_at n (e ∷ earlier) = if is_take e.call then send_at n earlier else (if length (sent earlier) == n then length earlier else send_at n earlier)
+-- what a caller sent of these, in order, without their places
+abbrev pub sent_own : ℕ → List (Arrival ReadLeaseOf) → List (Arrival ReadLeaseOf)
+sent_own by arrivals = arrivals_told false (filter (is_sent_by by) arrivals)
 
--- how many of these transactions, of which the first is after so many, are the caller's and were sent at this place
-abbrev pub sent_mine : (ℕ → ℕ) → ℕ → ℕ → ℕ → List (Arrival ReadLeaseOf) → ℕ
-sent_mine at by place n [] = 0
-sent_mine at by place n (a ∷ later) = bit ((at n == place) && (a.actor.0 == by)) + sent_mine at by place (n + 1) later
+-- it, without its place
+abbrev pub unnumbered : Arrival ReadLeaseOf → Arrival ReadLeaseOf
+unnumbered arrived = record arrived { number = 0 }
 
-pub sent_joined : (at : ℕ → ℕ) (by place n : ℕ) (xs ys : List (Arrival ReadLeaseOf)) → sent_mine at by place n (xs ++ ys) ≡ sent_mine at by place n xs + sent_mine at by place (n + length xs) ys
-sent_joined at by place n [] ys = let same = ap (λ (m : ℕ). sent_mine at by place m ys) (number n) in omega (arith, same)
-  where
-    number : (n : ℕ) → n ≡ n + 0
-    number n = omega arith
-sent_joined at by place n (x ∷ xs) ys =
-    let rest = sent_joined at by place (n + 1) xs ys in
-    let same = ap (λ (m : ℕ). sent_mine at by place m ys) (number n (length xs)) in
-    omega (arith, rest, same)
-  where
-    number : (n m : ℕ) → (n + 1) + m ≡ n + suc m
-    number n m = omega arith
-
-pub sent_others : (at : ℕ → ℕ) (by place n : ℕ) (later : List (Arrival ReadLeaseOf)) → list_any (is_sent_by by) later ≡ false → sent_mine at by place n later ≡ 0
-sent_others at by place n [] none = refl
-sent_others at by place n (a ∷ later) none =
-    let parts = or_parts (is_sent_by by a) (list_any (is_sent_by by) later) none in
-    let rest = sent_others at by place (n + 1) later parts.1 in
-    let here : bit ((at n == place) && (a.actor.0 == by)) ≡ 0 = and_none (at n == place) (a.actor.0 == by) parts.0 in
-    omega (arith, rest, here)
-  where
-    and_none : (a b : Bool) → b ≡ false → bit (a && b) ≡ 0
-    and_none true b none = ap bit none
-    and_none false b none = refl
+pub own_joined : (by : ℕ) (xs ys : List (Arrival ReadLeaseOf)) → sent_own by (xs ++ ys) ≡ sent_own by xs ++ sent_own by ys
+own_joined by xs ys = ap (arrivals_told false) (filter-append (is_sent_by by) xs ys) ∙ map-append unnumbered (filter (is_sent_by by) xs) (filter (is_sent_by by) ys)
 
 -- arrivals that go on without the caller have none more of it
-pub sent_without : (at : ℕ → ℕ) (by place : ℕ) (old new : List (Arrival ReadLeaseOf)) → ArriveWithout by old new → sent_mine at by place 0 new ≡ sent_mine at by place 0 old
-sent_without at by place old new goes =
-    let joined = ap (sent_mine at by place 0) goes.joined ∙ sent_joined at by place 0 old goes.later in
-    let none = sent_others at by place (0 + length old) goes.later goes.none in
-    omega (arith, joined, none)
+pub own_without : (by : ℕ) (old new : List (Arrival ReadLeaseOf)) → ArriveWithout by old new → sent_own by new ≡ sent_own by old
+own_without by old new goes = ap (sent_own by) goes.joined ∙ ap (arrivals_told false) (own_arrivals by old goes.later goes.none)
 
-pub sent_more : (at : ℕ → ℕ) (by place : ℕ) (earlier : List (Arrival ReadLeaseOf)) (a : Arrival ReadLeaseOf) → a.actor.0 ≡ by
-    → sent_mine at by place 0 (earlier ++ a ∷ []) ≡ sent_mine at by place 0 earlier + bit (at (length earlier) == place)
-sent_more at by place earlier a own =
-    let joined = sent_joined at by place 0 earlier (a ∷ []) in
-    let here : bit ((at (0 + length earlier) == place) && (a.actor.0 == by)) ≡ bit (at (length earlier) == place) =
-    ap (λ (b : Bool). bit b) (own_and (at (0 + length earlier) == place)) ∙ ap (λ (n : ℕ). bit (at n == place)) (nothing (length earlier)) in
-    omega (arith, joined, here)
-  where
-    own_and : (b : Bool) → (b && (a.actor.0 == by)) ≡ b
-    own_and true = eq-eqb a.actor.0 by own
-    own_and false = refl
-
-    nothing : (n : ℕ) → 0 + n ≡ n
-    nothing n = omega arith
+pub own_more : (by : ℕ) (earlier : List (Arrival ReadLeaseOf)) (a : Arrival ReadLeaseOf) → a.actor.0 ≡ by → sent_own by (earlier ++ a ∷ []) ≡ sent_own by earlier ++ unnumbered a ∷ []
+own_more by earlier a own = own_joined by earlier (a ∷ []) ∙ ap (λ (xs : List (Arrival ReadLeaseOf)). sent_own by earlier ++ xs) (rw (eq-eqb a.actor.0 by own) refl)
 
 -- no call of the caller takes
 abbrev pub NoTakes : ℕ → ArrivalCalls → Type 0
@@ -94,135 +57,163 @@ sent_send e sends earlier = λ i. sent (record { by = e.by; call = sends.2 i; re
 sent_take : (e : Entry Arriving Arrived) (earlier : ArrivalCalls) → e.call ≡ arrive.Take → sent (e ∷ earlier) ≡ sent earlier
 sent_take e earlier takes = (λ i. sent (record { by = e.by; call = takes i; reply = e.reply } ∷ earlier)) ∙ append-nil (sent earlier)
 
--- what was sent first stays first
-sent_begins : (more calls : ArrivalCalls) → (later : List (Arrival ReadLeaseOf)) × (sent (more ++ calls) ≡ sent calls ++ later)
-sent_begins [] calls = ([], sym (append-nil (sent calls)))
-sent_begins (e ∷ more) calls = by_one (by_call e.call) (sent_begins more calls)
+-- a call of another adds nothing of the caller's
+sent_other : (by : ℕ) (e : Entry Arriving Arrived) (earlier : ArrivalCalls) → (e.by == by) ≡ false → sent_own by (sent (e ∷ earlier)) ≡ sent_own by (sent earlier)
+sent_other by e earlier apart = by_one (by_call e.call)
   where
-    by_one : (Sends e ⊎ (e.call ≡ arrive.Take)) → ((later : List (Arrival ReadLeaseOf)) × (sent (more ++ calls) ≡ sent calls ++ later)) → (later : List (Arrival ReadLeaseOf)) × (sent (e ∷ more ++ calls) ≡ sent calls ++ later)
-    by_one (inl sends) rest = (
-      rest.0 ++ arrival_of e sends (more ++ calls) ∷ [],
-      sent_send e sends (more ++ calls) ∙ ap (λ (xs : List (Arrival ReadLeaseOf)). xs ++ arrival_of e sends (more ++ calls) ∷ []) rest.1 ∙ append_assoc (sent calls) rest.0 (arrival_of e sends (more ++ calls) ∷ []),
-    )
-    by_one (inr takes) rest = (rest.0, sent_take e (more ++ calls) takes ∙ rest.1)
+    by_one : (Sends e ⊎ (e.call ≡ arrive.Take)) → sent_own by (sent (e ∷ earlier)) ≡ sent_own by (sent earlier)
+    by_one (inl sends) = ap (sent_own by) (sent_send e sends earlier) ∙ own_joined by (sent earlier) (arrival_of e sends earlier ∷ [])
+        ∙ ap (λ (xs : List (Arrival ReadLeaseOf)). sent_own by (sent earlier) ++ xs) (rw apart refl) ∙ append-nil (sent_own by (sent earlier))
+    by_one (inr takes) = ap (sent_own by) (sent_take e earlier takes)
 
--- the place of a call that sent
-pub send_here : (more : ArrivalCalls) (e : Entry Arriving Arrived) (earlier : ArrivalCalls) → Sends e → send_at (length (sent earlier)) (more ++ e ∷ earlier) ≡ length earlier
-send_here [] e earlier sends =
-    let no_take : is_take e.call ≡ false = ap is_take sends.2 in
-    rw (no_take, eq-eqb (length (sent earlier)) (length (sent earlier)) refl) refl
-send_here (m ∷ more) e earlier sends = by_take (cases_Bool (is_take m.call)) (send_here more e earlier sends)
+-- a caller that takes nothing sends with each call
+sends_one : (by : ℕ) (e : Entry Arriving Arrived) → (is_take e.call ≡ true → e.by ≡ by → ⊥) → e.by ≡ by → Sends e
+sends_one by e none own = by_one (by_call e.call)
   where
-    longer : (length (sent (more ++ e ∷ earlier)) == length (sent earlier)) ≡ false
-    longer = elim (cases_Bool (length (sent (more ++ e ∷ earlier)) == length (sent earlier))) [
-      | inl met ↦
-          let same = eqb-true (length (sent (more ++ e ∷ earlier))) (length (sent earlier)) met in
-          let begins = sent_begins more (e ∷ earlier) in
-          let a = ap (λ (xs : List (Arrival ReadLeaseOf)). length xs) begins.1 ∙ length-append (sent (e ∷ earlier)) begins.0 in
-          let b = ap (λ (xs : List (Arrival ReadLeaseOf)). length xs) (sent_send e sends earlier) ∙ length-append (sent earlier) (arrival_of e sends earlier ∷ []) in
-          absurd (omega (arith, same, a, b))
-      | inr unmet ↦ unmet
-    ]
+    by_one : (Sends e ⊎ (e.call ≡ arrive.Take)) → Sends e
+    by_one (inl sends) = sends
+    by_one (inr takes) = absurd (none (ap is_take takes) own)
 
-    by_take : (is_take m.call ≡ true) ⊎ (is_take m.call ≡ false) → send_at (length (sent earlier)) (more ++ e ∷ earlier) ≡ length earlier → send_at (length (sent earlier)) (m ∷ more ++ e ∷ earlier) ≡ length earlier
-    by_take (inl takes) rest = rw takes rest
-    by_take (inr no_take) rest = rw (no_take, longer) rest
+sent_by : (by : ℕ) (e : Entry Arriving Arrived) (sends : Sends e) (earlier : ArrivalCalls) → e.by ≡ by → sent_own by (sent (e ∷ earlier)) ≡ sent_own by (sent earlier) ++ unnumbered (arrival_of e sends earlier) ∷ []
+sent_by by e sends earlier own = ap (sent_own by) (sent_send e sends earlier) ∙ own_more by (sent earlier) (arrival_of e sends earlier) own
 
--- of what was sent, as many at a place are the caller's as of the calls there
-pub sent_all : (arriving : ArrivalCalls) (by place : ℕ) (more calls : ArrivalCalls) → arriving ≡ more ++ calls → NoTakes by calls → sent_mine (λ n. send_at n arriving) by place 0 (sent calls) ≡ mine by place calls
-sent_all arriving by place more [] is none = refl
-sent_all arriving by place more (e ∷ earlier) is none =
-    by_one (by_call e.call) (sent_all arriving by place (more ++ e ∷ []) earlier (is ∙ sym (append_assoc more (e ∷ []) earlier)) none.1)
+-- it sent as much as it called
+pub own_many : (by : ℕ) (calls : ArrivalCalls) → NoTakes by calls → length (sent_own by (sent calls)) ≡ length (calls_by by calls)
+own_many by [] none = refl
+own_many by (e ∷ earlier) none = by_caller (cases_Bool (e.by == by)) (own_many by earlier none.1)
   where
-    at : ℕ → ℕ
-    at n = send_at n arriving
+    by_caller : ((e.by == by) ≡ true) ⊎ ((e.by == by) ≡ false) → length (sent_own by (sent earlier)) ≡ length (calls_by by earlier) → length (sent_own by (sent (e ∷ earlier))) ≡ length (calls_by by (e ∷ earlier))
+    by_caller (inl met) rest =
+        let own = eqb-true e.by by met in
+        let sends = sends_one by e none.0 own in
+        let joined = ap (λ (xs : List (Arrival ReadLeaseOf)). length xs) (sent_by by e sends earlier own) ∙ length-append (sent_own by (sent earlier)) (unnumbered (arrival_of e sends earlier) ∷ []) in
+        rw met (omega (arith, rest, joined))
+    by_caller (inr unmet) rest = rw unmet (ap (λ (xs : List (Arrival ReadLeaseOf)). length xs) (sent_other by e earlier unmet) ∙ rest)
 
-    by_one : (Sends e ⊎ (e.call ≡ arrive.Take)) → sent_mine (λ n. send_at n arriving) by place 0 (sent earlier) ≡ mine by place earlier → sent_mine (λ n. send_at n arriving) by place 0 (sent (e ∷ earlier)) ≡ mine by place (e ∷ earlier)
-    by_one (inl sends) rest =
-        let joined = ap (sent_mine (λ n. send_at n arriving) by place 0) (sent_send e sends earlier) ∙ sent_joined (λ n. send_at n arriving) by place 0 (sent earlier) (arrival_of e sends earlier ∷ []) in
-        let here : send_at (0 + length (sent earlier)) arriving ≡ length earlier = ap (λ (n : ℕ). send_at n arriving) (nothing (length (sent earlier))) ∙ ap (send_at (length (sent earlier))) is ∙ send_here more e earlier sends in
-        let one = ap (λ (n : ℕ). bit ((n == place) && (e.by == by))) here in
-        omega (arith, rest, joined, one)
-      where
-        nothing : (n : ℕ) → 0 + n ≡ n
-        nothing n = omega arith
-    by_one (inr takes) rest =
-        ap (sent_mine (λ n. send_at n arriving) by place 0) (sent_take e earlier takes) ∙ rest
-        ∙ sym (mine_other by place e earlier (none.0 (ap is_take takes)))
+module _ {A : Type 0} where
+  get_front : (xs ys : List A) (n : ℕ) → n < length xs → slice_get (xs ++ ys) n ≡ slice_get xs n
+  get_front [] ys n low = absurd (omega (arith, low))
+  get_front (x ∷ xs) ys zero low = refl
+  get_front (x ∷ xs) ys (suc n) low = get_front xs ys n (omega (arith, low))
 
--- the call that sent the transaction after so many
-pub record IsSend (calls : ArrivalCalls) (n : ℕ) : Type 0 where
+  get_last : (xs : List A) (x y : A) (n : ℕ) → length xs ≤ n → slice_get (xs ++ x ∷ []) n ≡ Some y → (x ≡ y) × (length xs ≡ n)
+  get_last [] x y zero high got = (the got, refl)
+    where
+      the : Some x ≡ Some y → x ≡ y
+      the same = cc
+  get_last [] x y (suc n) high got = absurd (cc got)
+  get_last (z ∷ xs) x y zero high got = absurd (omega (arith, high))
+  get_last (z ∷ xs) x y (suc n) high got = let rest = get_last xs x y n (omega (arith, high)) got in (rest.0, ap suc rest.1)
+
+-- the caller's call after so many others of it, which sent this
+pub record IsOwn (by n : ℕ) (calls : ArrivalCalls) (one : Arrival ReadLeaseOf) : Type 0 where
   pub more : ArrivalCalls
   pub e : Entry Arriving Arrived
   pub history : ArrivalCalls
   pub is : calls ≡ more ++ e ∷ history
-  pub step : ℕ
-  pub txn : Contents ReadLeaseOf
-  pub sends : e.call ≡ arrive.Send step txn
-  pub after : length (sent history) ≡ n
-  pub place : send_at n calls ≡ length history
+  pub own : e.by ≡ by
+  pub sends : e.call ≡ arrive.Send one.step one.txn
+  pub after : length (calls_by by history) ≡ n
 
-find_send : (calls : ArrivalCalls) (n : ℕ) → n < length (sent calls) → (more : ArrivalCalls) × (e : Entry Arriving Arrived) × (history : ArrivalCalls) × (calls ≡ more ++ e ∷ history) × Sends e × (length (sent history) ≡ n)
-find_send [] n low = absurd (omega (arith, low))
-find_send (e ∷ earlier) n low = by_one (by_call e.call) (find_send earlier n)
+own_behind : (by n : ℕ) (e : Entry Arriving Arrived) (earlier : ArrivalCalls) (one : Arrival ReadLeaseOf) → IsOwn by n earlier one → IsOwn by n (e ∷ earlier) one
+own_behind by n e earlier one found = record {
+  more = e ∷ found.more;
+  e = found.e;
+  history = found.history;
+  is = ap (λ (calls : ArrivalCalls). e ∷ calls) found.is;
+  own = found.own;
+  sends = found.sends;
+  after = found.after;
+}
+
+-- what a caller sent was put there by its call after as many others
+pub find_own : (by n : ℕ) (calls : ArrivalCalls) (one : Arrival ReadLeaseOf) → NoTakes by calls → slice_get (sent_own by (sent calls)) n ≡ Some one → IsOwn by n calls one
+find_own by n [] one none got = absurd (cc got)
+find_own by n (e ∷ earlier) one none got = by_caller (cases_Bool (e.by == by)) (find_own by n earlier one none.1)
   where
-    by_one : (Sends e ⊎ (e.call ≡ arrive.Take))
-        → (n < length (sent earlier) → (more : ArrivalCalls) × (f : Entry Arriving Arrived) × (history : ArrivalCalls) × (earlier ≡ more ++ f ∷ history) × Sends f × (length (sent history) ≡ n))
-        → (more : ArrivalCalls) × (f : Entry Arriving Arrived) × (history : ArrivalCalls) × (e ∷ earlier ≡ more ++ f ∷ history) × Sends f × (length (sent history) ≡ n)
-    by_one (inl sends) further = elim (cases_lt n (length (sent earlier))) [
-      | inl less ↦ let found = further less in (e ∷ found.0, found.1, found.2, ap (λ (xs : ArrivalCalls). e ∷ xs) found.3, found.4, found.5)
-      | inr over ↦
-          let long = ap (λ (xs : List (Arrival ReadLeaseOf)). length xs) (sent_send e sends earlier) ∙ length-append (sent earlier) (arrival_of e sends earlier ∷ []) in
-          ([], e, earlier, refl, sends, omega (arith, low, over, long))
+    by_caller : ((e.by == by) ≡ true) ⊎ ((e.by == by) ≡ false) → (slice_get (sent_own by (sent earlier)) n ≡ Some one → IsOwn by n earlier one) → IsOwn by n (e ∷ earlier) one
+    by_caller (inl met) further = by_place (cases_lt n (length (sent_own by (sent earlier))))
+      where
+        own : e.by ≡ by
+        own = eqb-true e.by by met
+
+        sends : Sends e
+        sends = sends_one by e none.0 own
+
+        got_there : slice_get (sent_own by (sent earlier) ++ unnumbered (arrival_of e sends earlier) ∷ []) n ≡ Some one
+        got_there = ap (λ (xs : List (Arrival ReadLeaseOf)). slice_get xs n) (sym (sent_by by e sends earlier own)) ∙ got
+
+        by_place : (n < length (sent_own by (sent earlier))) ⊎ (length (sent_own by (sent earlier)) ≤ n) → IsOwn by n (e ∷ earlier) one
+        by_place (inl less) =
+            own_behind by n e earlier one (further (sym (get_front (sent_own by (sent earlier)) (unnumbered (arrival_of e sends earlier) ∷ []) n less) ∙ got_there))
+        by_place (inr over) =
+            let last = get_last (sent_own by (sent earlier)) (unnumbered (arrival_of e sends earlier)) one n over got_there in
+            record {
+              more = [];
+              e = e;
+              history = earlier;
+              is = refl;
+              own = own;
+              sends = sends.2 ∙ ap (λ (a : Arrival ReadLeaseOf). arrive.Send a.step a.txn) last.0;
+              after = sym (own_many by earlier none.1) ∙ last.1;
+            }
+    by_caller (inr unmet) further = own_behind by n e earlier one (further (ap (λ (xs : List (Arrival ReadLeaseOf)). slice_get xs n) (sym (sent_other by e earlier unmet)) ∙ got))
+
+-- the earliest of these calls, of which so many are the caller's
+abbrev pub firsts : ℕ → ℕ → ArrivalCalls → ArrivalCalls
+firsts by n [] = []
+firsts by n (e ∷ earlier) = if nat_le (length (calls_by by (e ∷ earlier))) n then e ∷ earlier else firsts by n earlier
+
+pub mine_firsts : (by place : ℕ) (more calls : ArrivalCalls) → mine by place (firsts by (length (calls_by by calls)) (more ++ calls)) ≡ mine by place calls
+mine_firsts by place [] [] = refl
+mine_firsts by place [] (e ∷ earlier) = rw (le-leb (length (calls_by by (e ∷ earlier))) (length (calls_by by (e ∷ earlier))) (omega arith)) refl
+mine_firsts by place (m ∷ more) calls = by_many (cases_Bool (nat_le (length (calls_by by (m ∷ more ++ calls))) (length (calls_by by calls)))) (mine_firsts by place more calls)
+  where
+    by_many : (nat_le (length (calls_by by (m ∷ more ++ calls))) (length (calls_by by calls)) ≡ true) ⊎ (nat_le (length (calls_by by (m ∷ more ++ calls))) (length (calls_by by calls)) ≡ false)
+        → mine by place (firsts by (length (calls_by by calls)) (more ++ calls)) ≡ mine by place calls → mine by place (firsts by (length (calls_by by calls)) (m ∷ more ++ calls)) ≡ mine by place calls
+    by_many (inl met) rest = rw met (others_mine by place (m ∷ more) calls (leb-true (length (calls_by by (m ∷ more ++ calls))) (length (calls_by by calls)) met))
+    by_many (inr unmet) rest = rw unmet rest
+
+-- calls that came later are at other places
+mine_low : (by place : ℕ) (more calls : ArrivalCalls) → place < length calls → mine by place (more ++ calls) ≡ mine by place calls
+mine_low by place [] calls low = refl
+mine_low by place (m ∷ more) calls low =
+    let rest = mine_low by place more calls low in
+    elim (cases_Bool (length (more ++ calls) == place)) [
+      | inl met ↦ let same = eqb-true (length (more ++ calls)) place met in let long = length-append more calls in absurd (omega (arith, low, same, long))
+      | inr unmet ↦ rw unmet (omega (arith, rest))
     ]
-    by_one (inr takes) further =
-        let same = ap (λ (xs : List (Arrival ReadLeaseOf)). length xs) (sent_take e earlier takes) in
-        let found = further (omega (arith, low, same)) in
-        (e ∷ found.0, found.1, found.2, ap (λ (xs : ArrivalCalls). e ∷ xs) found.3, found.4, found.5)
 
-same_middle : {A : Type 0} (xs us ys vs : List A) (x u : A) → xs ++ x ∷ ys ≡ us ++ u ∷ vs → length xs ≡ length us → x ≡ u
-same_middle [] [] ys vs x u same long = cc
-same_middle [] (a ∷ us) ys vs x u same long = absurd (omega (arith, long))
-same_middle (a ∷ xs) [] ys vs x u same long = absurd (omega (arith, long))
-same_middle (a ∷ xs) (b ∷ us) ys vs x u same long = same_middle xs us ys vs x u (let rest : xs ++ x ∷ ys ≡ us ++ u ∷ vs = cc in rest) (omega (arith, long))
+module _ (by n : ℕ) (calls : ArrivalCalls) (one : Arrival ReadLeaseOf) (found : IsOwn by n calls one) (place : ℕ) where
+  own_after : length (calls_by by (found.e ∷ found.history)) ≡ n + 1
+  own_after = let after = found.after in rw (eq-eqb found.e.by by found.own) (omega (arith, after))
 
--- a transaction that was known as the last one was sent by the call after those before it
-module _ (arriving : ArrivalCalls) (earlier later : List (Arrival ReadLeaseOf)) (one : Arrival ReadLeaseOf) (is : sent arriving ≡ (earlier ++ one ∷ []) ++ later) where
-  low : length earlier < length (sent arriving)
-  low =
-      let a = ap (λ (xs : List (Arrival ReadLeaseOf)). length xs) is ∙ length-append (earlier ++ one ∷ []) later in
-      let b = length-append earlier (one ∷ []) in
-      omega (arith, a, b)
+  upto_it : mine by place (firsts by (n + 1) calls) ≡ mine by place (found.e ∷ found.history)
+  upto_it =
+      ap (λ (m : ℕ). mine by place (firsts by m calls)) (sym own_after) ∙ ap (λ (cs : ArrivalCalls). mine by place (firsts by (length (calls_by by (found.e ∷ found.history))) cs)) found.is
+      ∙ mine_firsts by place found.more (found.e ∷ found.history)
 
-  pub found : (more : ArrivalCalls) × (e : Entry Arriving Arrived) × (history : ArrivalCalls) × (arriving ≡ more ++ e ∷ history) × Sends e × (length (sent history) ≡ length earlier)
-  found = find_send arriving (length earlier) low
+  before_it : mine by place (firsts by n calls) ≡ mine by place found.history
+  before_it =
+      ap (λ (m : ℕ). mine by place (firsts by m calls)) (sym found.after)
+      ∙ ap (λ (cs : ArrivalCalls). mine by place (firsts by (length (calls_by by found.history)) cs)) (found.is ∙ sym (append_assoc found.more (found.e ∷ []) found.history))
+      ∙ mine_firsts by place (found.more ++ found.e ∷ []) found.history
 
-  abbrev pub the_send : IsSend arriving (length earlier)
-  the_send = record {
-    more = found.0;
-    e = found.1;
-    history = found.2;
-    is = found.3;
-    step = found.4.0;
-    txn = found.4.1;
-    sends = found.4.2;
-    after = found.5;
-    place = ap (send_at (length earlier)) found.3 ∙ ap (λ (n : ℕ). send_at n (found.0 ++ found.1 ∷ found.2)) (sym found.5) ∙ send_here found.0 found.1 found.2 found.4;
-  }
+  -- it is one more of the caller's first calls
+  pub own_known : mine by place (firsts by (n + 1) calls) ≡ mine by place (firsts by n calls) + bit (length found.history == place)
+  own_known =
+      let a = upto_it in
+      let b = before_it in
+      let c = mine_more by place found.e found.history found.own in
+      omega (arith, a, b, c)
 
-  begins : (later : List (Arrival ReadLeaseOf)) × (sent (found.0 ++ found.1 ∷ found.2) ≡ sent (found.1 ∷ found.2) ++ later)
-  begins = sent_begins found.0 (found.1 ∷ found.2)
-
-  same : arrival_of found.1 found.4 found.2 ≡ one
-  same = same_middle (sent found.2) earlier begins.0 later (arrival_of found.1 found.4 found.2) one
-      (sym (append_assoc (sent found.2) (arrival_of found.1 found.4 found.2 ∷ []) begins.0) ∙ ap (λ (xs : List (Arrival ReadLeaseOf)). xs ++ begins.0) (sym (sent_send found.1 found.4 found.2)) ∙ sym begins.1
-      ∙ sym (ap sent found.3) ∙ is ∙ append_assoc earlier (one ∷ []) later) found.5
-
-  pub sent_by : the_send.e.by ≡ one.actor.0
-  sent_by = ap (λ (a : Arrival ReadLeaseOf). a.actor.0) same
-
-  pub sent_step : the_send.step ≡ one.step
-  sent_step = ap (λ (a : Arrival ReadLeaseOf). a.step) same
-
-  pub sent_txn : the_send.txn ≡ one.txn
-  sent_txn = ap (λ (a : Arrival ReadLeaseOf). a.txn) same
+  -- a call of the caller that is none of those is behind it
+  pub own_first : mine by place (firsts by (n + 1) calls) < mine by place calls → length found.history < place
+  own_first fewer = elim (cases_lt (length found.history) place) [
+    | inl less ↦ less
+    | inr over ↦
+        let a = upto_it in
+        let b = mine_low by place found.more (found.e ∷ found.history) (omega (arith, over)) in
+        let c = ap (mine by place) found.is in
+        absurd (omega (arith, fewer, a, b, c))
+  ]

@@ -1,7 +1,6 @@
 -- What an actor sent is put among the arrivals: it was on its way, and waits now.
 use Rattle.std.proofs.Common.{◌≡◌, ℕ, suc, ◌+◌, List, [], ◌∷◌, ◌++◌, arith, ap, ◌∙◌, sym, refl, subst, length, map}
 use Rattle.std.specs.List.{flat_map, sum_by}
-use Rattle.std.proofs.lemmas.List.Concat.{flat_map-append}
 use Rattle.std.proofs.lemmas.List.Sums.{sum_by-append}
 use Rattle.sf_calls.specs.declared.object.Entry.{Entry}
 use Rattle.sf_surface.specs.Tokens.{Issued, ReadLeaseOf}
@@ -25,16 +24,16 @@ use Rattle.sf_replay.specs.Cuts.{GoesForward, Local, Whole, front, state_at}
 use Rattle.sf_replay.specs.Orders.{raised}
 use Rattle.sf_replay.proofs.Lifting.{front_after, front_before}
 use Rattle.sf_replay.proofs.Locals.{parted, same_at}
-use Rattle.sf_replay.proofs.Sending.{suc_apart}
+use Rattle.sf_replay.proofs.Sending.{arrivals_sum, suc_apart}
 
 abbrev ArriveEntry : Type 0
 ArriveEntry = Entry (ArriveCall ReadLeaseOf SeatView ReadLeaseOf Issued) (ArriveReply ReadLeaseOf SeatView ReadLeaseOf Issued)
 
-arrivals_sum : (w : RightAt → ℕ) (xs ys : List (Arrival ReadLeaseOf)) → sum_by w (flat_map places_arrived (xs ++ ys)) ≡ sum_by w (flat_map places_arrived xs) + sum_by w (flat_map places_arrived ys)
-arrivals_sum w xs ys =
-    let a = ap (sum_by w) (flat_map-append places_arrived xs ys) in
-    let b = sum_by-append w (flat_map places_arrived xs) (flat_map places_arrived ys) in
-    omega (arith, a, b)
+-- each transaction that is sent goes forward from its way to the arrivals
+abbrev pub SendsGoForward : {B : Type 0} → Whole B → (State B → Type 0) → Type 0
+SendsGoForward whole Holds =
+    (more history : List ArriveEntry) (e : ArriveEntry) → whole.arriving ≡ more ++ e ∷ history → (step : ℕ) (txn : Contents ReadLeaseOf) → e.call ≡ arrive.Send step txn
+    → GoesForward whole Holds (record { number = length (sent history) + 1; actor = record { 0 = e.by }; step = step; txn = txn }) (0, length history)
 
 module _ {B : Type 0} (whole : Whole B) (Holds : State B → Type 0)
     (rests : (old new : State B) → old.marks ≡ whole.marks → new.actors ≡ old.actors → (IsLedger (ledger_of old) → RestsIn old new) → Holds old → Holds new)

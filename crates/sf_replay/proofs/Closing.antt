@@ -3,6 +3,7 @@ use Rattle.std.proofs.Common.{◌≡◌, ℕ, ◌+◌, List, [], ◌∷◌, ◌+
 use Rattle.std.specs.List.{flat_map, sum_by}
 use Rattle.std.proofs.lemmas.List.Sums.{sum_by-append}
 use Rattle.sf_surface.specs.Tokens.{ReadLeaseOf}
+use Rattle.sf_token.specs.Pending.{Arrival}
 use Rattle.sf_actor.specs.Rights.{Turn}
 use Rattle.sf_actor.specs.Tries.{ActorOf}
 use Rattle.sf_steps.specs.declared.bindings.Bindings.{Bindings}
@@ -81,12 +82,12 @@ module _ {B : Type 0} where
       (call_keeps goes.from goes.to by goes.gives.queue number (call.Release lease goes.gives.fence) goes.gives.reply (goes.gives.made (record { queue = 0; number = 0 })).call (close_keeps old goes.from goes.close_from is))
 
 module _ {B : Type 0} (whole : Whole B) (Holds : State B → Type 0) where
-  -- what a try of an actor does keeps it, between any two states of all callers
+  -- what a try of an actor does keeps it, between any two states of all callers; what it sent may be on its way
   abbrev pub GoesKept : ActorOf B → ActorOf B → Step → Bindings B → Type 0
   GoesKept was is s before =
-      (others later : List (Local B)) (on more : List ReadLeaseOf) (leaves left : List Turn) (heights risen : ℕ → ℕ)
-      → GoesTo s before (length was.trace + 1) (state_at whole heights (others ++ local_of was on leaves ∷ later)) (state_at whole risen (others ++ local_of is more left ∷ later))
-      → Holds (state_at whole heights (others ++ local_of was on leaves ∷ later)) → Holds (state_at whole risen (others ++ local_of is more left ∷ later))
+      (others later : List (Local B)) (on more : List ReadLeaseOf) (leaves left : List Turn) (sent : List (Arrival ReadLeaseOf)) (heights risen : ℕ → ℕ)
+      → GoesTo s before (length was.trace + 1) (state_at whole heights (others ++ local_of was on leaves ∷ later)) (state_at whole risen (others ++ record (local_of is more left) { pending = sent } ∷ later))
+      → Holds (state_at whole heights (others ++ local_of was on leaves ∷ later)) → Holds (state_at whole risen (others ++ record (local_of is more left) { pending = sent } ∷ later))
 
   -- so does a frame that is given back
   abbrev pub GivesKept : Type 0
@@ -99,7 +100,7 @@ module _ {B : Type 0} (whole : Whole B) (Holds : State B → Type 0) where
 module _ {B : Type 0} (whole : Whole B) where
   -- so does the ledger
   pub ledger_goes : (was is : ActorOf B) (s : Step) (before : Bindings B) → GoesKept whole HasLedger was is s before
-  ledger_goes was is s before others later on more leaves left heights risen goes holds = goes_keeps s before (length was.trace + 1) _ _ goes holds
+  ledger_goes was is s before others later on more leaves left sent heights risen goes holds = goes_keeps s before (length was.trace + 1) _ _ goes holds
 
   pub ledger_gives : GivesKept whole HasLedger
   ledger_gives by number lease old new marks actors goes holds = gives_keeps by number lease old new goes holds

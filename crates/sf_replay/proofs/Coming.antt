@@ -14,8 +14,9 @@ use Rattle.sf_surface.specs.declared.call.QCall.TheVariants as call
 use Rattle.sf_surface.specs.declared.mark.QueueMark.{QueueMark}
 use Rattle.sf_surface.specs.Histories.{Answers, Made, told_reply}
 use Rattle.sf_surface.specs.Tokens.{ReadLeaseOf}
+use Rattle.sf_token.specs.Pending.{Arrival}
 use Rattle.sf_txn.specs.Buffers.{Buffer}
-use Rattle.sf_txn.specs.Transactions.{all_replaced, replaced_by}
+use Rattle.sf_txn.specs.Transactions.{Contents, all_replaced, replaced_by}
 use Rattle.sf_actor.specs.declared.done.Answered.{Answered}
 use Rattle.sf_actor.specs.declared.done.Answered.TheVariants as answered
 use Rattle.sf_actor.specs.Desks.{DeskHome, DeskView, has_queue, mark_among}
@@ -35,7 +36,7 @@ use Rattle.sf_steps.specs.Acting.{Acts, Attempts}
 use Rattle.sf_steps.specs.Doing.{MakesCall}
 use Rattle.sf_steps.specs.Editing.{Releases, ReleasesAll, Sends, buffer_with}
 use Rattle.sf_steps.specs.Bindings.{holdings_of}
-use Rattle.sf_rights.specs.Makers.{RightAt, places_held, places_owed, places_sent}
+use Rattle.sf_rights.specs.Makers.{RightAt, places_arrived, places_held, places_owed, places_sent}
 use Rattle.sf_rights.specs.Moves.{Gets}
 use Rattle.sf_rights.specs.States.{AreApart, is_queue}
 use Rattle.sf_rights.proofs.Ending.{ending_left, ends_are, turns_of}
@@ -43,7 +44,6 @@ use Rattle.sf_rights.proofs.Forms.{names_owe, take_txn}
 use Rattle.sf_rights.proofs.Owing.{gets_more, gets_same, bindings_owe}
 use Rattle.sf_rights.proofs.Releasing.{lease_of}
 use Rattle.sf_replay.specs.Cuts.{Lifts, Whole}
-use Rattle.sf_replay.specs.Orders.{raised}
 use Rattle.sf_replay.specs.Lifts.{AllGiven, Comes, Given, GivesAll, GivesOne, LiftsSend, given_lease, local_of}
 use Rattle.sf_replay.specs.Lifts.Comes.{Calling, Giving, Sending}
 use Rattle.sf_replay.specs.Tries.{DoesTry}
@@ -195,12 +195,11 @@ module _ {B : Type 0} (whole : Whole B) (pictures : ℕ → Picture) (home : Des
     txn = record sends.sent { token = record { 0 = token } };
     earlier = sends.made.earlier;
     last = sends.made.last;
-    place = refl;
     goes_on = sends.made.goes_on;
     calls = ap (λ (view : DeskView B). view.calls) sends.made.same;
-    lifts = λ more history step e whole_is is_send others later heights next unused holds.
-        kept s (tried.Sent arrival) tries others later [] [] old.turns.leaves new.turns.leaves heights (raised heights 0) (send_goes whole s before number was is [] old.turns.leaves new.turns.leaves (record sends.sent { token = record { 0 = token } }) step less more history e whole_is is_send
-        others later heights next owed (same_writes whole pictures home was is s before after old new (tried.Sent arrival) tries Holds (kept s (tried.Sent arrival) tries) none)
+    lifts = λ arrived is_txn others later heights next unused holds.
+        kept s (tried.Sent arrival) tries others later [] [] old.turns.leaves new.turns.leaves (arrived ∷ []) heights heights (send_goes whole s before number was is [] old.turns.leaves new.turns.leaves arrived (less_with arrived is_txn)
+        others later heights owed (same_writes whole pictures home was is s before after old new (tried.Sent arrival) tries Holds (kept s (tried.Sent arrival) tries) none)
         (subst (λ (view : DeskView B). Gets old.turns.leaves [] view.turns.leaves) (sym sends.made.same) (gets_same old.turns.leaves))) holds;
   }
     where
@@ -210,6 +209,9 @@ module _ {B : Type 0} (whole : Whole B) (pictures : ℕ → Picture) (home : Des
           let a = ap (λ (parts : PartsOf B). sum_by w (places_held parts)) tries.parts_was in
           let b = ap (λ (parts : PartsOf B). sum_by w (places_held parts)) tries.parts_is in
           omega (arith, take, a, b)
+
+      less_with : (arrived : Arrival ReadLeaseOf) → arrived.txn ≡ record sends.sent { token = record { 0 = token } } → (w : RightAt → ℕ) → sum_by w (places_held is.parts) + sum_by w (places_arrived arrived) ≤ sum_by w (places_held was.parts)
+      less_with arrived is_txn w = let fewer = less w in let same = ap (λ (txn : Contents ReadLeaseOf). sum_by w (places_sent txn)) is_txn in omega (arith, fewer, same)
 
       owed : Gets (places_owed was.parts) [] (places_owed is.parts)
       owed = subst (λ xs. Gets xs [] (places_owed is.parts)) (owes_before whole pictures home was is s before after old new (tried.Sent arrival) tries Holds (kept s (tried.Sent arrival) tries))

@@ -19,7 +19,8 @@ module _ {C R : Type 0} where
         | inr unmet ↦ rw unmet rest
       ]
 
-  others_mine : (by place : ℕ) (more xs : List (Entry C R)) → length (calls_by by (more ++ xs)) ≤ length (calls_by by xs) → mine by place (more ++ xs) ≡ mine by place xs
+  -- where the caller has no further one, none more of it
+  pub others_mine : (by place : ℕ) (more xs : List (Entry C R)) → length (calls_by by (more ++ xs)) ≤ length (calls_by by xs) → mine by place (more ++ xs) ≡ mine by place xs
   others_mine by place [] xs few = refl
   others_mine by place (e ∷ more) xs few = by_caller (others_mine by place more xs)
     where

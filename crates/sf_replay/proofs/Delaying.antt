@@ -1,8 +1,7 @@
 -- A call that another makes for a caller, put among what the caller has yet to do by its stamp.
-use Rattle.std.proofs.Common.{◌≡◌, ℕ, ◌+◌, ◌<◌, ◌≤◌, ◌⊎◌, Bool, true, false, List, [], ◌∷◌, ◌++◌, arith, ap, ◌∙◌, sym, refl, inl, inr, subst, map, Option, Some, None}
-use Rattle.std.specs.Prelude.{Contains, if◌then◌else◌, nat_lt}
-use Rattle.std.specs.List.{list_any}
-use Rattle.std.proofs.lemmas.Bool.{cases_Bool, false≢true, ltb-false, ltb-true, or_parts}
+use Rattle.std.proofs.Common.{◌≡◌, ℕ, ◌+◌, ◌<◌, ◌≤◌, ◌⊎◌, true, false, List, [], ◌∷◌, ◌++◌, arith, ap, ◌∙◌, sym, refl, inl, inr, subst, map, Option, Some, None}
+use Rattle.std.specs.Prelude.{Contains, if◌then◌else◌}
+use Rattle.std.proofs.lemmas.Bool.{cases_Bool, eq-eqb, false≢true, ltb-false, ltb-true, or_parts}
 use Rattle.std.proofs.lemmas.List.Elements.{Contains-append_cases, Contains-append_left, Contains-append_right, Contains-push, Contains-push_cases}
 use Rattle.sf_replay.specs.Delays.{delayed, is_above, is_below, some_above, some_below}
 use Rattle.sf_replay.specs.Orders.{ComesFirst, IsInTurn, Spot, events_in, is_spot, times_at}
@@ -32,6 +31,18 @@ module _ {A : Type 0} where
 
   pub behind : (x y : A) (xs : List A) → Contains xs y → Contains (x ∷ xs) y
   behind x y xs there = Contains-append_right (x ∷ []) xs y there
+
+-- an event that is there is counted
+pub times_there : {A : Type 0} (spot : A → Option Spot) (here : Spot) (event : A) (block : List A) → Contains block event → spot event ≡ Some here → 1 ≤ times_at spot here block
+times_there spot here event [] there is = absurd (none_in event there)
+times_there spot here event (x ∷ block) there is = by_place (in_front x event block there) (λ (further : Contains block event). times_there spot here event block further is)
+  where
+    at_it : is_spot here (spot x) ≡ true → 1 ≤ times_at spot here (x ∷ block)
+    at_it met = rw met (omega arith)
+
+    by_place : (x ≡ event) ⊎ Contains block event → (Contains block event → 1 ≤ times_at spot here block) → 1 ≤ times_at spot here (x ∷ block)
+    by_place (inl it) further = at_it (ap (is_spot here) (ap spot it ∙ is) ∙ rw (eq-eqb here.0 here.0 refl, eq-eqb here.1 here.1 refl) refl)
+    by_place (inr later) further = let rest = further later in omega (arith, rest)
 
 module _ {A : Type 0} (spot : A → Option Spot) (stamp : Spot → ℕ) (meanwhile : A → A) (same : (e : A) → spot (meanwhile e) ≡ spot e) where
   -- calls are as often there meanwhile
@@ -102,29 +113,36 @@ module _ {A : Type 0} (spot : A → Option Spot) (stamp : Spot → ℕ) (meanwhi
           let found = rest (rw none at met) in
           record { one = found.one; there = behind x found.one block found.there; at = found.at; is = found.is; above = found.above }
 
-  in_meanwhile : (block : List A) (e : A) → Contains (map meanwhile block) e → (x : A) × Contains block x × (spot e ≡ spot x)
+  in_meanwhile : (block : List A) (e : A) → Contains (map meanwhile block) e → (x : A) × Contains block x × (e ≡ meanwhile x)
   in_meanwhile [] e there = absurd (none_in e there)
   in_meanwhile (x ∷ block) e there = elim (in_front (meanwhile x) e (map meanwhile block) there) [
-    | inl it ↦ (x, here_first x block, ap spot (sym it) ∙ same x)
+    | inl it ↦ (x, here_first x block, sym it)
     | inr further ↦ let found = in_meanwhile block e further in (found.0, behind x found.0 block found.1, found.2)
   ]
 
-  -- what is among the blocks with the event is it, or was there
-  abbrev Was : A → A → List (List A) → Type 0
-  Was event e rest = (spot e ≡ spot event) ⊎ ((x : A) × Contains (events_in spot rest) x × (spot e ≡ spot x))
+  -- what is among the blocks with the event is it, or was there, maybe as it is meanwhile
+  abbrev pub IsAs : A → A → Type 0
+  IsAs x e = (e ≡ x) ⊎ (e ≡ meanwhile x)
 
-  in_delayed : (event : A) (n : ℕ) (rest : List (List A)) (e : A) → Contains (events_in spot (delayed spot stamp meanwhile event n rest)) e → Was event e rest
+  abbrev pub Was : A → A → List (List A) → Type 0
+  Was event e rest = (e ≡ event) ⊎ ((x : A) × Contains (events_in spot rest) x × IsAs x e)
+
+  pub spot_was : (x e : A) → IsAs x e → spot e ≡ spot x
+  spot_was x e (inl it) = ap spot it
+  spot_was x e (inr it) = ap spot it ∙ same x
+
+  pub in_delayed : (event : A) (n : ℕ) (rest : List (List A)) (e : A) → Contains (events_in spot (delayed spot stamp meanwhile event n rest)) e → Was event e rest
   unfolding delayed
   in_delayed event n [] e there = elim (in_front event e [] there) [
-    | inl it ↦ inl (ap spot (sym it))
+    | inl it ↦ inl (sym it)
     | inr none ↦ absurd (none_in e none)
   ]
   in_delayed event n (block ∷ later) e there = by_above (cases_Bool (some_above spot stamp meanwhile n block)) (in_delayed event n later e)
     where
       first_or : Contains (event ∷ block ++ events_in spot later) e → Was event e (block ∷ later)
       first_or there = elim (in_front event e (block ++ events_in spot later) there) [
-        | inl it ↦ inl (ap spot (sym it))
-        | inr further ↦ inr (e, further, refl)
+        | inl it ↦ inl (sym it)
+        | inr further ↦ inr (e, further, inl refl)
       ]
 
       by_above : (some_above spot stamp meanwhile n block ≡ true) ⊎ (some_above spot stamp meanwhile n block ≡ false)
@@ -134,7 +152,7 @@ module _ {A : Type 0} (spot : A → Option Spot) (stamp : Spot → ℕ) (meanwhi
         | inr none ↦ first_or (rw (met, none) at there)
       ]
       by_above (inr unmet) rest = elim (Contains-append_cases (map meanwhile block) (events_in spot (delayed spot stamp meanwhile event n later)) e (rw unmet at there)) [
-        | inl inside ↦ let found = in_meanwhile block e inside in inr (found.0, Contains-append_left block (events_in spot later) found.0 found.1, found.2)
+        | inl inside ↦ let found = in_meanwhile block e inside in inr (found.0, Contains-append_left block (events_in spot later) found.0 found.1, inr found.2)
         | inr further ↦ elim (rest further) [
           | inl it ↦ inl it
           | inr was ↦ inr (was.0, Contains-append_right block (events_in spot later) was.0 was.1, was.2)
@@ -177,9 +195,10 @@ module _ {A : Type 0} (spot : A → Option Spot) (stamp : Spot → ℕ) (meanwhi
       past : some_above spot stamp meanwhile (stamp at) block ≡ false → (e other : A) → Contains (map meanwhile block) e → Contains (events_in spot (delayed spot stamp meanwhile event (stamp at) later)) other → ComesFirst spot stamp e other
       past none e other inside behind_it here next is_here is_next =
           let was = in_meanwhile block e inside in
+          let at_was : spot was.0 ≡ Some here = sym (spot_was was.0 e (inr was.2)) ∙ is_here in
           elim (in_delayed event (stamp at) later other behind_it) [
-            | inl it ↦ subst (λ (s : Spot). stamp here ≤ stamp s) (same_at other next it is_next) (not_above (stamp at) block none was.0 was.1 here (sym was.2 ∙ is_here))
-            | inr there ↦ turn.0 was.0 there.0 was.1 there.1 here next (sym was.2 ∙ is_here) (sym there.2 ∙ is_next)
+            | inl it ↦ subst (λ (s : Spot). stamp here ≤ stamp s) (same_at other next (ap spot it) is_next) (not_above (stamp at) block none was.0 was.1 here at_was)
+            | inr there ↦ turn.0 was.0 there.0 was.1 there.1 here next at_was (sym (spot_was there.0 other there.2) ∙ is_next)
           ]
 
       by_above : (some_above spot stamp meanwhile (stamp at) block ≡ true) ⊎ (some_above spot stamp meanwhile (stamp at) block ≡ false)

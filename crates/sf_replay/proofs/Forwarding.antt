@@ -1,20 +1,18 @@
 -- What an actor sent, on its way to the arrivals while the actor goes on.
-use Rattle.std.proofs.Common.{◌≡◌, ℕ, suc, ◌+◌, ◌<◌, ◌≤◌, ◌⊎◌, ◌||◌, Bool, true, false, List, [], ◌∷◌, ◌++◌, arith, ap, ◌∙◌, sym, refl, inl, inr, subst, map, Option, Some, None}
+use Rattle.std.proofs.Common.{◌≡◌, ℕ, suc, ◌<◌, ◌⊎◌, ◌||◌, Bool, true, false, List, [], ◌∷◌, ◌++◌, arith, ap, ◌∙◌, sym, refl, inl, inr, subst, map, Option, Some, None}
 use Rattle.std.specs.Prelude.{Contains}
 use Rattle.std.specs.List.{flat_map}
-use Rattle.std.proofs.lemmas.Bool.{cases_Bool, false≢true, ltb-true, or_parts}
+use Rattle.std.proofs.lemmas.Bool.{cases_Bool, false≢true, ltb-true}
 use Rattle.std.proofs.lemmas.List.{append_assoc}
 use Rattle.std.proofs.lemmas.List.Elements.{Contains-append_left, Contains-append_right}
 use Rattle.sf_surface.specs.Tokens.{ReadLeaseOf}
 use Rattle.sf_token.specs.Arrivals.{sent, waiting}
 use Rattle.sf_token.specs.Pending.{Arrival}
-use Rattle.sf_actor.specs.Rights.{Turn}
-use Rattle.sf_actor.specs.Tries.{ActorOf}
 use Rattle.sf_rights.specs.States.{State}
-use Rattle.sf_replay.specs.Cuts.{AllGoBack, AreUnspent, Event, Forwards, GoesForward, IsBlock, IsPart, Lifts, Local, MakesAt, Moves, Returns, Whole, before, calls_at, front, heights_after, now, spot_of, state_at, stock_in, with_back, with_sent}
+use Rattle.sf_replay.specs.Cuts.{AllGoBack, AreUnspent, Event, Forwards, GoesForward, IsBlock, IsPart, Lifts, Local, Moves, Returns, Whole, before, calls_at, front, heights_after, now, spot_of, state_at, stock_in, with_back, with_sent}
 use Rattle.sf_replay.specs.Sends.{meanwhile}
 use Rattle.sf_replay.specs.Delays.{delayed, is_above, is_below, some_above, some_below}
-use Rattle.sf_replay.specs.Orders.{Spot, events_in, times_at}
+use Rattle.sf_replay.specs.Orders.{Spot, events_in}
 use Rattle.sf_replay.proofs.Delaying.{behind, here_first, not_above, times_delayed}
 
 -- a caller that holds it, and nothing else
@@ -26,6 +24,13 @@ module _ {B : Type 0} where
   same_spot sent (Moves local spot) = refl
   same_spot sent (Returns lease spot) = refl
   same_spot sent (Forwards arrived spot) = refl
+
+  -- what is put among the arrivals is so meanwhile too
+  pub forward_was : (sent : Arrival ReadLeaseOf) (x : Event B) (arrived : Arrival ReadLeaseOf) (here : Spot) → (Forwards arrived here ≡ x) ⊎ (Forwards arrived here ≡ meanwhile sent x) → x ≡ Forwards arrived here
+  forward_was sent x arrived here (inl it) = sym it
+  forward_was sent (Moves local spot) arrived here (inr it) = absurd (cc it)
+  forward_was sent (Returns lease spot) arrived here (inr it) = absurd (cc it)
+  forward_was sent (Forwards other spot) arrived here (inr it) = sym it
 
   flat_at : {X : Type 0} (f : Local B → List X) (one first second : Local B) → ((rest : List X) → f one ++ rest ≡ f first ++ (f second ++ rest)) → (others later : List (Local B))
       → flat_map f (others ++ one ∷ later) ≡ flat_map f (others ++ first ∷ second ∷ later)

@@ -70,7 +70,7 @@ module _ {B : Type 0} (whole : Whole B) (pictures : ℕ → Picture) (home : Des
       → Lifts whole Holds (local_of was [] old.turns.leaves) None (local_of is more new.turns.leaves)
   rest_lifts more rest writes ended others later heights next unused holds =
       subst (λ (on : List ReadLeaseOf). Holds (state_at whole heights (others ++ local_of is on new.turns.leaves ∷ later))) (append-nil more)
-      (kept others later [] (more ++ []) old.turns.leaves new.turns.leaves heights heights (quiet_goes whole s before number was is [] more old.turns.leaves new.turns.leaves less others later heights owed writes ended) holds)
+      (kept others later [] (more ++ []) old.turns.leaves new.turns.leaves [] heights heights (quiet_goes whole s before number was is [] more old.turns.leaves new.turns.leaves less others later heights owed writes ended) holds)
     where
       less : (w : RightAt → ℕ) → sum_by w (places_held is.parts) + sum_by w (map right_read more) ≤ sum_by w (places_held was.parts)
       less w =
@@ -85,7 +85,7 @@ module _ {B : Type 0} (whole : Whole B) (pictures : ℕ → Picture) (home : Des
   pay_lifts : (owing : OwingOf) (held : Held) → BindingsPay before after (write_of owing held) → Gets (written.written_in was.trace) ((owing.queue, owing.frame) ∷ []) (written.written_in is.trace) → Gets old.turns.leaves (issued_turn owing.turn ∷ []) new.turns.leaves
       → Lifts whole Holds (local_of was [] old.turns.leaves) None (local_of is [] new.turns.leaves)
   pay_lifts owing held pay writes ended others later heights next unused holds =
-      kept others later [] [] old.turns.leaves new.turns.leaves heights heights (pay_goes whole s before number was is [] [] old.turns.leaves new.turns.leaves less others later heights (write_of owing held)
+      kept others later [] [] old.turns.leaves new.turns.leaves [] heights heights (pay_goes whole s before number was is [] [] old.turns.leaves new.turns.leaves less others later heights (write_of owing held)
       (subst (λ xs. Contains xs (write_of owing held)) owes_before pay.was_owed)
       (subst (λ xs. AreIn xs (places_owed was.parts)) owes_after (subst (λ xs. AreIn (bindings_owe after) xs) owes_before pay.fewer))
       (subst (λ xs. AreIn xs ((write_of owing held ∷ []) ++ places_owed is.parts)) owes_before (subst (λ xs. AreIn (bindings_owe before) ((write_of owing held ∷ []) ++ xs)) owes_after pay.unpaid))

@@ -32,7 +32,7 @@ use Rattle.sf_replay.specs.Joining.{CameBack, HasNewSeats, of_at}
 use Rattle.sf_replay.specs.Lifts.{local_of}
 use Rattle.sf_compositor.specs.Vsyncs.{Sitting}
 use Rattle.sf_replay.proofs.Assembling.{AreMembers, IsMember, Member, assembled, by_of, first_of, last_of}
-use Rattle.sf_replay.proofs.Closing.{IsClose}
+use Rattle.sf_replay.proofs.Closing.{IsClose, RestsKept}
 use Rattle.sf_replay.proofs.Ending.{ends_close}
 use Rattle.sf_replay.proofs.Tying.{LiftsAll, all_rise, is_member, member}
 use Rattle.sf_replay.specs.Members.{stamps, AllOnce, number_at, sitting_at, whole_of}
@@ -45,7 +45,8 @@ module _ {B : Type 0} where
 module _ {B : Type 0} (scene : SceneValue) (table : TableId) (locks : Locks B) (first : FirstSeats B) (desk : PlainOf B) (closes : Closes locks first desk) (ordered : IsOrdered first) (own_first : AreSeats table locks first.seats)
     (goes_on : (seats : Seats B) → Contains (took_of first) seats → GoesOn seats.by (known_of (home_of locks seats) (view_of seats)) (known_of (plain_home desk) (plain_view desk)))
     (apart : AreApart (marks_of locks)) (legal : (queue : ℕ) → IsLegal (Answers (mark_among (marks_of locks) queue)) ((plain_view desk).calls queue))
-    (Holds : State B → Type 0) (lifted : LiftsAll table locks first desk closes ordered own_first apart legal (picture_at scene.pictures) Holds) where
+    (Holds : State B → Type 0) (lifted : LiftsAll table locks first desk closes ordered own_first apart legal (picture_at scene.pictures) Holds)
+    (rests : RestsKept (whole_of desk) Holds) where
   -- all actors as callers of the whole run
   pub record AreCallers (starts ends : List (Moment B)) : Type 0 where
     pub members : List (Member B)
@@ -83,12 +84,12 @@ module _ {B : Type 0} (scene : SceneValue) (table : TableId) (locks : Locks B) (
       taken = took end (has_here end ends)
 
       one : Member B
-      one = member table locks first desk closes ordered own_first apart legal (picture_at scene.pictures) Holds lifted start end came.0.walk has_new_seats.sound came.0.own (served start end came.0 has_new_seats) (numbered start (has_here start starts))
+      one = member table locks first desk closes ordered own_first apart legal (picture_at scene.pictures) Holds lifted rests start end came.0.walk has_new_seats.sound came.0.own (served start end came.0 has_new_seats) (numbered start (has_here start starts))
           (steps_range (home_of locks start.seats) scene.pictures start has_new_seats.plays) has_new_seats.nothing (ordered.queues_on end.seats taken) (ordered.arrivals_on end.seats taken) (goes_on end.seats taken)
           (owner start end came.0 (has_here end ends))
 
       is_one : IsMember (whole_of desk) Holds (stamps first) one
-      is_one = is_member table locks first desk closes ordered own_first apart legal (picture_at scene.pictures) Holds lifted start end came.0.walk has_new_seats.sound came.0.own (served start end came.0 has_new_seats) (numbered start (has_here start starts))
+      is_one = is_member table locks first desk closes ordered own_first apart legal (picture_at scene.pictures) Holds lifted rests start end came.0.walk has_new_seats.sound came.0.own (served start end came.0 has_new_seats) (numbered start (has_here start starts))
           (steps_range (home_of locks start.seats) scene.pictures start has_new_seats.plays) has_new_seats.nothing (ordered.queues_on end.seats taken) (ordered.arrivals_on end.seats taken) (goes_on end.seats taken)
           (owner start end came.0 (has_here end ends))
 

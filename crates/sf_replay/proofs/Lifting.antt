@@ -276,5 +276,5 @@ module _ {B : Type 0} (whole : Whole B) (pictures : ℕ → Picture) (home : Des
     goes_on = subst (λ (cs : ℕ → List (Made B)). GoesOnWithout before.by.0 (cs queue) earlier) one.calls calls.made.goes_on;
     others = λ other apart. ap (λ (cs : ℕ → List (Made B)). cs other) (ending_left reply.ends calls.made_view new calls.ends).1 ∙ calls.made.changes.others other apart ∙ ap (λ (cs : ℕ → List (Made B)). cs other) one.calls;
     arrivals = (ending_left reply.ends calls.made_view new calls.ends).2 ∙ ap (λ (view : DeskView B). view.arrivals) calls.made.changes.same ∙ one.arrivals;
-    lifts = λ others later heights next unused holds. kept others later on on old.turns.leaves new.turns.leaves heights (raised heights (suc queue)) (call_goes on (begins queue).0 (begins queue).1 others later heights next unused) holds;
+    lifts = λ others later heights next unused holds. kept others later on on old.turns.leaves new.turns.leaves [] heights (raised heights (suc queue)) (call_goes on (begins queue).0 (begins queue).1 others later heights next unused) holds;
   }

@@ -1,13 +1,18 @@
--- What one caller did, piece by piece, as blocks of events that it has yet to do.
+-- What one caller did, piece by piece, as blocks of events that it has yet to do; and what it sent, on its way until it arrives.
 use Rattle.std.proofs.Common.{◌≡◌, ℕ, suc, ◌+◌, ◌<◌, ◌≤◌, ◌⊎◌, List, [], ◌∷◌, ◌++◌, arith, ap, ◌∙◌, sym, refl, inl, inr, subst, Option, Some, None}
 use Rattle.std.specs.Prelude.{Contains, if◌then◌else◌}
 use Rattle.std.proofs.lemmas.List.Elements.{Contains-append_cases}
 use Rattle.sf_surface.specs.Tokens.{ReadLeaseOf}
+use Rattle.sf_token.specs.Pending.{Arrival}
 use Rattle.sf_rights.specs.States.{State}
 use Rattle.sf_rights.proofs.Counting.{in_front, none_in, the_only}
-use Rattle.sf_replay.specs.Cuts.{AllGoBack, AreUnspent, Event, GoesBack, IsPart, Lifts, Local, MakesAt, Moves, Returns, Whole, before, now, spot_of, stock_in}
+use Rattle.sf_replay.specs.Cuts.{AllGoBack, AreUnspent, Event, Forwards, GoesBack, GoesForward, IsPart, Lifts, Local, MakesAt, Moves, Returns, Whole, before, now, spot_of, stock_in, with_sent}
+use Rattle.sf_replay.specs.Delays.{delayed}
 use Rattle.sf_replay.specs.Orders.{ComesFirst, IsInTurn, Spot, events_in, is_spot, times_at}
+use Rattle.sf_replay.specs.Sends.{meanwhile}
 use Rattle.sf_replay.proofs.Carrying.{back_block, unspent}
+use Rattle.sf_replay.proofs.Delaying.{Was, in_delayed, spot_was, times_delayed, times_there, turn_delayed}
+use Rattle.sf_replay.proofs.Forwarding.{forward_was, part_put, same_spot}
 use Rattle.sf_replay.proofs.Ordering.{times_joined}
 
 same_some : {A : Type 0} (x y : A) → Some x ≡ Some y → x ≡ y
@@ -76,13 +81,26 @@ module _ {B : Type 0} (whole : Whole B) (Holds : State B → Type 0) (total : Sp
     pub all_at : AllAt is.step backs
     pub first : (here : Spot) → spot ≡ Some here → AllAfter here backs
 
-  -- what a caller has yet to do behind a piece
+  -- A piece that sends: that is on its way until a call on the arrivals, which another may make. The call has no stamp below those of the
+  -- steps before, and one below those of the calls for what is sent later.
+  pub record SendPiece (was is : Post B) : Type 0 where
+    pub one : Arrival ReadLeaseOf
+    pub place : ℕ
+    pub lifts : Lifts whole Holds was.local None (with_sent one is.local)
+    pub forward : GoesForward whole Holds one (0, place)
+    pub known : (here : Spot) → is.known here ≡ was.known here + spot_at here (Some (0, place))
+    pub rose : was.step < is.step
+    pub above : (there : Spot) (n : ℕ) → At there n → n < is.step → stamp there ≤ stamp (0, place)
+    pub first : (other : ℕ) → is.known (0, other) < total (0, other) → stamp (0, place) < stamp (0, other)
+
+  -- what a caller has yet to do behind a piece: none of its calls is below one of the steps so far
   pub record Rest (post : Post B) (rest : List (List (Event B))) (last : Local B) : Type 0 where
     pub holds : now rest last ≡ post.local
     pub part : IsPart whole Holds rest last
     pub counts : (here : Spot) → times_at spot_of here (events_in spot_of rest) + post.known here ≡ total here
     pub turn : IsInTurn spot_of stamp rest
-    pub later : (event : Event B) → Contains (events_in spot_of rest) event → (here : Spot) → spot_of event ≡ Some here → (n : ℕ) × At here n × (post.step < n)
+    pub later : (event : Event B) → Contains (events_in spot_of rest) event → (here : Spot) → spot_of event ≡ Some here → (there : Spot) (n : ℕ) → At there n → n ≤ post.step → stamp there ≤ stamp here
+    pub forwards : (arrived : Arrival ReadLeaseOf) (here : Spot) → Contains (events_in spot_of rest) (Forwards arrived here) → here.0 ≡ 0
 
   -- of the frames that go back
   back_at : (n : ℕ) (backs : List Back) → AllAt n backs → (event : Event B) → Contains (returns {B = B} backs) event → (here : Spot) → spot_of event ≡ Some here → At here n
@@ -108,6 +126,13 @@ module _ {B : Type 0} (whole : Whole B) (Holds : State B → Type 0) (total : Sp
   before_returns : (backs : List Back) (next : Local B) → before (returns {B = B} backs) next ≡ record next { on = leases_of backs ++ next.on }
   before_returns [] next = refl
   before_returns (back ∷ backs) next = ap (λ (local : Local B). record local { on = back.0 ∷ local.on }) (before_returns backs next)
+
+  no_forward : (backs : List Back) (arrived : Arrival ReadLeaseOf) (here : Spot) → Contains (returns {B = B} backs) (Forwards arrived here) → ⊥
+  no_forward [] arrived here there = none_in (Forwards arrived here) there
+  no_forward (back ∷ backs) arrived here there = elim (in_front (Returns back.0 back.1) (Forwards arrived here) (returns backs) there) [
+    | inl same ↦ absurd (cc same)
+    | inr further ↦ no_forward backs arrived here further
+  ]
 
   all_back : (backs : List Back) → AllBack whole Holds backs → AllGoBack whole Holds (returns {B = B} backs)
   all_back [] all = tt
@@ -160,21 +185,30 @@ module _ {B : Type 0} (whole : Whole B) (Holds : State B → Type 0) (total : Sp
 
         by_place : Contains (returns {B = B} piece.backs) other ⊎ Contains (events_in spot_of rest) other → stamp here ≤ stamp next
         by_place (inl backs) = back_after here piece.backs (piece.first here at_here) other backs next is_other
-        by_place (inr behind_it) =
-            let found = behind.later other behind_it next is_other in
-            order here next is.step found.0 (piece.at here at_here) found.1 found.2
+        by_place (inr behind_it) = behind.later other behind_it next is_other here is.step (piece.at here at_here) (omega arith)
 
     back_turn : (event other : Event B) → Contains (returns {B = B} piece.backs) event → Contains (events_in spot_of rest) other → ComesFirst spot_of stamp event other
-    back_turn event other there further here next is_event is_other =
-        let found = behind.later other further next is_other in
-        order here next is.step found.0 (back_at is.step piece.backs piece.all_at event there here is_event) found.1 found.2
+    back_turn event other there further here next is_event is_other = behind.later other further next is_other here is.step (back_at is.step piece.backs piece.all_at event there here is_event) (omega arith)
 
-    later_was : (event : Event B) → Contains (events_in spot_of with_piece) event → (here : Spot) → spot_of event ≡ Some here → (n : ℕ) × At here n × (was.step < n)
-    later_was event there here is_here = elim (in_front (Moves was.local piece.spot) event (returns {B = B} piece.backs ++ events_in spot_of rest) there) [
-      | inl same ↦ (is.step, piece.at here (ap spot_of same ∙ is_here), piece.rose)
+    -- a call of the piece is above those of the steps before
+    own_later : (here : Spot) → At here is.step → (there : Spot) (n : ℕ) → At there n → n ≤ was.step → stamp there ≤ stamp here
+    own_later here own there n at low = let rose = piece.rose in order there here n is.step at own (omega (arith, rose, low))
+
+    later_was : (event : Event B) → Contains (events_in spot_of with_piece) event → (here : Spot) → spot_of event ≡ Some here → (there : Spot) (n : ℕ) → At there n → n ≤ was.step → stamp there ≤ stamp here
+    later_was event inside here is_here there n at low = elim (in_front (Moves was.local piece.spot) event (returns {B = B} piece.backs ++ events_in spot_of rest) inside) [
+      | inl same ↦ own_later here (piece.at here (ap spot_of same ∙ is_here)) there n at low
       | inr further ↦ elim (Contains-append_cases (returns {B = B} piece.backs) (events_in spot_of rest) event further) [
-        | inl backs ↦ (is.step, back_at is.step piece.backs piece.all_at event backs here is_here, piece.rose)
-        | inr behind_it ↦ let found = behind.later event behind_it here is_here in let rose = piece.rose in (found.0, found.1, omega (arith, rose, found.2))
+        | inl backs ↦ own_later here (back_at is.step piece.backs piece.all_at event backs here is_here) there n at low
+        | inr behind_it ↦ let rose = piece.rose in behind.later event behind_it here is_here there n at (omega (arith, rose, low))
+      ]
+    ]
+
+    forwards_was : (arrived : Arrival ReadLeaseOf) (here : Spot) → Contains (events_in spot_of with_piece) (Forwards arrived here) → here.0 ≡ 0
+    forwards_was arrived here inside = elim (in_front (Moves was.local piece.spot) (Forwards arrived here) (returns {B = B} piece.backs ++ events_in spot_of rest) inside) [
+      | inl same ↦ absurd (cc same)
+      | inr further ↦ elim (Contains-append_cases (returns {B = B} piece.backs) (events_in spot_of rest) (Forwards arrived here) further) [
+        | inl backs ↦ absurd (no_forward piece.backs arrived here backs)
+        | inr behind_it ↦ behind.forwards arrived here behind_it
       ]
     ]
 
@@ -185,7 +219,95 @@ module _ {B : Type 0} (whole : Whole B) (Holds : State B → Type 0) (total : Sp
       counts = counts;
       turn = (first_turn, (back_turn, behind.turn));
       later = later_was;
+      forwards = forwards_was;
     }
+
+  -- behind a piece that sends, the call for it comes by its stamp
+  module _ (was is : Post B) (piece : SendPiece was is) (fresh : IsFresh was) (rest : List (List (Event B))) (last : Local B) (behind : Rest is rest last) where
+    abbrev at : Spot
+    at = (0, piece.place)
+
+    abbrev put : List (List (Event B))
+    put = delayed spot_of stamp (meanwhile piece.one) (Forwards piece.one (0, piece.place)) (stamp (0, piece.place)) rest
+
+    abbrev pub with_send : List (List (Event B))
+    with_send = (Moves was.local None ∷ []) ∷ put
+
+    -- what is sent later arrives later
+    behind_it : (other : Arrival ReadLeaseOf) (here : Spot) → Contains (events_in spot_of rest) (Forwards other here) → stamp at < stamp here
+    behind_it other here inside =
+        let some = times_there spot_of here (Forwards other here) (events_in spot_of rest) inside refl in
+        let all = behind.counts here in
+        on_lock here.0 here.1 (behind.forwards other here inside) (omega (arith, some, all))
+      where
+        on_lock : (lock place : ℕ) → lock ≡ 0 → is.known (lock, place) < total (lock, place) → stamp at < stamp (lock, place)
+        on_lock lock place same = subst (λ (l : ℕ). is.known (l, place) < total (l, place) → stamp at < stamp (l, place)) (sym same) (piece.first place)
+
+    stands : (now put last ≡ with_sent piece.one (now rest last)) × IsPart whole Holds put last
+    stands = part_put whole Holds piece.one stamp at piece.forward rest last behind_it behind.part
+
+    send_counts : (here : Spot) → times_at spot_of here (events_in spot_of with_send) + was.known here ≡ total here
+    send_counts here =
+        let more = times_delayed spot_of stamp (meanwhile piece.one) (same_spot piece.one) (Forwards piece.one at) (stamp at) rest here in
+        let one = piece.known here in
+        let later = behind.counts here in
+        omega (arith, more, one, later)
+
+    send_unspent : AreUnspent whole Holds with_send last
+    send_unspent number queue place left makes =
+        let own = fresh.own number queue place left makes in
+        let none = fresh.unused number queue place left makes in
+        let all = send_counts (suc queue, place) in
+        omega (arith, own, none, all)
+
+    lifts_send : Lifts whole Holds was.local None (now put last)
+    lifts_send = subst (λ (local : Local B). Lifts whole Holds was.local None local) (sym (stands.0 ∙ ap (with_sent piece.one) behind.holds)) piece.lifts
+
+    in_put : (e : Event B) → Contains (events_in spot_of put) e → Was spot_of stamp (meanwhile piece.one) (same_spot piece.one) (Forwards piece.one at) e rest
+    in_put e inside = in_delayed spot_of stamp (meanwhile piece.one) (same_spot piece.one) (Forwards piece.one at) (stamp at) rest e inside
+
+    send_turn : (event other : Event B) → Contains (Moves was.local None ∷ []) event → Contains (events_in spot_of put) other → ComesFirst spot_of stamp event other
+    send_turn event other there further here next is_event is_other = absurd (none_some here (ap spot_of (the_only (Moves was.local None) event there) ∙ is_event))
+
+    send_later : (event : Event B) → Contains (events_in spot_of with_send) event → (here : Spot) → spot_of event ≡ Some here → (there : Spot) (n : ℕ) → At there n → n ≤ was.step → stamp there ≤ stamp here
+    send_later event inside here is_here there n at_there low = elim (in_front (Moves was.local None) event (events_in spot_of put) inside) [
+      | inl same ↦ absurd (none_some here (ap spot_of same ∙ is_here))
+      | inr further ↦ elim (in_put event further) [
+        | inl it ↦
+            let rose = piece.rose in
+            subst (λ (s : Spot). stamp there ≤ stamp s) (same_some at here (sym (ap spot_of it) ∙ is_here)) (piece.above there n at_there (omega (arith, rose, low)))
+        | inr was_there ↦
+            let rose = piece.rose in
+            behind.later was_there.0 was_there.1 here (sym (spot_was spot_of stamp (meanwhile piece.one) (same_spot piece.one) was_there.0 event was_there.2) ∙ is_here) there n at_there (omega (arith, rose, low))
+      ]
+    ]
+
+    send_forwards : (arrived : Arrival ReadLeaseOf) (here : Spot) → Contains (events_in spot_of with_send) (Forwards arrived here) → here.0 ≡ 0
+    send_forwards arrived here inside = elim (in_front (Moves was.local None) (Forwards arrived here) (events_in spot_of put) inside) [
+      | inl same ↦ absurd (cc same)
+      | inr further ↦ elim (in_put (Forwards arrived here) further) [
+        | inl it ↦ ap (λ (s : Spot). s.0) (same_some here at (ap spot_of it))
+        | inr was_there ↦ behind.forwards arrived here (subst (λ (e : Event B). Contains (events_in spot_of rest) e) (forward_was piece.one was_there.0 arrived here was_there.2) was_there.1)
+      ]
+    ]
+
+    pub send_rest : Rest was with_send last
+    send_rest = record {
+      holds = refl;
+      part = (lifts_send, send_unspent, stands.1);
+      counts = send_counts;
+      turn = (send_turn, turn_delayed spot_of stamp (meanwhile piece.one) (same_spot piece.one) (Forwards piece.one at) at rest refl behind.turn);
+      later = send_later;
+      forwards = send_forwards;
+    }
+
+  -- one piece or the other, and what is behind it
+  abbrev pub AnyPiece : Post B → Post B → Type 0
+  AnyPiece was is = Piece was is ⊎ SendPiece was is
+
+  pub with_any : (was is : Post B) → AnyPiece was is → IsFresh was → (rest : List (List (Event B))) (last : Local B) → Rest is rest last → (more : List (List (Event B))) × Rest was more last
+  with_any was is (inl piece) fresh rest last behind = (with_piece was is piece fresh rest last behind, piece_rest was is piece fresh rest last behind)
+  with_any was is (inr piece) fresh rest last behind = (with_send was is piece fresh rest last behind, send_rest was is piece fresh rest last behind)
 
   -- where nothing was done
   pub same_rest : (was is : Post B) → was.local ≡ is.local → ((here : Spot) → is.known here ≡ was.known here) → was.step ≤ is.step → (rest : List (List (Event B))) (last : Local B) → Rest is rest last → Rest was rest last
@@ -194,7 +316,8 @@ module _ {B : Type 0} (whole : Whole B) (Holds : State B → Type 0) (total : Sp
     part = behind.part;
     counts = λ here. let same = known here in let counts = behind.counts here in omega (arith, same, counts);
     turn = behind.turn;
-    later = λ event there here is_here. let found = behind.later event there here is_here in (found.0, found.1, omega (arith, found.2, step));
+    later = λ event inside here is_here there n at low. behind.later event inside here is_here there n at (omega (arith, step, low));
+    forwards = behind.forwards;
   }
 
   pub end_rest : (post : Post B) → IsFresh post → ((here : Spot) → post.known here ≡ total here) → Rest post [] post.local
@@ -208,4 +331,5 @@ module _ {B : Type 0} (whole : Whole B) (Holds : State B → Type 0) (total : Sp
     counts = λ here. let all = known here in omega (arith, all);
     turn = tt;
     later = λ event there. absurd (none_in event there);
+    forwards = λ arrived here there. absurd (none_in (Forwards arrived here) there);
   }

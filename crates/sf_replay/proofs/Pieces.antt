@@ -1,25 +1,30 @@
--- What a done try comes to, as a piece of what its actor did.
+-- What a done try comes to, as a piece of what its actor did, maybe one that sends.
 use Rattle.std.proofs.Common.{◌≡◌, ℕ, zero, suc, ◌+◌, ◌<◌, ◌≤◌, ◌==◌, Bool, true, List, [], ◌∷◌, ◌++◌, arith, ap, ◌∙◌, sym, refl, inl, inr, subst, length, map, Some, None}
-use Rattle.std.specs.Prelude.{◌&&◌}
-use Rattle.std.proofs.lemmas.Bool.{cases_Bool, cases_eq, eq-eqb, eqb-true}
-use Rattle.std.proofs.lemmas.List.{append-nil, append_assoc}
+use Rattle.std.specs.Prelude.{◌&&◌, slice_get}
+use Rattle.std.proofs.lemmas.Bool.{cases_Bool, cases_eq, cases_lt, eq-eqb, eqb-true}
+use Rattle.std.proofs.lemmas.List.{append-nil, append_assoc, length-append}
+use Rattle.sf_calls.specs.declared.object.Entry.{Entry}
 use Rattle.sf_calls.specs.Histories.{GoesOnWithout}
 use Rattle.sf_surface.specs.Histories.{Made}
 use Rattle.sf_surface.specs.Tokens.{ReadLeaseOf}
 use Rattle.sf_token.specs.Arrivals.{sent}
 use Rattle.sf_token.specs.declared.arrivals.ArriveCall.TheVariants as arrive
 use Rattle.sf_token.specs.Pending.{Arrival}
+use Rattle.sf_txn.specs.Transactions.{Contents}
 use Rattle.sf_actor.specs.Desks.{DeskView}
 use Rattle.sf_actor.specs.Tries.{ActorOf}
+use Rattle.sf_shared.specs.Arriving.{ArrivalCalls, Arrived, Arriving}
 use Rattle.sf_rights.specs.States.{State}
 use Rattle.sf_replay.specs.Cuts.{Lifts, Whole}
 use Rattle.sf_replay.specs.Lifts.{AllGiven, Comes, Given, GivesAll, LearnsOnly, LiftsCall, LiftsSend, given_lease, local_of}
 use Rattle.sf_replay.specs.Lifts.Comes.{Calling, Giving, Quietly, Sending}
 use Rattle.sf_replay.specs.Orders.{Spot}
-use Rattle.sf_replay.proofs.Arrivals.{IsSend, send_at, sent_by, sent_mine, sent_more, sent_step, sent_txn, sent_without, the_send}
+use Rattle.sf_replay.proofs.Arrivals.{IsOwn, NoTakes, find_own, firsts, own_first, own_known, own_more, own_without, sent_own}
+use Rattle.sf_replay.proofs.Arriving.{SendsGoForward}
 use Rattle.sf_replay.proofs.Coming.{all_begin}
-use Rattle.sf_replay.proofs.Counting.{IsAt, mine_more, mine_without}
-use Rattle.sf_replay.proofs.Lines.{AllAt, AllBack, Back, Piece, Post, backs_at, leases_of, spot_at}
+use Rattle.sf_replay.proofs.Counting.{IsAt, mine_beyond, mine_more, mine_without}
+use Rattle.sf_replay.proofs.Lines.{AllAt, AllBack, AnyPiece, Back, Piece, Post, SendPiece, backs_at, leases_of, spot_at}
+use Rattle.sf_replay.proofs.Locals.{got_at}
 use Rattle.sf_replay.specs.Members.{bit, mine, total_in}
 
 -- whether a call on a queue is the one at a spot
@@ -57,9 +62,9 @@ at_queue q place k = elim (cases_Bool (0 == suc q)) [
 ]
 
 module _ {B : Type 0} where
-  -- how many of a caller's calls at a place are known, and how many there are in the whole run
+  -- how many of a caller's calls at a place are known; of those on the arrivals the first ones, as many as it sent
   abbrev pub known_in : Whole B → ℕ → DeskView B → ℕ → ℕ → ℕ
-  known_in whole by view zero place = sent_mine (λ n. send_at n whole.arriving) by place 0 view.arrivals
+  known_in whole by view zero place = mine by place (firsts by (length (sent_own by view.arrivals)) whole.arriving)
   known_in whole by view (suc queue) place = mine by place (view.calls queue)
 
   abbrev pub post_of : Whole B → ℕ → ActorOf B → DeskView B → Post B
@@ -67,6 +72,15 @@ module _ {B : Type 0} where
 
   abbrev pub back_of : Given B → Back
   back_of given = (given.lease, (suc given.queue, length given.earlier))
+
+-- What a caller sent is put among the arrivals by its calls there, each of which sends: none has a stamp below that of a call of the
+-- steps before.
+pub record SendsArrive {B : Type 0} (whole : Whole B) (Holds : State B → Type 0) (by : ℕ) (stamp : Spot → ℕ) (At : Spot → ℕ → Type 0) : Type 0 where
+  pub none_taken : NoTakes by whole.arriving
+  pub forward : SendsGoForward whole Holds
+  pub rise : (early late : ℕ) → early < late → late < length whole.arriving → stamp (0, early) < stamp (0, late)
+  pub above : (more history : ArrivalCalls) (e : Entry Arriving Arrived) → whole.arriving ≡ more ++ e ∷ history → e.by ≡ by → (step : ℕ) (txn : Contents ReadLeaseOf) → e.call ≡ arrive.Send step txn
+      → (there : Spot) (n : ℕ) → At there n → n < step → stamp there ≤ stamp (0, length history)
 
 module _ {B : Type 0} (whole : Whole B) (Holds : State B → Type 0) (by : ℕ) where
   pub given_leases : (gives : List (Given B)) → leases_of (map back_of gives) ≡ map given_lease gives
@@ -82,7 +96,7 @@ module _ {B : Type 0} (whole : Whole B) (Holds : State B → Type 0) (by : ℕ) 
       → GoesOnWithout by (old.calls queue) earlier → ((other : ℕ) → (other ≡ queue → ⊥) → new.calls other ≡ old.calls other) → new.arrivals ≡ old.arrivals
       → (lock place : ℕ) → known_in whole by new lock place ≡ known_in whole by old lock place + spot_at (lock, place) (Some (suc queue, length earlier))
   called_known old new queue made earlier newest own goes others arrivals zero place =
-      let same = ap (sent_mine (λ n. send_at n whole.arriving) by place 0) arrivals in
+      let same = ap (λ (xs : List (Arrival ReadLeaseOf)). mine by place (firsts by (length (sent_own by xs)) whole.arriving)) arrivals in
       let none = at_zero queue (length earlier) place in
       omega (arith, same, none)
   called_known old new queue made earlier newest own goes others arrivals (suc q) place = elim (cases_eq q queue) [
@@ -102,7 +116,7 @@ module _ {B : Type 0} (whole : Whole B) (Holds : State B → Type 0) (by : ℕ) 
   gives_known number [] old new all lock place = same lock ∙ omega arith
     where
       same : (lock : ℕ) → known_in whole by new lock place ≡ known_in whole by old lock place
-      same zero = ap (sent_mine (λ n. send_at n whole.arriving) by place 0) all.1
+      same zero = ap (λ (xs : List (Arrival ReadLeaseOf)). mine by place (firsts by (length (sent_own by xs)) whole.arriving)) all.1
       same (suc q) = ap (λ (cs : ℕ → List (Made B)). mine by place (cs q)) all.0
   gives_known number (given ∷ later) old new all lock place =
       let rest = gives_known number later all.0 new all.2 lock place in
@@ -110,12 +124,12 @@ module _ {B : Type 0} (whole : Whole B) (Holds : State B → Type 0) (by : ℕ) 
       omega (arith, rest, one)
 
   pub learns_known : (old new : DeskView B) → LearnsOnly by old new → (lock place : ℕ) → known_in whole by new lock place ≡ known_in whole by old lock place
-  learns_known old new learns zero place = ap (sent_mine (λ n. send_at n whole.arriving) by place 0) learns.arrivals
+  learns_known old new learns zero place = ap (λ (xs : List (Arrival ReadLeaseOf)). mine by place (firsts by (length (sent_own by xs)) whole.arriving)) learns.arrivals
   learns_known old new learns (suc q) place = mine_without by place (old.calls q) (new.calls q) (learns.calls q)
 
   module _ (stamp : Spot → ℕ) (At : Spot → ℕ → Type 0) (order : (here there : Spot) (n m : ℕ) → At here n → At there m → n < m → stamp here ≤ stamp there)
       (told : (queue : ℕ) (made : Made B) (earlier : List (Made B)) → IsAt (whole.view.calls queue) (length earlier) made earlier → made.by ≡ by → At (suc queue, length earlier) made.call.0)
-      (told_sent : (n : ℕ) (send : IsSend whole.arriving n) → send.e.by ≡ by → At (0, length send.history) send.step) where
+      (arrive_all : SendsArrive whole Holds by stamp At) where
     all_at : (number : ℕ) (gives : List (Given B)) (old new : DeskView B) → GivesAll by number gives old new → ((queue : ℕ) → (more : List (Made B)) × (whole.view.calls queue ≡ more ++ new.calls queue))
         → AllAt whole Holds (λ here. total_in whole by here.0 here.1) stamp At order number (map back_of gives)
     all_at number [] old new all begins = tt
@@ -132,7 +146,7 @@ module _ {B : Type 0} (whole : Whole B) (Holds : State B → Type 0) (by : ℕ) 
     )
 
     module _ (was is : ActorOf B) (old new : DeskView B) (grows : length is.trace ≡ length was.trace + 1)
-        (begins : (queue : ℕ) → (more : List (Made B)) × (whole.view.calls queue ≡ more ++ new.calls queue)) (later : List (Arrival ReadLeaseOf)) (arrives : sent whole.arriving ≡ new.arrivals ++ later) where
+        (begins : (queue : ℕ) → (more : List (Made B)) × (whole.view.calls queue ≡ more ++ new.calls queue)) (later : List (Arrival ReadLeaseOf)) (arrives : sent_own by (sent whole.arriving) ≡ sent_own by new.arrivals ++ later) where
       abbrev Done : Type 0
       Done = Piece whole Holds (λ here. total_in whole by here.0 here.1) stamp At order (post_of whole by was old) (post_of whole by is new)
 
@@ -193,47 +207,65 @@ module _ {B : Type 0} (whole : Whole B) (Holds : State B → Type 0) (by : ℕ) 
           none_is : (x : Spot) → None ≡ Some x → ⊥
           none_is x same = absurd (cc same)
 
-      send_piece : LiftsSend whole Holds by was is old new → Done
+      send_piece : LiftsSend whole Holds by was is old new → SendPiece whole Holds (λ here. total_in whole by here.0 here.1) stamp At order (post_of whole by was old) (post_of whole by is new)
       send_piece sends = record {
-        spot = Some (0, length send.history);
-        backs = [];
-        lifts = sends.lifts send.more send.history send.step send.e send.is
-            (send.sends ∙ ap (arrive.Send send.step) (sent_txn whole.arriving sends.earlier later one sent_is));
-        back = tt;
-        known = λ here. let more = known here.0 here.1 in omega (arith, more);
+        one = record { number = length (sent found.history) + 1; actor = record { 0 = found.e.by }; step = length was.trace + 1; txn = sends.txn };
+        place = length found.history;
+        lifts = sends.lifts (record { number = length (sent found.history) + 1; actor = record { 0 = found.e.by }; step = length was.trace + 1; txn = sends.txn }) refl;
+        forward = arrive_all.forward found.more found.history found.e found.is (length was.trace + 1) sends.txn found.sends;
+        known = λ here. known here.0 here.1;
         rose = omega (arith, grows);
-        at = λ here is_here. subst (λ (s : Spot). At s (length is.trace)) (some_is (0, length send.history) here is_here)
-            (subst (At (0, length send.history)) (sent_step whole.arriving sends.earlier later one sent_is ∙ sym grows) (told_sent (length sends.earlier) send (sent_by whole.arriving sends.earlier later one sent_is)));
-        all_at = tt;
-        first = λ here is_here. tt;
+        above = λ there n at low. arrive_all.above found.more found.history found.e found.is found.own (length was.trace + 1) sends.txn found.sends there n at (omega (arith, grows, low));
+        first = λ other fewer. arrive_all.rise (length found.history) other (own_first by many whole.arriving one found other (known_more other fewer)) (in_reach other fewer);
       }
         where
+          -- what is known of it wherever it arrives
           one : Arrival ReadLeaseOf
-          one = record { number = sends.number; actor = record { 0 = by }; step = length was.trace + 1; txn = sends.txn }
+          one = record { number = 0; actor = record { 0 = by }; step = length was.trace + 1; txn = sends.txn }
 
-          sent_is : sent whole.arriving ≡ (sends.earlier ++ one ∷ []) ++ later
-          sent_is = arrives ∙ ap (λ (xs : List (Arrival ReadLeaseOf)). xs ++ later) sends.last
+          many : ℕ
+          many = length (sent_own by old.arrivals)
 
-          send : IsSend whole.arriving (length sends.earlier)
-          send = the_send whole.arriving sends.earlier later one sent_is
+          sent_is : sent_own by new.arrivals ≡ sent_own by old.arrivals ++ one ∷ []
+          sent_is =
+              ap (sent_own by) sends.last
+              ∙ own_more by sends.earlier (record { number = sends.number; actor = record { 0 = by }; step = length was.trace + 1; txn = sends.txn }) refl
+              ∙ ap (λ (xs : List (Arrival ReadLeaseOf)). xs ++ one ∷ []) (own_without by old.arrivals sends.earlier sends.goes_on)
 
-          some_is : (x y : Spot) → Some x ≡ Some y → x ≡ y
-          some_is x y same = cc
+          all_is : sent_own by (sent whole.arriving) ≡ sent_own by old.arrivals ++ one ∷ later
+          all_is = arrives ∙ ap (λ (xs : List (Arrival ReadLeaseOf)). xs ++ later) sent_is ∙ append_assoc (sent_own by old.arrivals) (one ∷ []) later
 
-          known : (lock place : ℕ) → known_in whole by new lock place ≡ known_in whole by old lock place + spot_at (lock, place) (Some (0, length send.history))
+          found : IsOwn by many whole.arriving one
+          found = find_own by many whole.arriving one arrive_all.none_taken (ap (λ (xs : List (Arrival ReadLeaseOf)). slice_get xs many) all_is ∙ got_at (sent_own by old.arrivals) later one)
+
+          many_new : length (sent_own by new.arrivals) ≡ many + 1
+          many_new = let joined = ap (λ (xs : List (Arrival ReadLeaseOf)). length xs) sent_is ∙ length-append (sent_own by old.arrivals) (one ∷ []) in omega (arith, joined)
+
+          new_is : (place : ℕ) → known_in whole by new 0 place ≡ mine by place (firsts by (many + 1) whole.arriving)
+          new_is place = ap (λ (n : ℕ). mine by place (firsts by n whole.arriving)) many_new
+
+          known : (lock place : ℕ) → known_in whole by new lock place ≡ known_in whole by old lock place + spot_at (lock, place) (Some (0, length found.history))
           known zero place =
-              let more = ap (sent_mine (λ n. send_at n whole.arriving) by place 0) sends.last ∙ sent_more (λ n. send_at n whole.arriving) by place sends.earlier one refl in
-              let was_known = sent_without (λ n. send_at n whole.arriving) by place old.arrivals sends.earlier sends.goes_on in
-              let here = ap (λ (n : ℕ). bit (n == place)) send.place in
-              let one_there = at_arrivals (length send.history) place in
-              omega (arith, more, was_known, here, one_there)
+              let is_new = new_is place in
+              let more = own_known by many whole.arriving one found place in
+              let here = at_arrivals (length found.history) place in
+              omega (arith, is_new, more, here)
           known (suc q) place =
               let same = ap (λ (cs : ℕ → List (Made B)). mine by place (cs q)) sends.calls in
-              let none = at_queue q (length send.history) place in
+              let none = at_queue q (length found.history) place in
               omega (arith, same, none)
 
-      pub piece_of : Comes whole Holds by was is old new → Done
-      piece_of (Quietly lifts learns) = quiet_piece lifts learns
-      piece_of (Calling call) = call_piece call
-      piece_of (Sending sends) = send_piece sends
-      piece_of (Giving gives all given lifts) = giving_piece gives all given lifts
+          known_more : (other : ℕ) → known_in whole by new 0 other < total_in whole by 0 other → mine by other (firsts by (many + 1) whole.arriving) < mine by other whole.arriving
+          known_more other fewer = let is_new = new_is other in omega (arith, fewer, is_new)
+
+          in_reach : (other : ℕ) → known_in whole by new 0 other < total_in whole by 0 other → other < length whole.arriving
+          in_reach other fewer = elim (cases_lt other (length whole.arriving)) [
+            | inl less ↦ less
+            | inr over ↦ let none = mine_beyond by other whole.arriving over in absurd (omega (arith, fewer, none))
+          ]
+
+      pub piece_of : Comes whole Holds by was is old new → AnyPiece whole Holds (λ here. total_in whole by here.0 here.1) stamp At order (post_of whole by was old) (post_of whole by is new)
+      piece_of (Quietly lifts learns) = inl (quiet_piece lifts learns)
+      piece_of (Calling call) = inl (call_piece call)
+      piece_of (Sending sends) = inr (send_piece sends)
+      piece_of (Giving gives all given lifts) = inl (giving_piece gives all given lifts)

@@ -13,6 +13,7 @@ use Rattle.sf_scene.specs.declared.step.Step.{Step}
 use Rattle.sf_surface.specs.declared.mark.QueueMark.{QueueMark}
 use Rattle.sf_surface.specs.Histories.{Answers, Made}
 use Rattle.sf_surface.specs.Tokens.{ReadLeaseOf}
+use Rattle.sf_token.specs.Pending.{Arrival}
 use Rattle.sf_actor.specs.declared.done.Done.{Done}
 use Rattle.sf_actor.specs.declared.holding.Holding.{Holding}
 use Rattle.sf_actor.specs.Desks.{DeskHome, DeskView, has_queue, mark_among}
@@ -108,7 +109,8 @@ module _ {B : Type 0} where
       (legal : (queue : ℕ) → IsLegal (Answers (mark_among home.marks queue)) (whole.view.calls queue)) where
     -- a done try of an actor
     module _ (was is : ActorOf B) (s : Step) (before after : Bindings B) (old new : DeskView B) (came_to : Tried) (tries : DoesTry pictures home was is s before after old new came_to)
-        (known : (queue : ℕ) → (more : List (Made B)) × (whole.view.calls queue ≡ more ++ old.calls queue)) (others later : List (Local B)) (on more : List ReadLeaseOf) (leaves left : List Turn) (heights risen : ℕ → ℕ) where
+        (known : (queue : ℕ) → (more : List (Made B)) × (whole.view.calls queue ≡ more ++ old.calls queue)) (others later : List (Local B)) (on more : List ReadLeaseOf) (leaves left : List Turn) (sent : List (Arrival ReadLeaseOf))
+        (heights risen : ℕ → ℕ) where
       abbrev number : ℕ
       number = length was.trace + 1
 
@@ -116,7 +118,7 @@ module _ {B : Type 0} where
       old_state = state_at whole heights (others ++ local_of was on leaves ∷ later)
 
       abbrev new_state : State B
-      new_state = state_at whole risen (others ++ local_of is more left ∷ later)
+      new_state = state_at whole risen (others ++ record (local_of is more left) { pending = sent } ∷ later)
 
       given_on : (name : ℕ) (held : Holding B) → held_in was.parts name ≡ Some held → WasGivenAt (calls_in whole was.script.number) (get_or (past_of was).since name 0) (Some (turn_held held))
       given_on name held there =
@@ -144,7 +146,7 @@ module _ {B : Type 0} where
         from_marks = goes.close_from.marks
 
         new_actors : new_state.actors ≡ slice_set old_state.actors (length (flat_map (λ (local : Local B). local.actors) others)) is
-        new_actors = same_at (λ (local : Local B). local.actors) others later (local_of is on left) (local_of is more left) refl ∙ actors_are others later was is on leaves left
+        new_actors = same_at (λ (local : Local B). local.actors) others later (local_of is on left) (record (local_of is more left) { pending = sent }) refl ∙ actors_are others later was is on leaves left
 
         to_actors : goes.to.actors ≡ slice_set goes.from.actors (length (flat_map (λ (local : Local B). local.actors) others)) is
         to_actors = sym goes.close_to.actors ∙ new_actors ∙ ap (λ (ofs : List (ActorOf B)). slice_set ofs (length (flat_map (λ (local : Local B). local.actors) others)) is) (sym goes.close_from.actors)
@@ -186,5 +188,5 @@ module _ {B : Type 0} where
         → ((queue : ℕ) → (more : List (Made B)) × (whole.view.calls queue ≡ more ++ new.calls queue)) → Comes whole (RightsStand scene (calls_in whole)) before.by.0 was is old new
     comes_rights absent was is s before after old new came_to tries known begins =
         comes whole pictures home marks apart absent legal was is before after old new begins (RightsStand scene (calls_in whole))
-        (λ next to does others later on more leaves left heights risen goes. goes_rights was is next before after old new to does known others later on more leaves left heights risen goes)
+        (λ next to does others later on more leaves left sent heights risen goes. goes_rights was is next before after old new to does known others later on more leaves left sent heights risen goes)
         (rights_given scene whole declared) s came_to tries

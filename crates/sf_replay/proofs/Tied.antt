@@ -247,17 +247,17 @@ module _ {B : Type 0} (lease : Ghosts ReadLeaseOf SeatView ReadLeaseOf Issued) (
         (ap (λ (xs : List Turn). xs ++ flat_map (λ (local : Local B). local.leaves) (map local_at joins.starts)) joins.no_leaves ∙ leaves_none joins.starts joins.new_seats)
         Holds from
 
-    callers : AreCallers scene table locks joins.first desk joins.closes joins.ordered own_first joins.goes_on own_apart tied.legal Holds lifted joins.starts ends
-    callers = callers_of scene table locks joins.first desk joins.closes joins.ordered own_first joins.goes_on own_apart tied.legal Holds lifted joins.starts ends joins.came joins.new_seats taken owner
+    callers : AreCallers scene table locks joins.first desk joins.closes joins.ordered own_first joins.goes_on own_apart tied.legal Holds lifted rests joins.starts ends
+    callers = callers_of scene table locks joins.first desk joins.closes joins.ordered own_first joins.goes_on own_apart tied.legal Holds lifted rests joins.starts ends joins.came joins.new_seats taken owner
         (λ start end back new_seats. walk_by table (picture_at scene.pictures) locks back.walk ∙ new_seats.served) numbered
 
     -- what holds at the beginning holds at the join
     pub tied_holds : Holds (state_at (whole_of desk) (many_of (whole_of desk)) (seated last ∷ map local_at ends))
     tied_holds =
-        joined_holds scene table locks joins.first desk joins.closes joins.ordered own_first joins.goes_on own_apart tied.legal Holds lifted joins.starts ends callers joins.begins last sits.rest compositor
+        joined_holds scene table locks joins.first desk joins.closes joins.ordered own_first joins.goes_on own_apart tied.legal Holds lifted rests joins.starts ends callers joins.begins last sits.rest compositor
         once once_sent leaves begun
 
     pub tied_close : IsClose (state_at (whole_of desk) (many_of (whole_of desk)) (seated last ∷ map local_at ends)) (state_of (plain_home desk) (plain_view desk) (map of_at ends) last.handler)
     tied_close =
-        joined_close scene table locks joins.first desk joins.closes joins.ordered own_first joins.goes_on own_apart tied.legal Holds lifted joins.starts ends callers joins.begins last sits.rest compositor
+        joined_close scene table locks joins.first desk joins.closes joins.ordered own_first joins.goes_on own_apart tied.legal Holds lifted rests joins.starts ends callers joins.begins last sits.rest compositor
         once once_sent leaves

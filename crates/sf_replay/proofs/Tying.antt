@@ -3,8 +3,10 @@ use Rattle.std.proofs.Common.{◌≡◌, ℕ, zero, suc, ◌<◌, ◌≤◌, ◌
 use Rattle.std.specs.Prelude.{Contains}
 use Rattle.std.specs.List.{AllByRecursion, AllZip, list_any}
 use Rattle.std.proofs.lemmas.Bool.{cases_Bool}
+use Rattle.std.proofs.lemmas.List.{append-nil}
 use Rattle.std.proofs.lemmas.List.Elements.{Contains-append_left, Contains-append_right}
 use Rattle.atomic_table.specs.Seated.{TableId}
+use Rattle.sf_calls.specs.declared.object.Entry.{Entry}
 use Rattle.sf_calls.specs.Histories.{GoesOnWithout, IsLegal, calls_by}
 use Rattle.sf_picture.specs.declared.picture.Picture.{Picture}
 use Rattle.sf_scene.specs.Ranges.{IsStep}
@@ -12,7 +14,11 @@ use Rattle.sf_scene.specs.declared.step.Step.{Step}
 use Rattle.sf_stamped.specs.Stamps.{stamp_of, unstamped}
 use Rattle.sf_surface.specs.declared.mark.QueueMark.{QueueMark}
 use Rattle.sf_surface.specs.Histories.{Answers, Made}
+use Rattle.sf_surface.specs.Tokens.{ReadLeaseOf}
 use Rattle.sf_token.specs.Arrivals.{sent}
+use Rattle.sf_token.specs.declared.arrivals.ArriveCall.TheVariants as arrive
+use Rattle.sf_token.specs.Pending.{Arrival}
+use Rattle.sf_txn.specs.Transactions.{Contents}
 use Rattle.sf_actor.specs.Desks.{DeskHome, DeskView, known_of, mark_among}
 use Rattle.sf_actor.specs.Known.{GoesOn}
 use Rattle.sf_actor.specs.Plain.{PlainOf, home_of as plain_home, view_of as plain_view}
@@ -22,7 +28,7 @@ use Rattle.sf_steps.specs.declared.tried.Tried.{Tried}
 use Rattle.sf_shared.specs.declared.first.FirstSeats.{FirstSeats}
 use Rattle.sf_shared.specs.declared.locks.Locks.{Locks}
 use Rattle.sf_shared.specs.declared.seats.Seats.{Seats}
-use Rattle.sf_shared.specs.Arriving.{ArrivalEntry}
+use Rattle.sf_shared.specs.Arriving.{ArrivalCalls, ArrivalEntry, Arrived, Arriving}
 use Rattle.sf_shared.specs.Closing.{Closes, GoesOnIn, IsOrdered}
 use Rattle.sf_shared.specs.First.{KnowsNothing}
 use Rattle.sf_shared.specs.Seats.{AreSeats, QueuePass, calls_known, calls_made, home_of, is_at, marks_of, moment, moments_of, sent_in, takes_in, view_of}
@@ -33,13 +39,14 @@ use Rattle.sf_replay.specs.Lifts.{Comes, local_of}
 use Rattle.sf_replay.specs.Orders.{Spot}
 use Rattle.sf_replay.specs.Orders as orders
 use Rattle.sf_replay.specs.Tries.{DoesTry}
-use Rattle.sf_replay.proofs.Arrivals.{IsSend, NoTakes, send_at, sent_all, sent_mine, sent_without}
+use Rattle.sf_replay.proofs.Arrivals.{NoTakes, firsts, mine_firsts, own_many, own_without, sent_own}
+use Rattle.sf_replay.proofs.Arriving.{goes_forward}
 use Rattle.sf_replay.proofs.Assembling.{IsMember, Member, rest_member}
-use Rattle.sf_replay.proofs.Closing.{ledger_gives, ledger_goes}
+use Rattle.sf_replay.proofs.Closing.{RestsKept, ledger_gives, ledger_goes}
 use Rattle.sf_replay.proofs.Coming.{comes}
 use Rattle.sf_replay.proofs.Counting.{IsAt, mine_without}
 use Rattle.sf_replay.proofs.Ending.{not_called}
-use Rattle.sf_replay.proofs.Pieces.{known_in, post_of}
+use Rattle.sf_replay.proofs.Pieces.{SendsArrive, known_in, post_of}
 use Rattle.sf_replay.proofs.Stamping.{IsStampedAt, by_there, known_seen, made_there, no_takes, seen_rise, sent_there, stamp_there, stamped_at, stamps_rise, unstamped_length}
 use Rattle.sf_replay.proofs.Walked.{IsBehind, walked}
 use Rattle.sf_replay.proofs.Walking.{Front}
@@ -56,7 +63,9 @@ module _ {B : Type 0} where
 
   -- nor is any call of the caller
   pub nothing_known : (desk : PlainOf B) (by : ℕ) (seats : Seats B) → KnowsNothing seats → (lock place : ℕ) → known_in (whole_of desk) by (view_of seats) lock place ≡ 0
-  nothing_known desk by seats nothing zero place = ap (λ seen. sent_mine (λ n. send_at n desk.arrivals) by place 0 (sent (unstamped seen))) nothing.arrivals
+  nothing_known desk by seats nothing zero place =
+      ap (λ seen. mine by place (firsts by (length (sent_own by (sent (unstamped seen)))) desk.arrivals)) nothing.arrivals
+      ∙ ap (λ (calls : ArrivalCalls). mine by place (firsts by 0 calls)) (sym (append-nil desk.arrivals)) ∙ mine_firsts by place desk.arrivals []
   nothing_known desk by seats nothing (suc queue) place = ap (mine by place) (none_known queue seats.queues.items nothing.queues)
 
 module _ {B : Type 0} (table : TableId) (locks : Locks B) (first : FirstSeats B) (desk : PlainOf B) (closes : Closes locks first desk) (ordered : IsOrdered first) (own_first : AreSeats table locks first.seats) where
@@ -98,32 +107,45 @@ module _ {B : Type 0} (table : TableId) (locks : Locks B) (first : FirstSeats B)
         same : moment found.e ≡ (made.call.0, stamp_in (length earlier) (seen_at queue first.seats.queues.items))
         same = λ i. ((ap (λ (m : Made B). m.call.0) found.without) i, stamp_is i)
 
-    pub told_sent : (n : ℕ) (send : IsSend desk.arrivals n) → send.e.by ≡ seats.by → MadeAt (0, length send.history) send.step
-    told_sent n send by_it =
-        Contains-append_right (calls_made seats.by seats.queues.items) (sent_in (calls_by seats.by seats.arrivals.seen)) (send.step, stamp_in (length send.history) first.seats.arrivals.seen)
-        (subst (λ (stamp : ℕ). Contains (sent_in (calls_by seats.by seats.arrivals.seen)) (send.step, stamp)) stamp_is
-        (sent_there (calls_by seats.by seats.arrivals.seen) found.e send.step send.txn there (ap (λ e. e.call) found.without ∙ send.sends)))
+    -- so are those that send
+    told_sent : (more history : ArrivalCalls) (e : Entry Arriving Arrived) → desk.arrivals ≡ more ++ e ∷ history → e.by ≡ seats.by → (step : ℕ) (txn : Contents ReadLeaseOf) → e.call ≡ arrive.Send step txn
+        → MadeAt (0, length history) step
+    told_sent more history e is by_it step txn sends =
+        Contains-append_right (calls_made seats.by seats.queues.items) (sent_in (calls_by seats.by seats.arrivals.seen)) (step, stamp_in (length history) first.seats.arrivals.seen)
+        (subst (λ (stamp : ℕ). Contains (sent_in (calls_by seats.by seats.arrivals.seen)) (step, stamp)) stamp_is
+        (sent_there (calls_by seats.by seats.arrivals.seen) found.e step txn there (ap (λ e. e.call) found.without ∙ sends)))
       where
-        found : IsStampedAt first.seats.arrivals.seen send.e send.history
-        found = stamped_at first.seats.arrivals.seen send.more send.e send.history (sym closes.arrived ∙ send.is)
+        found : IsStampedAt first.seats.arrivals.seen e history
+        found = stamped_at first.seats.arrivals.seen more e history (sym closes.arrived ∙ is)
 
         there : Contains (calls_by seats.by seats.arrivals.seen) found.e
         there = subst (λ (es : List ArrivalEntry). Contains es found.e) arrivals_on.calls
             (subst (λ (es : List ArrivalEntry). Contains (calls_by seats.by es) found.e) (sym found.is) (by_there seats.by found.more found.e found.before (ap (λ e. e.by) found.without ∙ by_it)))
 
-        stamp_is : stamp_of found.e ≡ stamp_in (length send.history) first.seats.arrivals.seen
-        stamp_is = sym (stamp_there found.more found.e found.before) ∙ ap (λ (m : ℕ). stamp_in m (found.more ++ found.e ∷ found.before)) found.height ∙ ap (stamp_in (length send.history)) (sym found.is)
+        stamp_is : stamp_of found.e ≡ stamp_in (length history) first.seats.arrivals.seen
+        stamp_is = sym (stamp_there found.more found.e found.before) ∙ ap (λ (m : ℕ). stamp_in m (found.more ++ found.e ∷ found.before)) found.height ∙ ap (stamp_in (length history)) (sym found.is)
 
     -- it takes nothing
     pub none_taken : (seats.by ≡ 0 → ⊥) → NoTakes seats.by desk.arrivals
     none_taken apart = subst (NoTakes seats.by) (sym closes.arrived)
         (no_takes seats.by first.seats.arrivals.seen (ap (λ (es : List ArrivalEntry). takes_in es) arrivals_on.calls ∙ own.takes apart))
 
+    -- what it sent is put among the arrivals by its calls there
+    pub arrive_all : (Holds : State B → Type 0) → RestsKept (whole_of desk) Holds → (seats.by ≡ 0 → ⊥) → SendsArrive (whole_of desk) Holds seats.by stamps_here MadeAt
+    arrive_all Holds rests apart = record {
+      none_taken = none_taken apart;
+      forward = λ more history e is step txn sends. goes_forward (whole_of desk) Holds rests more history e is step txn sends;
+      rise = λ early late less low. all_rise 0 early late less low;
+      above = λ more history e is by_it step txn sends there n at less. in_order there (0, length history) n step at (told_sent more history e is by_it step txn sends) less;
+    }
+
     -- what its seats knew of its calls is all
     pub known_all : (seats.by ≡ 0 → ⊥) → GoesOn seats.by (known_of (home_of locks seats) (view_of seats)) (known_of (plain_home desk) (plain_view desk))
         → (lock place : ℕ) → known_in (whole_of desk) seats.by (view_of seats) lock place ≡ total_in (whole_of desk) seats.by lock place
     known_all apart goes zero place =
-        sym (sent_without (λ n. send_at n desk.arrivals) seats.by place (view_of seats).arrivals (plain_view desk).arrivals goes.arrivals) ∙ sent_all desk.arrivals seats.by place [] desk.arrivals refl (none_taken apart)
+        ap (λ (n : ℕ). mine seats.by place (firsts seats.by n desk.arrivals))
+        (ap (λ (xs : List (Arrival ReadLeaseOf)). length xs) (sym (own_without seats.by (view_of seats).arrivals (plain_view desk).arrivals goes.arrivals)) ∙ own_many seats.by desk.arrivals (none_taken apart))
+        ∙ mine_firsts seats.by place [] desk.arrivals
     known_all apart goes (suc queue) place = sym (mine_without seats.by place ((view_of seats).calls queue) ((plain_view desk).calls queue) (goes.calls queue))
 
   module _ (apart : AreApart (marks_of locks)) (legal : (queue : ℕ) → IsLegal (Answers (mark_among (marks_of locks) queue)) ((plain_view desk).calls queue)) (pictures : ℕ → Picture) where
@@ -158,20 +180,24 @@ module _ {B : Type 0} (table : TableId) (locks : Locks B) (first : FirstSeats B)
         (λ next to does. ledger_goes (whole_of desk) was is next before) (ledger_gives (whole_of desk)) s came_to tries
 
     -- an actor that came back, as a caller of the whole run
-    module _ (Holds : State B → Type 0) (lifted : LiftsAll Holds) (start end : Moment B) (walk : Walk table pictures locks start end) (sound : IsSound table pictures locks start) (own : AreSeats table locks end.seats) (served : end.seats.by ≡ start.of.script.number)
+    module _ (Holds : State B → Type 0) (lifted : LiftsAll Holds) (rests : RestsKept (whole_of desk) Holds) (start end : Moment B) (walk : Walk table pictures locks start end) (sound : IsSound table pictures locks start) (own : AreSeats table locks end.seats) (served : end.seats.by ≡ start.of.script.number)
         (numbered : start.of.script.number ≡ 0 → ⊥) (ranges : (s : Step) → Contains start.of.script.steps s → IsStep s) (nothing : KnowsNothing start.seats)
         (queues_on : AllZip (GoesOnIn end.seats.by) first.seats.queues.items end.seats.queues.items) (arrivals_on : GoesOnWithout end.seats.by end.seats.arrivals.seen first.seats.arrivals.seen)
         (goes : GoesOn end.seats.by (known_of (home_of locks end.seats) (view_of end.seats)) (known_of (plain_home desk) (plain_view desk)))
         (owner : (number queue place : ℕ) → Contains start.of.stock number → (makes : MakesAt (whole_of desk) number queue place) → makes.made.by ≡ end.seats.by) where
-      not_first : end.seats.by ≡ 0 → ⊥
+      pub not_first : end.seats.by ≡ 0 → ⊥
       not_first same = numbered (sym served ∙ same)
 
       pub behind : IsBehind (whole_of desk) table pictures locks closes.marks apart absent legal Holds lifted end.seats.by start.of.stock start.of.script (sym served) ranges owner stamps_here
-          (MadeAt end.seats own queues_on arrivals_on) (in_order end.seats own queues_on arrivals_on) (told end.seats own queues_on arrivals_on) (told_sent end.seats own queues_on arrivals_on) start (local_of end.of [] (view_of end.seats).turns.leaves)
+          (MadeAt end.seats own queues_on arrivals_on) (in_order end.seats own queues_on arrivals_on) (told end.seats own queues_on arrivals_on) (arrive_all end.seats own queues_on arrivals_on Holds rests not_first) start (local_of end.of [] (view_of end.seats).turns.leaves)
       behind = walked (whole_of desk) table pictures locks closes.marks apart absent legal Holds lifted end.seats.by start.of.stock start.of.script (sym served) ranges owner stamps_here
-          (MadeAt end.seats own queues_on arrivals_on) (in_order end.seats own queues_on arrivals_on) (told end.seats own queues_on arrivals_on) (told_sent end.seats own queues_on arrivals_on) start end walk sound
+          (MadeAt end.seats own queues_on arrivals_on) (in_order end.seats own queues_on arrivals_on) (told end.seats own queues_on arrivals_on) (arrive_all end.seats own queues_on arrivals_on Holds rests not_first) start end walk sound
           (record { script_is = refl; stock_is = refl })
-          (record { calls = λ queue. (goes.calls queue).begins; later = goes.arrivals.later; arrives = goes.arrivals.joined })
+          (record {
+            calls = λ queue. (goes.calls queue).begins;
+            later = [];
+            arrives = own_without end.seats.by (view_of end.seats).arrivals (plain_view desk).arrivals goes.arrivals ∙ sym (append-nil (sent_own end.seats.by (view_of end.seats).arrivals));
+          })
           (known_all end.seats own queues_on arrivals_on not_first goes)
 
       abbrev pub member : Member B

@@ -39,11 +39,11 @@ use Rattle.sf_rights.specs.Calls.{made_of}
 use Rattle.sf_replay.proofs.Happening.{goes_same}
 use Rattle.sf_replay.specs.Orders.{Spot}
 use Rattle.sf_replay.specs.Tries.{DoesTry}
-use Rattle.sf_replay.proofs.Arrivals.{IsSend}
+use Rattle.sf_replay.proofs.Arrivals.{own_joined, sent_own}
 use Rattle.sf_replay.proofs.Counting.{Found, IsAt, find_mine, mine_there, same_at_place}
 use Rattle.sf_replay.proofs.Counting.Found.{Nothing, One}
-use Rattle.sf_replay.proofs.Lines.{IsFresh, Piece, Post, Rest, end_rest, piece_rest, same_rest, with_piece}
-use Rattle.sf_replay.proofs.Pieces.{known_in, learns_known, piece_of, post_of}
+use Rattle.sf_replay.proofs.Lines.{AnyPiece, IsFresh, Post, Rest, end_rest, same_rest, with_any}
+use Rattle.sf_replay.proofs.Pieces.{SendsArrive, known_in, learns_known, piece_of, post_of}
 use Rattle.sf_replay.proofs.Walking.{Front, attempts_front, comes_arrivals, comes_front, front_on, made_it, own_there, same_learns}
 use Rattle.sf_replay.specs.Members.{mine, total_in}
 
@@ -89,15 +89,15 @@ module _ {B : Type 0} (whole : Whole B) (table : TableId) (pictures : ℕ → Pi
     (owner : (number queue place : ℕ) → Contains stock number → (makes : MakesAt whole number queue place) → makes.made.by ≡ by)
     (stamp : Spot → ℕ) (At : Spot → ℕ → Type 0) (order : (here there : Spot) (n m : ℕ) → At here n → At there m → n < m → stamp here ≤ stamp there)
     (told : (queue : ℕ) (made : Made B) (earlier : List (Made B)) → IsAt (whole.view.calls queue) (length earlier) made earlier → made.by ≡ by → At (suc queue, length earlier) made.call.0)
-    (told_sent : (n : ℕ) (send : IsSend whole.arriving n) → send.e.by ≡ by → At (0, length send.history) send.step) where
+    (arrive_all : SendsArrive whole Holds by stamp At) where
   abbrev pub total : Spot → ℕ
   total here = total_in whole by here.0 here.1
 
-  -- what was known is a front of what was called in the whole run
+  -- what was known is a front of what was called in the whole run; and of what it sent, wherever that arrived
   pub record IsFront (view : DeskView B) : Type 0 where
     pub calls : (queue : ℕ) → Front (view.calls queue) (whole.view.calls queue)
     pub later : List (Arrival _)
-    pub arrives : sent whole.arriving ≡ view.arrivals ++ later
+    pub arrives : sent_own by (sent whole.arriving) ≡ sent_own by view.arrivals ++ later
 
   -- the actor is the one of this script and stock
   pub record IsIt (moment : Moment B) : Type 0 where
@@ -209,14 +209,15 @@ module _ {B : Type 0} (whole : Whole B) (table : TableId) (pictures : ℕ → Pi
     fronts_back : ((queue : ℕ) → Front ((view_of before.seats).calls queue) ((view_of after.seats).calls queue)) → (more : List (Arrival _)) → (view_of after.seats).arrivals ≡ (view_of before.seats).arrivals ++ more → IsFront (view_of before.seats)
     fronts_back calls more arrivals = record {
       calls = λ queue. front_on ((view_of before.seats).calls queue) ((view_of after.seats).calls queue) (whole.view.calls queue) (calls queue) (front.calls queue);
-      later = more ++ front.later;
-      arrives = front.arrives ∙ ap (λ xs. xs ++ front.later) arrivals ∙ append_assoc (view_of before.seats).arrivals more front.later;
+      later = sent_own by more ++ front.later;
+      arrives = front.arrives ∙ ap (λ xs. sent_own by xs ++ front.later) arrivals ∙ ap (λ xs. xs ++ front.later) (own_joined by (view_of before.seats).arrivals more)
+          ∙ append_assoc (sent_own by (view_of before.seats).arrivals) (sent_own by more) front.later;
     }
 
     back_done : (tries : Tries pictures (home_of locks before.seats) before.of (view_of before.seats) one.steps.new (view_of after.seats) stepped.Done) → (rest : List (List (Event B))) (last : Local B) → Behind after rest last → Back rest last
     back_done tries rest last behind = record {
-      more = with_piece whole Holds total stamp At order (post before) (post_of whole by one.steps.new (view_of after.seats)) piece (fresh before sound it is_front) rest last behind_new;
-      behind = piece_rest whole Holds total stamp At order (post before) (post_of whole by one.steps.new (view_of after.seats)) piece (fresh before sound it is_front) rest last behind_new;
+      more = with_it.0;
+      behind = with_it.1;
       is_front = is_front;
     }
       where
@@ -229,11 +230,14 @@ module _ {B : Type 0} (whole : Whole B) (table : TableId) (pictures : ℕ → Pi
         is_front : IsFront (view_of before.seats)
         is_front = fronts_back (comes_front whole Holds by before.of one.steps.new (view_of before.seats) (view_of after.seats) came.0) arrivals.0 arrivals.1
 
-        piece : Piece whole Holds total stamp At order (post before) (post_of whole by one.steps.new (view_of after.seats))
-        piece = piece_of whole Holds by stamp At order told told_sent before.of one.steps.new (view_of before.seats) (view_of after.seats) came.1 front.calls front.later front.arrives came.0
+        piece : AnyPiece whole Holds total stamp At order (post before) (post_of whole by one.steps.new (view_of after.seats))
+        piece = piece_of whole Holds by stamp At order told arrive_all before.of one.steps.new (view_of before.seats) (view_of after.seats) came.1 front.calls front.later front.arrives came.0
 
         behind_new : Rest whole Holds total stamp At order (post_of whole by one.steps.new (view_of after.seats)) rest last
         behind_new = subst (λ (of : ActorOf B). Rest whole Holds total stamp At order (post_of whole by of (view_of after.seats)) rest last) (sym one.is) behind
+
+        with_it : (more : List (List (Event B))) × Behind before more last
+        with_it = with_any whole Holds total stamp At order (post before) (post_of whole by one.steps.new (view_of after.seats)) piece (fresh before sound it is_front) rest last behind_new
 
     -- one that was not
     back_same : one.steps.new ≡ before.of → LearnsOnly by (view_of before.seats) (view_of after.seats) → (view_of after.seats).turns.leaves ≡ (view_of before.seats).turns.leaves

@@ -1,5 +1,5 @@
 -- A call that a caller's event leads to, made by another later on: it comes among what the caller has yet to do by its stamp alone.
-use Rattle.std.specs.Prelude.{◌≡◌, ℕ, Bool, false, nat_lt, if◌then◌else◌, List, [], ◌∷◌, map, Option, Some, None}
+use Rattle.std.specs.Prelude.{ℕ, Bool, false, nat_lt, if◌then◌else◌, List, [], ◌∷◌, map, Option, Some, None}
 use Rattle.std.specs.List.{list_any}
 use Rattle.sf_replay.specs.Orders.{Spot}
 

@@ -1,19 +1,16 @@
 -- What a done try of an actor does, as an event of it: wherever it is next among those of all callers, something is kept.
 use Rattle.std.specs.Prelude.{◌≡◌, ℕ, suc, ◌+◌, List, [], ◌∷◌, ◌++◌, length, map, Some, None}
-use Rattle.sf_calls.specs.declared.object.Entry.{Entry}
 use Rattle.sf_calls.specs.Histories.{GoesOnWithout}
 use Rattle.sf_surface.specs.Histories.{Made}
 use Rattle.sf_surface.specs.Tokens.{ReadLeaseOf}
-use Rattle.sf_token.specs.declared.arrivals.ArriveCall.TheVariants as arrive
 use Rattle.sf_token.specs.Pending.{Arrival}
 use Rattle.sf_txn.specs.Transactions.{Contents}
 use Rattle.sf_actor.specs.Desks.{DeskView}
 use Rattle.sf_actor.specs.Known.{ArriveWithout}
 use Rattle.sf_actor.specs.Rights.{Turn}
 use Rattle.sf_actor.specs.Tries.{ActorOf}
-use Rattle.sf_shared.specs.Arriving.{ArrivalCalls, Arrived, Arriving}
 use Rattle.sf_rights.specs.States.{State}
-use Rattle.sf_replay.specs.Cuts.{GoesBack, Lifts, Local, Whole}
+use Rattle.sf_replay.specs.Cuts.{GoesBack, Lifts, Local, Whole, with_sent}
 
 module _ {B : Type 0} where
   -- what an actor holds, with the frames that it has yet to give back, and the turns that it left
@@ -33,17 +30,16 @@ pub record LiftsCall {B : Type 0} (whole : Whole B) (Holds : State B → Type 0)
   pub arrivals : new.arrivals ≡ old.arrivals
   pub lifts : Lifts whole Holds (local_of was on old.turns.leaves) (Some (suc queue, length earlier)) (local_of is on new.turns.leaves)
 
--- It sent a transaction, which its actor then knew as the last that arrived: wherever that call is, by the transactions sent before it.
+-- It sent a transaction, which its actor then knew as the last that arrived: that left its bindings, and is on its way.
 pub record LiftsSend {B : Type 0} (whole : Whole B) (Holds : State B → Type 0) (by : ℕ) (was is : ActorOf B) (old new : DeskView B) : Type 0 where
   pub number : ℕ
   pub txn : Contents ReadLeaseOf
   pub earlier : List (Arrival ReadLeaseOf)
   pub last : new.arrivals ≡ earlier ++ record { number = number; actor = record { 0 = by }; step = length was.trace + 1; txn = txn } ∷ []
-  pub place : number ≡ length earlier + 1
   pub goes_on : ArriveWithout by old.arrivals earlier
   pub calls : new.calls ≡ old.calls
-  pub lifts : (more history : ArrivalCalls) (step : ℕ) (e : Entry Arriving Arrived) → whole.arriving ≡ more ++ e ∷ history → e.call ≡ arrive.Send step txn
-      → Lifts whole Holds (local_of was [] old.turns.leaves) (Some (0, length history)) (local_of is [] new.turns.leaves)
+  pub lifts : (arrived : Arrival ReadLeaseOf) → arrived.txn ≡ txn
+      → Lifts whole Holds (local_of was [] old.turns.leaves) None (with_sent arrived (local_of is [] new.turns.leaves))
 
 -- a frame that was given back in a call on its queue, behind the calls before it
 pub record Given (B : Type 0) : Type 0 where

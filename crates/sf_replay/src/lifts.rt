@@ -29,7 +29,7 @@ pub fn a_call_is_lifted<B: TableName>()
 {}
 
 /// Any try that was done, over whatever its actor's desk knew, keeps the ledger of all callers
-/// together, wherever its calls are the next ones on their queues and on the arrivals.
+/// together, wherever its calls are the next ones on their queues; what it sent is on its way then.
 pub fn a_done_try_is_lifted<B: TableName>()
     ensures { (whole : Whole B) (pictures : ℕ → Picture) (home : DeskHome) → whole.marks ≡ home.marks → AreApart home.marks
         → ((queue : ℕ) → has_queue home queue ≡ false → whole.view.calls queue ≡ [])

@@ -34,7 +34,7 @@ use sf_turns::TableName;
 use sf_txn::Lease;
 
 /// Any try that was done keeps, with the ledger, that makers are followed and draws are placed,
-/// wherever its calls are the next ones on their queues and on the arrivals.
+/// wherever its calls are the next ones on their queues; what it sent is on its way then.
 pub fn a_done_try_leaves_rights_standing<B: TableName>()
     ensures { (scene : SceneValue) (whole : Whole B) → AreDeclared scene whole.marks → (pictures : ℕ → Picture) (home : DeskHome)
         → whole.marks ≡ home.marks → AreApart home.marks
