@@ -18,12 +18,12 @@ use Rattle.sf_scene.specs.declared.step.Step.{Step}
 use Rattle.sf_actor.specs.declared.tried.Stepped.{Stepped}
 use Rattle.sf_actor.specs.declared.tried.Stepped.TheVariants as stepped
 use Rattle.sf_actor.specs.Desks.{DeskHome, DeskView, known_of}
-use Rattle.sf_actor.specs.Known.{GoesOn}
+use Rattle.sf_actor.specs.Known.{ShareGoesOn, share_of}
 use Rattle.sf_actor.specs.Parts.{queue_held}
 use Rattle.sf_actor.specs.Scripts.{picture_at}
 use Rattle.sf_actor.specs.Tries.{ActorOf, AreThere, Keeps, Tries, dequeues_in}
 use Rattle.sf_actor.specs.Written.{signals_of}
-use Rattle.sf_actor.proofs.GoingOn.{keeps_on}
+use Rattle.sf_actor.proofs.GoingOn.{actor_on}
 use Rattle.sf_actor_set.proofs.RisingLemmas.{sorted_rises}
 use Rattle.sf_actor_set.specs.ActorSets.{KeepAs, scripts_of}
 use Rattle.sf_actor_set.specs.Opening.{IsSortedFrom, new_actors}
@@ -107,15 +107,15 @@ module _ {B : Type 0} where
         frames = λ number txn is. subst (λ (ms : List QueueMark). All (λ (buffer : Buffer ReadLeaseOf). list_any (λ (mark : QueueMark). mark.queue.0 == buffer.lease.queue.0) ms ≡ true) txn.buffers) (sym marks) (there.frames number txn is);
       }
 
-      keeps_joined : (end : Moment B) → IsBack scene table locks end → GoesOn end.seats.by (known_of (home_of locks end.seats) (view_of end.seats)) (known_of home joined) → Keeps (picture_at scene.pictures) home end.of joined
+      abbrev pub GoOn : Moment B → Type 0
+      GoOn end = ShareGoesOn (share_of end.seats.by (known_of (home_of locks end.seats) (view_of end.seats))) (share_of end.seats.by (known_of home joined))
+
+      keeps_joined : (end : Moment B) → IsBack scene table locks end → GoOn end → Keeps (picture_at scene.pictures) home end.of joined
       keeps_joined end is goes = record {
-        kept = keeps_on (picture_at scene.pictures) end.of (known_of (home_of locks end.seats) (view_of end.seats)) (known_of home joined)
-            (subst (λ (n : ℕ). GoesOn n (known_of (home_of locks end.seats) (view_of end.seats)) (known_of home joined)) is.served goes) is.keeps.kept;
+        kept = actor_on (picture_at scene.pictures) end.of (share_of end.of.script.number (known_of (home_of locks end.seats) (view_of end.seats))) (share_of end.of.script.number (known_of home joined))
+            (subst (λ (n : ℕ). ShareGoesOn (share_of n (known_of (home_of locks end.seats) (view_of end.seats))) (share_of n (known_of home joined))) is.served goes) is.keeps.kept;
         there = there_now end.of end.seats is.keeps.there;
       }
-
-      abbrev GoOn : Moment B → Type 0
-      GoOn end = GoesOn end.seats.by (known_of (home_of locks end.seats) (view_of end.seats)) (known_of home joined)
 
       pub all_keep : (ends : List (Moment B)) → All (IsBack scene table locks) ends → All GoOn ends → All (λ (of : ActorOf B). Keeps (picture_at scene.pictures) home of joined) (map of_at ends)
       all_keep [] are go = All-nil (λ (of : ActorOf B). Keeps (picture_at scene.pictures) home of joined)

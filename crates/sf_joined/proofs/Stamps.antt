@@ -1,5 +1,5 @@
 -- What a compositor's seats knew behind each vsync, with stamps, is how the histories of the whole run began.
-use Rattle.std.proofs.Common.{◌≡◌, ℕ, ◌==◌, List, [], ◌∷◌, map, ap, sym, ◌∙◌, refl, subst, inl, inr}
+use Rattle.std.proofs.Common.{◌≡◌, ℕ, ◌==◌, List, [], ◌∷◌, ap, sym, ◌∙◌, refl, subst, inl, inr}
 use Rattle.std.specs.List.{AllZip}
 use Rattle.std.proofs.lemmas.Bool.{cases_Bool}
 use Rattle.atomic_table.specs.Seated.{TableId}
@@ -20,7 +20,7 @@ use Rattle.sf_threads.specs.Walks.{Moment}
 use Rattle.sf_joined.specs.Fronts.{AllFronts}
 use Rattle.sf_joined.proofs.Fronts.{begins_on}
 use Rattle.sf_joined.proofs.Meeting.{meets_arrivals}
-use Rattle.sf_replay.specs.Joining.{Joins, MeetsAll, seats_at}
+use Rattle.sf_replay.specs.Joining.{Joins, MeetsAll}
 use Rattle.sf_replay.specs.Members.{seen_at}
 use Rattle.sf_compositor.specs.Vsyncs.{Begin, More, Sitting, Vsyncs}
 
@@ -90,5 +90,5 @@ module _ {B : Type 0} (lease : Ghosts ReadLeaseOf SeatView ReadLeaseOf Issued) (
   pub joined_fronts : AllFronts lease table locks period j.first j.log
   joined_fronts =
       log_fronts lease table locks period j.first j.is_first.own.queues j.begins last j.log
-      (subst (λ (seats : Seats B). AllZip BeginsPass seats.queues.items j.first.seats.queues.items) j.at_last (meets_begin j.attended (map seats_at ends) j.first j.met))
-      (subst (λ (seats : Seats B). Begins seats.arrivals.seen j.first.seats.arrivals.seen) j.at_last (meets_arrivals j.attended.seats.by j.attended (map seats_at ends) j.first refl j.met).begins)
+      (subst (λ (seats : Seats B). AllZip BeginsPass seats.queues.items j.first.seats.queues.items) j.at_last (meets_begin j.attended j.reunited j.first j.met))
+      (subst (λ (seats : Seats B). Begins seats.arrivals.seen j.first.seats.arrivals.seen) j.at_last (meets_arrivals j.attended.seats.by j.attended j.reunited j.first refl j.met).begins)

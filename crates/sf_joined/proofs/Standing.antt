@@ -29,7 +29,7 @@ use Rattle.sf_scene.specs.Ranges.{IsQueue}
 use Rattle.sf_scene.specs.Scene.{SceneValue, has_queue, has_timeline}
 use Rattle.sf_scene.specs.declared.declarations.QueueDecl.{QueueDecl}
 use Rattle.sf_actor.specs.Desks.{DeskHome, DeskView, known_of, mark_among, values_of}
-use Rattle.sf_actor.specs.Known.{AreAmong, CountsRise, GoesOn, frame_of, is_sent_by, plain_arrival}
+use Rattle.sf_actor.specs.Known.{AreAmong, CountsRise, ShareGoesOn, frame_of, is_sent_by, plain_arrival, share_of}
 use Rattle.sf_actor.specs.Names.{FrameOf}
 use Rattle.sf_actor.specs.Plain.{PlainOf, calls_among, home_of as plain_home, taken_in, view_of as plain_view}
 use Rattle.sf_actor.specs.Scripts.{picture_at}
@@ -44,7 +44,7 @@ use Rattle.sf_run.specs.Frames.{ShowImages}
 use Rattle.sf_record.specs.declared.event.VsyncReport.{VsyncReport}
 use Rattle.sf_run.proofs.Keeping.{of_all}
 use Rattle.sf_run.proofs.KeepingLemmas.{none_played}
-use Rattle.sf_run.proofs.Members.{filter_has, has_cases, has_filter, has_here, has_joined, has_later, has_map, has_none, in_range, joined_has, map_has}
+use Rattle.sf_run.proofs.Members.{filter_has, has_cases, has_filter, has_here, has_joined, has_later, has_map, has_none, in_range, joined_has, map_has, zip_has}
 use Rattle.sf_run.proofs.Rising.{rising_actors_are}
 use Rattle.sf_run.proofs.Tracing.{trace_here}
 use Rattle.sf_run.specs.Actors.{AreActors, AreArrivals, IsCallBy, IsRelease, mark_declared, number_of, run_of, script_of, told_on, trace_among}
@@ -91,7 +91,9 @@ use Rattle.sf_joined.proofs.Replies.{tell_replies, vsyncs_are}
 use Rattle.sf_joined.proofs.Sights.{log_sees}
 use Rattle.sf_joined.proofs.Takes.{joins_taken, log_takes, taken_low}
 use Rattle.sf_joined.proofs.Writing.{KnowsByCounts, knows_written}
-use Rattle.sf_replay.specs.Joining.{Joins, actor_at, of_at, seats_at}
+use Rattle.sf_replay.specs.Joining.{Joins, Reunites, actor_at, of_at, seats_at}
+use Rattle.sf_replay.specs.Members.{number_at}
+use Rattle.sf_replay.proofs.Reuniting.{reunited_at, reunited_numbers, share_goes_on}
 use Rattle.sf_compositor.specs.Vsyncs.{Begin, More, Sitting, Vsyncs}
 
 -- of two that are in a list whose numbers differ, those of one number are one
@@ -207,7 +209,7 @@ module _ {B : Type 0} (lease : Ghosts ReadLeaseOf SeatView ReadLeaseOf Issued) (
   made = signals_in scene run
 
   abbrev all_seats : List (Seats B)
-  all_seats = map seats_at ends
+  all_seats = j.reunited
 
   abbrev taken : List (Arrival ReadLeaseOf)
   taken = taken_of lease table locks period j.log
@@ -226,10 +228,13 @@ module _ {B : Type 0} (lease : Ghosts ReadLeaseOf SeatView ReadLeaseOf Issued) (
   took = meets_took j.attended all_seats j.first j.met ∙ ap (λ (list : List (Seats B)). list ++ all_seats) j.none_taken
 
   abbrev GoOn : Moment B → Type 0
-  GoOn end = GoesOn end.seats.by (known_of (home_of locks end.seats) (view_of end.seats)) (known_of home joined)
+  GoOn end = ShareGoesOn (share_of end.seats.by (known_of (home_of locks end.seats) (view_of end.seats))) (share_of end.seats.by (known_of home joined))
 
   go : All GoOn ends
-  go = of_all GoOn ends (λ end there. j.goes_on end.seats (subst (λ (list : List (Seats B)). Contains list end.seats) (sym took) (has_map seats_at ends end there)))
+  go = of_all GoOn ends (λ end there.
+      let taken = reunited_at locks ends j.reunited j.reunites end there in
+      share_goes_on locks (known_of home joined) end.seats taken.reunited taken.reunites
+      (j.goes_on taken.reunited (subst (λ (list : List (Seats B)). Contains list taken.reunited) (sym took) taken.there)))
 
   pub actors : AreActors scene ofs home joined
   actors = are_actors scene table locks home joined j.closes.marks j.limits j.starts ends j.declared j.stock j.sorted j.new j.came back go
@@ -243,10 +248,9 @@ module _ {B : Type 0} (lease : Ghosts ReadLeaseOf SeatView ReadLeaseOf Issued) (
 
   numbers_seated : (by : ℕ) → Contains (map by_of (took_of j.first)) by → Contains (map number_of ofs) by
   numbers_seated by there =
-      let seats = map_has by_of all_seats by (subst (λ (list : List (Seats B)). Contains (map by_of list) by) took there) in
-      let end = map_has seats_at ends seats.0 seats.1 in
+      let end = map_has number_at ends by (subst (λ (numbers : List ℕ). Contains numbers by) (ap (map by_of) took ∙ reunited_numbers locks ends j.reunited j.reunites) there) in
       let served = (All-contains (IsBack scene table locks) ends end.0 back end.1).served in
-      subst (Contains (map number_of ofs)) (sym served ∙ ap by_of end.2 ∙ seats.2) (has_map number_of ofs end.0.of (has_map of_at ends end.0 end.1))
+      subst (Contains (map number_of ofs)) (sym served ∙ end.2) (has_map number_of ofs end.0.of (has_map of_at ends end.0 end.1))
 
   stranger : (by : ℕ) → (by ≡ 0 → ⊥) → (Contains (map by_of (took_of j.first)) by → ⊥) → Contains (j.first.seats.by ∷ gave_of j.first) by → ⊥
   stranger by some apart there = elim (has_cases j.first.seats.by by (gave_of j.first) there) [
@@ -329,8 +333,10 @@ module _ {B : Type 0} (lease : Ghosts ReadLeaseOf SeatView ReadLeaseOf Issued) (
   signals p there = elim (meets_signals j.attended all_seats j.first j.met p (subst (λ (times : TimesView). Contains times.knows.signals p) j.closes.times there)) [
     | inl own ↦ has_none p (subst (λ (list : List (ℕ × ℕ)). Contains list p) (ap (λ (seats : Seats B). seats.times.knows.signals) j.at_last ∙ log_signals lease table locks period j.begins last j.log ∙ j.no_signals) own)
     | inr met ↦
-        let end = map_has seats_at ends met.seats met.there in
-        by_end end.0 end.1 p (subst (λ (seats : Seats B). Contains seats.times.knows.signals p) (sym end.2) met.signalled)
+        let seats = zip_has (Reunites locks) (map seats_at ends) j.reunited met.seats j.reunites met.there in
+        let end = map_has seats_at ends seats.0 seats.1 in
+        by_end end.0 end.1 p (subst (λ (seats : Seats B). Contains seats.times.knows.signals p) (sym end.2)
+        (subst (λ (seats : Seats B). Contains seats.times.knows.signals p) seats.2.same met.signalled))
   ]
 
   declared : (p : ℕ × ℕ) → Contains joined.times.signals p → has_timeline scene.timelines p.0 ≡ true

@@ -23,7 +23,8 @@ use Rattle.sf_threads.specs.SeatedActors.{Came}
 use Rattle.sf_threads.specs.Meeting.{as_returned}
 use Rattle.sf_threads.specs.Returns.{Returns}
 use Rattle.sf_compositor.specs.Sitting.{Sits}
-use Rattle.sf_replay.specs.Joining.{Joins, MeetsAll}
+use Rattle.sf_replay.specs.Joining.{Joins, MeetsAll, seats_at}
+use Rattle.sf_replay.proofs.Reuniting.{all_reunite}
 use Rattle.sf_joined.specs.SeatedActors.{IsUnused, WalkedBack, actor_of_seated}
 use Rattle.sf_joined.proofs.WalkingBack.{all_walked}
 use Rattle.sf_live.specs.declared.opening.Opened.{Opened}
@@ -105,6 +106,8 @@ module _ {B V : Type 0} (lease : Ghosts ReadLeaseOf SeatView ReadLeaseOf Issued)
     at_last = at_last;
     none_taken = returns.attends.given.took ∙ given.took ∙ opens.none_taken;
     first = all_returned.first;
+    reunited = map seats_at walked.ends;
+    reunites = all_reunite table opened.locks run.scene opens.limits opens.declared opens.sorted opens.stock walked.starts walked.ends walked.new walked.new_seats walked.came;
     met = subst (λ (seats : List (Seats B)). MeetsAll returns.attended seats all_returned.first) (sym walked.seats) returns.met;
     is_first = first;
     has_all = all;

@@ -1,5 +1,5 @@
 -- The callers of a run at its join: the compositor, and the declared actors, each with a number of its own.
-use Rattle.std.proofs.Common.{◌≡◌, ◌≢◌, ℕ, ◌≤◌, ◌==◌, ◌⊎◌, true, List, [], ◌∷◌, ◌++◌, arith, ap, ◌∙◌, sym, refl, inl, inr, map, drop}
+use Rattle.std.proofs.Common.{◌≡◌, ◌≢◌, ℕ, ◌≤◌, ◌==◌, ◌⊎◌, true, List, [], ◌∷◌, ◌++◌, arith, ap, ◌∙◌, sym, refl, subst, inl, inr, map, drop}
 use Rattle.std.specs.Prelude.{Contains}
 use Rattle.std.specs.List.{flat_map}
 use Rattle.std.specs.List.Sorted.{IsStrictlyIncreasing}
@@ -15,15 +15,15 @@ use Rattle.sf_scene.specs.declared.step.ActorScript.{ActorScript}
 use Rattle.sf_actor.specs.Tries.{ActorOf, dequeues_in}
 use Rattle.sf_actor_set.proofs.RisingLemmas.{sorted_rises}
 use Rattle.sf_actor_set.specs.Opening.{IsSortedFrom, new_actors}
-use Rattle.sf_run.proofs.Members.{has_cases, has_here, has_later}
+use Rattle.sf_run.proofs.Members.{has_cases, has_here, has_later, has_map, map_has}
 use Rattle.sf_run.proofs.Rising.{above, later_rises}
 use Rattle.sf_shared.specs.declared.first.FirstSeats.{FirstSeats}
 use Rattle.sf_shared.specs.declared.seats.Seats.{Seats}
 use Rattle.sf_shared.specs.First.{took_of}
 use Rattle.sf_shared.specs.Seats.{view_of}
 use Rattle.sf_threads.specs.Walks.{Moment}
-use Rattle.sf_replay.specs.Joining.{MeetsAll, of_at, seats_at}
-use Rattle.sf_replay.specs.Members.{AllOnce, bit, count_of, number_at}
+use Rattle.sf_replay.specs.Joining.{MeetsAll, of_at}
+use Rattle.sf_replay.specs.Members.{AllOnce, bit, count_of}
 
 module _ {B : Type 0} where
   -- what was taken in
@@ -32,17 +32,13 @@ module _ {B : Type 0} where
   took_all start (seats ∷ met) new folds = took_all folds.0 met new folds.2 ∙ ap (λ (xs : List (Seats B)). xs ++ met) folds.1.took ∙ append_assoc (took_of start) (seats ∷ []) met
 
   -- the turns that were left through them
-  pub left_all : (start : FirstSeats B) (ends : List (Moment B)) (new : FirstSeats B) → MeetsAll start (map seats_at ends) new
-      → new.seats.turns.leaves ≡ start.seats.turns.leaves ++ flat_map (λ (moment : Moment B). (view_of moment.seats).turns.leaves) ends
+  pub left_all : (start : FirstSeats B) (met : List (Seats B)) (new : FirstSeats B) → MeetsAll start met new
+      → new.seats.turns.leaves ≡ start.seats.turns.leaves ++ flat_map (λ (seats : Seats B). (view_of seats).turns.leaves) met
   left_all start [] new folds = ap (λ (first : FirstSeats B). first.seats.turns.leaves) (sym folds) ∙ sym (append-nil start.seats.turns.leaves)
-  left_all start (moment ∷ ends) new folds =
-      left_all folds.0 ends new folds.2
-      ∙ ap (λ turns. turns.leaves ++ flat_map (λ (moment : Moment B). (view_of moment.seats).turns.leaves) ends) folds.1.turns
-      ∙ append_assoc start.seats.turns.leaves moment.seats.turns.leaves (flat_map (λ (moment : Moment B). (view_of moment.seats).turns.leaves) ends)
-
-  pub seats_numbers : (ends : List (Moment B)) → map (λ (seats : Seats B). seats.by) (map seats_at ends) ≡ map number_at ends
-  seats_numbers [] = refl
-  seats_numbers (moment ∷ ends) = ap (λ (ns : List ℕ). moment.seats.by ∷ ns) (seats_numbers ends)
+  left_all start (seats ∷ met) new folds =
+      left_all folds.0 met new folds.2
+      ∙ ap (λ turns. turns.leaves ++ flat_map (λ (seats : Seats B). (view_of seats).turns.leaves) met) folds.1.turns
+      ∙ append_assoc start.seats.turns.leaves seats.turns.leaves (flat_map (λ (seats : Seats B). (view_of seats).turns.leaves) met)
 
 -- a number that is there is counted
 pub count_there : (n : ℕ) (xs : List ℕ) → Contains xs n → 1 ≤ count_of n xs
@@ -137,3 +133,11 @@ module _ (scene : SceneValue) (limits : IsWithinLimits scene) (declared : List A
 
   pub declared_once : (n : ℕ) → count_of n (0 ∷ map (λ (script : ActorScript). script.number) declared) ≤ 1
   declared_once n = count_with (λ (script : ActorScript). script.number) n declared (sorted_rises (λ (script : ActorScript). script.number) scene.actors declared limits.actors.differ sorted) declared_low
+
+  -- no actor's number is that of the first caller
+  pub starts_numbered : {B : Type 0} (stock : List ℕ) (starts : List (Moment B)) → map of_at starts ≡ new_actors declared stock → (moment : Moment B) → Contains starts moment → moment.of.script.number ≡ 0 → ⊥
+  starts_numbered stock starts new moment there none =
+      let one = map_has script_number declared moment.of.script.number (subst (λ (ns : List ℕ). Contains ns moment.of.script.number) (numbers_are starts declared stock new) (has_map moment_number starts moment there)) in
+      let low = declared_low one.0 one.1 in
+      let same = one.2 in
+      omega (arith, low, same, none)

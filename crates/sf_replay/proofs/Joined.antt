@@ -10,17 +10,14 @@ use Rattle.sf_scene.specs.Ranges.{IsStep}
 use Rattle.sf_scene.specs.Scene.{SceneValue}
 use Rattle.sf_scene.specs.declared.step.Step.{Step}
 use Rattle.sf_surface.specs.Histories.{Answers}
-use Rattle.sf_actor.specs.Desks.{known_of, mark_among}
-use Rattle.sf_actor.specs.Known.{GoesOn}
+use Rattle.sf_actor.specs.Desks.{mark_among}
 use Rattle.sf_actor.specs.Plain.{PlainOf, home_of as plain_home, view_of as plain_view}
 use Rattle.sf_actor.specs.Scripts.{picture_at}
 use Rattle.sf_actor.specs.Tries.{ActorOf}
 use Rattle.sf_steps.specs.Playable.{IsPlayable, MayPlay}
 use Rattle.sf_shared.specs.declared.first.FirstSeats.{FirstSeats}
 use Rattle.sf_shared.specs.declared.locks.Locks.{Locks}
-use Rattle.sf_shared.specs.declared.seats.Seats.{Seats}
 use Rattle.sf_shared.specs.Closing.{Closes, IsOrdered}
-use Rattle.sf_shared.specs.First.{took_of}
 use Rattle.sf_shared.specs.Seats.{AreSeats, home_of, marks_of, view_of}
 use Rattle.sf_threads.specs.Walks.{Moment}
 use Rattle.sf_rights.specs.Standing.{state_of}
@@ -33,6 +30,7 @@ use Rattle.sf_replay.specs.Lifts.{local_of}
 use Rattle.sf_compositor.specs.Vsyncs.{Sitting}
 use Rattle.sf_replay.proofs.Assembling.{AreMembers, IsMember, Member, assembled, by_of, first_of, last_of}
 use Rattle.sf_replay.proofs.Closing.{IsClose, RestsKept}
+use Rattle.sf_replay.proofs.Reuniting.{AtJoin}
 use Rattle.sf_replay.proofs.Ending.{ends_close}
 use Rattle.sf_replay.proofs.Tying.{LiftsAll, all_rise, is_member, member}
 use Rattle.sf_replay.specs.Members.{stamps, AllOnce, number_at, sitting_at, whole_of}
@@ -43,7 +41,6 @@ module _ {B : Type 0} where
   local_at moment = local_of moment.of [] (view_of moment.seats).turns.leaves
 
 module _ {B : Type 0} (scene : SceneValue) (table : TableId) (locks : Locks B) (first : FirstSeats B) (desk : PlainOf B) (closes : Closes locks first desk) (ordered : IsOrdered first) (own_first : AreSeats table locks first.seats)
-    (goes_on : (seats : Seats B) → Contains (took_of first) seats → GoesOn seats.by (known_of (home_of locks seats) (view_of seats)) (known_of (plain_home desk) (plain_view desk)))
     (apart : AreApart (marks_of locks)) (legal : (queue : ℕ) → IsLegal (Answers (mark_among (marks_of locks) queue)) ((plain_view desk).calls queue))
     (Holds : State B → Type 0) (lifted : LiftsAll table locks first desk closes ordered own_first apart legal (picture_at scene.pictures) Holds)
     (rests : RestsKept (whole_of desk) Holds) where
@@ -58,17 +55,16 @@ module _ {B : Type 0} (scene : SceneValue) (table : TableId) (locks : Locks B) (
   steps_range : (home : _) (pictures : _) (moment : Moment B) → MayPlay home pictures moment.of.script → (s : Step) → Contains moment.of.script.steps s → IsStep s
   steps_range home pictures moment plays s there = (All-contains (IsPlayable home) moment.of.script.steps s plays.playable there).ranges
 
-  pub callers_of : (starts ends : List (Moment B)) → AllZip (CameBack scene table locks) starts ends → All (HasNewSeats scene table locks) starts → ((moment : Moment B) → Contains ends moment → Contains (took_of first) moment.seats)
+  pub callers_of : (starts ends : List (Moment B)) → AllZip (CameBack scene table locks) starts ends → All (HasNewSeats scene table locks) starts → ((moment : Moment B) → Contains ends moment → AtJoin locks first desk moment.seats)
       → ((start end : Moment B) → CameBack scene table locks start end → Contains ends end → (number queue place : ℕ) → Contains start.of.stock number → (makes : MakesAt (whole_of desk) number queue place) → makes.made.by ≡ end.seats.by)
       → ((start end : Moment B) → CameBack scene table locks start end → HasNewSeats scene table locks start → end.seats.by ≡ start.of.script.number)
-      → ((moment : Moment B) → Contains starts moment → moment.of.script.number ≡ 0 → ⊥)
       → AreCallers starts ends
-  callers_of [] [] came new_seats took owner served numbered = record { members = []; are = tt; bys = refl; firsts = refl; lasts = refl }
-  callers_of [] (end ∷ ends) came new_seats took owner served numbered = absurd came
-  callers_of (start ∷ starts) [] came new_seats took owner served numbered = absurd came
-  callers_of (start ∷ starts) (end ∷ ends) came new_seats took owner served numbered =
-      let rest = callers_of starts ends came.1 (All-tail (HasNewSeats scene table locks) start starts new_seats) (λ moment there. took moment (has_later end moment ends there))
-      (λ first_one last_one back there. owner first_one last_one back (has_later end last_one ends there)) served (λ moment there. numbered moment (has_later start moment starts there)) in
+  callers_of [] [] came new_seats join owner served = record { members = []; are = tt; bys = refl; firsts = refl; lasts = refl }
+  callers_of [] (end ∷ ends) came new_seats join owner served = absurd came
+  callers_of (start ∷ starts) [] came new_seats join owner served = absurd came
+  callers_of (start ∷ starts) (end ∷ ends) came new_seats join owner served =
+      let rest = callers_of starts ends came.1 (All-tail (HasNewSeats scene table locks) start starts new_seats) (λ moment there. join moment (has_later end moment ends there))
+      (λ first_one last_one back there. owner first_one last_one back (has_later end last_one ends there)) served in
       record {
         members = one ∷ rest.members;
         are = (is_one, rest.are);
@@ -80,17 +76,17 @@ module _ {B : Type 0} (scene : SceneValue) (table : TableId) (locks : Locks B) (
       has_new_seats : HasNewSeats scene table locks start
       has_new_seats = All-head (HasNewSeats scene table locks) start starts new_seats
 
-      taken : Contains (took_of first) end.seats
-      taken = took end (has_here end ends)
+      joined : AtJoin locks first desk end.seats
+      joined = join end (has_here end ends)
 
       one : Member B
-      one = member table locks first desk closes ordered own_first apart legal (picture_at scene.pictures) Holds lifted rests start end came.0.walk has_new_seats.sound came.0.own (served start end came.0 has_new_seats) (numbered start (has_here start starts))
-          (steps_range (home_of locks start.seats) scene.pictures start has_new_seats.plays) has_new_seats.nothing (ordered.queues_on end.seats taken) (ordered.arrivals_on end.seats taken) (goes_on end.seats taken)
+      one = member table locks first desk closes ordered own_first apart legal (picture_at scene.pictures) Holds lifted rests start end came.0.walk has_new_seats.sound came.0.own (served start end came.0 has_new_seats)
+          (steps_range (home_of locks start.seats) scene.pictures start has_new_seats.plays) has_new_seats.nothing joined
           (owner start end came.0 (has_here end ends))
 
       is_one : IsMember (whole_of desk) Holds (stamps first) one
-      is_one = is_member table locks first desk closes ordered own_first apart legal (picture_at scene.pictures) Holds lifted rests start end came.0.walk has_new_seats.sound came.0.own (served start end came.0 has_new_seats) (numbered start (has_here start starts))
-          (steps_range (home_of locks start.seats) scene.pictures start has_new_seats.plays) has_new_seats.nothing (ordered.queues_on end.seats taken) (ordered.arrivals_on end.seats taken) (goes_on end.seats taken)
+      is_one = is_member table locks first desk closes ordered own_first apart legal (picture_at scene.pictures) Holds lifted rests start end came.0.walk has_new_seats.sound came.0.own (served start end came.0 has_new_seats)
+          (steps_range (home_of locks start.seats) scene.pictures start has_new_seats.plays) has_new_seats.nothing joined
           (owner start end came.0 (has_here end ends))
 
   -- the ledger at the end, from that at the beginning

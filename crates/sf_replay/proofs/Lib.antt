@@ -28,6 +28,7 @@ mod Owning
 mod Pieces
 mod Quieting
 mod Quiets
+pub mod Reuniting
 pub mod Righted
 mod Righting
 mod Seeing

@@ -164,7 +164,7 @@ sent_there (c ∷ calls) e step txn there sends = by_place (has_cases c e calls 
         behind (arrive.Send n other) is rest = subst (λ (a : Arriving). Contains (sent_in (record { by = c.by; call = (c.call.0, a); reply = c.reply } ∷ calls)) (step, stamp_of e)) (sym is) (has_later (n, stamp_of c) (step, stamp_of e) (sent_in calls) rest)
         behind arrive.Take is rest = subst (λ (a : Arriving). Contains (sent_in (record { by = c.by; call = (c.call.0, a); reply = c.reply } ∷ calls)) (step, stamp_of e)) (sym is) rest
 
-cons_not : {A : Type 0} (x : A) (xs : List A) → x ∷ xs ≡ [] → ⊥
+pub cons_not : {A : Type 0} (x : A) (xs : List A) → x ∷ xs ≡ [] → ⊥
 cons_not x xs same = cc
 
 takes_more : (e : ArrivalEntry) (calls : List ArrivalEntry) → takes_in (e ∷ calls) ≡ [] → (takes_in calls ≡ []) × (is_take e.call.1 ≡ true → ⊥)

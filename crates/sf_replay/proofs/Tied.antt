@@ -4,7 +4,6 @@ use Rattle.std.specs.Prelude.{Contains, false}
 use Rattle.std.specs.List.{All, AllZip, flat_map, list_any}
 use Rattle.std.proofs.lemmas.List.Elements.{All-contains, All-head, All-tail}
 use Rattle.atomic_table.specs.Seated.{TableId}
-use Rattle.sf_picture.specs.declared.picture.Picture.{Picture}
 use Rattle.sf_scene.specs.Scene.{SceneValue}
 use Rattle.sf_surface.specs.Tokens.{Issued, ReadLeaseOf}
 use Rattle.sf_turns.specs.Counts.{stock_at}
@@ -26,15 +25,15 @@ use Rattle.sf_replay.proofs.Apart.{rising_marks}
 use Rattle.sf_replay.proofs.Giving.{makes_none}
 use Rattle.sf_shared.specs.First.{gave_of, took_of}
 use Rattle.sf_shared.specs.declared.seats.Seats.{Seats}
-use Rattle.sf_run.proofs.Members.{has_cases, has_first, has_later, has_map, map_has}
-use Rattle.sf_replay.proofs.Declared.{declared_low, declared_once, each_once, left_all, moment_number, numbers_are, script_number, seats_numbers, took_all}
-use Rattle.sf_threads.specs.Walks.{Moment, Walk}
+use Rattle.sf_run.proofs.Members.{has_cases, has_first, has_later, map_has}
+use Rattle.sf_replay.proofs.Declared.{declared_once, each_once, left_all, moment_number, numbers_are, script_number, took_all}
+use Rattle.sf_threads.specs.Walks.{Moment}
 use Rattle.sf_scene.specs.declared.step.ActorScript.{ActorScript}
 use Rattle.sf_surface.specs.Histories.{Made, Answers}
+use Rattle.sf_replay.proofs.Reuniting.{AtJoin, at_join, reunited_at, reunited_leaves, reunited_numbers}
 use Rattle.sf_replay.proofs.Owning.{SeatedAs, seated_as, counted_there, once_there, one_stock, own_stock}
-use Rattle.sf_threads.specs.Walks.Walk.{Begin, More}
 use Rattle.sf_replay.specs.Cuts.{Local, MakesAt, many_of, state_at}
-use Rattle.sf_replay.specs.Joining.{CameBack, HasNewSeats, Joins, of_at, seats_at}
+use Rattle.sf_replay.specs.Joining.{CameBack, HasNewSeats, Joins, of_at}
 use Rattle.sf_replay.specs.Members.{AllOnce, AreTied, count_of, number_at, seated, whole_of, stamps}
 use Rattle.sf_compositor.specs.Vsyncs.{Sitting}
 use Rattle.sf_rights.specs.Ledgers.{IsLedger}
@@ -42,7 +41,7 @@ use Rattle.sf_replay.proofs.Closing.{IsClose, GivesKept, RestsKept}
 use Rattle.sf_replay.proofs.Tying.{LiftsAll}
 use Rattle.sf_replay.proofs.Beginning.{new_among, new_once, starts_hold}
 use Rattle.sf_replay.proofs.Joined.{AreCallers, callers_of, joined_close, joined_holds, local_at}
-use Rattle.sf_replay.proofs.Walked.{walk_same}
+use Rattle.sf_replay.proofs.Walked.{walk_by, walk_same}
 use Rattle.sf_calls.specs.Histories.{GoesOnWithout, IsLegal}
 use Rattle.sf_stamped.specs.Stamps.{unstamped}
 use Rattle.sf_surface.specs.declared.mark.QueueMark.{QueueMark}
@@ -50,12 +49,6 @@ use Rattle.sf_replay.proofs.Assembling.{IsMember}
 use Rattle.sf_replay.proofs.Ending.{not_called}
 use Rattle.sf_replay.proofs.Timing.{Sits, log_by, met_by, met_on, nobody_script, sits_of, unstamped_on}
 use Rattle.sf_rights.specs.PlaceTries.{TellsPlaces}
-
-module _ {B : Type 0} (table : TableId) (pictures : ℕ → Picture) (locks : Locks B) where
-  -- the caller stays along a walk
-  pub walk_by : {start end : Moment B} → Walk table pictures locks start end → end.seats.by ≡ start.seats.by
-  walk_by Begin = refl
-  walk_by (More {before} {after} walk one) = one.caller ∙ walk_by walk
 
 module _ {B : Type 0} (lease : Ghosts ReadLeaseOf SeatView ReadLeaseOf Issued) (scene : SceneValue) (table : TableId) (period most : ℕ) (locks : Locks B) (last : Sitting B) (ends : List (Moment B)) (desk : PlainOf B)
     (joins : Joins lease scene table period most locks last ends desk) (Holds : State B → Type 0) (tied : AreTied lease table period locks joins.begins last joins.log joins.first desk) where
@@ -92,26 +85,23 @@ module _ {B : Type 0} (lease : Ghosts ReadLeaseOf SeatView ReadLeaseOf Issued) (
   own_first : AreSeats table locks joins.first.seats
   own_first = joins.is_first.own
 
-  took_is : took_of joins.first ≡ map seats_at ends
-  took_is = took_all joins.attended (map seats_at ends) joins.first joins.met ∙ ap (λ (xs : List (Seats B)). xs ++ map seats_at ends) joins.none_taken
+  took_is : took_of joins.first ≡ joins.reunited
+  took_is = took_all joins.attended joins.reunited joins.first joins.met ∙ ap (λ (xs : List (Seats B)). xs ++ joins.reunited) joins.none_taken
 
-  taken : (moment : Moment B) → Contains ends moment → Contains (took_of joins.first) moment.seats
-  taken moment there = subst (λ (xs : List (Seats B)). Contains xs moment.seats) (sym took_is) (has_map seats_at ends moment there)
+  at_end : (moment : Moment B) → Contains ends moment → AtJoin locks joins.first desk moment.seats
+  at_end moment there =
+      let taken = reunited_at locks ends joins.reunited joins.reunites moment there in
+      at_join locks joins.first desk joins.ordered joins.goes_on moment.seats
+      (record { reunited = taken.reunited; there = subst (λ (xs : List (Seats B)). Contains xs taken.reunited) (sym took_is) taken.there; reunites = taken.reunites })
 
   leaves : last.seats.turns.leaves ++ flat_map (λ (moment : Moment B). (view_of moment.seats).turns.leaves) ends ≡ (plain_view desk).turns.leaves
   leaves =
-      ap (λ (seats : Seats B). seats.turns.leaves ++ flat_map (λ (moment : Moment B). (view_of moment.seats).turns.leaves) ends) (sym joins.at_last)
-      ∙ sym (left_all joins.attended ends joins.first joins.met) ∙ ap (λ (turns : SeatView). turns.leaves) (sym joins.closes.turns)
+      ap (λ (xs : List Turn). last.seats.turns.leaves ++ xs) (sym (reunited_leaves locks ends joins.reunited joins.reunites))
+      ∙ ap (λ (seats : Seats B). seats.turns.leaves ++ flat_map (λ (seats : Seats B). (view_of seats).turns.leaves) joins.reunited) (sym joins.at_last)
+      ∙ sym (left_all joins.attended joins.reunited joins.first joins.met) ∙ ap (λ (turns : SeatView). turns.leaves) (sym joins.closes.turns)
 
   declared_are : map moment_number joins.starts ≡ map script_number joins.declared
   declared_are = numbers_are joins.starts joins.declared joins.stock joins.new
-
-  numbered : (moment : Moment B) → Contains joins.starts moment → moment.of.script.number ≡ 0 → ⊥
-  numbered moment there none =
-      let one = map_has script_number joins.declared moment.of.script.number (subst (λ (ns : List ℕ). Contains ns moment.of.script.number) declared_are (has_map moment_number joins.starts moment there)) in
-      let low = declared_low scene joins.limits joins.declared joins.sorted one.0 one.1 in
-      let same = one.2 in
-      omega (arith, low, same, none)
 
   -- the callers' numbers are those of the declared actors
   ends_are : (starts ends : List (Moment B)) → AllZip (CameBack scene table locks) starts ends → All (HasNewSeats scene table locks) starts → map number_at ends ≡ map moment_number starts
@@ -128,7 +118,7 @@ module _ {B : Type 0} (lease : Ghosts ReadLeaseOf SeatView ReadLeaseOf Issued) (
   by_place : (by : ℕ) → (joins.first.seats.by ≡ by) ⊎ Contains (gave_of joins.first) by → Contains (0 ∷ map number_at ends) by
   by_place by (inl same) = has_first 0 by (map number_at ends) (sym joins.is_first.number ∙ same)
   by_place by (inr gave) = has_later 0 by (map number_at ends)
-      (subst (λ (ns : List ℕ). Contains ns by) (ap (map (λ (seats : Seats B). seats.by)) took_is ∙ seats_numbers ends) (joins.has_all.all by gave))
+      (subst (λ (ns : List ℕ). Contains ns by) (ap (map (λ (seats : Seats B). seats.by)) took_is ∙ reunited_numbers locks ends joins.reunited joins.reunites) (joins.has_all.all by gave))
 
   -- each call is one of the compositor's or of one of the actors'
   once : (queue : ℕ) → AllOnce (0 ∷ map number_at ends) ((plain_view desk).calls queue)
@@ -193,7 +183,7 @@ module _ {B : Type 0} (lease : Ghosts ReadLeaseOf SeatView ReadLeaseOf Issued) (
           its : Contains found.0.of.stock number
           its = own_stock table (picture_at scene.pictures) locks desk joins.closes.marks own_apart tied.legal found.0 its_start.back.sound
               (served_at its_start.start found.0 its_start.back (All-contains (HasNewSeats scene table locks) joins.starts its_start.start joins.new_seats its_start.there))
-              (λ q. (joins.goes_on found.0.seats (taken found.0 found.1)).calls q) number queue place makes (sym found.2)
+              (at_end found.0 found.1).calls_on number queue place makes (sym found.2)
 
           own_end : Contains end.of.stock number
           own_end = subst (λ (xs : List ℕ). Contains xs number) (sym (walk_same table (picture_at scene.pictures) locks back.walk).1) own
@@ -219,17 +209,17 @@ module _ {B : Type 0} (lease : Ghosts ReadLeaseOf SeatView ReadLeaseOf Issued) (
     legal_there queue = subst (λ (ms : List QueueMark). IsLegal (Answers (mark_among ms queue)) ((plain_view desk).calls queue)) (sym joins.closes.marks) (tied.legal queue)
 
     begins_by : joins.begins.seats.by ≡ 0
-    begins_by = sym (log_by lease table locks period joins.log) ∙ ap (λ (seats : Seats B). seats.by) (sym joins.at_last) ∙ sym (met_by joins.attended (map seats_at ends) joins.first joins.met) ∙ joins.is_first.number
+    begins_by = sym (log_by lease table locks period joins.log) ∙ ap (λ (seats : Seats B). seats.by) (sym joins.at_last) ∙ sym (met_by joins.attended joins.reunited joins.first joins.met) ∙ joins.is_first.number
 
     attended_by : joins.attended.seats.by ≡ 0
-    attended_by = sym (met_by joins.attended (map seats_at ends) joins.first joins.met) ∙ joins.is_first.number
+    attended_by = sym (met_by joins.attended joins.reunited joins.first joins.met) ∙ joins.is_first.number
 
     arrived_on : GoesOnWithout 0 (unstamped last.seats.arrivals.seen) desk.arrivals
     arrived_on = subst (GoesOnWithout 0 (unstamped last.seats.arrivals.seen)) (sym joins.closes.arrived)
         (unstamped_on 0 last.seats.arrivals.seen joins.first.seats.arrivals.seen
         (subst (λ (seats : Seats B). GoesOnWithout 0 seats.arrivals.seen joins.first.seats.arrivals.seen) joins.at_last
         (subst (λ (n : ℕ). GoesOnWithout n joins.attended.seats.arrivals.seen joins.first.seats.arrivals.seen) attended_by
-        (met_on joins.attended (map seats_at ends) joins.first joins.met))))
+        (met_on joins.attended joins.reunited joins.first joins.met))))
 
     -- all vsyncs, behind the beginning
     sits : Sits lease of_turns (whole_of desk) table locks period apart_there is_absent legal_there tells Holds given rests (stamps joins.first) tied.bound tied.rises joins.begins last
@@ -247,17 +237,17 @@ module _ {B : Type 0} (lease : Ghosts ReadLeaseOf SeatView ReadLeaseOf Issued) (
         (ap (λ (xs : List Turn). xs ++ flat_map (λ (local : Local B). local.leaves) (map local_at joins.starts)) joins.no_leaves ∙ leaves_none joins.starts joins.new_seats)
         Holds from
 
-    callers : AreCallers scene table locks joins.first desk joins.closes joins.ordered own_first joins.goes_on own_apart tied.legal Holds lifted rests joins.starts ends
-    callers = callers_of scene table locks joins.first desk joins.closes joins.ordered own_first joins.goes_on own_apart tied.legal Holds lifted rests joins.starts ends joins.came joins.new_seats taken owner
-        (λ start end back new_seats. walk_by table (picture_at scene.pictures) locks back.walk ∙ new_seats.served) numbered
+    callers : AreCallers scene table locks joins.first desk joins.closes joins.ordered own_first own_apart tied.legal Holds lifted rests joins.starts ends
+    callers = callers_of scene table locks joins.first desk joins.closes joins.ordered own_first own_apart tied.legal Holds lifted rests joins.starts ends joins.came joins.new_seats at_end owner
+        (λ start end back new_seats. walk_by table (picture_at scene.pictures) locks back.walk ∙ new_seats.served)
 
     -- what holds at the beginning holds at the join
     pub tied_holds : Holds (state_at (whole_of desk) (many_of (whole_of desk)) (seated last ∷ map local_at ends))
     tied_holds =
-        joined_holds scene table locks joins.first desk joins.closes joins.ordered own_first joins.goes_on own_apart tied.legal Holds lifted rests joins.starts ends callers joins.begins last sits.rest compositor
+        joined_holds scene table locks joins.first desk joins.closes joins.ordered own_first own_apart tied.legal Holds lifted rests joins.starts ends callers joins.begins last sits.rest compositor
         once once_sent leaves begun
 
     pub tied_close : IsClose (state_at (whole_of desk) (many_of (whole_of desk)) (seated last ∷ map local_at ends)) (state_of (plain_home desk) (plain_view desk) (map of_at ends) last.handler)
     tied_close =
-        joined_close scene table locks joins.first desk joins.closes joins.ordered own_first joins.goes_on own_apart tied.legal Holds lifted rests joins.starts ends callers joins.begins last sits.rest compositor
+        joined_close scene table locks joins.first desk joins.closes joins.ordered own_first own_apart tied.legal Holds lifted rests joins.starts ends callers joins.begins last sits.rest compositor
         once once_sent leaves

@@ -1,13 +1,13 @@
 -- An actor that came back, as a caller of the whole run, tied to it by the stamps of its calls.
 use Rattle.std.proofs.Common.{◌≡◌, ℕ, zero, suc, ◌<◌, ◌≤◌, ◌==◌, false, List, [], ◌∷◌, ◌++◌, arith, ap, ◌∙◌, sym, refl, inl, inr, subst, length}
 use Rattle.std.specs.Prelude.{Contains}
-use Rattle.std.specs.List.{AllByRecursion, AllZip, list_any}
+use Rattle.std.specs.List.{AllByRecursion, list_any}
 use Rattle.std.proofs.lemmas.Bool.{cases_Bool}
 use Rattle.std.proofs.lemmas.List.{append-nil}
-use Rattle.std.proofs.lemmas.List.Elements.{Contains-append_left, Contains-append_right}
+use Rattle.std.proofs.lemmas.List.Elements.{Contains-append_left}
 use Rattle.atomic_table.specs.Seated.{TableId}
 use Rattle.sf_calls.specs.declared.object.Entry.{Entry}
-use Rattle.sf_calls.specs.Histories.{GoesOnWithout, IsLegal, calls_by}
+use Rattle.sf_calls.specs.Histories.{IsLegal, calls_by}
 use Rattle.sf_picture.specs.declared.picture.Picture.{Picture}
 use Rattle.sf_scene.specs.Ranges.{IsStep}
 use Rattle.sf_scene.specs.declared.step.Step.{Step}
@@ -19,8 +19,7 @@ use Rattle.sf_token.specs.Arrivals.{sent}
 use Rattle.sf_token.specs.declared.arrivals.ArriveCall.TheVariants as arrive
 use Rattle.sf_token.specs.Pending.{Arrival}
 use Rattle.sf_txn.specs.Transactions.{Contents}
-use Rattle.sf_actor.specs.Desks.{DeskHome, DeskView, known_of, mark_among}
-use Rattle.sf_actor.specs.Known.{GoesOn}
+use Rattle.sf_actor.specs.Desks.{DeskHome, DeskView, mark_among}
 use Rattle.sf_actor.specs.Plain.{PlainOf, home_of as plain_home, view_of as plain_view}
 use Rattle.sf_actor.specs.Tries.{ActorOf}
 use Rattle.sf_steps.specs.declared.bindings.Bindings.{Bindings}
@@ -29,17 +28,18 @@ use Rattle.sf_shared.specs.declared.first.FirstSeats.{FirstSeats}
 use Rattle.sf_shared.specs.declared.locks.Locks.{Locks}
 use Rattle.sf_shared.specs.declared.seats.Seats.{Seats}
 use Rattle.sf_shared.specs.Arriving.{ArrivalCalls, ArrivalEntry, Arrived, Arriving}
-use Rattle.sf_shared.specs.Closing.{Closes, GoesOnIn, IsOrdered}
+use Rattle.sf_shared.specs.Closing.{Closes, IsOrdered}
 use Rattle.sf_shared.specs.First.{KnowsNothing}
-use Rattle.sf_shared.specs.Seats.{AreSeats, QueuePass, calls_known, calls_made, home_of, is_at, marks_of, moment, moments_of, sent_in, takes_in, view_of}
+use Rattle.sf_shared.specs.Seats.{AreSeats, QueuePass, calls_known, calls_made, is_at, marks_of, moment, moments_of, sent_in, takes_in, view_of}
 use Rattle.sf_threads.specs.Walks.{IsSound, Moment, Walk}
 use Rattle.sf_rights.specs.States.{AreApart, State}
 use Rattle.sf_replay.specs.Cuts.{HasLedger, MakesAt, many_of}
+use Rattle.sf_replay.specs.Joining.{SendsAfter}
 use Rattle.sf_replay.specs.Lifts.{Comes, local_of}
 use Rattle.sf_replay.specs.Orders.{Spot}
 use Rattle.sf_replay.specs.Orders as orders
 use Rattle.sf_replay.specs.Tries.{DoesTry}
-use Rattle.sf_replay.proofs.Arrivals.{NoTakes, firsts, mine_firsts, own_many, own_without, sent_own}
+use Rattle.sf_replay.proofs.Arrivals.{NoTakes, firsts, mine_firsts, own_many, sent_own}
 use Rattle.sf_replay.proofs.Arriving.{goes_forward}
 use Rattle.sf_replay.proofs.Assembling.{IsMember, Member, rest_member}
 use Rattle.sf_replay.proofs.Closing.{RestsKept, ledger_gives, ledger_goes}
@@ -47,10 +47,15 @@ use Rattle.sf_replay.proofs.Coming.{comes}
 use Rattle.sf_replay.proofs.Counting.{IsAt, mine_without}
 use Rattle.sf_replay.proofs.Ending.{not_called}
 use Rattle.sf_replay.proofs.Pieces.{SendsArrive, known_in, post_of}
-use Rattle.sf_replay.proofs.Stamping.{IsStampedAt, by_there, known_seen, made_there, no_takes, seen_rise, sent_there, stamp_there, stamped_at, stamps_rise, unstamped_length}
+use Rattle.sf_replay.proofs.Reuniting.{AtJoin, all_send}
+use Rattle.sf_replay.proofs.Stamping.{IsStampedAt, by_there, known_seen, made_there, no_takes, seen_rise, stamp_there, stamped_at, stamps_rise, unstamped_length}
 use Rattle.sf_replay.proofs.Walked.{IsBehind, walked}
 use Rattle.sf_replay.proofs.Walking.{Front}
 use Rattle.sf_replay.specs.Members.{stamps, mine, seen_at, stamp_in, total_in, whole_of}
+
+-- a call that sends is of one step
+one_step : (asked : Arriving) (n m : ℕ) (one other : Contents ReadLeaseOf) → asked ≡ arrive.Send n one → asked ≡ arrive.Send m other → n ≡ m
+one_step asked n m one other is is_other = cc
 
 module _ {B : Type 0} where
   -- no call of a queue is known where none is
@@ -84,8 +89,7 @@ module _ {B : Type 0} (table : TableId) (locks : Locks B) (first : FirstSeats B)
       stamps_rise (seen_at queue first.seats.queues.items) (seen_rise queue first.seats.queues.items ordered.queues) early late less (omega (arith, low, many))
 
   -- a caller whose seats were taken in made its calls in order
-  module _ (seats : Seats B) (own : AreSeats table locks seats) (queues_on : AllZip (GoesOnIn seats.by) first.seats.queues.items seats.queues.items)
-      (arrivals_on : GoesOnWithout seats.by seats.arrivals.seen first.seats.arrivals.seen) where
+  module _ (seats : Seats B) (own : AreSeats table locks seats) (join : AtJoin locks first desk seats) where
     abbrev pub MadeAt : Spot → ℕ → Type 0
     MadeAt here n = Contains (moments_of seats) (n, stamps_here here)
 
@@ -96,7 +100,7 @@ module _ {B : Type 0} (table : TableId) (locks : Locks B) (first : FirstSeats B)
     told queue made earlier at by_it =
         subst (λ (m : ℕ × ℕ). Contains (moments_of seats) m) same
         (Contains-append_left (calls_made seats.by seats.queues.items) (sent_in (calls_by seats.by seats.arrivals.seen)) (moment found.e)
-        (made_there queue seats.by first.seats.by locks.queues.items first.seats.queues.items seats.queues.items own_first.queues own.queues queues_on found.more found.e found.before found.is (ap (λ (m : Made B). m.by) found.without ∙ by_it)))
+        (made_there queue seats.by first.seats.by locks.queues.items first.seats.queues.items seats.queues.items own_first.queues own.queues join.queues_on found.more found.e found.before found.is (ap (λ (m : Made B). m.by) found.without ∙ by_it)))
       where
         found : IsStampedAt (seen_at queue first.seats.queues.items) made earlier
         found = stamped_at (seen_at queue first.seats.queues.items) at.more made earlier (sym (calls_are queue) ∙ at.is)
@@ -107,46 +111,51 @@ module _ {B : Type 0} (table : TableId) (locks : Locks B) (first : FirstSeats B)
         same : moment found.e ≡ (made.call.0, stamp_in (length earlier) (seen_at queue first.seats.queues.items))
         same = λ i. ((ap (λ (m : Made B). m.call.0) found.without) i, stamp_is i)
 
-    -- so are those that send
-    told_sent : (more history : ArrivalCalls) (e : Entry Arriving Arrived) → desk.arrivals ≡ more ++ e ∷ history → e.by ≡ seats.by → (step : ℕ) (txn : Contents ReadLeaseOf) → e.call ≡ arrive.Send step txn
-        → MadeAt (0, length history) step
-    told_sent more history e is by_it step txn sends =
-        Contains-append_right (calls_made seats.by seats.queues.items) (sent_in (calls_by seats.by seats.arrivals.seen)) (step, stamp_in (length history) first.seats.arrivals.seen)
-        (subst (λ (stamp : ℕ). Contains (sent_in (calls_by seats.by seats.arrivals.seen)) (step, stamp)) stamp_is
-        (sent_there (calls_by seats.by seats.arrivals.seen) found.e step txn there (ap (λ e. e.call) found.without ∙ sends)))
+    -- those on the arrivals send, above its calls of the steps before
+    sent_above : (more history : ArrivalCalls) (e : Entry Arriving Arrived) → desk.arrivals ≡ more ++ e ∷ history → e.by ≡ seats.by → (step : ℕ) (txn : Contents ReadLeaseOf) → e.call ≡ arrive.Send step txn
+        → (there : Spot) (n : ℕ) → MadeAt there n → n < step → stamps_here there ≤ stamps_here (0, length history)
+    sent_above more history e is by_it step txn sends spot n at less =
+        let above = after.above (n, stamps_here spot) at (subst (λ (m : ℕ). n < m) same_step less) in
+        let same = stamp_is in
+        omega (arith, above, same)
       where
         found : IsStampedAt first.seats.arrivals.seen e history
         found = stamped_at first.seats.arrivals.seen more e history (sym closes.arrived ∙ is)
 
-        there : Contains (calls_by seats.by seats.arrivals.seen) found.e
-        there = subst (λ (es : List ArrivalEntry). Contains es found.e) arrivals_on.calls
+        there : Contains (calls_by seats.by join.reunited.arrivals.seen) found.e
+        there = subst (λ (es : List ArrivalEntry). Contains es found.e) join.arrivals_on.calls
             (subst (λ (es : List ArrivalEntry). Contains (calls_by seats.by es) found.e) (sym found.is) (by_there seats.by found.more found.e found.before (ap (λ e. e.by) found.without ∙ by_it)))
+
+        after : SendsAfter seats found.e
+        after = join.reunites.sends found.e there
+
+        same_step : step ≡ after.step
+        same_step = one_step e.call step after.step txn after.txn sends (sym (ap (λ e. e.call) found.without) ∙ after.sends)
 
         stamp_is : stamp_of found.e ≡ stamp_in (length history) first.seats.arrivals.seen
         stamp_is = sym (stamp_there found.more found.e found.before) ∙ ap (λ (m : ℕ). stamp_in m (found.more ++ found.e ∷ found.before)) found.height ∙ ap (stamp_in (length history)) (sym found.is)
 
     -- it takes nothing
-    pub none_taken : (seats.by ≡ 0 → ⊥) → NoTakes seats.by desk.arrivals
-    none_taken apart = subst (NoTakes seats.by) (sym closes.arrived)
-        (no_takes seats.by first.seats.arrivals.seen (ap (λ (es : List ArrivalEntry). takes_in es) arrivals_on.calls ∙ own.takes apart))
+    pub none_taken : NoTakes seats.by desk.arrivals
+    none_taken = subst (NoTakes seats.by) (sym closes.arrived)
+        (no_takes seats.by first.seats.arrivals.seen (ap (λ (es : List ArrivalEntry). takes_in es) join.arrivals_on.calls
+        ∙ all_send (calls_by seats.by join.reunited.arrivals.seen) (λ e there. let after = join.reunites.sends e there in (after.step, after.txn, after.sends))))
 
     -- what it sent is put among the arrivals by its calls there
-    pub arrive_all : (Holds : State B → Type 0) → RestsKept (whole_of desk) Holds → (seats.by ≡ 0 → ⊥) → SendsArrive (whole_of desk) Holds seats.by stamps_here MadeAt
-    arrive_all Holds rests apart = record {
-      none_taken = none_taken apart;
+    pub arrive_all : (Holds : State B → Type 0) → RestsKept (whole_of desk) Holds → SendsArrive (whole_of desk) Holds seats.by stamps_here MadeAt
+    arrive_all Holds rests = record {
+      none_taken = none_taken;
       forward = λ more history e is step txn sends. goes_forward (whole_of desk) Holds rests more history e is step txn sends;
       rise = λ early late less low. all_rise 0 early late less low;
-      above = λ more history e is by_it step txn sends there n at less. in_order there (0, length history) n step at (told_sent more history e is by_it step txn sends) less;
+      above = sent_above;
     }
 
     -- what its seats knew of its calls is all
-    pub known_all : (seats.by ≡ 0 → ⊥) → GoesOn seats.by (known_of (home_of locks seats) (view_of seats)) (known_of (plain_home desk) (plain_view desk))
-        → (lock place : ℕ) → known_in (whole_of desk) seats.by (view_of seats) lock place ≡ total_in (whole_of desk) seats.by lock place
-    known_all apart goes zero place =
-        ap (λ (n : ℕ). mine seats.by place (firsts seats.by n desk.arrivals))
-        (ap (λ (xs : List (Arrival ReadLeaseOf)). length xs) (sym (own_without seats.by (view_of seats).arrivals (plain_view desk).arrivals goes.arrivals)) ∙ own_many seats.by desk.arrivals (none_taken apart))
+    pub known_all : (lock place : ℕ) → known_in (whole_of desk) seats.by (view_of seats) lock place ≡ total_in (whole_of desk) seats.by lock place
+    known_all zero place =
+        ap (λ (n : ℕ). mine seats.by place (firsts seats.by n desk.arrivals)) (ap (λ (xs : List (Arrival ReadLeaseOf)). length xs) (sym join.sent_on) ∙ own_many seats.by desk.arrivals none_taken)
         ∙ mine_firsts seats.by place [] desk.arrivals
-    known_all apart goes (suc queue) place = sym (mine_without seats.by place ((view_of seats).calls queue) ((plain_view desk).calls queue) (goes.calls queue))
+    known_all (suc queue) place = sym (mine_without seats.by place ((view_of seats).calls queue) ((plain_view desk).calls queue) (join.calls_on queue))
 
   module _ (apart : AreApart (marks_of locks)) (legal : (queue : ℕ) → IsLegal (Answers (mark_among (marks_of locks) queue)) ((plain_view desk).calls queue)) (pictures : ℕ → Picture) where
     marks_are : (plain_home desk).marks ≡ marks_of locks
@@ -181,29 +190,25 @@ module _ {B : Type 0} (table : TableId) (locks : Locks B) (first : FirstSeats B)
 
     -- an actor that came back, as a caller of the whole run
     module _ (Holds : State B → Type 0) (lifted : LiftsAll Holds) (rests : RestsKept (whole_of desk) Holds) (start end : Moment B) (walk : Walk table pictures locks start end) (sound : IsSound table pictures locks start) (own : AreSeats table locks end.seats) (served : end.seats.by ≡ start.of.script.number)
-        (numbered : start.of.script.number ≡ 0 → ⊥) (ranges : (s : Step) → Contains start.of.script.steps s → IsStep s) (nothing : KnowsNothing start.seats)
-        (queues_on : AllZip (GoesOnIn end.seats.by) first.seats.queues.items end.seats.queues.items) (arrivals_on : GoesOnWithout end.seats.by end.seats.arrivals.seen first.seats.arrivals.seen)
-        (goes : GoesOn end.seats.by (known_of (home_of locks end.seats) (view_of end.seats)) (known_of (plain_home desk) (plain_view desk)))
+        (ranges : (s : Step) → Contains start.of.script.steps s → IsStep s) (nothing : KnowsNothing start.seats)
+        (join : AtJoin locks first desk end.seats)
         (owner : (number queue place : ℕ) → Contains start.of.stock number → (makes : MakesAt (whole_of desk) number queue place) → makes.made.by ≡ end.seats.by) where
-      pub not_first : end.seats.by ≡ 0 → ⊥
-      not_first same = numbered (sym served ∙ same)
-
       pub behind : IsBehind (whole_of desk) table pictures locks closes.marks apart absent legal Holds lifted end.seats.by start.of.stock start.of.script (sym served) ranges owner stamps_here
-          (MadeAt end.seats own queues_on arrivals_on) (in_order end.seats own queues_on arrivals_on) (told end.seats own queues_on arrivals_on) (arrive_all end.seats own queues_on arrivals_on Holds rests not_first) start (local_of end.of [] (view_of end.seats).turns.leaves)
+          (MadeAt end.seats own join) (in_order end.seats own join) (told end.seats own join) (arrive_all end.seats own join Holds rests) start (local_of end.of [] (view_of end.seats).turns.leaves)
       behind = walked (whole_of desk) table pictures locks closes.marks apart absent legal Holds lifted end.seats.by start.of.stock start.of.script (sym served) ranges owner stamps_here
-          (MadeAt end.seats own queues_on arrivals_on) (in_order end.seats own queues_on arrivals_on) (told end.seats own queues_on arrivals_on) (arrive_all end.seats own queues_on arrivals_on Holds rests not_first) start end walk sound
+          (MadeAt end.seats own join) (in_order end.seats own join) (told end.seats own join) (arrive_all end.seats own join Holds rests) start end walk sound
           (record { script_is = refl; stock_is = refl })
           (record {
-            calls = λ queue. (goes.calls queue).begins;
+            calls = λ queue. (join.calls_on queue).begins;
             later = [];
-            arrives = own_without end.seats.by (view_of end.seats).arrivals (plain_view desk).arrivals goes.arrivals ∙ sym (append-nil (sent_own end.seats.by (view_of end.seats).arrivals));
+            arrives = join.sent_on ∙ sym (append-nil (sent_own end.seats.by (view_of end.seats).arrivals));
           })
-          (known_all end.seats own queues_on arrivals_on not_first goes)
+          (known_all end.seats own join)
 
       abbrev pub member : Member B
       member = record { by = end.seats.by; rest = behind.rest; first = local_of start.of [] (view_of start.seats).turns.leaves; last = local_of end.of [] (view_of end.seats).turns.leaves }
 
       pub is_member : IsMember (whole_of desk) Holds stamps_here member
-      is_member = rest_member (whole_of desk) Holds stamps_here (MadeAt end.seats own queues_on arrivals_on) (in_order end.seats own queues_on arrivals_on) end.seats.by
+      is_member = rest_member (whole_of desk) Holds stamps_here (MadeAt end.seats own join) (in_order end.seats own join) end.seats.by
           (post_of (whole_of desk) end.seats.by start.of (view_of start.seats)) behind.rest (local_of end.of [] (view_of end.seats).turns.leaves)
           (λ here. nothing_known desk end.seats.by start.seats nothing here.0 here.1) behind.behind

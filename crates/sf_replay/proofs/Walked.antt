@@ -80,6 +80,11 @@ module _ {B : Type 0} (table : TableId) (pictures : ℕ → Picture) (locks : Lo
   walk_same Begin = (refl, refl)
   walk_same (More {before} {after} walk one) = let rest = walk_same walk in let same = try_same before after one in (same.0 ∙ rest.0, same.1 ∙ rest.1)
 
+  -- the caller stays along a walk
+  pub walk_by : {start end : Moment B} → Walk table pictures locks start end → end.seats.by ≡ start.seats.by
+  walk_by Begin = refl
+  walk_by (More {before} {after} walk one) = one.caller ∙ walk_by walk
+
 module _ {B : Type 0} (whole : Whole B) (table : TableId) (pictures : ℕ → Picture) (locks : Locks B) (marks : whole.marks ≡ marks_of locks) (apart : AreApart (marks_of locks))
     (absent : (queue : ℕ) → list_any (λ (mark : QueueMark). mark.queue.0 == queue) (marks_of locks) ≡ false → whole.view.calls queue ≡ [])
     (legal : (queue : ℕ) → IsLegal (Answers (mark_among (marks_of locks) queue)) (whole.view.calls queue)) (Holds : State B → Type 0)
