@@ -7,6 +7,7 @@ pub mod LeadLemmas
 pub mod LendLemmas
 pub mod ListLemmas
 pub mod MarkLemmas
+pub mod PlaceLemmas
 pub mod SettleLemmas
 pub mod StandingAlong
 pub mod StandingLemmas

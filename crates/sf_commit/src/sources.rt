@@ -1,5 +1,8 @@
+ghost use Rattle.std.specs.BTreeMap.{get};
 ghost use Rattle.std.specs.List.{position};
-ghost use Rattle.std.specs.Prelude.{◌≡◌, ◌↔◌, IfOk, IsTrue, map};
+ghost use Rattle.std.specs.Option.{IfSome, unwrap_or};
+ghost use Rattle.std.specs.Ordering.{nat_cmp};
+ghost use Rattle.std.specs.Prelude.{◌≡◌, ◌↔◌, ℕ, IfOk, IsTrue, map};
 ghost use Rattle.sf_commit.specs.Handlers.{source_of};
 ghost use Rattle.sf_commit.specs.OnLayers.{IsPlaceOf, is_on};
 
@@ -9,6 +12,10 @@ use sf_layer::Shown;
 use sf_txn::Lease;
 use sf_view::Drawn;
 use std::alloc::Global;
+use std::collections::BTreeMap;
+
+// Up to so many drawn layers are few: to look for their buffers costs less than a map of all places.
+const FEW: usize = 16;
 
 /// The place of a layer's buffer, if it shows one.
 fn index_of<L: Lease>(on: &[Reading<L>], layer: LayerId) -> Option<usize>
@@ -36,17 +43,59 @@ pub(crate) fn index_of_shown<L: Lease>(on: &[Reading<L>], shown: &Shown) -> Opti
     None
 }
 
-/// The place of a drawn layer's buffer, or 0 where it shows none. A place beyond 32 bits is more than
-/// memory can have.
-fn source<L: Lease>(on: &[Reading<L>], drawn: &Drawn) -> Result<u32, NoMemory>
-    ensures { IfOk result (λ source. source ≡ source_of on.now drawn.now) }
+/// The place as 32 bits, or 0 where there is none. A place beyond 32 bits is more than memory can have.
+fn source_at(place: Option<usize>) -> Result<u32, NoMemory>
+    ensures { IfOk result (λ source. source ≡ unwrap_or place 0) }
 {
-    match index_of(on, drawn.layer) {
+    match place {
         Some(place) => match u32::try_from(place) {
             Ok(source) => Ok(source),
             Err(_) => Err(NoMemory),
         },
         None => Ok(0),
+    }
+}
+
+/// The place of each layer's buffer, by the layer's number. Of several buffers the first counts.
+fn places_of<L: Lease>(alloc: Global, on: &[Reading<L>]) -> Result<BTreeMap<u32, usize>, NoMemory>
+    ensures { IfOk result (λ places. (number : ℕ) → get nat_cmp places number ≡ position (is_on (record { 0 = number })) on.now) }
+{
+    let mut places = BTreeMap::new(alloc);
+    let mut place = on.len();
+    while place > 0 {
+        place -= 1;
+        let one = &on[place];
+        places.insert(one.layer.0, place)?;
+    }
+    Ok(places)
+}
+
+/// The places by layer, where there are many drawn layers to look for.
+fn places_for<L: Lease>(
+    alloc: Global,
+    drawn: &[Drawn],
+    on: &[Reading<L>],
+) -> Result<Option<BTreeMap<u32, usize>>, NoMemory>
+    ensures { IfOk result (λ made. IfSome made (λ places. (number : ℕ) → get nat_cmp places number ≡ position (is_on (record { 0 = number })) on.now)) }
+{
+    if drawn.len() <= FEW {
+        return Ok(None);
+    }
+    Ok(Some(places_of(alloc, on)?))
+}
+
+/// The place of a layer's buffer, if it shows one: by the places of all, where they are known.
+fn place_of<L: Lease>(
+    places: &Option<BTreeMap<u32, usize>>,
+    on: &[Reading<L>],
+    layer: LayerId,
+) -> Option<usize>
+    requires { IfSome places.now (λ places. (number : ℕ) → get nat_cmp places number ≡ position (is_on (record { 0 = number })) on.now) }
+    ensures { result ≡ position (is_on layer) on.now }
+{
+    match places {
+        Some(places) => places.get(&layer.0).copied(),
+        None => index_of(on, layer),
     }
 }
 
@@ -58,9 +107,11 @@ pub(crate) fn sources<L: Lease>(
 ) -> Result<Vec<u32>, NoMemory>
     ensures { IfOk result (λ sources. sources.items ≡ map (source_of on.now) drawn.now) }
 {
+    let made = places_for(alloc, drawn, on)?;
+    let places = &made;
     let mut sources = Vec::new(alloc);
     for one in drawn {
-        sources.push(source(on, one)?)?;
+        sources.push(source_at(place_of(places, on, one.layer))?)?;
     }
     Ok(sources)
 }
