@@ -1,14 +1,16 @@
 -- A transaction that was followed is committed, or rejected.
-use Rattle.std.proofs.Common.{◌≡◌, ℕ, List, [], map, Result, Ok, Err, sym, subst}
+use Rattle.std.proofs.Common.{◌≡◌, ℕ, List, [], map, Result, Ok, Err, refl, sym, subst}
 use Rattle.sf_base.specs.declared.ids.LayerId.{LayerId}
 use Rattle.sf_layer.specs.declared.shown.Shown.{Shown}
-use Rattle.sf_ready.specs.Facts.{FactsOf}
+use Rattle.sf_layer.specs.declared.op.Op.{Op}
+use Rattle.sf_ready.specs.Facts.{FactsOf, HasSame}
 use Rattle.sf_token.specs.Pending.{Arrival}
-use Rattle.sf_tree.specs.Changes.{Rejection}
+use Rattle.sf_tree.specs.Changes.{Rejection, after}
 use Rattle.sf_tree.specs.Trees.{TreeOf}
+use Rattle.sf_txn.specs.Buffers.{Buffer}
 use Rattle.sf_txn.specs.Transactions.{shown_by}
 use Rattle.sf_commit.specs.Inside.{Follows, Notes}
-use Rattle.sf_commit.specs.Rounds.{StageOf, shown_if, stage_with, told_of}
+use Rattle.sf_commit.specs.Rounds.{StageOf, accepted, pressed_in, shown_if, stage_with, told_of}
 
 module _ {L : Type 0} where
   pub tells : (old new : StageOf L) (facts later : FactsOf) (a : Arrival L) (buffers : List (LayerId × Shown)) (cause op : ℕ) (r : Result TreeOf Rejection)
@@ -25,3 +27,12 @@ module _ {L : Type 0} where
       subst (λ (s : StageOf L). Notes facts later (map shown_by a.txn.buffers) s.tree.layers) (sym same) noted
   notes old new facts later a told (Err rejection) (same, _, noted) =
       subst (λ (s : StageOf L). Notes facts later [] s.tree.layers) (sym same) noted
+
+  -- operations that were applied are followed
+  pub applied : (old new : StageOf L) (facts later : FactsOf) (ops : List (LayerId × Op)) (buffers : List (Buffer L)) (shown : List (LayerId × Shown)) (next : TreeOf)
+      → after old.tree ops ≡ Ok next → new ≡ accepted (record old { tree = next }) ops buffers → shown ≡ map shown_by buffers
+      → ((tree to : TreeOf) → after tree ops ≡ Ok to → HasSame facts.pressed (pressed_in tree.layers) → Notes facts later shown to.layers)
+      → HasSame facts.pressed (pressed_in old.tree.layers) → Follows old new facts later ops buffers (0, 0) (after old.tree ops)
+  applied old new facts later ops buffers shown next made same of noted pressed =
+      subst (λ (r : Result TreeOf Rejection). Follows old new facts later ops buffers (0, 0) r) (sym made)
+      (same, refl, subst (λ (s : List (LayerId × Shown)). Notes facts later s next.layers) of (noted old.tree next made pressed))

@@ -8,6 +8,7 @@ pub mod LendLemmas
 pub mod ListLemmas
 pub mod MarkLemmas
 pub mod PlaceLemmas
+pub mod PressedLemmas
 pub mod SettleLemmas
 pub mod StandingAlong
 pub mod StandingLemmas

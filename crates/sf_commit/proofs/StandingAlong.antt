@@ -30,11 +30,11 @@ use Rattle.sf_commit.specs.OnLayers.{OnLayer, brought, on_after, shown_on, witho
 use Rattle.sf_commit.specs.Rounds.{Decided, Leads, Round, StageOf, committed, stage_with}
 
 -- a change that could be made has no cause
-no_cause : {A : Type 0} (b : Bool) (cause : Reject) (rest : Result A Reject) (x : A) → (if b then Err cause else rest) ≡ Ok x → rest ≡ Ok x
+pub no_cause : {A : Type 0} (b : Bool) (cause : Reject) (rest : Result A Reject) (x : A) → (if b then Err cause else rest) ≡ Ok x → rest ≡ Ok x
 no_cause true cause rest x h = cc
 no_cause false cause rest x h = h
 
-same_layers : (a b : List Layer) → ◌≡◌ {A = Result (List Layer) Reject} (Ok a) (Ok b) → a ≡ b
+pub same_layers : (a b : List Layer) → ◌≡◌ {A = Result (List Layer) Reject} (Ok a) (Ok b) → a ≡ b
 same_layers a b h = cc
 
 module _ {L : Type 0} (layers : List Layer) (on : List (OnLayer L)) (id : LayerId) (next : List Layer) where

@@ -4,7 +4,8 @@ ghost use Rattle.std.specs.List.{All};
 ghost use Rattle.sf_layer.specs.Ranges.{IsOperation};
 ghost use Rattle.sf_commit.specs.Deciding.{ShowsIts};
 ghost use Rattle.sf_commit.specs.Inside.{Follows, Notes};
-ghost use Rattle.sf_commit.specs.Rounds.{accepted, rejected, shown_if, stage_after, told_of};
+ghost use Rattle.sf_commit.specs.Rounds.{accepted, pressed_in, rejected, shown_if, stage_after, told_of};
+ghost use Rattle.sf_ready.specs.Facts.{HasSame};
 ghost use Rattle.sf_tree.specs.Changes.{after};
 ghost use Rattle.sf_txn.specs.Transactions.{shown_by};
 
@@ -74,16 +75,9 @@ where
     L::Reading: Drop,
 {
     /// What a transaction that was applied to the tree shows.
-    fn accept(
-        &mut self,
-        facts: &mut Facts,
-        shown: &[(LayerId, Shown)],
-        parts: Parts<L>,
-    ) -> Result<(), NoMemory>
-        ensures stage { OnOk result (self.new ≡ accepted self.old parts.ops parts.buffers) }
-        ensures facts { OnOk result (Notes facts.old facts.new shown.now self.old.tree.layers) }
+    fn accept(&mut self, parts: Parts<L>) -> Result<(), NoMemory>
+        ensures { OnOk result (self.new ≡ accepted self.old parts.ops parts.buffers) }
     {
-        note(facts, shown, self.tree.layers())?;
         let Parts { ops, buffers, .. } = parts;
         show_all(
             &mut self.on,
@@ -94,11 +88,9 @@ where
     }
 
     /// What a transaction that was rejected brought goes.
-    fn reject(&mut self, facts: &mut Facts, parts: Parts<L>) -> Result<(), NoMemory>
-        ensures stage { OnOk result (self.new ≡ rejected self.old parts.buffers) }
-        ensures facts { OnOk result (Notes facts.old facts.new [] self.old.tree.layers) }
+    fn reject(&mut self, parts: Parts<L>) -> Result<(), NoMemory>
+        ensures { OnOk result (self.new ≡ rejected self.old parts.buffers) }
     {
-        note(facts, &[], self.tree.layers())?;
         give_up(&mut self.gone, parts.buffers.into_vec())
     }
 
@@ -113,15 +105,17 @@ where
         requires few { length parts.ops ≤ 4294967295 }
         requires in_range { All IsOperation parts.ops }
         requires shown { shown.now ≡ map shown_by parts.buffers }
+        requires pressed { HasSame facts.old.pressed (pressed_in self.old.tree.layers) }
         ensures { IfOk result (λ told. Follows self.old self.new facts.old facts.new parts.ops parts.buffers told (after self.old.tree parts.ops)) }
     {
         match self.tree.apply(parts.ops.as_slice()) {
             Ok(()) => {
-                self.accept(facts, shown, parts)?;
+                note(facts, shown, parts.ops.as_slice())?;
+                self.accept(parts)?;
                 Ok((0, 0))
             }
             Err(ApplyFault::Reject { cause, op }) => {
-                self.reject(facts, parts)?;
+                self.reject(parts)?;
                 Ok((cause, op))
             }
             Err(ApplyFault::NoMemory) => Err(NoMemory),
@@ -137,6 +131,7 @@ where
 
     /// Commits a transaction, or rejects it as a whole, and notes what later ones are decided from.
     pub fn commit(&mut self, facts: &mut Facts, arrived: Arrived<L>) -> Result<(), NoMemory>
+        requires pressed { HasSame facts.old.pressed (pressed_in self.old.tree.layers) }
         ensures stage { OnOk result (self.new ≡ stage_after self.old arrived) }
         ensures facts { OnOk result (Notes facts.old facts.new
             (shown_if (after self.old.tree arrived.txn.ops) arrived.txn.buffers) self.new.tree.layers) }

@@ -38,6 +38,7 @@ fn commit_first<L: Lease + Drop>(
 ) -> Result<(), NoMemory>
 where
     L::Reading: Drop,
+    requires pressed { HasSame facts.old.pressed (pressed_in stage.old.tree.layers) }
     ensures left { queues.new ≡ record queues.old { pending = without_first (is_of token) queues.old.pending } }
     ensures commits { OnOk result ((a : Arrival L) → head_of token queues.old.pending ≡ Some a
         → CommitsOne stage.old stage.new facts.old facts.new a) }

@@ -1,16 +1,21 @@
-ghost use Rattle.std.specs.Prelude.{◌≡◌, ◌++◌, OnOk};
+ghost use Rattle.std.specs.Prelude.{◌≡◌, ◌++◌, ◌==◌, ℕ, List, Ok, OnOk, if◌then◌else◌};
+ghost use Rattle.sf_base.specs.declared.ids.LayerId.{LayerId as LayerIdValue};
 ghost use Rattle.sf_commit.specs.Inside.{Notes};
 ghost use Rattle.sf_commit.specs.Rounds.{frames_in, layers_in, pressed_in};
-ghost use Rattle.sf_ready.specs.Facts.{HasSame, TellsSame};
+ghost use Rattle.sf_layer.specs.declared.layer.Layer.{Layer as LayerValue};
+ghost use Rattle.sf_ready.specs.Facts.{HasSame, TellsSame, has_layer};
+ghost use Rattle.sf_tree.specs.Changes.{after, changed};
+ghost use Rattle.sf_tree.specs.Trees.{TreeOf};
 
 use sf_base::{LayerId, NoMemory};
-use sf_layer::{Layer, Shown};
+use sf_layer::{Layer, Op, Shown};
 use sf_ready::Facts;
 
 /// Buffers were committed for their layers.
 fn note_shown(facts: &mut Facts, shown: &[(LayerId, Shown)]) -> Result<(), NoMemory>
     ensures frames { OnOk result (TellsSame facts.new.frames (frames_in shown.now ++ facts.old.frames)) }
     ensures fresh { OnOk result (HasSame facts.new.fresh (layers_in shown.now ++ facts.old.fresh)) }
+    ensures pressed { OnOk result (facts.new.pressed ≡ facts.old.pressed) }
 {
     for (layer, one) in shown {
         facts.add_frame(*layer, one.frame)?;
@@ -33,14 +38,52 @@ pub(crate) fn note_pressed(facts: &mut Facts, layers: &[Layer]) -> Result<(), No
     Ok(())
 }
 
-/// These buffers were committed, and the layers are these now.
+/// The layer has backpressure now, or has none any more.
+fn set_pressed(facts: &mut Facts, layer: LayerId, has: bool) -> Result<(), NoMemory>
+    ensures rest { OnOk result (facts.new ≡ record facts.old { pressed = facts.new.pressed }) }
+    ensures pressed { OnOk result ((id : LayerIdValue) → has_layer facts.new.pressed id ≡ (if layer.0 == id.0 then has else has_layer facts.old.pressed id)) }
+{
+    if has {
+        return facts.add_pressed(layer);
+    }
+    facts.pressed.remove(&layer.0);
+    Ok(())
+}
+
+/// An operation was applied to its layer: whether that has backpressure may have changed.
+fn note_op(facts: &mut Facts, layer: LayerId, op: &Op) -> Result<(), NoMemory>
+    ensures rest { OnOk result (facts.new ≡ record facts.old { pressed = facts.new.pressed }) }
+    ensures pressed { OnOk result ((most : ℕ) (layers next : List LayerValue) → changed most layers layer op.now ≡ Ok next
+        → HasSame facts.old.pressed (pressed_in layers) → HasSame facts.new.pressed (pressed_in next)) }
+{
+    match *op {
+        Op::Backpressure(has) => set_pressed(facts, layer, has),
+        Op::Destroy => set_pressed(facts, layer, false),
+        _ => Ok(()),
+    }
+}
+
+/// Operations were applied, in their order.
+fn note_ops(facts: &mut Facts, ops: &[(LayerId, Op)]) -> Result<(), NoMemory>
+    ensures rest { OnOk result (facts.new ≡ record facts.old { pressed = facts.new.pressed }) }
+    ensures pressed { OnOk result ((tree next : TreeOf) → after tree ops.now ≡ Ok next
+        → HasSame facts.old.pressed (pressed_in tree.layers) → HasSame facts.new.pressed (pressed_in next.layers)) }
+{
+    for (layer, op) in ops {
+        note_op(facts, *layer, op)?;
+    }
+    Ok(())
+}
+
+/// These buffers were committed with these operations, which were applied.
 pub(crate) fn note(
     facts: &mut Facts,
     shown: &[(LayerId, Shown)],
-    layers: &[Layer],
+    ops: &[(LayerId, Op)],
 ) -> Result<(), NoMemory>
-    ensures { OnOk result (Notes facts.old facts.new shown.now layers.now) }
+    ensures { OnOk result ((tree next : TreeOf) → after tree ops.now ≡ Ok next
+        → HasSame facts.old.pressed (pressed_in tree.layers) → Notes facts.old facts.new shown.now next.layers) }
 {
     note_shown(facts, shown)?;
-    note_pressed(facts, layers)
+    note_ops(facts, ops)
 }
