@@ -63,6 +63,29 @@ row_small row column w h low few narrow inside =
     let next : suc row * w ≡ row * w + w = omega arith in
     omega (arith, above, next)
 
+-- the pixels of a row of a crop are in its picture
+pub crop_room : (picture : Picture) (rect : Rect) (across down : ℤ) (y left right from : ℕ) → LiesWithin rect picture.width picture.height → left < right → is_within across rect.width (pos left) ≡ true → is_within across rect.width (pos (right - 1)) ≡ true → is_within down rect.height (pos y) ≡ true → from ≡ unsigned ((pos y +ℤ neg_ℤ down) +ℤ rect.y) * picture.width + unsigned ((pos left +ℤ neg_ℤ across) +ℤ rect.x) → from + (right - left) ≤ picture.width * picture.height
+crop_room picture rect across down y left right from lies ordered first last within is =
+    let narrow = columns_below left right rect.width picture.width _ across rect.x ordered first last lies.across.low lies.across.high refl in
+    let low = place_below y rect.height picture.height down rect.y within lies.down.low lies.down.high in
+    rw is (row_room _ _ (right - left) picture.width picture.height low narrow)
+
+-- and few
+pub crop_small : (picture : Picture) (rect : Rect) (across down : ℤ) (y left from : ℕ) → LiesWithin rect picture.width picture.height → picture.height ≤ 512 → picture.width ≤ 512 → is_within across rect.width (pos left) ≡ true → is_within down rect.height (pos y) ≡ true → from ≡ unsigned ((pos y +ℤ neg_ℤ down) +ℤ rect.y) * picture.width + unsigned ((pos left +ℤ neg_ℤ across) +ℤ rect.x) → from ≤ 262144
+crop_small picture rect across down y left from lies few narrow first within is =
+    let column = place_below left rect.width picture.width across rect.x first lies.across.low lies.across.high in
+    let low = place_below y rect.height picture.height down rect.y within lies.down.low lies.down.high in
+    rw is (row_small _ _ picture.width picture.height low few narrow (omega (arith, column)))
+
+-- the next row of a crop starts so many pixels further on as its picture is wide
+pub next_row : (from w column y extent : ℕ) (place edge : ℤ) → is_within place extent (pos y) ≡ true → pos 0 ≤ℤ edge → from ≡ unsigned ((pos y +ℤ neg_ℤ place) +ℤ edge) * w + column → from + w ≡ unsigned ((pos (y + 1) +ℤ neg_ℤ place) +ℤ edge) * w + column
+next_row from w column y extent place edge within low is =
+    let moved = place_moved y (y + 1) extent place edge (omega arith) within low in
+    let next : unsigned ((pos (y + 1) +ℤ neg_ℤ place) +ℤ edge) ≡ suc (unsigned ((pos y +ℤ neg_ℤ place) +ℤ edge)) = omega (arith, moved) in
+    let row : unsigned ((pos (y + 1) +ℤ neg_ℤ place) +ℤ edge) * w ≡ suc (unsigned ((pos y +ℤ neg_ℤ place) +ℤ edge)) * w = ap (λ (n : ℕ). n * w) next in
+    let more : suc (unsigned ((pos y +ℤ neg_ℤ place) +ℤ edge)) * w ≡ unsigned ((pos y +ℤ neg_ℤ place) +ℤ edge) * w + w = omega arith in
+    omega (arith, is, row, more)
+
 -- a pixel of a row of a crop
 pub crop_pixel : (picture : Picture) (bytes : List ℕ) (rect : Rect) (across down : ℤ) (y left right column row k : ℕ) → ShowsPicture picture bytes → LiesWithin rect picture.width picture.height → left < right → is_within across rect.width (pos left) ≡ true → is_within across rect.width (pos (right - 1)) ≡ true → is_within down rect.height (pos y) ≡ true → column ≡ unsigned ((pos left +ℤ neg_ℤ across) +ℤ rect.x) → row ≡ unsigned ((pos y +ℤ neg_ℤ down) +ℤ rect.y) → k < right - left → pixel_in bytes ((row * picture.width + column) + k) ≡ pixel_at picture (unsigned ((pos (left + k) +ℤ neg_ℤ across) +ℤ rect.x)) (unsigned ((pos y +ℤ neg_ℤ down) +ℤ rect.y))
 crop_pixel picture bytes rect across down y left right column row k shows lies ordered first last within is_column is_row low_k =

@@ -10,7 +10,7 @@ ghost use Rattle.sf_view.specs.Contents.{source_of, unsigned};
 
 use crate::area::Area;
 use crate::band::{Band, row_start};
-use crate::crop::{Crop, crop_row, crop_rows};
+use crate::crop::{Crop, crop_row_from, crop_rows, crop_start};
 use crate::spans::move_pixels;
 use sf_picture::Painted;
 
@@ -41,7 +41,8 @@ fn move_rows(picture: &Painted, crop: Crop, frame: &mut [u8], band: Band, area: 
     );
 }
 
-// Moves the points of a row over those of a frame, where the row starts at a pixel of it.
+// Moves the points of a row over those of a frame, where the row starts at a pixel of it and the
+// first point that is moved has this number in the picture.
 fn move_row(
     picture: &Painted,
     crop: Crop,
@@ -50,6 +51,7 @@ fn move_row(
     y: u32,
     left: u32,
     right: u32,
+    from: usize,
 )
     requires crop { LiesWithin crop.rect picture.now.width picture.now.height }
     requires solid { IsSolid picture.now }
@@ -57,13 +59,15 @@ fn move_row(
     requires first { is_within crop.place.0 crop.rect.width (pos left) ≡ true }
     requires last { is_within crop.place.0 crop.rect.width (pos (right - 1)) ≡ true }
     requires down { is_within crop.place.1 crop.rect.height (pos y) ≡ true }
+    requires from { from ≡ unsigned ((pos y +ℤ neg_ℤ crop.place.1) +ℤ crop.rect.y) * picture.now.width
+        + unsigned ((pos left +ℤ neg_ℤ crop.place.0) +ℤ crop.rect.x) }
     requires room { 4 * (start + right) ≤ length frame.old }
     ensures { (opaque : Bool) (below : ℕ → RgbaValue → RgbaValue) → PaintsSpan frame.old frame.new (start + left) (start + right) (λ i under.
         painted (below i under) (source_of opaque (pixel_at picture.now
         (unsigned ((pos (i - start) +ℤ neg_ℤ crop.place.0) +ℤ crop.rect.x))
         (unsigned ((pos y +ℤ neg_ℤ crop.place.1) +ℤ crop.rect.y)))) 255) }
 {
-    let row = crop_row(picture, crop, y, left, right);
+    let row = crop_row_from(picture, crop, y, left, right, from);
     move_pixels(frame, start + left as usize, start + right as usize, row);
 }
 
@@ -88,8 +92,10 @@ pub fn move_crop(picture: &Painted, crop: Crop, frame: &mut [u8], band: Band, ar
         move_rows(picture, crop, frame, band, area);
         return;
     }
+    let mut from = crop_start(picture, crop, area.top, area.left, area.right);
     for y in area.top..area.bottom {
         let row = row_start(band, y);
-        move_row(picture, crop, frame, row, y, area.left, area.right);
+        move_row(picture, crop, frame, row, y, area.left, area.right, from);
+        from += width as usize;
     }
 }
