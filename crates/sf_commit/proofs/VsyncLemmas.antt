@@ -112,7 +112,7 @@ module _ {L E R C : Type 0} (lease : Ghosts L E R C) where
   shown_later : (eye now next : E) (looked : List (Arrival L)) → ((l : L) → lease.knows now l → lease.knows next l)
       → AllLeases (IsShownTo lease eye now) looked → AllLeases (IsShownTo lease eye next) looked
   shown_later eye now next looked keeps shown =
-      λ k d h j e g. let one = shown k d h j e g in record { known = λ drawn. keeps _ (one.known drawn); exact = one.exact }
+      λ k d h j e g. let one = shown k d h j e g in record { known = λ drawn. keeps _ (one.known drawn); still = one.still; exact = one.exact }
 
   -- what was read already can be read
   on_readable : (eye now : E) (on : List (OnLayer L)) → lease.mark now ≡ lease.mark eye → AllOn (lease.fits (lease.mark eye)) on → All (λ (one : OnLayer L). one.is_read ≡ true) on

@@ -220,7 +220,7 @@ module _ {L E R C : Type 0} (lease : Ghosts L E R C) where
           looks = decides.looks;
           shown = All-weaker (λ (a : Arrival L). All (λ (b : Buffer L). IsShownTo lease eye mid b.lease) a.txn.buffers) (λ (a : Arrival L). All (λ (b : Buffer L). IsShownTo lease eye later b.lease) a.txn.buffers)
               (λ a. All-weaker (λ (b : Buffer L). IsShownTo lease eye mid b.lease) (λ (b : Buffer L). IsShownTo lease eye later b.lease)
-              (λ b is. record { known = λ drawn. back.keeps b.lease (is.known drawn); exact = is.exact }) a.txn.buffers) decides.looked decides.shown;
+              (λ b is. record { known = λ drawn. back.keeps b.lease (is.known drawn); still = is.still; exact = is.exact }) a.txn.buffers) decides.looked decides.shown;
           end = round_at_hand end;
           decided =
               subst (λ (r : Round L). Decided lease.shown seen expected r (round_at_hand end))

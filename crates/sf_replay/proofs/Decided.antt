@@ -1,30 +1,23 @@
 -- What a compositor decides in a vsync, lifted to the state of all callers, wherever its take is the next call on the arrivals.
-use Rattle.std.proofs.Common.{◌≡◌, ℕ, suc, ◌+◌, ◌==◌, Bool, true, false, List, [], ◌∷◌, ◌++◌, arith, ap, ◌∙◌, sym, refl, inl, inr, subst, length, map, Some, None}
-use Rattle.std.specs.Prelude.{◌↔◌}
-use Rattle.std.specs.List.{All, AllZip, flat_map, sum_by}
-use Rattle.std.proofs.lemmas.Bool.{cases_Bool, eqb-true, false≢true}
+use Rattle.std.proofs.Common.{◌≡◌, ℕ, suc, ◌+◌, ◌==◌, true, false, List, [], ◌∷◌, ◌++◌, arith, ap, ◌∙◌, sym, refl, inl, inr, subst, length, map, Some, None}
+use Rattle.std.specs.List.{flat_map, sum_by}
+use Rattle.std.proofs.lemmas.Bool.{cases_Bool, eqb-true}
 use Rattle.std.proofs.lemmas.List.{append-nil}
 use Rattle.std.proofs.lemmas.List.Concat.{flat_map-append}
-use Rattle.std.proofs.lemmas.List.Elements.{All-cons, All-nil}
 use Rattle.std.proofs.lemmas.List.Sums.{sum_by-append, sum_by-cons}
 use Rattle.sf_base.specs.declared.fences.Seen.{Seen}
 use Rattle.sf_calls.specs.declared.object.Entry.{Entry}
 use Rattle.sf_scene.specs.declared.step.ActorScript.{ActorScript}
 use Rattle.sf_surface.specs.Tokens.{Issued, ReadLeaseOf}
 use Rattle.sf_token.specs.Arrivals.{waiting}
-use Rattle.sf_token.specs.Looking.{IsLookedArrival}
 use Rattle.sf_token.specs.declared.arrivals.ArriveCall.TheVariants as arrive
 use Rattle.sf_token.specs.Pending.{Arrival}
 use Rattle.sf_turns.specs.Views.{SeatView}
-use Rattle.sf_txn.specs.Buffers.{Buffer}
-use Rattle.sf_txn.specs.Leases.{IsLooked, IsLookedBuffer, IsShownTo}
 use Rattle.sf_txn.specs.Transactions.{Contents, empty}
 use Rattle.sf_txn.specs.declared.lease.Lease.{Ghosts}
 use Rattle.sf_commit.specs.Handlers.{Decides, HandlerOf}
-use Rattle.sf_commit.specs.Leases.{HandsBack, IsReleaseOf}
-use Rattle.sf_commit.specs.Lending.{KeptRead, ends_of, left_if, reads_of}
-use Rattle.sf_commit.specs.OnLayers.{OnLayer}
-use Rattle.sf_commit.specs.Releases.{ReleaseOf, VsyncOf}
+use Rattle.sf_commit.specs.Lending.{ends_of, left_if, reads_of}
+use Rattle.sf_commit.specs.Releases.{VsyncOf}
 use Rattle.sf_actor.specs.Desks.{DeskView}
 use Rattle.sf_actor.specs.Rights.{Turn}
 use Rattle.sf_actor.specs.Traces.{places_from}
@@ -55,95 +48,6 @@ suc_apart queue = elim (cases_Bool (suc queue == 0)) [
 none_written : written.written_in [] ≡ []
 unfolding places_from
 none_written = refl
-
-zip_weaker : {X Y : Type 0} (P Q : X → Y → Type 0) → ((x : X) (y : Y) → P x y → Q x y) → (xs : List X) (ys : List Y) → AllZip P xs ys → AllZip Q xs ys
-zip_weaker P Q goes [] [] zip = tt
-zip_weaker P Q goes [] (y ∷ ys) zip = absurd zip
-zip_weaker P Q goes (x ∷ xs) [] zip = absurd zip
-zip_weaker P Q goes (x ∷ xs) (y ∷ ys) zip = (goes x y zip.0, zip_weaker P Q goes xs ys zip.1)
-
-all_so : {X : Type 0} (P : X → Type 0) → ((x : X) → P x) → (xs : List X) → All P xs
-all_so P so [] = All-nil P
-all_so P so (x ∷ xs) = All-cons P x xs (so x) (all_so P so xs)
-
--- a lease of which an eye that has all leaves asks nothing
-module _ (lease : Ghosts ReadLeaseOf SeatView ReadLeaseOf Issued) (base : SeatView) where
-  abbrev pub easy : Ghosts ReadLeaseOf SeatView ReadLeaseOf Issued
-  easy = record lease { ends = λ (eye : SeatView). eye.leaves; knows = λ (eye : SeatView) (l : ReadLeaseOf). Unit {0}; is_exact = λ m. false; fits = λ m (l : ReadLeaseOf). Unit {0}; mark = λ (eye : SeatView). lease.mark base }
-
-  both : Unit {0} ↔ Unit {0}
-  both = (λ u. u, λ u. u)
-
-  easy_looked : (old new : ReadLeaseOf) → IsLooked lease old new → IsLooked easy old new
-  easy_looked old new looked = record {
-    plain = looked.plain;
-    picture = looked.picture;
-    end = looked.end;
-    next_end = looked.next_end;
-    fits = λ m. both;
-    test = λ e. both;
-    looks = looked.looks;
-  }
-
-  easy_buffer : (old new : Buffer ReadLeaseOf) → IsLookedBuffer lease old new → IsLookedBuffer easy old new
-  easy_buffer old new looked = record { layer = looked.layer; shown = looked.shown; fence = looked.fence; looked = easy_looked old.lease new.lease looked.looked }
-
-  easy_arrival : (old new : Arrival ReadLeaseOf) → IsLookedArrival lease old new → IsLookedArrival easy old new
-  easy_arrival old new looked = record {
-    number = looked.number;
-    actor = looked.actor;
-    step = looked.step;
-    buffers = zip_weaker (IsLookedBuffer lease) (IsLookedBuffer easy) easy_buffer old.txn.buffers new.txn.buffers looked.buffers;
-    rest = looked.rest;
-  }
-
-  easy_back : (read : Bool) (held back : ReadLeaseOf) → HandsBack lease read held back → HandsBack easy read held back
-  easy_back true held back handed = handed
-  easy_back false held back handed = handed
-
-  easy_release : (on : OnLayer ReadLeaseOf) (release : ReleaseOf ReadLeaseOf) → IsReleaseOf lease on release → IsReleaseOf easy on release
-  easy_release on release is = record { queue = is.queue; frame = is.frame; fence = is.fence; handed = easy_back on.is_read on.lease release.lease is.handed }
-
-  easy_ends : (reads : List (KeptRead ReadLeaseOf)) → ends_of easy reads ≡ ends_of lease reads
-  easy_ends [] = refl
-  easy_ends (read ∷ reads) = ap (λ (xs : List Turn). lease.end read.lease ∷ xs) (easy_ends reads)
-
-  module _ (turns : IsOfTurns lease) where
-    pub easy_turns : IsOfTurns easy
-    easy_turns = record { end = turns.end; next_end = turns.next_end; ends = λ eye. refl }
-
-    -- it decides the same over a seat that has all leaves
-    pub easy_decides : (handler after : HandlerOf ReadLeaseOf) (eye next other : SeatView) (arrived : List (Arrival ReadLeaseOf)) (seen : Seen) (expected : ℕ) (told : VsyncOf ReadLeaseOf)
-        → (decides : Decides lease handler eye arrived seen expected told after next)
-        → Decides easy handler other arrived seen expected told after (record other { leaves = other.leaves ++ ends_of lease (left_if handler.lent (reads_of decides.end.stage.gone)) })
-    easy_decides handler after eye next other arrived seen expected told decides = record {
-      alive = decides.alive;
-      looked = decides.looked;
-      looks = zip_weaker (IsLookedArrival lease) (IsLookedArrival easy) easy_arrival (handler.pending ++ arrived) decides.looked decides.looks;
-      shown = all_so (λ (a : Arrival ReadLeaseOf). All (λ (b : Buffer ReadLeaseOf). IsShownTo easy other later b.lease) a.txn.buffers)
-          (λ a. all_so (λ (b : Buffer ReadLeaseOf). IsShownTo easy other later b.lease) (λ b. record { known = λ shown. tt; exact = λ same. absurd (false≢true same) }) a.txn.buffers) decides.looked;
-      end = decides.end;
-      decided = decides.decided;
-      settled = record {
-        commits = decides.settled.commits;
-        held = decides.settled.held;
-        releases = zip_weaker (IsReleaseOf lease) (IsReleaseOf easy) easy_release decides.end.stage.gone told.releases decides.settled.releases;
-        view = decides.settled.view;
-        sources = decides.settled.sources;
-        frames = decides.settled.frames;
-        state = decides.settled.state;
-        kept = decides.settled.kept;
-        reads = record { mark = refl; ends = ap (λ (xs : List Turn). other.leaves ++ xs) (sym (easy_ends (left_if handler.lent (reads_of decides.end.stage.gone)))); keeps = λ l known. tt };
-        fits = λ fits here. record {
-          pending = all_so (λ (a : Arrival ReadLeaseOf). All (λ (b : Buffer ReadLeaseOf). Unit {0}) a.txn.buffers) (λ a. all_so (λ (b : Buffer ReadLeaseOf). Unit {0}) (λ b. tt) a.txn.buffers) after.pending;
-          on = all_so (λ (one : OnLayer ReadLeaseOf). Unit {0}) (λ one. tt) after.on;
-          kept = all_so (λ (one : KeptRead ReadLeaseOf). Unit {0}) (λ one. tt) after.kept;
-        };
-      };
-    }
-      where
-        later : SeatView
-        later = record other { leaves = other.leaves ++ ends_of lease (left_if handler.lent (reads_of decides.end.stage.gone)) }
 
 abbrev held_txn : List ReadLeaseOf → Contents ReadLeaseOf
 held_txn leases = record empty { buffers = map (buffer_with 1) leases }
@@ -249,9 +153,9 @@ module _ {B : Type 0} where
     abbrev to_state : State B
     to_state = record from_state { view = to_view; waiting = after.pending; on = map lease_back told.releases ++ map lease_on after.on }
 
-    decides_in : DecidesIn (easy lease eye) from_state to_state
+    decides_in : DecidesIn lease from_state to_state
     decides_in = record {
-      of_turns = easy_turns lease eye of_turns;
+      of_turns = of_turns;
       handler = handler;
       after = after;
       arrived = arrived;
@@ -259,7 +163,10 @@ module _ {B : Type 0} where
       expected = expected;
       told = told;
       unlent = unlent;
-      decides = easy_decides lease eye of_turns handler after eye next_eye old.view.turns arrived seen expected told decides;
+      eye = eye;
+      next_eye = next_eye;
+      decides = decides;
+      leaves = refl;
       same = refl;
       calls = refl;
       waiting_old = refl;
@@ -355,7 +262,7 @@ module _ {B : Type 0} where
           left = left_to;
           written = subst (λ xs. Gets xs [] (all_written new)) (sym (aside_gets (λ (actor : ActorOf B). written.written_in actor.trace) none_written old.actors)) (subst (λ (ofs : List (ActorOf B)). Gets (all_written old) [] (flat_map (λ (actor : ActorOf B). written.written_in actor.trace) ofs)) (sym same_actors) (gets_same (all_written old)));
         })
-        (vsync_keeps (easy lease eye) from_state to_state decides_in
+        (vsync_keeps lease from_state to_state decides_in
         (quiet_keeps old from_state (record {
           marks = refl;
           calls = refl;

@@ -39,7 +39,7 @@ use Rattle.sf_rights.specs.PlaceTries.{RestsIn, TellsPlaces}
 use Rattle.sf_rights.proofs.Deciding.{decides_rests}
 use Rattle.sf_rights.proofs.Placing.{most_rests}
 use Rattle.sf_replay.proofs.Closing.{RestsKept}
-use Rattle.sf_replay.proofs.Decided.{decides_keeps, easy, easy_decides, easy_turns}
+use Rattle.sf_replay.proofs.Decided.{decides_keeps}
 
 suc_apart : (queue : ℕ) → (suc queue == 0) ≡ false
 suc_apart queue = elim (cases_Bool (suc queue == 0)) [
@@ -163,9 +163,9 @@ module _ {B : Type 0} where
     abbrev to_state : State B
     to_state = record from_state { view = to_view; waiting = after.pending; on = map lease_back told.releases ++ map lease_on after.on }
 
-    decides_in : DecidesIn (easy lease eye) from_state to_state
+    decides_in : DecidesIn lease from_state to_state
     decides_in = record {
-      of_turns = easy_turns lease eye of_turns;
+      of_turns = of_turns;
       handler = handler;
       after = after;
       arrived = arrived;
@@ -173,7 +173,10 @@ module _ {B : Type 0} where
       expected = expected;
       told = told;
       unlent = unlent;
-      decides = easy_decides lease eye of_turns handler after eye next_eye old.view.turns arrived seen expected told decides;
+      eye = eye;
+      next_eye = next_eye;
+      decides = decides;
+      leaves = refl;
       same = refl;
       calls = refl;
       waiting_old = refl;
@@ -257,7 +260,7 @@ module _ {B : Type 0} where
       marks = refl;
       calls = same_calls;
       places = rests_joined (places_of old) (places_of from_state) (places_of new) (most_rests old from_state refl refl held_from owed_from)
-          (rests_joined (places_of from_state) (places_of to_state) (places_of new) (decides_rests (easy lease eye) (λ one other same. tells one other same) from_state to_state decides_in)
+          (rests_joined (places_of from_state) (places_of to_state) (places_of new) (decides_rests lease tells from_state to_state decides_in)
           (most_rests to_state new refl same_calls held_to owed_to));
       ledger = decides_keeps lease of_turns whole script handler after eye next_eye arrived seen expected told decides unlent more history e whole_is takes took others later heights next is_one;
     }

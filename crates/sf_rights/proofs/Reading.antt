@@ -214,10 +214,7 @@ module _ {B : Type 0} (lease : Ghosts ReadLeaseOf SeatView ReadLeaseOf Issued) w
       was_read = reads_keep lease vsync.of_turns decided end.stage.gone vsync.told.releases leaves base vsync.decides.settled.releases was_decided
 
       all_left : new.view.turns.leaves ≡ leaves ++ ends_of lease (reads_of end.stage.gone)
-      all_left =
-          sym (vsync.of_turns.ends new.view.turns) ∙ vsync.decides.settled.reads.ends
-          ∙ ap (λ (xs : List Turn). xs ++ ends_of lease (left_if vsync.handler.lent (reads_of end.stage.gone))) (vsync.of_turns.ends old.view.turns)
-          ∙ ap (λ lent. leaves ++ ends_of lease (left_if lent (reads_of end.stage.gone))) vsync.unlent
+      all_left = vsync.leaves ∙ ap (λ lent. leaves ++ ends_of lease (left_if lent (reads_of end.stage.gone))) vsync.unlent
 
       finished : State B
       finished = record old { view = new.view; waiting = end.pending; on = map lease_back vsync.told.releases ++ base }

@@ -4,6 +4,7 @@ use Rattle.std.proofs.lemmas.Bool.{cases_Bool, cases_eq}
 use Rattle.std.proofs.lemmas.List.{append-nil}
 use Rattle.sf_calls.specs.Histories.{entry}
 use Rattle.sf_commit.specs.Handlers.{HandlerOf}
+use Rattle.sf_commit.specs.Lending.{ends_of, left_if, reads_of}
 use Rattle.sf_commit.specs.Releases.{ReleaseOf}
 use Rattle.sf_surface.specs.declared.call.QCall.TheVariants as call
 use Rattle.sf_surface.specs.Histories.{Made}
@@ -12,6 +13,7 @@ use Rattle.sf_token.specs.Pending.{Arrival}
 use Rattle.sf_turns.specs.Views.{SeatView}
 use Rattle.sf_txn.specs.declared.lease.Lease.{Ghosts}
 use Rattle.sf_actor.specs.Desks.{DeskHome, DeskView, MadeCall, has_queue}
+use Rattle.sf_actor.specs.Rights.{Turn}
 use Rattle.sf_actor.specs.Tries.{ActorOf}
 use Rattle.sf_rights.specs.Ledgers.{IsLedger}
 use Rattle.sf_rights.specs.PlaceTries.{ReturnAll, ReturnsIn, TellsPlaces}
@@ -125,7 +127,12 @@ module _ {B : Type 0} where
       expected = vsync.expected;
       told = vsync.told;
       unlent = vsync.unlent;
+      eye = old.turns;
+      next_eye = vsync.decided.turns;
       decides = vsync.decides;
+      leaves =
+          sym (vsync.of_turns.ends vsync.decided.turns) ∙ vsync.decides.settled.reads.ends
+          ∙ ap (λ (xs : List Turn). xs ++ ends_of lease (left_if handler.lent (reads_of vsync.decides.end.stage.gone))) (vsync.of_turns.ends old.turns);
       same = refl;
       calls = vsync.calls;
       waiting_old = ap (λ (xs : List (Arrival ReadLeaseOf)). handler.pending ++ xs) (sym vsync.all);

@@ -9,6 +9,7 @@ use Rattle.sf_token.specs.Pending.{Arrival}
 use Rattle.sf_turns.specs.Views.{SeatView}
 use Rattle.sf_txn.specs.declared.lease.Lease.{Ghosts}
 use Rattle.sf_commit.specs.Handlers.{Decides, HandlerOf}
+use Rattle.sf_commit.specs.Lending.{ends_of, left_if, reads_of}
 use Rattle.sf_commit.specs.OnLayers.{OnLayer}
 use Rattle.sf_commit.specs.Releases.{ReleaseOf, VsyncOf}
 use Rattle.sf_actor.specs.Desks.{DeskHome, MadeCall, has_queue}
@@ -31,6 +32,7 @@ pub record IsOfTurns (lease : Ghosts ReadLeaseOf SeatView ReadLeaseOf Issued) : 
 
 module _ {B : Type 0} where
   -- A compositor decided and read: it had all that was on its way, and the frames on layers; what goes has yet to be released.
+  -- Its eye may be one of several: the turns whose reads it ended have left through some eye.
   pub record DecidesIn (lease : Ghosts ReadLeaseOf SeatView ReadLeaseOf Issued) (old new : State B) : Type 0 where
     pub of_turns : IsOfTurns lease
     pub handler : HandlerOf ReadLeaseOf
@@ -40,7 +42,10 @@ module _ {B : Type 0} where
     pub expected : ℕ
     pub told : VsyncOf ReadLeaseOf
     pub unlent : handler.lent ≡ None
-    pub decides : Decides lease handler old.view.turns arrived seen expected told after new.view.turns
+    pub eye : SeatView
+    pub next_eye : SeatView
+    pub decides : Decides lease handler eye arrived seen expected told after next_eye
+    pub leaves : new.view.turns.leaves ≡ old.view.turns.leaves ++ ends_of lease (left_if handler.lent (reads_of decides.end.stage.gone))
     pub same : new ≡ record old { view = new.view; waiting = new.waiting; on = new.on }
     pub calls : new.view.calls ≡ old.view.calls
     pub waiting_old : old.waiting ≡ handler.pending ++ arrived

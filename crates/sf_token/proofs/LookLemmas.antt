@@ -11,6 +11,7 @@ use Rattle.std.proofs.lemmas.Slice.Zip.{all_zipped_more}
 use Rattle.sf_txn.specs.Buffers.{Buffer}
 use Rattle.sf_txn.specs.Leases.{IsEyeAfter, IsShownTo}
 use Rattle.sf_txn.specs.declared.lease.Lease.{Ghosts}
+use Rattle.sf_txn.proofs.Looking.{eye_then, shown_earlier, shown_later}
 use Rattle.sf_token.specs.Looking.{AllLeases, IsLookedArrival, looks_at, looks_of}
 use Rattle.sf_token.specs.Pending.{Arrival, IsRisingFrom}
 use Rattle.sf_token.specs.Rooms.{AreLooked, Fits, IsLookedSlot}
@@ -55,29 +56,11 @@ fits_rooms {L} P f (room ∷ rooms) all = by_slot (f room.key) refl (fits_rooms 
         (subst (λ (o : Option (Arrival L)). Fits P o) (sym e) (All-head (λ (a : Arrival L). Fits P (Some a)) arrived (picked f keys) each), rest (All-tail (λ (a : Arrival L). Fits P (Some a)) arrived (picked f keys) each))
 
 module _ {L E R C : Type 0} (lease : Ghosts L E R C) where
-  -- an eye after two calls
-  eye_then : (a b c : E) → IsEyeAfter lease a b [] → IsEyeAfter lease b c [] → IsEyeAfter lease a c []
-  eye_then a b c p q = record {
-    mark = q.mark ∙ p.mark;
-    ends = q.ends ∙ (append-nil (lease.ends b) ∙ p.ends);
-    keeps = λ l h. q.keeps l (p.keeps l h);
-  }
-
-  -- what a look showed is so for a later eye, and for the eye as it was before it made no ends
-  shown_later : (a b c : E) (l : L) → IsEyeAfter lease b c [] → IsShownTo lease a b l → IsShownTo lease a c l
-  shown_later a b c l q s = record { known = λ h. q.keeps l (s.known h); exact = s.exact }
-
-  shown_earlier : (a b c : E) (l : L) → IsEyeAfter lease a b [] → IsShownTo lease b c l → IsShownTo lease a c l
-  shown_earlier a b c l p s = record {
-    known = s.known;
-    exact = λ h. s.exact (ap lease.is_exact p.mark ∙ h) ∙ ap (λ ends. lease.tells ends (lease.end l)) (p.ends ∙ append-nil (lease.ends a));
-  }
-
   all_later : (a b c : E) (arrived : Arrival L) → IsEyeAfter lease b c [] → All (λ buffer. IsShownTo lease a b buffer.lease) arrived.txn.buffers → All (λ buffer. IsShownTo lease a c buffer.lease) arrived.txn.buffers
-  all_later a b c arrived q all = All-weaker (λ (buffer : Buffer L). IsShownTo lease a b buffer.lease) (λ buffer. IsShownTo lease a c buffer.lease) (λ buffer s. shown_later a b c buffer.lease q s) arrived.txn.buffers all
+  all_later a b c arrived q all = All-weaker (λ (buffer : Buffer L). IsShownTo lease a b buffer.lease) (λ buffer. IsShownTo lease a c buffer.lease) (λ buffer s. shown_later lease a b c buffer.lease q s) arrived.txn.buffers all
 
   all_earlier : (a b c : E) (arrived : Arrival L) → IsEyeAfter lease a b [] → All (λ buffer. IsShownTo lease b c buffer.lease) arrived.txn.buffers → All (λ buffer. IsShownTo lease a c buffer.lease) arrived.txn.buffers
-  all_earlier a b c arrived p all = All-weaker (λ (buffer : Buffer L). IsShownTo lease b c buffer.lease) (λ buffer. IsShownTo lease a c buffer.lease) (λ buffer s. shown_earlier a b c buffer.lease p s) arrived.txn.buffers all
+  all_earlier a b c arrived p all = All-weaker (λ (buffer : Buffer L). IsShownTo lease b c buffer.lease) (λ buffer. IsShownTo lease a c buffer.lease) (λ buffer s. shown_earlier lease a b c buffer.lease p s) arrived.txn.buffers all
 
   -- nothing was looked at yet
   pub AreLooked-nil : (eye : E) (f : ℕ → Option (Arrival L)) → AreLooked lease eye eye f f [] []
@@ -101,7 +84,7 @@ module _ {L E R C : Type 0} (lease : Ghosts L E R C) where
       | inl equal ↦ subst (λ n. IsSome (h n)) (sym equal) (subst (λ (o : Option (Arrival L)). IsSome o) (sym s.has) refl)
       | inr differs ↦ subst (λ (o : Option (Arrival L)). IsSome o) (sym (others k differs)) (d.kept k some)
     ];
-    eye = eye_then before mid after d.eye eye;
+    eye = eye_then lease before mid after d.eye eye;
   }
     where
       picked_old : picked f (done ++ key ∷ []) ≡ picked f done ++ s.from ∷ []

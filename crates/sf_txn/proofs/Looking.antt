@@ -19,21 +19,22 @@ module _ {L E R C : Type 0} (lease : Ghosts L E R C) where
     pub eye : IsEyeAfter lease before after []
 
   -- an eye after two calls
-  IsEyeAfter-then : (a b c : E) → IsEyeAfter lease a b [] → IsEyeAfter lease b c [] → IsEyeAfter lease a c []
-  IsEyeAfter-then a b c p q = record {
+  pub eye_then : (a b c : E) → IsEyeAfter lease a b [] → IsEyeAfter lease b c [] → IsEyeAfter lease a c []
+  eye_then a b c p q = record {
     mark = q.mark ∙ p.mark;
     ends = q.ends ∙ (append-nil (lease.ends b) ∙ p.ends);
     keeps = λ l h. q.keeps l (p.keeps l h);
   }
 
   -- what a look showed stays so for an eye that makes no ends
-  IsShownTo-later : (a b c : E) (l : L) → IsEyeAfter lease b c [] → IsShownTo lease a b l → IsShownTo lease a c l
-  IsShownTo-later a b c l q s = record { known = λ h. q.keeps l (s.known h); exact = s.exact }
+  pub shown_later : (a b c : E) (l : L) → IsEyeAfter lease b c [] → IsShownTo lease a b l → IsShownTo lease a c l
+  shown_later a b c l q s = record { known = λ h. q.keeps l (s.known h); still = s.still; exact = s.exact }
 
   -- what a look showed is so for the eye as it was before it made no ends
-  IsShownTo-earlier : (a b c : E) (l : L) → IsEyeAfter lease a b [] → IsShownTo lease b c l → IsShownTo lease a c l
-  IsShownTo-earlier a b c l p s = record {
+  pub shown_earlier : (a b c : E) (l : L) → IsEyeAfter lease a b [] → IsShownTo lease b c l → IsShownTo lease a c l
+  shown_earlier a b c l p s = record {
     known = s.known;
+    still = λ h. s.still (p.keeps l h);
     exact = λ h. s.exact (ap lease.is_exact p.mark ∙ h) ∙ ap (λ ends. lease.tells ends (lease.end l)) (p.ends ∙ append-nil (lease.ends a));
   }
 
@@ -54,9 +55,9 @@ module _ {L E R C : Type 0} (lease : Ghosts L E R C) where
   LookedBelow-more before mid after old new shown index d next inside size looked told eye b = record {
     looked = rw (take_more old index d (omega arith), taken) (all_zipped_more (IsLookedBuffer lease) (take index old) (take index new) (get_or old index d) next b.looked (rw (sym same) looked));
     rest = drop-set-lt (index + 1) new index next (omega arith) ∙ after_same;
-    told = rw taken (All-push (λ buffer. IsShownTo lease before after buffer.lease) (take index new) next (All-weaker (λ buffer. IsShownTo lease before mid buffer.lease) (λ buffer. IsShownTo lease before after buffer.lease) (λ buffer s. IsShownTo-later before mid after buffer.lease eye s) (take index new) b.told) (IsShownTo-earlier before mid after next.lease b.eye told));
+    told = rw taken (All-push (λ buffer. IsShownTo lease before after buffer.lease) (take index new) next (All-weaker (λ buffer. IsShownTo lease before mid buffer.lease) (λ buffer. IsShownTo lease before after buffer.lease) (λ buffer s. shown_later before mid after buffer.lease eye s) (take index new) b.told) (shown_earlier before mid after next.lease b.eye told));
     shown = rw (taken, map-append (λ buffer. lease.shown buffer.lease) (take index new) (next ∷ [])) (ap (λ ss. ss ++ lease.shown next.lease ∷ []) b.shown);
-    eye = IsEyeAfter-then before mid after b.eye eye;
+    eye = eye_then before mid after b.eye eye;
   }
     where
       taken : take (index + 1) (slice_set new index next) ≡ take index new ++ next ∷ []

@@ -22,9 +22,11 @@ module _ {L E R C : Type 0} (lease : Ghosts L E R C) where
     pub fence : new.fence ≡ old.fence
     pub looked : IsLooked old.lease new.lease
 
-  -- what a look showed is so: a true one is known from then on, and an exact eye tells by the ends that it had
+  -- what a look showed is so: a true one is known from then on, what was known before is true, and an exact eye tells
+  -- by the ends that it had
   pub record IsShownTo (old new : E) (l : L) : Type 0 where
     pub known : IsTrue (lease.shown l) → lease.knows new l
+    pub still : lease.knows old l → IsTrue (lease.shown l)
     pub exact : lease.is_exact (lease.mark old) ≡ true → lease.shown l ≡ lease.tells (lease.ends old) (lease.end l)
 
   -- an eye after a call: what it knew it knows, and it made these ends more
