@@ -108,7 +108,10 @@ impl Case {
                 let ops = self.take_ops();
                 fill::set_all(rt, &mut self.txn, &ops)?;
             }
-            "commit" => scene::apply(rt, &mut self.tree, self.txn.ops())?,
+            "commit" => match self.txn.ops() {
+                Ok(ops) => scene::apply(rt, &mut self.tree, ops.as_slice())?,
+                Err(NoMemory) => println!(rt; "commit: no memory")?,
+            },
             "merge" => {
                 let txn = self.take_txn();
                 let other = mem::replace(&mut self.other, Transaction::new(self.alloc));

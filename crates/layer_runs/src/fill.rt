@@ -90,15 +90,23 @@ fn buffers(rt: &impl Print, buffers: &[BufferOp<Page>]) -> io::Result<()> {
     Ok(())
 }
 
+fn operations(rt: &impl Print, txn: &Transaction<Page>) -> io::Result<()> {
+    let Ok(ops) = txn.ops() else {
+        return println!(rt; "show: no memory");
+    };
+    for (layer, op) in ops.as_slice() {
+        show::operation(rt, *layer, op)?;
+    }
+    Ok(())
+}
+
 /// Prints a transaction: its token and time, its operations, its buffers and its barriers.
 pub fn show_all(rt: &impl Print, txn: &Transaction<Page>) -> io::Result<()> {
     match txn.desired() {
         Some(time) => println!(rt; "token {}, time {time}", txn.token().0)?,
         None => println!(rt; "token {}, no time", txn.token().0)?,
     }
-    for (layer, op) in txn.ops() {
-        show::operation(rt, *layer, op)?;
-    }
+    operations(rt, txn)?;
     buffers(rt, txn.buffers())?;
     for (layer, frame) in txn.barriers() {
         println!(rt; "  barrier {} {frame}", layer.0)?;

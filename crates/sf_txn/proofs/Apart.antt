@@ -13,7 +13,7 @@ use Rattle.sf_layer.specs.declared.op.Op.TheVariants as op
 use Rattle.sf_txn.specs.Transactions.{is_cumulative, Stays, replaces, with_op, with_ops, without_first}
 use Rattle.sf_txn.proofs.Firsts.{All-without_first}
 
-cumulative_by_kind : (o : Op) → is_cumulative o ≡ nat_le (kind_of o) 1
+pub cumulative_by_kind : (o : Op) → is_cumulative o ≡ nat_le (kind_of o) 1
 cumulative_by_kind (op.Create _ _) = refl
 cumulative_by_kind op.Destroy = refl
 cumulative_by_kind (op.Reparent _) = refl
@@ -29,14 +29,14 @@ cumulative_by_kind (op.Backpressure _) = refl
 cumulative_by_kind (op.Show _) = refl
 cumulative_by_kind (op.Orient _) = refl
 
-by_numbers : (c l k : Bool) → (not c && (l && k)) ≡ true → (c ≡ false) × (l ≡ true) × (k ≡ true)
+pub by_numbers : (c l k : Bool) → (not c && (l && k)) ≡ true → (c ≡ false) × (l ≡ true) × (k ≡ true)
 by_numbers false true true h = (refl, refl, refl)
 by_numbers true l k h = absurd (true≢false (sym h))
 by_numbers false false k h = absurd (true≢false (sym h))
 by_numbers false true false h = absurd (true≢false (sym h))
 
 -- two operations whose places a third takes: the later of them takes the earlier one's place
-between : (later other earlier : LayerId × Op) → replaces later earlier ≡ true → replaces later other ≡ true → replaces other earlier ≡ true
+pub between : (later other earlier : LayerId × Op) → replaces later earlier ≡ true → replaces later other ≡ true → replaces other earlier ≡ true
 between later other earlier h o =
     let a : (is_cumulative later.1 ≡ false) × ((earlier.0.0 == later.0.0) ≡ true) × ((kind_of earlier.1 == kind_of later.1) ≡ true) = by_numbers _ _ _ h in
     let b : (is_cumulative later.1 ≡ false) × ((other.0.0 == later.0.0) ≡ true) × ((kind_of other.1 == kind_of later.1) ≡ true) = by_numbers _ _ _ o in
@@ -46,10 +46,10 @@ between later other earlier h o =
     let kind : (kind_of earlier.1 == kind_of other.1) ≡ true = grind (arith, common_steps, a.2, b.2) in
     rw (plain, layer, kind) refl
 
-pairs-head : {X : Type 0} (R : X → X → Type 0) (x : X) (xs : List X) → AllPairs R (x ∷ xs) → All (R x) xs
+pub pairs-head : {X : Type 0} (R : X → X → Type 0) (x : X) (xs : List X) → AllPairs R (x ∷ xs) → All (R x) xs
 pairs-head R x xs h = λ j d inside. h 0 (suc j) d (omega arith) (omega arith)
 
-pairs-tail : {X : Type 0} (R : X → X → Type 0) (x : X) (xs : List X) → AllPairs R (x ∷ xs) → AllPairs R xs
+pub pairs-tail : {X : Type 0} (R : X → X → Type 0) (x : X) (xs : List X) → AllPairs R (x ∷ xs) → AllPairs R xs
 pairs-tail R x xs h = λ i j d before inside. h (suc i) (suc j) d (omega arith) (omega arith)
 
 pairs-without_first : {X : Type 0} (R : X → X → Type 0) (test : X → Bool) (xs : List X) → AllPairs R xs → AllPairs R (without_first test xs)
@@ -61,7 +61,7 @@ pairs-without_first R test (x ∷ xs) h = by_test (test x) refl (pairs-without_f
     by_test false e rest = rw e (AllPairs-cons R x (without_first test xs) (All-without_first (R x) test xs (pairs-head R x xs h)) rest)
 
 -- of operations that stay, a later one takes the place of one at most
-none_left : (later : LayerId × Op) (ops : List (LayerId × Op)) → AllPairs Stays ops → All (λ earlier. Stays earlier later) (without_first (replaces later) ops)
+pub none_left : (later : LayerId × Op) (ops : List (LayerId × Op)) → AllPairs Stays ops → All (λ earlier. Stays earlier later) (without_first (replaces later) ops)
 none_left later [] h = λ k d inside. absurd (omega (arith, inside))
 none_left later (x ∷ xs) h = by_test (replaces later x) refl (none_left later xs (pairs-tail Stays x xs h))
   where

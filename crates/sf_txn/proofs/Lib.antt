@@ -3,3 +3,4 @@ pub mod Apart
 pub mod Showing
 pub mod Keeping
 pub mod Looking
+pub mod Places

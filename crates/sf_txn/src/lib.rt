@@ -8,6 +8,7 @@ mod lease;
 mod lists;
 mod look;
 mod merge;
+mod ops;
 mod transaction;
 
 pub use buffer::BufferOp;

@@ -8,23 +8,8 @@ use crate::lease::Lease;
 use sf_base::{LayerId, NoMemory};
 use sf_layer::Op;
 
-/// How many operations a transaction has at most.
-const MOST_OPS: usize = u32::MAX as usize;
-
-/// Makes room for more operations. Where there would be too many, it finds no memory.
-pub fn make_room(ops: &mut Vec<(LayerId, Op)>, more: usize) -> Result<(), NoMemory>
-    ensures items { ops.new.items ≡ ops.old.items }
-    ensures room { OnOk result (vec_len ops.new + more ≤ vec_capacity ops.new) }
-    ensures few { OnOk result (length ops.old.items + more ≤ 4294967295) }
-{
-    if more > MOST_OPS || ops.len() > MOST_OPS - more {
-        return Err(NoMemory);
-    }
-    ops.reserve(more)?;
-    Ok(())
-}
-
-fn is_cumulative(op: &Op) -> bool
+/// Whether an operation takes no earlier one's place.
+pub(crate) fn is_cumulative(op: &Op) -> bool
     ensures { result ≡ is_cumulative op.now }
 {
     matches!(op, Op::Create(..) | Op::Destroy)
@@ -94,18 +79,6 @@ pub fn put_buffer<L: Lease + Drop>(
     // There is room for it.
     let _ = buffers.push(buffer);
     replaced
-}
-
-/// Puts operations, for which there is room, one after another.
-pub fn put_ops(ops: &mut Vec<(LayerId, Op)>, more: &[(LayerId, Op)])
-    requires { vec_len ops.old + length more.now ≤ vec_capacity ops.old }
-    ensures { ops.new.items ≡ with_ops ops.old.items more.now }
-{
-    let mut rest = more;
-    while let [operation, after @ ..] = rest {
-        put_op(ops, *operation);
-        rest = after;
-    }
 }
 
 /// Puts buffers, for which there is room, one after another, and appends those whose places they

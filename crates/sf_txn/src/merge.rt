@@ -3,7 +3,7 @@ ghost use Rattle.sf_txn.specs.Transactions.{all_replaced, later_time, merged};
 
 use crate::buffer::BufferOp;
 use crate::lease::Lease;
-use crate::lists::{make_room, put_buffers, put_ops};
+use crate::lists::put_buffers;
 use crate::transaction::Transaction;
 use sf_base::NoMemory;
 
@@ -33,13 +33,13 @@ impl<L: Lease + Drop> Transaction<L> {
         let Ok(mut replaced) = Vec::with_capacity(self.alloc, other.buffers.len()) else {
             return Err((NoMemory, self, other));
         };
-        if make_room(&mut self.ops, other.ops.len()).is_err()
+        if self.ops.make_room(other.ops.len()).is_err()
             || self.buffers.reserve(other.buffers.len()).is_err()
             || self.barriers.extend_from_slice(&other.barriers).is_err()
         {
             return Err((NoMemory, self, other));
         }
-        put_ops(&mut self.ops, &other.ops);
+        self.ops.put_all(&other.ops);
         self.desired = later_time(self.desired, other.desired);
         put_buffers(&mut self.buffers, other.into_buffers(), &mut replaced);
         Ok((self, replaced))

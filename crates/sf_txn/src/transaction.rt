@@ -4,7 +4,8 @@ ghost use Rattle.sf_txn.specs.Transactions.{empty, IsTransaction, replaced_by, s
 
 use crate::buffer::BufferOp;
 use crate::lease::Lease;
-use crate::lists::{make_room, put_buffer, put_op};
+use crate::lists::put_buffer;
+use crate::ops::Ops;
 use sf_base::{Items, LayerId, NoMemory, TokenId};
 use sf_layer::Op;
 use std::alloc::Global;
@@ -20,7 +21,7 @@ pub struct Transaction<L: Lease> {
     pub(crate) alloc: Global,
     pub(crate) token: TokenId,
     pub(crate) desired: Option<u64>,
-    pub(crate) ops: Vec<(LayerId, Op)>,
+    pub(crate) ops: Ops,
     pub(crate) buffers: Vec<BufferOp<L>>,
     pub(crate) barriers: Vec<(LayerId, u64)>,
 }
@@ -30,12 +31,12 @@ impl<L: Lease> Model for Transaction<L> {
 
     ghost Value = { Contents L };
 
-    ghost view = { λ t. record { token = t.token; desired = t.desired; ops = t.ops.items; buffers = t.buffers.items; barriers = t.barriers.items } };
+    ghost view = { λ t. record { token = t.token; desired = t.desired; ops = t.ops.list; buffers = t.buffers.items; barriers = t.barriers.items } };
 
     ghost invariant = { λ t. IsTransaction {L = L} (record {
       token = t.token;
       desired = t.desired;
-      ops = t.ops.items;
+      ops = t.ops.list;
       buffers = t.buffers.items;
       barriers = t.barriers.items;
     }) };
@@ -62,7 +63,7 @@ impl<L: Lease + Drop> Transaction<L> {
             alloc,
             token: TokenId(0),
             desired: None,
-            ops: Vec::new(alloc),
+            ops: Ops::new(alloc),
             buffers: Vec::new(alloc),
             barriers: Vec::new(alloc),
         }
@@ -83,12 +84,12 @@ impl<L: Lease + Drop> Transaction<L> {
         self.desired
     }
 
-    /// The operations, in order.
-    pub fn ops(&self) -> &[(LayerId, Op)]
-        ensures value { result.now ≡ self.now.ops }
+    /// A list of the operations, in order.
+    pub fn ops(&self) -> Result<Items<(LayerId, Op)>, NoMemory>
+        ensures value { IfOk result (λ ops. ops ≡ self.now.ops) }
         ensures kept { IsTransaction self.now }
     {
-        &self.ops
+        Ok(Items::new(self.ops.copied()?))
     }
 
     /// The buffers, in the order of the operations that show them.
@@ -141,7 +142,7 @@ impl<L: Lease + Drop> Transaction<L> {
         Parts {
             token,
             desired,
-            ops: Items::new(ops),
+            ops: Items::new(ops.into_vec()),
             buffers: Items::new(buffers),
             barriers: Items::new(barriers),
         }
@@ -180,8 +181,8 @@ impl<L: Lease + Drop> Transaction<L> {
         ensures ok { OnOk result (self.new ≡ set self.old (layer, op)) }
         ensures err { OnErr result (self.new ≡ self.old) }
     {
-        make_room(&mut self.ops, 1)?;
-        put_op(&mut self.ops, (layer, op));
+        self.ops.make_room(1)?;
+        self.ops.put((layer, op));
         Ok(())
     }
 
@@ -197,10 +198,10 @@ impl<L: Lease + Drop> Transaction<L> {
         ensures err { OnErr result (self.new ≡ self.old) }
         ensures back { IfErr result (λ back. back.1 ≡ buffer) }
     {
-        if make_room(&mut self.ops, 1).is_err() || self.buffers.reserve(1).is_err() {
+        if self.ops.make_room(1).is_err() || self.buffers.reserve(1).is_err() {
             return Err((NoMemory, buffer));
         }
-        put_op(&mut self.ops, (buffer.layer, Op::Show(buffer.shown)));
+        self.ops.put((buffer.layer, Op::Show(buffer.shown)));
         Ok(put_buffer(&mut self.buffers, buffer))
     }
 }

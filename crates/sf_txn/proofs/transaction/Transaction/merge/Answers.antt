@@ -5,13 +5,13 @@ use Rattle.sf_txn.proofs.transaction.Transaction.merge.Goals as goal
 
 pub invariant_of-self-2 : goal.invariant_of-self-2
 invariant_of-self-2 g c =
-    let few : length c.self.inside.ops.items + length c.other.inside.ops.items ≤ 4294967295 = grind (arith, common_steps) in
+    let few : length c.self.inside.ops.list + length c.other.inside.ops.list ≤ 4294967295 = grind (arith, common_steps) in
     let ok : is_ok c.extend_from_slice.result ≡ true = grind (arith, common_steps) in
-    rw (c.put_ops.ensures, c.put_buffers.ensures.buffers, c.into_buffers.ensures, sym c.other.view_is, c.extend_from_slice.ensures.items, c.later_time-self-inside.ensures, c.make_room.ensures.items, c.reserve.ensures.items, c.deref.ensures.value, c.deref-2.ensures.value, ok)
+    rw (c.put_all.ensures, c.put_buffers.ensures.buffers, c.into_buffers.ensures, sym c.other.view_is, c.extend_from_slice.ensures.items, c.later_time-self-inside.ensures, c.make_room.ensures.list, c.reserve.ensures.items, c.deref.ensures.value, ok)
     (IsTransaction-merged _ _ c.self.invariant c.other.invariant few)
 
 pub returns-clause-merged : goal.returns-clause-merged
 returns-clause-merged g c =
     let ok : is_ok c.extend_from_slice.result ≡ true = grind (arith, common_steps) in
-    rw (c.put_ops.ensures, c.put_buffers.ensures.buffers, c.into_buffers.ensures, c.extend_from_slice.ensures.items, c.later_time-self-inside.ensures, c.make_room.ensures.items, c.reserve.ensures.items, sym c.self.view_is, sym c.other.view_is, c.deref.ensures.value, c.deref-2.ensures.value, ok)
+    rw (c.put_all.ensures, c.put_buffers.ensures.buffers, c.into_buffers.ensures, c.extend_from_slice.ensures.items, c.later_time-self-inside.ensures, c.make_room.ensures.list, c.reserve.ensures.items, sym c.self.view_is, sym c.other.view_is, c.deref.ensures.value, ok)
     refl

@@ -7,10 +7,10 @@ use Rattle.sf_txn.proofs.transaction.Transaction.set_buffer.Goals as goal
 
 pub invariant_of-self-2 : goal.invariant_of-self-2
 invariant_of-self-2 g c =
-    let few : length c.self.inside.ops.items + 1 ≤ 4294967295 = grind (arith, common_steps) in
+    let few : length c.self.inside.ops.list + 1 ≤ 4294967295 = grind (arith, common_steps) in
     let one : IsOperation (c.buffer.inside.layer, op.Show c.buffer.inside.shown) = (
       rw (sym c.buffer.view_is) at c.requires,
       within_greatest _ _ c.buffer.invariant.crop c.buffer.invariant.size,
     ) in
-    rw (c.put_op.ensures.items, c.put_buffer.ensures.items, c.make_room.ensures.items, c.reserve.ensures.items, sym c.buffer.view_is)
+    rw (c.put.ensures.list, c.put_buffer.ensures.items, c.make_room.ensures.list, c.reserve.ensures.items, sym c.buffer.view_is)
     (IsTransaction-set_buffer _ _ c.self.invariant few one)
