@@ -1,5 +1,5 @@
 -- Rectangles that are put together, and layers that are left over.
-use Rattle.std.proofs.Common.{◌≡◌, ℕ, suc, ◌+◌, ◌-◌, ◌<◌, ℤ, false, ◌||◌, List, [], ◌∷◌, ◌++◌, length, get_or, take, drop, map, refl, ap, ◌∙◌, sym, arith, add-one, length-drop}
+use Rattle.std.proofs.Common.{◌≡◌, ℕ, suc, ◌+◌, ◌-◌, ◌<◌, ◌≤◌, ℤ, Bool, true, false, ◌||◌, List, [], ◌∷◌, ◌++◌, length, get_or, take, drop, map, refl, ap, ◌∙◌, sym, arith, add-one, length-drop}
 use Rattle.std.specs.List.{All}
 use Rattle.std.proofs.Math.Seq.{drop-cons}
 use Rattle.std.proofs.lemmas.Bool.{or_parts}
@@ -15,6 +15,19 @@ use Rattle.sf_damage.proofs.StackLemmas.{stack-both, stack-out}
 
 pub has-append : (rs qs : List Rect) (x y : ℤ) → has (rs ++ qs) x y ≡ (has rs x y || has qs x y)
 has-append rs qs x y = list_any-append (λ r. covers r x y) rs qs
+
+twice : (c : Bool) → c ≡ (c || (c || false))
+twice true = refl
+twice false = refl
+
+-- the points of a rectangle that is there twice
+pub pair-points : (rects : List Rect) (d e : Rect) (region : List Rect) → 2 ≤ length rects → length rects < 3 → get_or rects 0 d ≡ get_or rects 1 e
+    → ((x y : ℤ) → has region x y ≡ covers (get_or rects 0 d) x y) → (x y : ℤ) → has region x y ≡ has rects x y
+pair-points [] d e region two few same points x y = absurd (omega arith)
+pair-points (a ∷ []) d e region two few same points x y = absurd (omega arith)
+pair-points (a ∷ b ∷ []) d e region two few same points x y =
+    points x y ∙ (twice (covers a x y) ∙ ap (λ (r : Rect). covers a x y || (covers r x y || false)) same)
+pair-points (a ∷ b ∷ r ∷ rs) d e region two few same points x y = absurd (omega arith)
 
 -- the points of two halves
 pub halves-points : (rects one other region : List Rect) (n : ℕ) → ((x y : ℤ) → has one x y ≡ has (take n rects) x y) → ((x y : ℤ) → has other x y ≡ has (drop n rects) x y)

@@ -1,6 +1,6 @@
 -- Rectangles that don't meet share no point.
-use Rattle.std.proofs.Common.{◌≡◌, ℕ, ℤ, Bool, true, false, not, ◌&&◌, List, [], ◌∷◌, refl, ◌∙◌, arith, inl, inr}
-use Rattle.std.specs.List.{list_any}
+use Rattle.std.proofs.Common.{◌≡◌, ℕ, ℤ, Bool, true, false, not, ◌&&◌, ◌||◌, List, [], ◌∷◌, refl, ap, sym, ◌∙◌, arith, inl, inr}
+use Rattle.std.specs.List.{filter, list_any}
 use Rattle.std.proofs.lemmas.Bool.{and_from, and_parts, both_ways, false≢true, or_cases, or_left, or_right}
 use Rattle.std.proofs.lemmas.Bool.Decides.{nat_tests}
 use Rattle.std.proofs.lemmas.Int.{ints}
@@ -25,6 +25,23 @@ region_point (r ∷ rs) q x y a b = elim (or_cases (covers r x y) (has rs x y) a
   | inl here ↦ or_left (meets r q) (list_any (λ part. meets part q) rs) (rects_point r q x y here b)
   | inr later ↦ or_right (meets r q) (list_any (λ part. meets part q) rs) (region_point rs q x y later b)
 ]
+
+filter_points : (rs : List Rect) (q : Rect) (x y : ℤ) → covers q x y ≡ true → has (filter (λ r. meets r q) rs) x y ≡ has rs x y
+filter_points [] q x y here = refl
+filter_points (r ∷ rs) q x y here = by_test (meets r q) (covers r x y) refl refl (filter_points rs q x y here)
+  where
+    by_test : (m c : Bool) → meets r q ≡ m → covers r x y ≡ c → has (filter (λ s. meets s q) rs) x y ≡ has rs x y → has (filter (λ s. meets s q) (r ∷ rs)) x y ≡ has (r ∷ rs) x y
+    by_test true c e f rest = rw e (ap (λ h. covers r x y || h) rest)
+    by_test false false e f rest = rw (e, f) rest
+    by_test false true e f rest = absurd (false≢true (sym e ∙ rects_point r q x y f here))
+
+-- of what hides a rectangle only those that it meets count
+pub left_points : (rs met : List Rect) (q : Rect) → met ≡ filter (λ r. meets r q) rs → (x y : ℤ) → (covers q x y && not (has met x y)) ≡ (covers q x y && not (has rs x y))
+left_points rs met q is x y = by_test (covers q x y) refl
+  where
+    by_test : (c : Bool) → covers q x y ≡ c → (covers q x y && not (has met x y)) ≡ (covers q x y && not (has rs x y))
+    by_test true e = rw is (ap (λ h. covers q x y && not h) (filter_points rs q x y e))
+    by_test false e = rw e refl
 
 by_points : (h c : Bool) → (h ≡ true → c ≡ true → ⊥) → (false ≡ (h && c)) × (h ≡ (h && not c)) × (c ≡ (c && not h))
 by_points true true apart = absurd (apart refl refl)

@@ -1,11 +1,17 @@
 ghost use Rattle.std.specs.List.{All};
-ghost use Rattle.std.specs.Prelude.{◌≡◌, ℤ, IfOk};
+ghost use Rattle.std.specs.Prelude.{◌≡◌, ◌↔◌, ℤ, IfOk, IsTrue};
 ghost use Rattle.sf_region.specs.Points.{IsInBounds, has};
 
 use crate::parts::join;
 use sf_base::{NoMemory, Rect};
 use sf_region::Region;
 use std::alloc::Global;
+
+fn are_same(rect: &Rect, other: &Rect) -> bool
+    ensures { IsTrue result ↔ (rect.now ≡ other.now) }
+{
+    rect == other
+}
 
 // The points of these rectangles. Halves of them are put together, so that each is gone over only
 // as often as they can be halved.
@@ -16,6 +22,7 @@ pub fn region_of(alloc: Global, rects: &[Rect]) -> Result<Region, NoMemory>
     match rects {
         [] => Ok(Region::empty(alloc)),
         [rect] => Ok(Region::rect(alloc, *rect)?),
+        [rect, other] if are_same(rect, other) => Ok(Region::rect(alloc, *rect)?),
         _ => {
             let half = rects.len() / 2;
             let one = region_of(alloc, &rects[..half])?;

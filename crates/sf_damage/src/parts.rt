@@ -81,24 +81,3 @@ pub fn join(one: Region, other: Region) -> Result<Region, NoMemory>
     }
     Ok(one.union(&other)?)
 }
-
-// The points of a region and of a rectangle.
-pub fn with_rect(alloc: Global, region: Region, rect: Rect) -> Result<Region, NoMemory>
-    requires { IsInBounds rect }
-    ensures { IfOk result (λ all. (x y : ℤ) → has all x y ≡ (covers rect x y || has region x y)) }
-{
-    let cover = Region::rect(alloc, rect)?;
-    join(cover, region)
-}
-
-// The points of a rectangle that a region does not have.
-pub fn without(alloc: Global, rect: Rect, region: &Region) -> Result<Region, NoMemory>
-    requires { IsInBounds rect }
-    ensures { IfOk result (λ rest. (x y : ℤ) → has rest x y ≡ (covers rect x y && not (has region.now x y))) }
-{
-    let cover = Region::rect(alloc, rect)?;
-    if !touches(region, &rect) {
-        return Ok(cover);
-    }
-    Ok(cover.subtract(region)?)
-}

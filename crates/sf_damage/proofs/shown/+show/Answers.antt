@@ -1,22 +1,19 @@
-use Rattle.std.proofs.Common.{◌≡◌, ◌≤◌, ◌<◌, ℤ, suc, Bool, true, false, not, ◌&&◌, ◌||◌, List, [], ◌∷◌, ◌++◌, length, reverse, Result, Ok, Err, refl, sym, ◌∙◌, ap, subst, arith}
-use Rattle.std.specs.List.{list_any}
-use Rattle.std.specs.Prelude.{OnOk}
+use Rattle.std.proofs.Common.{◌≡◌, ◌≤◌, ◌<◌, ℤ, suc, Bool, true, false, not, ◌&&◌, ◌||◌, List, [], ◌∷◌, ◌++◌, length, reverse, refl, sym, ◌∙◌, ap, subst, arith}
+use Rattle.std.specs.List.{All, list_any}
 use Rattle.std.proofs.lemmas.Bool.{false≢true}
 use Rattle.std.proofs.lemmas.List.{reverse-append}
-use Rattle.std.proofs.lemmas.Result.{IfOk-weaker}
+use Rattle.std.proofs.lemmas.List.Elements.{All-push}
 use Rattle.sf_base.specs.Geometry.{covers}
 use Rattle.sf_base.specs.declared.geometry.Rect.{Rect}
-use Rattle.sf_region.specs.Points.{has}
+use Rattle.sf_region.specs.Points.{IsInBounds, has}
 use Rattle.sf_view.specs.Views.{is_in_clip}
 use Rattle.sf_view.specs.declared.drawn.Drawn.{Drawn}
+use Rattle.sf_damage.specs.Damage.{AreNear}
 use Rattle.sf_damage.specs.Visible.{AreVisible, hides_all, hides_at}
-use Rattle.sf_damage.proofs.ListLemmas.{AreNear-others, first-others, first_of, length-others, others_of}
+use Rattle.sf_damage.proofs.GatheredLemmas.{has-append}
+use Rattle.sf_damage.proofs.ListLemmas.{AreNear-others, first-others, first_of, length-others, no_layer, others_of}
 use Rattle.sf_damage.proofs.shown.+show.Goals as goal
 use Rattle.sf_damage.proofs.shown.+show.Goals.{then-hides_all, else-hides_all}
-
-on_ok : {T E X : Type 0} (r : Result T E) → X → OnOk r X
-on_ok (Ok t) x = x
-on_ok (Err e) x = tt
 
 not_false : (b : Bool) → not b ≡ false → b ≡ true
 not_false true e = refl
@@ -66,38 +63,60 @@ hidden_same layers hidden some clear hides x y =
     subst (λ (ls : List Drawn). has hidden x y ≡ list_any (hides_at x y) ls) (first-others layers some)
     (hides x y ∙ ap (λ b. (b && is_in_clip d x y) || list_any (hides_at x y) ds) (sym clear))
 
+or_swap : (a b : Bool) → (a || (b || false)) ≡ (b || a)
+or_swap true true = refl
+or_swap true false = refl
+or_swap false true = refl
+or_swap false false = refl
+
+hidden_push : (hidden all : List Rect) (clip : Rect) → all ≡ hidden ++ clip ∷ [] → (x y : ℤ) → has all x y ≡ (covers clip x y || has hidden x y)
+hidden_push hidden all clip is x y = rw is (has-append hidden (clip ∷ []) x y ∙ or_swap (has hidden x y) (covers clip x y))
+
+near_push : (layers : List Drawn) (hidden all : List Rect) → 1 ≤ length layers → AreNear layers → All IsInBounds hidden → all ≡ hidden ++ (first_of layers).clip ∷ [] → All IsInBounds all
+near_push layers hidden all some near before is = rw is (All-push IsInBounds hidden (first_of layers).clip before (near 0 no_layer (omega (arith, some))))
+
+-- what is left of the first layer's clip
+left_of : (layers : List Drawn) (region found hidden : List Rect) → found ≡ hidden → ((x y : ℤ) → has region x y ≡ (covers (first_of layers).clip x y && not (has found x y)))
+    → (x y : ℤ) → has region x y ≡ (covers (first_of layers).clip x y && not (has hidden x y))
+left_of layers region found hidden same points x y = points x y ∙ ap (λ (l : List Rect). covers (first_of layers).clip x y && not (has l x y)) same
+
 pub returns-in_default-clause-shown : goal.returns-in_default-clause-shown
 returns-in_default-clause-shown t c = visible_none c.args.layers.now c.args.shown.now.items c.in_default.len_below c.requires.none
 
 pub returns-in_default-clause-hidden : goal.returns-in_default-clause-hidden
-returns-in_default-clause-hidden t c = hidden_none c.args.layers.now c.empty.result c.in_default.len_below c.empty.ensures
+returns-in_default-clause-hidden t c = hidden_none c.args.layers.now c.args.hidden.now.items c.in_default.len_below c.requires.nothing
+
+pub returns-in_default-clause-near : goal.returns-in_default-clause-near
+returns-in_default-clause-near t c = rw c.requires.nothing (λ k d inside. absurd (omega (arith, inside)))
 
 pub show-requires : goal.show-requires
 show-requires t c =
     let fewer : suc (length (others_of c.args.layers.now)) ≡ length c.args.layers.now = length-others c.args.layers.now c.in-len1-up.len_at_least in
-    (omega arith, (AreNear-others c.args.layers.now c.in-len1-up.len_at_least c.requires.near, c.requires.none))
+    (omega arith, (AreNear-others c.args.layers.now c.in-len1-up.len_at_least c.requires.near, (c.requires.none, c.requires.nothing)))
 
-pub returns-then-adds-clause-shown : goal.returns-then-adds-clause-shown
-returns-then-adds-clause-shown t c =
-    on_ok c.with_rect.result
-    (visible_more c.args.layers.now c.show.new.shown.items c.push.new.self.items c.in_ok-hidden.hidden c.in_ok-region.region c.in-len1-up.len_at_least
-    c.in_ok-hidden.ensures.shown c.in_ok-hidden.ensures.hidden c.in_ok-region.ensures c.in_ok-push.ensures.items)
+pub returns-in_ok-push-2-clause-shown : goal.returns-in_ok-push-2-clause-shown
+returns-in_ok-push-2-clause-shown t c =
+    visible_more c.args.layers.now c.show.new.shown.items c.push.new.self.items c.show.new.hidden.items c.in_ok-region.region c.in-len1-up.len_at_least
+    c.in_ok-show.ensures.shown c.in_ok-show.ensures.hidden (left_of c.args.layers.now c.in_ok-region.region c.deref.result.now c.show.new.hidden.items c.deref.ensures.value c.in_ok-region.ensures) c.in_ok-push.ensures.items
 
-pub returns-then-adds-clause-hidden : goal.returns-then-adds-clause-hidden
-returns-then-adds-clause-hidden t c =
+pub returns-in_ok-push-2-clause-hidden : goal.returns-in_ok-push-2-clause-hidden
+returns-in_ok-push-2-clause-hidden t c =
     let layers = c.args.layers.now in
     let solid : hides_all (first_of layers) ≡ true = elim c.if-hides_all.branch [
       | then-hides_all w ↦ sym c.hides_all.ensures ∙ w.if-hides_all.true
       | else-hides_all w ↦ absurd (false≢true (sym w.if-hides_all.false ∙ (sym w.adds-is ∙ c.if-adds.true)))
     ] in
-    IfOk-weaker c.with_rect.result (λ all. (x y : ℤ) → has all x y ≡ (covers (first_of layers).clip x y || has c.in_ok-hidden.hidden x y))
-    (λ all. (x y : ℤ) → has all x y ≡ list_any (hides_at x y) layers)
-    (λ all points. hidden_more layers c.in_ok-hidden.hidden all c.in-len1-up.len_at_least solid c.in_ok-hidden.ensures.hidden points) c.with_rect.ensures
+    hidden_more layers c.show.new.hidden.items c.push-then-adds.new.self.items c.in-len1-up.len_at_least solid c.in_ok-show.ensures.hidden
+    (hidden_push c.show.new.hidden.items c.push-then-adds.new.self.items (first_of layers).clip c.in_ok-push-2.ensures.items)
+
+pub returns-in_ok-push-2-clause-near : goal.returns-in_ok-push-2-clause-near
+returns-in_ok-push-2-clause-near t c =
+    near_push c.args.layers.now c.show.new.hidden.items c.push-then-adds.new.self.items c.in-len1-up.len_at_least c.requires.near c.in_ok-show.ensures.near c.in_ok-push-2.ensures.items
 
 pub returns-else-adds-clause-shown : goal.returns-else-adds-clause-shown
 returns-else-adds-clause-shown t c =
-    visible_more c.args.layers.now c.show.new.shown.items c.push.new.self.items c.in_ok-hidden.hidden c.in_ok-region.region c.in-len1-up.len_at_least
-    c.in_ok-hidden.ensures.shown c.in_ok-hidden.ensures.hidden c.in_ok-region.ensures c.in_ok-push.ensures.items
+    visible_more c.args.layers.now c.show.new.shown.items c.push.new.self.items c.show.new.hidden.items c.in_ok-region.region c.in-len1-up.len_at_least
+    c.in_ok-show.ensures.shown c.in_ok-show.ensures.hidden (left_of c.args.layers.now c.in_ok-region.region c.deref.result.now c.show.new.hidden.items c.deref.ensures.value c.in_ok-region.ensures) c.in_ok-push.ensures.items
 
 pub returns-else-adds-clause-hidden : goal.returns-else-adds-clause-hidden
 returns-else-adds-clause-hidden t c =
@@ -105,7 +124,7 @@ returns-else-adds-clause-hidden t c =
     let some = c.in-len1-up.len_at_least in
     elim c.if-hides_all.branch [
       | then-hides_all w ↦
-          hidden_empty layers c.in_ok-hidden.hidden c.in_ok-region.region some (sym c.hides_all.ensures ∙ w.if-hides_all.true)
-          (w.is_empty.ensures.0 (not_false w.is_empty.result (sym w.adds-is ∙ c.if-adds.false))) c.in_ok-hidden.ensures.hidden c.in_ok-region.ensures
-      | else-hides_all w ↦ hidden_same layers c.in_ok-hidden.hidden some (sym c.hides_all.ensures ∙ w.if-hides_all.false) c.in_ok-hidden.ensures.hidden
+          hidden_empty layers c.show.new.hidden.items c.in_ok-region.region some (sym c.hides_all.ensures ∙ w.if-hides_all.true)
+          (w.is_empty.ensures.0 (not_false w.is_empty.result (sym w.adds-is ∙ c.if-adds.false))) c.in_ok-show.ensures.hidden (left_of layers c.in_ok-region.region c.deref.result.now c.show.new.hidden.items c.deref.ensures.value c.in_ok-region.ensures)
+      | else-hides_all w ↦ hidden_same layers c.show.new.hidden.items some (sym c.hides_all.ensures ∙ w.if-hides_all.false) c.in_ok-show.ensures.hidden
     ]
