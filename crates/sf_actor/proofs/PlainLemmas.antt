@@ -157,7 +157,7 @@ module _ {B : Type 0} where
   -- what no call changes stays
   pub home_stays : (desk : PlainOf B) (queue place : ℕ) (one next : ObjectOf B) → IsAfterCall desk queue place one next → home_of (with_queue desk place next) ≡ home_of desk
   home_stays desk queue place one next h =
-      ap (λ (marks : List QueueMark). record { marks = marks; is_exact = true; tells = true; tables = desk.times.table ∷ []; serves = λ by. true; taken = taken_in desk.arrivals }) (is_called desk queue place one next h).marks
+      ap (λ (marks : List QueueMark). record { marks = marks; is_exact = true; tells = desk.tells; tables = desk.times.table ∷ []; serves = λ by. true; intake = None; taken = taken_in desk.arrivals }) (is_called desk queue place one next h).marks
 
   -- the same of whatever a call answers
   pub if_made : (desk : PlainOf B) (by queue place : ℕ) (asked : ℕ × QCall B) (result : Result (QReply B) (CallFault (QCall B))) (one next : ObjectOf B) → IsAfterCall desk queue place one next → IfOk result (λ reply. next.calls ≡ entry by asked reply ∷ one.calls) → IfOk result (MadeCall (home_of desk) (view_of desk) (view_of (with_queue desk place next)) by queue asked)

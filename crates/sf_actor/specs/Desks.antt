@@ -1,5 +1,5 @@
 -- What a desk has and knows, and what its calls tell.
-use Rattle.std.specs.Prelude.{◌≡◌, ◌≢◌, ℕ, ◌+◌, ◌<◌, ◌≤◌, ◌==◌, Bool, true, false, if◌then◌else◌, List, [], ◌∷◌, ◌++◌, length, map}
+use Rattle.std.specs.Prelude.{◌≡◌, ◌≢◌, ℕ, ◌+◌, ◌<◌, ◌≤◌, ◌==◌, Bool, true, false, if◌then◌else◌, Option, List, [], ◌∷◌, ◌++◌, length, map}
 use Rattle.std.specs.List.{list_any, range_with_len}
 use Rattle.atomic_table.specs.Seated.{TableId}
 use Rattle.sf_base.specs.Points.{greatest}
@@ -20,13 +20,15 @@ use Rattle.sf_actor.specs.Known.{ArriveWithout, Known, number_told}
 
 -- What no call of a desk changes: the marks of its queues; whether all that happens goes through it, so that what it knows
 -- is exact; whether it tells a sender the place of its transaction among the arrivals; the tables that its passes and seats
--- are of; the callers that it serves; and, where it is exact, how many of its arrivals a compositor has taken.
+-- are of; the callers that it serves; the intake that its transactions go through, where they go through one; and, where it is
+-- exact, how many of its arrivals a compositor has taken.
 pub record DeskHome : Type 0 where
   pub marks : List QueueMark
   pub is_exact : Bool
   pub tells : Bool
   pub tables : List TableId
   pub serves : ℕ → Bool
+  pub intake : Option (ℕ × ℕ)
   pub taken : ℕ
 
 abbrev pub has_queue : DeskHome → ℕ → Bool

@@ -1,5 +1,5 @@
 -- A desk of one thread: the objects themselves, and the only seats.
-use Rattle.std.specs.Prelude.{◌≡◌, ℕ, ◌+◌, ◌==◌, Bool, true, if◌then◌else◌, List, [], ◌∷◌, ◌++◌, length, map}
+use Rattle.std.specs.Prelude.{◌≡◌, ℕ, ◌+◌, ◌==◌, Bool, true, if◌then◌else◌, None, List, [], ◌∷◌, ◌++◌, length, map}
 use Rattle.atomic_table.specs.Seated.{TableId}
 use Rattle.sf_calls.specs.Histories.{waits}
 use Rattle.sf_surface.specs.declared.call.QCall.{QCall}
@@ -13,12 +13,14 @@ use Rattle.sf_turns.specs.Views.{SeatView}
 use Rattle.sf_txn.specs.Transactions.{Contents}
 use Rattle.sf_actor.specs.Desks.{DeskHome, DeskView}
 
--- its queues, the calls on the arrivals, and its seats at the timelines and at the turns
+-- its queues, the calls on the arrivals, its seats at the timelines and at the turns, and whether it tells a sender the place of
+-- its transaction
 pub record PlainOf (B : Type 0) : Type 0 where
   pub queues : List (ObjectOf B)
   pub arrivals : Calls ReadLeaseOf SeatView ReadLeaseOf Issued
   pub times : TimesView
   pub turns : SeatView
+  pub tells : Bool
 
 -- how many of the arrivals a compositor has taken
 abbrev pub taken_in : Calls ReadLeaseOf SeatView ReadLeaseOf Issued → ℕ
@@ -39,9 +41,10 @@ module _ {B : Type 0} where
   home_of desk = record {
     marks = map mark_of desk.queues;
     is_exact = true;
-    tells = true;
+    tells = desk.tells;
     tables = desk.times.table ∷ [];
     serves = λ by. true;
+    intake = None;
     taken = taken_in desk.arrivals;
   }
 

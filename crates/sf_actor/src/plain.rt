@@ -36,6 +36,8 @@ pub struct PlainDesk<B: TableName> {
     pub times: TimeSeat,
     /// The only seat at the turns.
     pub turns: TurnSeat<Painted>,
+    /// Whether a sender is told the place of its transaction among the arrivals.
+    pub tells: bool,
 }
 
 impl<B: TableName> Model for PlainDesk<B> {
@@ -43,9 +45,9 @@ impl<B: TableName> Model for PlainDesk<B> {
 
     ghost Value = { PlainOf B };
 
-    ghost view = { λ d. record { queues = d.queues.items; arrivals = d.arrivals; times = d.times; turns = d.turns } };
+    ghost view = { λ d. record { queues = d.queues.items; arrivals = d.arrivals; times = d.times; turns = d.turns; tells = d.tells } };
 
-    ghost invariant = { λ d. IsPlain d.table B.table (record { queues = d.queues.items; arrivals = d.arrivals; times = d.times; turns = d.turns }) };
+    ghost invariant = { λ d. IsPlain d.table B.table (record { queues = d.queues.items; arrivals = d.arrivals; times = d.times; turns = d.turns; tells = d.tells }) };
 }
 
 /// The place of the queue of this number.
@@ -101,20 +103,21 @@ impl<B: TableName> PlainDesk<B> {
     ghost use Rattle.std.specs.Prelude.{◌≡◌, true};
     ghost use Rattle.sf_times.specs.Seats.{IsAlone};
 
-    /// A desk of these, with their only seats.
+    /// A desk of these, with their only seats, which tells a sender the place of its transaction or does not.
     pub fn new(
         queues: Vec<QueueObject<B>>,
         arrivals: Arrivals<ReadLease<B>, Brand>,
         table: Timelines,
         times: TimeSeat,
         turns: TurnSeat<Painted>,
+        tells: bool,
     ) -> PlainDesk<B>
         requires own_times { times.table ≡ table }
         requires alone { IsAlone times.knows }
         requires own_turns { turns.table ≡ B.table }
         requires first { turns.is_first ≡ true }
         requires none_out { turns.out ≡ 0 }
-        ensures { result ≡ record { queues = queues.items; arrivals = arrivals; times = times; turns = turns } }
+        ensures { result ≡ record { queues = queues.items; arrivals = arrivals; times = times; turns = turns; tells = tells } }
     {
         PlainDesk {
             queues,
@@ -122,6 +125,7 @@ impl<B: TableName> PlainDesk<B> {
             table,
             times,
             turns,
+            tells,
         }
     }
 }
@@ -181,7 +185,8 @@ impl<B: TableName> Desk<TokensOf<B>> for PlainDesk<B> {
         ensures back { IfErr result (λ back. (back.1 ≡ txn) × IsAsBefore (view_of self.old) (view_of self.new)) }
         ensures home { home_of self.new ≡ home_of self.old }
     {
-        send_to(&mut self.arrivals, by, step, txn)
+        let number = send_to(&mut self.arrivals, by, step, txn)?;
+        Ok(if self.tells { number } else { 0 })
     }
 
     fn signal(&mut self, t: TimelineId, v: u64)

@@ -8,13 +8,13 @@ use Rattle.sf_actor.proofs.plain.PlainDeskDeskTokensOf.call.Goals as goal
 
 pub unreachable-requires : goal.unreachable-requires
 unreachable-requires g c =
-    let desk : PlainOf g.row.B.Denot = record { queues = c.self.inside.queues.items; arrivals = c.self.inside.arrivals; times = c.self.inside.times; turns = c.self.inside.turns } in
+    let desk : PlainOf g.row.B.Denot = record { queues = c.self.inside.queues.items; arrivals = c.self.inside.arrivals; times = c.self.inside.times; turns = c.self.inside.turns; tells = c.self.inside.tells } in
     let there : has_queue (home_of desk) c.args.queue.0 ≡ true = subst (λ (d : PlainOf g.row.B.Denot). has_queue (home_of d) c.args.queue.0 ≡ true) (sym c.self.view_is) c.requires.there in
     no_queue desk c.args.queue.0 c.deref.result.now c.index_of.result c.deref.ensures.value c.index_of.ensures c.in_default.is there
 
 pub returns-clause-made : goal.returns-clause-made
 returns-clause-made g c =
-    let desk : PlainOf g.row.B.Denot = record { queues = c.self.inside.queues.items; arrivals = c.self.inside.arrivals; times = c.self.inside.times; turns = c.self.inside.turns } in
+    let desk : PlainOf g.row.B.Denot = record { queues = c.self.inside.queues.items; arrivals = c.self.inside.arrivals; times = c.self.inside.times; turns = c.self.inside.turns; tells = c.self.inside.tells } in
     let one = c.index_mut.result.now in
     let next = c.call_on.new.object in
     let after = after_call desk c.args.queue.0 c.in-Some.place c.deref.result.now c.index_of.result one next c.deref.ensures.value c.index_of.ensures c.in-Some.is c.index_mut.ensures.value c.call_on.ensures.mark c.call_on.ensures.legal in
@@ -23,7 +23,7 @@ returns-clause-made g c =
 
 pub returns-clause-not_yet : goal.returns-clause-not_yet
 returns-clause-not_yet g c =
-    let desk : PlainOf g.row.B.Denot = record { queues = c.self.inside.queues.items; arrivals = c.self.inside.arrivals; times = c.self.inside.times; turns = c.self.inside.turns } in
+    let desk : PlainOf g.row.B.Denot = record { queues = c.self.inside.queues.items; arrivals = c.self.inside.arrivals; times = c.self.inside.times; turns = c.self.inside.turns; tells = c.self.inside.tells } in
     let one = c.index_mut.result.now in
     let next = c.call_on.new.object in
     let after = after_call desk c.args.queue.0 c.in-Some.place c.deref.result.now c.index_of.result one next c.deref.ensures.value c.index_of.ensures c.in-Some.is c.index_mut.ensures.value c.call_on.ensures.mark c.call_on.ensures.legal in
@@ -32,7 +32,7 @@ returns-clause-not_yet g c =
 
 pub returns-clause-no_memory : goal.returns-clause-no_memory
 returns-clause-no_memory g c =
-    let desk : PlainOf g.row.B.Denot = record { queues = c.self.inside.queues.items; arrivals = c.self.inside.arrivals; times = c.self.inside.times; turns = c.self.inside.turns } in
+    let desk : PlainOf g.row.B.Denot = record { queues = c.self.inside.queues.items; arrivals = c.self.inside.arrivals; times = c.self.inside.times; turns = c.self.inside.turns; tells = c.self.inside.tells } in
     let one = c.index_mut.result.now in
     let next = c.call_on.new.object in
     let after = after_call desk c.args.queue.0 c.in-Some.place c.deref.result.now c.index_of.result one next c.deref.ensures.value c.index_of.ensures c.in-Some.is c.index_mut.ensures.value c.call_on.ensures.mark c.call_on.ensures.legal in
@@ -41,7 +41,7 @@ returns-clause-no_memory g c =
 
 pub returns-clause-home : goal.returns-clause-home
 returns-clause-home g c =
-    let desk : PlainOf g.row.B.Denot = record { queues = c.self.inside.queues.items; arrivals = c.self.inside.arrivals; times = c.self.inside.times; turns = c.self.inside.turns } in
+    let desk : PlainOf g.row.B.Denot = record { queues = c.self.inside.queues.items; arrivals = c.self.inside.arrivals; times = c.self.inside.times; turns = c.self.inside.turns; tells = c.self.inside.tells } in
     let one = c.index_mut.result.now in
     let next = c.call_on.new.object in
     let after = after_call desk c.args.queue.0 c.in-Some.place c.deref.result.now c.index_of.result one next c.deref.ensures.value c.index_of.ensures c.in-Some.is c.index_mut.ensures.value c.call_on.ensures.mark c.call_on.ensures.legal in
