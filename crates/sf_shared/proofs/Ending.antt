@@ -1,6 +1,6 @@
 -- What is left when what was shared is closed.
 use Rattle.std.proofs.Common.{◌≡◌, ℕ, suc, ◌<◌, ◌≤◌, ◌==◌, Bool, true, false, List, [], ◌∷◌, inl, inr, length, get_or, arith, ap, ap₂, ◌∙◌, sym, refl, subst}
-use Rattle.std.specs.Prelude.{map, Contains}
+use Rattle.std.specs.Prelude.{map, not, Contains}
 use Rattle.std.specs.List.{AllByRecursion, AllZip, list_any}
 use Rattle.std.proofs.Math.Nat.{max-le}
 use Rattle.std.proofs.lemmas.Bool.{cases_Bool, eqb-true}
@@ -30,7 +30,7 @@ use Rattle.sf_shared.specs.declared.seats.Seats.{Seats}
 use Rattle.sf_shared.specs.Arriving.{ArrivalEntry, Arrived, Arriving}
 use Rattle.sf_shared.specs.Closing.{AreClosed, Closes, GoesOnIn, HasNoEntry, IsClosed, IsLast, IsOrdered}
 use Rattle.sf_shared.specs.First.{HasAll, IsFirst, Leads, TookPass, gave_of, took_of}
-use Rattle.sf_shared.specs.Seats.{IsPassOf, QueueEntry, QueuePass, calls_known, home_of, is_at, lock_mark, mark_in, view_of}
+use Rattle.sf_shared.specs.Seats.{IsPassOf, QueueEntry, QueuePass, calls_known, home_of, is_at, lock_mark, mark_in, tells_of, view_of}
 use Rattle.sf_shared.proofs.Going.{calls_unstamped, goes_unstamped, sent_goes}
 use Rattle.sf_shared.proofs.Ordering.{contains_cons}
 use Rattle.sf_shared.proofs.Passing.{as_long, zip_at}
@@ -92,6 +92,11 @@ none_sent : (by : ℕ) (log : List (Entry Arriving Arrived)) → calls_by by log
 none_sent by log none =
     let goes = sent_goes by [] log (record { begins = (log, sym (append-nil log)); calls = none }) in
     ap (list_any (is_sent_by by)) goes.joined ∙ goes.none
+
+-- what is said of a value by its opposite
+pub told_none : (some none : Bool) → some ≡ not none → none ≡ not some
+told_none some true e = sym (ap not e)
+told_none some false e = sym (ap not e)
 
 module _ {B : Type 0} where
   -- the first passes took in all that they gave
@@ -207,6 +212,7 @@ module _ {B : Type 0} where
     pub callers : (b : ℕ) → (Contains (first.seats.arrivals.by ∷ first.seats.arrivals.gave) b → ⊥) → calls_by b first.seats.arrivals.seen ≡ calls_by b first.seats.arrivals.start
     pub times : desk.times ≡ first.seats.times
     pub turns : desk.turns ≡ first.seats.turns
+    pub tells : desk.tells ≡ tells_of locks
 
   module _ (buffers : TableId) (locks : Locks B) (first : FirstSeats B) (desk : PlainOf B) (is : IsFirst buffers locks first) (left : IsLeft locks first desk) where
     calls_left : (queue : ℕ) → (plain_view desk).calls queue ≡ (view_of first.seats).calls queue
@@ -229,6 +235,7 @@ module _ {B : Type 0} where
       strangers = λ by not. ap (calls_by by) left.arrivals ∙ calls_unstamped by first.seats.arrivals.seen ∙ ap unstamped (none_stamped by not);
       times = left.times;
       turns = left.turns;
+      tells = left.tells;
     }
 
     pub ordered : IsOrdered first
@@ -244,7 +251,7 @@ module _ {B : Type 0} where
         let taken = is.took seats there in
         record {
           marks = λ queue. ap (λ (ms : List QueueMark). mark_among ms queue) (closed_marks locks.queues.items first.seats.queues.items desk.queues left.queues);
-          tells = refl;
+          tells = left.tells;
           calls = λ queue.
               subst (λ (calls : List (Made B)). GoesOnWithout seats.by (calls_known seats.queues.items queue) calls) (sym (calls_left queue))
               (closed_goes first.seats.by seats.by queue locks.queues.items first.seats.queues.items seats.queues.items desk.queues is.own.queues taken.own.queues left.queues taken.queues);

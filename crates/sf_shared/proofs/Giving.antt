@@ -139,6 +139,7 @@ module _ {B : Type 0} where
           subst (λ (c : Clock). IsInOrder c (moments_of new.seats)) (sym s.last)
           (subst (λ (xs : List (ℕ × ℕ)). IsInOrder old.seats.last xs) (sym same_order) first.own.in_order);
       takes = λ other. absurd (other (s.number ∙ first.number));
+      tells = first.own.tells;
     }
 
     leads_all : AllByRecursion (Leads (gave_of new)) new.seats.queues.items
@@ -223,6 +224,7 @@ module _ {B : Type 0} where
       own_turns = ap (λ (v : TurnsView). v.table) s.given_turns ∙ first.own.own_turns;
       in_order = subst (λ (xs : List (ℕ × ℕ)). IsInOrder seats.last xs) (sym given_moments) (none_in_order seats.last);
       takes = λ other. ap (λ calls. takes_in (calls_by seats.by calls)) given_arrived;
+      tells = first.own.tells;
     }
 
     pub given_is : IsGiven by old.seats seats

@@ -1,6 +1,6 @@
 -- Seats and the home of a desk of them.
-use Rattle.std.proofs.Common.{◌≡◌, ℕ, List, [], ◌∷◌, length, arith, ap, ap₂, ◌∙◌, refl, Some}
-use Rattle.std.specs.Prelude.{map}
+use Rattle.std.proofs.Common.{◌≡◌, ℕ, List, [], ◌∷◌, length, arith, ap, ap₂, ◌∙◌, sym, refl, Some}
+use Rattle.std.specs.Prelude.{is_none, map}
 use Rattle.std.specs.List.{AllZip}
 use Rattle.atomic_table.specs.Seated.{TableId}
 use Rattle.sf_base.specs.declared.ids.QueueId.{QueueId}
@@ -35,7 +35,7 @@ module _ {B : Type 0} where
   numbers_are by (l ∷ locks) (p ∷ passes) own = ap₂ (λ (n : QueueId) (ns : List QueueId). n ∷ ns) own.0.numbered (numbers_are by locks passes own.1)
 
   pub home_made : (buffers : TableId) (locks : Locks B) (seats : Seats B) → AreSeats buffers locks seats → IsHome locks (home_of locks seats)
-  home_made buffers locks seats are = record { marks = refl; tables = refl; numbered = numbers_are seats.by locks.queues.items seats.queues.items are.queues }
+  home_made buffers locks seats are = record { marks = refl; intake = refl; tables = refl; numbered = numbers_are seats.by locks.queues.items seats.queues.items are.queues }
 
   own_there : (by : ℕ) (was locks : List (QueueLock B)) (passes : List (QueuePass B)) → AllZip (IsPassOf by) was passes → map lock_mark was ≡ map lock_mark locks → map lock_of was ≡ map lock_of locks → map number_of locks ≡ map queue_in (map lock_mark locks) → AllZip (IsPassOf by) locks passes
   own_there by [] [] passes own marks tables numbers = own
@@ -63,4 +63,5 @@ module _ {B : Type 0} where
     own_turns = are.own_turns;
     in_order = are.in_order;
     takes = are.takes;
+    tells = ap is_none (sym home.intake) ∙ are.tells;
   }

@@ -158,6 +158,7 @@ module _ {B : Type 0} where
       own_turns = ap (λ (v : TurnsView). v.table) m.turns ∙ first.own.own_turns;
       in_order = in_order;
       takes = λ other. absurd (other (m.number ∙ first.number));
+      tells = first.own.tells;
     }
 
     leads_all : AllByRecursion (Leads (gave_of new)) new.seats.queues.items

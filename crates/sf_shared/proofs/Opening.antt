@@ -22,7 +22,7 @@ use Rattle.sf_shared.specs.Arriving.{ArrivalsPass}
 use Rattle.sf_shared.specs.Closing.{AreClosed, AreOpened, HasNoCalls, IsClosed, IsLast, IsOpened, Opens}
 use Rattle.sf_shared.specs.First.{IsFirst, KnowsNothing, Leads, gave_of}
 use Rattle.sf_shared.proofs.Giving.{no_moments, none_in_order}
-use Rattle.sf_shared.specs.Seats.{AreSeats, IsInOrder, IsPassOf, QueuePass, calls_known, is_at, lock_mark, moments_of, sent_in}
+use Rattle.sf_shared.specs.Seats.{AreSeats, IsInOrder, IsPassOf, QueuePass, calls_known, is_at, lock_mark, moments_of, sent_in, tells_of}
 
 appended : {X : Type 0} (xs ys : List X) (x : X) → (xs ++ x ∷ []) ++ ys ≡ xs ++ (x ∷ ys)
 appended [] ys x = refl
@@ -154,6 +154,7 @@ module _ {B : Type 0} where
     pub own_times : times.table ≡ locks.times
     pub turns_is : first.seats.turns ≡ turns
     pub took : first.took.items ≡ []
+    pub tells : tells_of locks ≡ true
 
   module _ (buffers : TableId) (objects : List (ObjectOf B)) (times : TimesView) (turns : TurnsView) (locks : Locks B) (first : FirstSeats B) (alone : IsAlone times.knows) (own : turns.table ≡ buffers) (is_first : turns.is_first ≡ true) (none_out : turns.out ≡ 0) (m : IsMade objects times turns locks first) where
     arrived : first.seats.arrivals.seen ≡ []
@@ -178,6 +179,7 @@ module _ {B : Type 0} where
       own_turns = ap (λ (v : TurnsView). v.table) m.turns_is ∙ own;
       in_order = subst (λ (xs : List (ℕ × ℕ)). IsInOrder first.seats.last xs) (sym moments) (none_in_order first.seats.last);
       takes = λ other. absurd (other m.number);
+      tells = m.tells;
     }
 
     pub first_made : IsFirst buffers locks first

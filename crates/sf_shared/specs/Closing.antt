@@ -15,7 +15,7 @@ use Rattle.sf_shared.specs.declared.locks.Locks.{Locks}
 use Rattle.sf_shared.specs.declared.locks.QueueLock.{QueueLock}
 use Rattle.sf_shared.specs.declared.seats.Seats.{Seats}
 use Rattle.sf_shared.specs.First.{KnowsNothing, gave_of, took_of}
-use Rattle.sf_shared.specs.Seats.{QueuePass, QueueEntry, lock_mark, marks_of, view_of}
+use Rattle.sf_shared.specs.Seats.{QueuePass, QueueEntry, lock_mark, marks_of, tells_of, view_of}
 
 module _ {B : Type 0} where
   abbrev pub HasNoCalls : ObjectOf B → Type 0
@@ -76,6 +76,7 @@ module _ {B : Type 0} where
     pub strangers : (by : ℕ) → (Contains (first.seats.by ∷ gave_of first) by → ⊥) → calls_by by desk.arrivals ≡ []
     pub times : desk.times ≡ first.seats.times
     pub turns : desk.turns ≡ first.seats.turns
+    pub tells : desk.tells ≡ tells_of locks
 
   -- what one caller's pass knew goes on in what the last one knows, without a further call of that caller
   abbrev pub GoesOnIn : ℕ → QueuePass B → QueuePass B → Type 0

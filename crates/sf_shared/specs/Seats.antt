@@ -1,6 +1,6 @@
 -- What one caller brings to what is shared: passes at locks, and seats.
 use Rattle.std.specs.Prelude.{◌≡◌, ℕ, ◌+◌, ◌<◌, ◌≤◌, ◌==◌, Bool, true, false, if◌then◌else◌}
-use Rattle.std.specs.Prelude.{Option, Some, None, List, [], ◌∷◌, ◌++◌, map, sum_by, Contains}
+use Rattle.std.specs.Prelude.{Option, Some, None, is_none, List, [], ◌∷◌, ◌++◌, map, sum_by, Contains}
 use Rattle.std.specs.List.{AllZip}
 use Rattle.atomic_table.specs.Seated.{TableId}
 use Rattle.sf_base.specs.declared.ids.QueueId.{QueueId}
@@ -42,14 +42,19 @@ module _ {B : Type 0} where
   abbrev pub tables_of : Locks B → List TableId
   tables_of locks = locks.arrivals ∷ locks.times ∷ map (λ (lock : QueueLock B). lock.lock) locks.queues.items
 
+  -- whether a sender is told the place of its transaction among the arrivals: it is not where transactions come through an intake
+  abbrev pub tells_of : Locks B → Bool
+  tells_of locks = is_none locks.intake
+
   -- what no call changes: a caller's passes are ones of these locks, and serve it alone
   abbrev pub home_of : Locks B → Seats B → DeskHome
   home_of locks seats = record {
     marks = marks_of locks;
     is_exact = false;
-    tells = true;
+    tells = tells_of locks;
     tables = tables_of locks;
     serves = λ by. by == seats.by;
+    intake = locks.intake;
     taken = 0;
   }
 
@@ -122,7 +127,7 @@ module _ {B : Type 0} where
     pub numbered : lock.number ≡ (lock_mark lock).queue
 
   -- A caller's passes and seats are ones of these locks and timelines, and of this table of turns; what it did, it did in order; and
-  -- none but the first caller, whose number is 0, takes what arrived.
+  -- none but the first caller, whose number is 0, takes what arrived. A sender is told the place of its transaction.
   pub record AreSeats (buffers : TableId) (locks : Locks B) (seats : Seats B) : Type 0 where
     pub queues : AllZip (IsPassOf seats.by) locks.queues.items seats.queues.items
     pub own_arrivals : seats.arrivals.table ≡ locks.arrivals
@@ -132,3 +137,4 @@ module _ {B : Type 0} where
     pub own_turns : seats.turns.table ≡ buffers
     pub in_order : IsInOrder seats.last (moments_of seats)
     pub takes : (seats.by ≡ 0 → ⊥) → takes_in (calls_by seats.by seats.arrivals.seen) ≡ []
+    pub tells : tells_of locks ≡ true

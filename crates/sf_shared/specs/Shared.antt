@@ -20,5 +20,6 @@ module _ {B : Type 0} where
   -- the home of a desk over these locks
   pub record IsHome (locks : Locks B) (home : DeskHome) : Type 0 where
     pub marks : home.marks ≡ seated.marks_of locks
+    pub intake : home.intake ≡ locks.intake
     pub tables : home.tables ≡ seated.tables_of locks
     pub numbered : seated.numbers_of locks ≡ map (λ (mark : QueueMark). mark.queue) (seated.marks_of locks)

@@ -17,6 +17,7 @@ use crate::seats::{Seats, SeatsParts};
 use sf_actor::PlainDesk;
 use sf_base::{NoMemory, QueueId};
 use sf_calls::CallLock;
+use sf_intake::Intake;
 use sf_picture::Painted;
 use sf_stamped::Stamped;
 use sf_surface::{QueueObject, ReadLease};
@@ -41,6 +42,8 @@ pub struct Locks<B: TableName> {
     pub(crate) queues: Vec<QueueLock<B>>,
     pub(crate) arrivals: CallLock<StampedArrivals<B>>,
     pub(crate) times: Timelines,
+    // Where transactions come without a lock, what they come through. A sender is told no place then.
+    pub(crate) intake: Option<Intake<ReadLease<B>, Brand>>,
 }
 
 /// A queue without calls under a lock, with the first caller's pass.
@@ -157,6 +160,7 @@ impl<B: TableName> Locks<B> {
             queues,
             arrivals: lock,
             times: table,
+            intake: None,
         };
         let seats = Seats {
             by: 0,
@@ -185,6 +189,7 @@ impl<B: TableName> Locks<B> {
             queues,
             arrivals,
             times: table,
+            intake,
         } = self;
         let FirstSeats { seats, took: _ } = first;
         let SeatsParts {
@@ -199,7 +204,14 @@ impl<B: TableName> Locks<B> {
         let Ok(arrivals) = arrivals.close(pass) else {
             unreachable!()
         };
-        Ok(PlainDesk::new(queues, arrivals.into_arrivals(), table, times, turns))
+        Ok(PlainDesk::new(
+            queues,
+            arrivals.into_arrivals(),
+            table,
+            times,
+            turns,
+            intake.is_none(),
+        ))
     }
 }
 
@@ -237,6 +249,7 @@ impl<B: TableName> Drop for Locks<B> {
             queues: _,
             arrivals: _,
             times: _,
+            intake: _,
         } = self;
     }
 }

@@ -10,7 +10,7 @@ use Rattle.sf_shared.specs.Closing.{AreClosed, Closes, IsOrdered}
 use Rattle.sf_shared.specs.First.{HasAll, IsFirst, gave_of}
 use Rattle.sf_shared.specs.declared.first.FirstSeats.{FirstSeats}
 use Rattle.sf_shared.specs.declared.seats.Seats.{Seats}
-use Rattle.sf_shared.proofs.Ending.{IsLeft, all_last, closes, goes, last_arrivals, nobody, ordered}
+use Rattle.sf_shared.proofs.Ending.{IsLeft, all_last, closes, goes, last_arrivals, nobody, ordered, told_none}
 use Rattle.sf_shared.proofs.locks.Locks.close.Goals as goal
 
 pub close_queues-requires : goal.close_queues-requires
@@ -48,6 +48,7 @@ returns g c =
       callers = λ b not. sym (ap (λ (log : List ArrivalEntry). calls_by b log) closed.history) ∙ closed.callers b not;
       times = ap (λ (d : PlainOf g.row.B.Denot). d.times) c.new.ensures;
       turns = ap (λ (d : PlainOf g.row.B.Denot). d.turns) c.new.ensures;
+      tells = ap (λ (d : PlainOf g.row.B.Denot). d.tells) c.new.ensures ∙ told_none _ _ c.is_none.ensures;
     } in
     record {
       closed = subst (λ (f : FirstSeats g.row.B.Denot). Closes c.args.self f c.new.result) (sym same) (closes g.B.TableName.table c.args.self first c.new.result is_first left);

@@ -1,4 +1,4 @@
-use Rattle.std.proofs.Common.{List, ◌∙◌, ap, subst, sym}
+use Rattle.std.proofs.Common.{None, List, ◌∙◌, ap, refl, subst, sym}
 use Rattle.sf_calls.specs.Passes.{first_pass}
 use Rattle.sf_shared.specs.declared.locks.Locks.{Locks}
 use Rattle.sf_shared.specs.declared.seats.Seats.{Seats}
@@ -9,7 +9,7 @@ use Rattle.sf_shared.proofs.locks.Locks.open.Goals as goal
 
 pub returns : goal.returns
 returns g c =
-    let locks : Locks g.row.B.Denot = record { queues = c.in_ok-queues.queues; arrivals = c.in-Ok.lock; times = c.args.table } in
+    let locks : Locks g.row.B.Denot = record { queues = c.in_ok-queues.queues; arrivals = c.in-Ok.lock; times = c.args.table; intake = None } in
     let seats = c.of.ensures.seats in
     let m : IsMade c.args.queues.items c.args.times c.args.turns locks c.of.result = record {
       queues = subst (λ (s : Seats g.row.B.Denot). AreOpened c.args.queues.items locks.queues.items s.queues.items) (sym seats) c.in_ok-queues.ensures;
@@ -20,6 +20,7 @@ returns g c =
       own_times = c.requires.own_times;
       turns_is = ap (λ (s : Seats g.row.B.Denot). s.turns) seats;
       took = c.of.ensures.took;
+      tells = refl;
     } in
     record {
       first = first_made g.B.TableName.table c.args.queues.items c.args.times c.args.turns locks c.of.result c.requires.alone c.requires.own_turns c.requires.first.0 c.requires.first.1 m;

@@ -55,6 +55,7 @@ returns-clause-own g c =
           c.index_mut.ensures.value was.number
           (low_place seats.by c.args.queue.0 c.in-Some.place locks seats.queues.items c.requires.own.queues first) c.call_one.ensures.ticks;
       takes = c.requires.own.takes;
+      tells = c.requires.own.tells;
     }
 
 pub returns-clause-changes : goal.returns-clause-changes

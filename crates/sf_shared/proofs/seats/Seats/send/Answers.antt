@@ -4,6 +4,7 @@ use Rattle.sf_shared.specs.Arriving.{ArrivalsPass}
 use Rattle.sf_shared.specs.Calls.{Ticks}
 use Rattle.sf_shared.specs.Seats.{calls_made, sent_in, takes_in}
 use Rattle.sf_shared.proofs.Ordering.{later_sent, order_sent, stamp_rises}
+use Rattle.sf_shared.proofs.Sending.{made_send}
 use Rattle.sf_shared.proofs.seats.Seats.send.Goals as goal
 
 pub returns-clause-own : goal.returns-clause-own
@@ -22,6 +23,7 @@ returns-clause-own g c =
       in_order = order_sent seats.last c.send_one.new.last (calls_made seats.by seats.queues.items) (sent_in (calls_by seats.by seats.arrivals.seen)) (sent_in (calls_by seats.by new.seen)) own.in_order ticks;
       takes = λ other.
           subst (λ (b : ℕ). takes_in (calls_by b new.seen) ≡ takes_in (calls_by b seats.arrivals.seen)) own.number c.send_one.ensures.takes ∙ own.takes other;
+      tells = own.tells;
     }
 
 pub returns-clause-changes : goal.returns-clause-changes
@@ -36,3 +38,8 @@ returns-clause-changes g c =
       last = stamp_rises seats.last c.send_one.new.last _ _ ticks;
       later = later_sent seats.last c.send_one.new.last (calls_made seats.by seats.queues.items) (sent_in (calls_by seats.by seats.arrivals.seen)) (sent_in (calls_by seats.by new.seen)) ticks;
     }
+
+pub returns-clause-sent : goal.returns-clause-sent
+returns-clause-sent g c =
+    made_send c.args.self.now c.send_one.new.pass c.send_one.new.last c.args.locks.now c.args.step c.args.txn c.send_one.result c.requires.own.number c.requires.own.tells c.send_one.ensures.turns
+    c.send_one.ensures.sent

@@ -27,6 +27,7 @@ returns-clause-own g c =
           order_later seats.last c.take_one.new.last (calls ++ sent_in (calls_by seats.by seats.arrivals.seen)) (calls ++ sent_in (calls_by seats.by new.seen)) own.in_order c.take_one.ensures.step
           c.take_one.ensures.stamp (ap (λ (xs : List (ℕ × ℕ)). calls ++ xs) sends);
       takes = λ other. absurd (other c.requires.first);
+      tells = own.tells;
     }
 
 pub returns-clause-changes : goal.returns-clause-changes
