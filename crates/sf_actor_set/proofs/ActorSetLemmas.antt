@@ -82,13 +82,14 @@ module _ {B : Type 0} where
       kept = λ unspent. kept_as table (picture_at pictures) (home_of desk) (view_of desk) (view_of desk) actors _ keep;
     }
 
-    pub actor_set_opens : (seat : SeatView) → desk.times.knows ≡ unraised → desk.turns ≡ seat → Opens table queues pictures scripts seat stock (record { pictures = pictures; actors = actors; desk = desk; is_spent = false })
-    actor_set_opens seat times turns = record {
+    pub actor_set_opens : (seat : SeatView) → desk.times.knows ≡ unraised → desk.turns ≡ seat → (home_of desk).tells ≡ true → Opens table queues pictures scripts seat stock (record { pictures = pictures; actors = actors; desk = desk; is_spent = false })
+    actor_set_opens seat times turns told = record {
       same_pictures = refl;
       queues_opened = subst (OpensQueues queues) (sym own) queued;
       none_arrived = none;
       none_raised = times;
       same_seat = turns;
+      told = told;
       declared = opened.declared;
       sorted = opened.sorted;
       keep = keep;

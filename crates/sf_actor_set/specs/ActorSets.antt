@@ -1,6 +1,6 @@
 -- What contracts see of an actor set. Its actors' traces are not in its memory: contracts speak of each list of traces that fits
 -- what the actors have.
-use Rattle.std.specs.Prelude.{◌≡◌, ℕ, ◌+◌, ◌≤◌, Bool, false, List, [], length, map, slice_get, slice_set, Some}
+use Rattle.std.specs.Prelude.{◌≡◌, ℕ, ◌+◌, ◌≤◌, Bool, true, false, List, [], length, map, slice_get, slice_set, Some}
 use Rattle.std.specs.List.{All, AllZip}
 use Rattle.std.specs.List.Sorted.{IsStrictlyIncreasing}
 use Rattle.atomic_table.specs.Seated.{TableId}
@@ -87,13 +87,14 @@ module _ {B : Type 0} where
 
   module _ (table : TableId) (queues : List QueueDecl) (pictures : List Picture) (scripts : List ActorScript) where
     -- an actor set that has done nothing, over queues that were not called, no arrivals, timelines that nobody raised, and the seat
-    -- at the turns
+    -- at the turns; its desk tells places
     pub record Opens (seat : SeatView) (stock : List ℕ) (actor_set : ActorSetOf B) : Type 0 where
       pub same_pictures : actor_set.pictures ≡ pictures
       pub queues_opened : OpensQueues queues actor_set.desk.queues
       pub none_arrived : actor_set.desk.arrivals ≡ []
       pub none_raised : actor_set.desk.times.knows ≡ opened
       pub same_seat : actor_set.desk.turns ≡ seat
+      pub told : (home_of actor_set.desk).tells ≡ true
       pub declared : List ActorScript
       pub sorted : IsSortedFrom (λ (script : ActorScript). script.number) scripts declared
       pub keep : KeepAs table (picture_at actor_set.pictures) (home_of actor_set.desk) (view_of actor_set.desk) actor_set.actors (new_actors declared stock)

@@ -94,7 +94,7 @@ impl<B: TableName> ActorSet<B> {
         let actors = open_actors(alloc, scripts.into_vec(), stock)?;
         let queues = open_queues(alloc, queues)?;
         let (table, times) = Timelines::open(alloc)?;
-        let desk = PlainDesk::new(queues, Arrivals::new(alloc)?, table, times, seat);
+        let desk = PlainDesk::new(queues, Arrivals::new(alloc)?, table, times, seat, true);
         Ok(ActorSet {
             pictures,
             actors,

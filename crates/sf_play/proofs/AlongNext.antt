@@ -136,7 +136,7 @@ module _ {B : Type 0} where
 
     -- it stood along with the play
     abbrev pub WasAlong : Type 0
-    WasAlong = PlaysSo scene so old.play old.place × HoldsAt scene so old old.place
+    WasAlong = PlaysSo scene so old.play old.place × HoldsAt scene so old old.place × ((home_in old.play).tells ≡ true)
 
     abbrev On : Place → Type 0
     On place = PlaysOn WasAlong table scene marks so came_to new place
@@ -182,7 +182,7 @@ module _ {B : Type 0} where
               (ap (λ (b : Bool). at.Round (place + 1) b) (sym (or_true was) ∙ ap (λ (x : Turn). was || is_step x) (sym is)))
               (record {
                 kept = did s;
-                along = λ w. round_done table scene so old.play stands place new.play.actor_set t.same t.acts s keeps.desk known_actor_set (firsts s.old (got_has so.actors place s.old s.here)) was (plays w);
+                along = λ w. round_done table scene so old.play stands place new.play.actor_set t.same t.acts s keeps.desk known_actor_set (firsts s.old (got_has so.actors place s.old s.here)) w.2 was (plays w);
                 holds = λ w. tt;
                 stage = tt;
               })
@@ -210,7 +210,7 @@ module _ {B : Type 0} where
               comes (turn.Step place) (at.Order at' (done + 1)) (at.Order at' (done + 1)) is t.rest refl
               (record {
                 kept = did s;
-                along = λ w. pick_done table scene so old.play stands place new.play.actor_set t.same t.acts s keeps.desk known_actor_set (firsts s.old (got_has so.actors place s.old s.here)) at' done pick (plays w) there less
+                along = λ w. pick_done table scene so old.play stands place new.play.actor_set t.same t.acts s keeps.desk known_actor_set (firsts s.old (got_has so.actors place s.old s.here)) w.2 at' done pick (plays w) there less
                     (number s.old s.here);
                 holds = λ w. tt;
                 stage = tt;

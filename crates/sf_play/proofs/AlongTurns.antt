@@ -205,7 +205,7 @@ module _ {B : Type 0} where
 
     -- the step is done
     module _ (s : StepsAt table (picture_at scene.pictures) place play.actor_set.actors so.actors play.actor_set.desk actor_set.actors actor_set.desk stepped.Done) (knows : DeskKnows play) (known : DeskKnows new_play)
-        (first : TellsFirst scene (world_so so play).run s.old (view_of play.actor_set.desk)) where
+        (first : TellsFirst scene (world_so so play).run s.old (view_of play.actor_set.desk)) (told : (home_of play.actor_set.desk).tells ≡ true) where
       abbrev later_so : SoFar B
       later_so = record { actors = set so.actors place s.new; events = so.events ++ event.Reply (reply_shown s.tries.0) ∷ [] }
 
@@ -229,7 +229,7 @@ module _ {B : Type 0} where
 
       turn_now : actor_turn scene s.old.script.number (world_so so play) ≡ turn
       turn_now =
-          desk_turn scene so.actors (home_of play.actor_set.desk) (view_of play.actor_set.desk) (view_of actor_set.desk) place s.old s.new s.tries.0 (vsyncs_in so.events) play.vsyncs stands.of_scene.limits refl refl s.here s.tries.1
+          desk_turn scene so.actors (home_of play.actor_set.desk) (view_of play.actor_set.desk) (view_of actor_set.desk) place s.old s.new s.tries.0 (vsyncs_in so.events) play.vsyncs stands.of_scene.limits refl told s.here s.tries.1
           (knows_so table scene so play stands knows) runs_now calls_now (sent_numbered actor_set.desk.arrivals) first
           ∙ (λ i. record {
             events = event.Reply (reply_shown s.tries.0) ∷ [];
@@ -243,7 +243,7 @@ module _ {B : Type 0} where
 
       traces_now : (actor : ℕ) → trace_among later_so.actors actor ≡ with_list (trace_among so.actors) s.old.script.number (trace_among so.actors s.old.script.number ++ s.tries.1.done ∷ []) actor
       traces_now =
-          traces scene so.actors (home_of play.actor_set.desk) (view_of play.actor_set.desk) (view_of actor_set.desk) place s.old s.new s.tries.0 (vsyncs_in so.events) play.vsyncs stands.of_scene.limits refl refl s.here s.tries.1
+          traces scene so.actors (home_of play.actor_set.desk) (view_of play.actor_set.desk) (view_of actor_set.desk) place s.old s.new s.tries.0 (vsyncs_in so.events) play.vsyncs stands.of_scene.limits refl told s.here s.tries.1
           (knows_so table scene so play stands knows) runs_now calls_now (sent_numbered actor_set.desk.arrivals)
 
       takes_now : TakesTurn scene s.old.script.number (world_so so play) turn

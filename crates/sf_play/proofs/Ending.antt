@@ -31,7 +31,7 @@ use Rattle.sf_run.specs.Frames.{ShowImages}
 use Rattle.sf_run.specs.Framing.{framed_arrival}
 use Rattle.sf_run.specs.Histories.{released_in}
 use Rattle.sf_run.specs.Holds.{AreHeld, uncommitted}
-use Rattle.sf_run.specs.Played.{Fits, end_of}
+use Rattle.sf_run.specs.Played.{FitsWhere, end_of}
 use Rattle.sf_run.specs.Progress.{HasPlayed, ShowsWhatIsWritten, held_shown, is_time}
 use Rattle.sf_run.specs.Runs.{final_values}
 use Rattle.sf_run.specs.Stages.{bare_round, round_at_end, told_of}
@@ -84,7 +84,7 @@ module _ {B : Type 0} where
 
   -- At its end what a play shows fits the run that its actors tell.
   pub fits_at_end : (table : TableId) (scene : SceneValue) (so : SoFar B) (player : PlayerOf B) → Stands table scene so player.play → KnowsAll (view_in player.play) → IsLegalDesk player.play.actor_set.desk
-      → DrawAfterOwed scene (run_so so player.play) → IsAtEnd scene so player → Fits scene (shows_at_end scene so player) (run_so so player.play) (arrived_at player.play)
+      → DrawAfterOwed scene (run_so so player.play) → IsAtEnd scene so player → FitsWhere (home_in player.play).tells scene (shows_at_end scene so player) (run_so so player.play) (arrived_at player.play)
   fits_at_end table scene so player stands knows legal turns end =
       let play = player.play in
       let home = home_in play in

@@ -18,7 +18,7 @@ use Rattle.sf_run.specs.Actors.{mark_declared}
 use Rattle.sf_run.specs.Arrivals.{entry_of}
 use Rattle.sf_run.specs.Ends.{shows_of}
 use Rattle.sf_run.specs.Histories.{history_shown, rising_queues}
-use Rattle.sf_run.specs.Played.{records_of}
+use Rattle.sf_run.specs.Played.{FitsWhere, records_of}
 use Rattle.sf_run.specs.Progress.{held_shown}
 use Rattle.sf_run.specs.Stopping.{stuck_among}
 use Rattle.sf_rights.specs.Vsyncs.{IsOfTurns}
@@ -31,6 +31,7 @@ use Rattle.sf_play.proofs.Ledging.{TellsAll, looks_written}
 use Rattle.sf_play.proofs.Lessening.{turns_lessen, vsyncs_last}
 use Rattle.sf_play.proofs.Makers.{older_told}
 use Rattle.sf_play.proofs.Resting.{turns_rest}
+use Rattle.sf_play.proofs.Telling.{tells_on}
 use Rattle.sf_play.specs.Alongs.{PlaysSo, world_so}
 use Rattle.sf_play.specs.Ending.{IsAtEnd, LooksTell, RestsAt, has_shown, shows_at_end}
 use Rattle.sf_play.specs.Fuel.{fuel, vsyncs_left}
@@ -143,7 +144,7 @@ module _ {B : Type 0} (table : TableId) (scene : SceneValue) (so : SoFar B) (pla
       fit = fit;
       run = run_so so player.play;
       arrivals = arrived_at player.play;
-      fits = fits;
+      fits = subst (λ (tells : Bool). FitsWhere tells scene (shows_at_end scene so player) (run_so so player.play) (arrived_at player.play)) is.told fits;
     };
   }
 
@@ -202,7 +203,12 @@ module _ {B : Type 0} (lease : Ghosts ReadLeaseOf SeatView ReadLeaseOf Issued) (
   -- and along with the play of the scene
   module _ (was : StandsAlong table scene so old) where
     along_now : StandsAlong table scene (later was.in_run) new
-    along_now = record { in_run = in_run_now was.in_run; along = (on was.in_run).along (was.along, was.holds); holds = (on was.in_run).holds (was.along, was.holds) }
+    along_now = record {
+      in_run = in_run_now was.in_run;
+      along = (on was.in_run).along (was.along, was.holds, was.told);
+      holds = (on was.in_run).holds (was.along, was.holds, was.told);
+      told = tells_on lease table so.actors came_to old new turns ∙ was.told;
+    }
 
     ended_now : came_to ≡ turn.End → EndsPlay scene (later was.in_run) new
     ended_now e = ends_told table scene (later was.in_run) new along_now (ends_there lease table so.actors old new came_to turns e).1 (ends_now was.in_run e)

@@ -28,7 +28,7 @@ use Rattle.sf_run.proofs.Keeping.{of_all}
 use Rattle.sf_run.proofs.Members.{has_map}
 use Rattle.sf_run.proofs.Parts.{map_twice}
 use Rattle.sf_run.specs.Actors.{script_of}
-use Rattle.sf_run.specs.Played.{Fits}
+use Rattle.sf_run.specs.Played.{FitsWhere}
 use Rattle.sf_run.specs.Turns.{DrawAfterOwed}
 use Rattle.sf_play.proofs.Ending.{fits_at_end}
 use Rattle.sf_play.proofs.Lasting.{few_actors, vsyncs_fit}
@@ -75,7 +75,7 @@ module _ {B : Type 0} where
 
   -- A player that stands at its end shows what fits the run that was told.
   pub shows_fit : (table : TableId) (scene : SceneValue) (so : SoFar B) (player : PlayerOf B) → StandsAt table scene so player → player.place ≡ at.End → KnowsAll (view_in player.play) → IsLegalDesk player.play.actor_set.desk
-      → DrawAfterOwed scene (run_so so player.play) → Fits scene (shows_at_end scene so player) (run_so so player.play) (arrived_at player.play)
+      → DrawAfterOwed scene (run_so so player.play) → FitsWhere (home_in player.play).tells scene (shows_at_end scene so player) (run_so so player.play) (arrived_at player.play)
   shows_fit table scene so player was ended knows legal turns = fits_at_end table scene so player was.stands knows legal turns (subst (RestsAt scene so player) ended was.rests)
 
   -- whoever did its steps

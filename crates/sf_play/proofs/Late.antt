@@ -32,7 +32,7 @@ use Rattle.sf_run.specs.Commits.{CommitInOrder}
 use Rattle.sf_run.specs.Frames.{ShowImages}
 use Rattle.sf_run.specs.Histories.{AreHistories, released_in}
 use Rattle.sf_run.specs.Holds.{AreHeld, uncommitted}
-use Rattle.sf_run.specs.Played.{Fits, PlayedLive, Shows, end_of, records_of, reply_events}
+use Rattle.sf_run.specs.Played.{FitsWhere, PlayedLiveWhere, Shows, end_of, records_of, reply_events}
 use Rattle.sf_run.specs.Replies.{AnswerSteps, replies_due, replies_in, reply_in, reply_shown}
 use Rattle.sf_run.specs.Runs.{actor_number, rising_actors, signals_in, written_in}
 use Rattle.sf_run.specs.Stages.{told_of}
@@ -132,9 +132,9 @@ module _ (run : Run) where
       (all_due P scripts (λ other there. each other (has_later script other scripts there)))
 
   -- what fits a run reads the vsyncs and each actor's replies alone
-  pub fits_with : (scene : SceneValue) (shows : Shows) (arrivals : List (Arrival FrameOf)) (events : List Event) → Fits scene shows run arrivals → AnswerSteps scene run events
-      → vsyncs_in events ≡ vsyncs_in shows.events → Fits scene (record shows { events = events }) run arrivals
-  fits_with scene shows arrivals events fits answers vsyncs = record {
+  pub fits_with : (tells : Bool) (scene : SceneValue) (shows : Shows) (arrivals : List (Arrival FrameOf)) (events : List Event) → FitsWhere tells scene shows run arrivals → AnswerSteps scene run events
+      → vsyncs_in events ≡ vsyncs_in shows.events → FitsWhere tells scene (record shows { events = events }) run arrivals
+  fits_with tells scene shows arrivals events fits answers vsyncs = record {
     traces = fits.traces;
     turns = fits.turns;
     replies = answers;
@@ -179,10 +179,10 @@ module _ {B : Type 0} (table : TableId) (scene : SceneValue) (so : SoFar B) (pla
             (all_due run (λ (reply : Reply). has_actor scene.actors reply.actor ≡ true) (rising_actors scene) (λ script there at. among script there));
       }
 
-  pub fits_late : EndsRun scene so player → Fits scene (shows_late scene so player) run (arrived_at player.play)
-  fits_late fits = fits_with run scene (shows_at_end scene so player) (arrived_at player.play) (late_events scene run so.events) fits answers (same_vsyncs run scene so.events)
+  pub fits_late : EndsRun scene so player → FitsWhere (home_in player.play).tells scene (shows_late scene so player) run (arrived_at player.play)
+  fits_late fits = fits_with run (home_in player.play).tells scene (shows_at_end scene so player) (arrived_at player.play) (late_events scene run so.events) fits answers (same_vsyncs run scene so.events)
 
-  pub played_live : EndsRun scene so player → All RecordFits (records_of scene (shows_late scene so player)) → PlayedLive scene (records_of scene (shows_late scene so player))
+  pub played_live : EndsRun scene so player → All RecordFits (records_of scene (shows_late scene so player)) → PlayedLiveWhere (home_in player.play).tells scene (records_of scene (shows_late scene so player))
   played_live fits fit = record {
     played = record { shows = shows_late scene so player; order = refl; fit = fit; run = run; arrivals = arrived_at player.play; fits = fits_late fits };
     late = ap (λ (vs : List VsyncReport). map event.Vsync vs ++ flat_map (reply_events run) (rising_actors scene)) (sym (same_vsyncs run scene so.events));

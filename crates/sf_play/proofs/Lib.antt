@@ -28,6 +28,7 @@ pub mod Rights
 pub mod Seeing
 pub mod Stepping
 pub mod Stocks
+pub mod Telling
 pub mod Together
 pub mod Trying
 pub mod Turning

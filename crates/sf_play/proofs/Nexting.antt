@@ -12,12 +12,13 @@ use Rattle.sf_actor.specs.Tries.{ActorOf}
 use Rattle.sf_actor_set.specs.ActorSets.{KeepAs}
 use Rattle.sf_rights.specs.Vsyncs.{IsOfTurns}
 use Rattle.sf_play.proofs.Going.{goes_along, goes_on, leaves_less, same_order}
+use Rattle.sf_play.proofs.Telling.{tells_on}
 use Rattle.sf_play.proofs.Leasing.{OfFrames}
 use Rattle.sf_play.proofs.Ledging.{TellsAll}
 use Rattle.sf_play.proofs.Picking.{turns_freed}
 use Rattle.sf_play.specs.Going.{GoesAlong, GoesOn, LeavesLess}
 use Rattle.sf_play.specs.Places.{settled}
-use Rattle.sf_play.specs.Players.{PlayerOf, SoFar}
+use Rattle.sf_play.specs.Players.{PlayerOf, SoFar, home_in}
 use Rattle.sf_play.specs.Playing.{KeepsItself, MayMakeVsync}
 use Rattle.sf_play.specs.Standing.{IsPlayer, IsStanding, StandsAlong, StandsInRun}
 use Rattle.sf_play.specs.Turning.{KeepsActorSet, Turns, TurnsAt}
@@ -62,6 +63,9 @@ module _ {B : Type 0} (lease : Ghosts ReadLeaseOf SeatView ReadLeaseOf Issued) (
         let turn = turn_of is.scene is.so is.stands in
         leaves_less lease table is.scene is.so inside freed is.stands.stands.stands
         (same_order lease frames of_turns tells table is.scene is.so inside freed came_to keeps keeps_now turn is.stands) came_to turn
+
+    pub told : IsStanding table inside → (home_in freed.play).tells ≡ (home_in inside.play).tells
+    told is = tells_on lease table is.so.actors came_to inside freed (turn_of is.scene is.so is.stands)
 
     pub stays : IsStanding table inside → IsPlayer table freed
     stays is =

@@ -119,6 +119,7 @@ module _ {B : Type 0} (table : TableId) (scene : SceneValue) (limits : IsWithinL
           };
           along = subst (PlaysSo scene so play) (sym first) (begins_along table scene seat stock play opens none);
           holds = subst (HoldsAt scene so player) (sym first) tt;
+          told = opens.told;
         }
 
 -- a player that did nothing yet

@@ -7,13 +7,13 @@ use Rattle.sf_record.specs.Fitting.{RecordFits}
 use Rattle.sf_record.specs.declared.record.Record.{Record}
 use Rattle.sf_run.specs.Ends.{ArePlayRecords}
 use Rattle.sf_run.specs.Frames.{plan_of}
-use Rattle.sf_run.specs.Played.{Fits, Played, records_of}
+use Rattle.sf_run.specs.Played.{FitsWhere, Played, records_of}
 use Rattle.sf_report.specs.Stages.{AreExpected, IsStage}
 use Rattle.sf_report.specs.declared.report.VsyncReport.{VsyncReport}
 use Rattle.sf_play.specs.Ending.{shows_at_end}
 use Rattle.sf_play.specs.Fuel.{fuel}
 use Rattle.sf_play.specs.Happening.{Happens}
-use Rattle.sf_play.specs.Players.{PlayOf, PlayerOf, SoFar, arrived_at, run_so}
+use Rattle.sf_play.specs.Players.{PlayOf, PlayerOf, SoFar, arrived_at, home_in, run_so}
 use Rattle.sf_play.specs.Playing.{expected_by}
 use Rattle.sf_play.specs.Standing.{StandsAlong, StandsInRun}
 use Rattle.sf_play.specs.declared.place.Place.TheVariants as at
@@ -36,9 +36,9 @@ module _ {B : Type 0} where
     pub are : ArePlayRecords scene (records_so scene so player)
     pub means : All RecordFits (records_so scene so player) → Played scene (records_so scene so player)
 
-  -- at its end what a player has shown fits the run that its actors tell
+  -- at its end what a player has shown fits the run that its actors tell, where its desk tells places or not
   abbrev pub EndsRun : SceneValue → SoFar B → PlayerOf B → Type 0
-  EndsRun scene so player = Fits scene (shows_at_end scene so player) (run_so so player.play) (arrived_at player.play)
+  EndsRun scene so player = FitsWhere (home_in player.play).tells scene (shows_at_end scene so player) (run_so so player.play) (arrived_at player.play)
 
   -- what a turn tells beside what happened: a vsync its stage, and the end what is then
   abbrev pub Tells : (SoFar B → PlayerOf B → Type 0) → SceneValue → Turn → SoFar B → PlayerOf B → Type 0

@@ -3,12 +3,12 @@ ghost use Rattle.atomic_table.specs.Seated.{TableId};
 ghost use Rattle.sf_scene.specs.Scene.{SceneValue};
 ghost use Rattle.sf_actor.specs.Tries.{ActorOf};
 ghost use Rattle.sf_record.specs.Fitting.{RecordFits};
-ghost use Rattle.sf_run.specs.Played.{Fits, PlayedLive, records_of};
+ghost use Rattle.sf_run.specs.Played.{FitsWhere, PlayedLiveWhere, records_of};
 ghost use Rattle.sf_play.specs.Alongs.{DeskKnows};
 ghost use Rattle.sf_play.specs.Ending.{shows_late};
 ghost use Rattle.sf_play.specs.Fuel.{vsyncs_left};
 ghost use Rattle.sf_play.specs.Going.{EndsRun};
-ghost use Rattle.sf_play.specs.Players.{PlayOf, PlayerOf, SoFar, Stands, arrived_at, run_so};
+ghost use Rattle.sf_play.specs.Players.{PlayOf, PlayerOf, SoFar, Stands, arrived_at, home_in, run_so};
 ghost use Rattle.sf_play.specs.Standing.{StandsInRun};
 ghost use Rattle.sf_play.specs.Turning.{TriesStep, Turns, next_tried};
 ghost use Rattle.sf_play.specs.declared.place.Place.TheVariants as at;
@@ -46,7 +46,7 @@ pub fn what_stands_at_its_end_fits<B: TableName>()
 /// records of a live run.
 pub fn replies_may_be_shown_last<B: TableName>()
     ensures fits { (table : TableId) (scene : SceneValue) (so : SoFar B) (player : PlayerOf B) → StandsInRun table scene so player → EndsRun scene so player
-        → Fits scene (shows_late scene so player) (run_so so player.play) (arrived_at player.play) }
+        → FitsWhere (home_in player.play).tells scene (shows_late scene so player) (run_so so player.play) (arrived_at player.play) }
     ensures live { (table : TableId) (scene : SceneValue) (so : SoFar B) (player : PlayerOf B) → StandsInRun table scene so player → EndsRun scene so player
-        → All RecordFits (records_of scene (shows_late scene so player)) → PlayedLive scene (records_of scene (shows_late scene so player)) }
+        → All RecordFits (records_of scene (shows_late scene so player)) → PlayedLiveWhere (home_in player.play).tells scene (records_of scene (shows_late scene so player)) }
 {}

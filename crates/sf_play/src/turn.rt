@@ -6,7 +6,7 @@ ghost use Rattle.sf_actor.specs.Tries.{ActorOf};
 ghost use Rattle.sf_scene.specs.Scene.{SceneValue};
 ghost use Rattle.sf_play.specs.Going.{GoesAlong, GoesOn, LeavesLess};
 ghost use Rattle.sf_play.specs.Places.{settled};
-ghost use Rattle.sf_play.specs.Players.{SoFar};
+ghost use Rattle.sf_play.specs.Players.{SoFar, home_in};
 ghost use Rattle.sf_play.specs.Playing.{MayMakeVsync};
 ghost use Rattle.sf_play.specs.Standing.{StandsAlong, StandsInRun};
 ghost use Rattle.sf_play.specs.declared.place.Place.TheVariants as at;
@@ -192,6 +192,7 @@ impl<B: TableName> Player<B> {
         ensures along { (scene : SceneValue) (so : SoFar B) → StandsAlong B.table scene so self.old
             → IfOk result (λ turn. GoesAlong B.table scene so turn self.new) }
         ensures less { IfOk result (λ turn. LeavesLess turn self.old self.new) }
+        ensures told { IfOk result (λ _. (home_in self.new.play).tells ≡ (home_in self.old.play).tells) }
         ensures no_memory { IfErr result (λ _. self.new.is_spent ≡ true) }
         ensures ok { IfOk result (λ _. self.new.is_spent ≡ false) }
         ensures spent { self.old.is_spent ≡ true → IsErr result }

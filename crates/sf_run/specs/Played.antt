@@ -89,6 +89,6 @@ abbrev pub reply_events : Run → ActorScript → List Event
 reply_events run script = map event.Reply (replies_due run script.number)
 
 -- The same where threads ran: the replies stand behind the last vsync, by actor and step.
-pub record PlayedLive (scene : SceneValue) (records : List Record) : Type 0 where
-  pub played : Played scene records
+pub record PlayedLiveWhere (tells : Bool) (scene : SceneValue) (records : List Record) : Type 0 where
+  pub played : PlayedWhere tells scene records
   pub late : played.shows.events ≡ map event.Vsync (vsyncs_in played.shows.events) ++ flat_map (reply_events played.run) (rising_actors scene)

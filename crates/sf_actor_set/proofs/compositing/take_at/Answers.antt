@@ -6,5 +6,5 @@ use Rattle.sf_actor_set.proofs.compositing.take_at.Goals as goal
 
 pub returns-clause-goes : goal.returns-clause-goes
 returns-clause-goes g c =
-    let desk : PlainOf g.row.B.Denot = record { queues = c.desk.inside.queues.items; arrivals = c.desk.inside.arrivals; times = c.desk.inside.times; turns = c.desk.inside.turns } in
+    let desk : PlainOf g.row.B.Denot = record { queues = c.desk.inside.queues.items; arrivals = c.desk.inside.arrivals; times = c.desk.inside.times; turns = c.desk.inside.turns; tells = c.desk.inside.tells } in
     subst (λ (d : PlainOf g.row.B.Denot). GoesOnDesk (taken_in c.take_from.new.arrivals) d (record desk { arrivals = c.take_from.new.arrivals })) c.desk.view_is (takes_on desk c.take_from.new.arrivals c.take_from.ensures.sent)

@@ -20,3 +20,4 @@ returns g c =
     (subst (λ (scripts : List ActorScript). OpensActors {B = g.row.B.Denot} g.B.TableName.table scripts c.args.stock.buffers c.in_ok-actors.actors.items) c.into_vec.ensures c.in_ok-actors.ensures) c.in_ok-queues.ensures
     (ap (λ (desk : PlainOf g.row.B.Denot). desk.queues) c.new-desk.ensures) (ap (λ (desk : PlainOf g.row.B.Denot). desk.arrivals) c.new-desk.ensures ∙ c.in_ok-new.ensures)
     c.args.seat (ap (λ (desk : PlainOf g.row.B.Denot). desk.times.knows) c.new-desk.ensures ∙ c.in_ok-table.ensures.first) (ap (λ (desk : PlainOf g.row.B.Denot). desk.turns) c.new-desk.ensures)
+    (ap (λ (desk : PlainOf g.row.B.Denot). desk.tells) c.new-desk.ensures)

@@ -1,7 +1,7 @@
 use Rattle.std.proofs.Common.{◌∙◌, ap, refl, subst, sym, ℕ}
 use Rattle.sf_surface.specs.Reading.{PlainLease}
 use Rattle.sf_actor.specs.Makers.{BufferOf}
-use Rattle.sf_play.proofs.Nexting.{goes, goes_with, keeps_as, less, may_make, stays, turned}
+use Rattle.sf_play.proofs.Nexting.{goes, goes_with, keeps_as, less, may_make, stays, told, turned}
 use Rattle.sf_play.specs.Places.{settled}
 use Rattle.sf_play.specs.Players.{PlayOf, PlayerOf}
 use Rattle.sf_play.specs.Standing.{StandsAlong, StandsInRun}
@@ -74,6 +74,18 @@ returns-clause-less g c =
     let next : PlayOf g.row.B.Denot = record { period = c.self-2.inside.period; order = c.self-2.inside.order; actor_set = c.self-2.inside.actor_set; handler = c.self-2.inside.handler; vsyncs = c.self-2.inside.vsyncs } in
     let later : PlayerOf g.row.B.Denot = record { play = next; place = c.self-2.inside.place; held = c.self-2.inside.held; is_spent = c.self-2.inside.is_spent } in
     rw (← c.self.view_is) (less _ g.B.TableName.table inside later c.in_ok-turn.turn c.settled-place.result (c.settled-place.ensures ∙ (λ i. settled (c.as_slice.ensures i) c.self.inside.place)) c.if-self.false
+    (λ ofs keep. rw c.self-2.view_is (c.in_ok-turn.ensures.turns ofs keep))
+    (record { plain = λ a b e. e; picture = λ a b e. e; number = λ a b e. ap (λ (p : ℕ × ℕ). p.1) e }) (record { end = λ l. refl; next_end = λ l. refl; ends = λ eye. refl })
+    (record { places = λ one other same. ap buffer_in same; shows = λ one is. is; exact = λ eye first none. rw (first, none) refl; tells = λ eye l. refl })
+    c.tells.ensures (keeps_as _ g.B.TableName.table later c.turn_at.new.self c.self-2.view_is c.tells-2.ensures) (c.self.invariant.stands c.if-self.false))
+
+pub returns-clause-told : goal.returns-clause-told
+returns-clause-told g c =
+    let play : PlayOf g.row.B.Denot = record { period = c.self.inside.period; order = c.self.inside.order; actor_set = c.self.inside.actor_set; handler = c.self.inside.handler; vsyncs = c.self.inside.vsyncs } in
+    let inside : PlayerOf g.row.B.Denot = record { play = play; place = c.self.inside.place; held = c.self.inside.held; is_spent = c.self.inside.is_spent } in
+    let next : PlayOf g.row.B.Denot = record { period = c.self-2.inside.period; order = c.self-2.inside.order; actor_set = c.self-2.inside.actor_set; handler = c.self-2.inside.handler; vsyncs = c.self-2.inside.vsyncs } in
+    let later : PlayerOf g.row.B.Denot = record { play = next; place = c.self-2.inside.place; held = c.self-2.inside.held; is_spent = c.self-2.inside.is_spent } in
+    rw (← c.self.view_is) (told _ g.B.TableName.table inside later c.in_ok-turn.turn c.settled-place.result (c.settled-place.ensures ∙ (λ i. settled (c.as_slice.ensures i) c.self.inside.place)) c.if-self.false
     (λ ofs keep. rw c.self-2.view_is (c.in_ok-turn.ensures.turns ofs keep))
     (record { plain = λ a b e. e; picture = λ a b e. e; number = λ a b e. ap (λ (p : ℕ × ℕ). p.1) e }) (record { end = λ l. refl; next_end = λ l. refl; ends = λ eye. refl })
     (record { places = λ one other same. ap buffer_in same; shows = λ one is. is; exact = λ eye first none. rw (first, none) refl; tells = λ eye l. refl })
