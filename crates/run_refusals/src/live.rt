@@ -31,7 +31,7 @@ pub fn live_means<R: Threads + Wait + Sync, K: Sink, G: Gate + Sync, B: TableNam
     requires fresh { seat.leaves ≡ [] }
     requires whole { stock.buffers ≡ range 0 (permits_of scene.actors) }
     requires sized { permits_of scene.actors ≤ B.table.slots }
-    ensures ok { OnOk result (WroteLive scene (K.taken sink.old) (K.taken sink.new)) }
+    ensures ok { OnOk result (WroteLive true scene (K.taken sink.old) (K.taken sink.new)) }
 {
     live::<R, K, G, B>(rt, alloc, workers, sink, gate, scene, seat, stock)
 }

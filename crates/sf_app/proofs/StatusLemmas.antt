@@ -37,7 +37,7 @@ part_whole : (summary : Bool) (scene : SceneValue) (a b : Option (List ℕ)) →
 part_whole summary scene a b h = record { records = h.records; is_play = h.is_play; written = all_as_part a b (records_shown summary h.records) h.written }
 
 -- the records of a run in threads are whole records
-live_whole : (scene : SceneValue) (a b : Option (List ℕ)) → WroteLive scene a b → CutSome a b
+live_whole : (scene : SceneValue) (a b : Option (List ℕ)) → WroteLive true scene a b → CutSome a b
 live_whole scene a b h = cut_part a b h.records (all_as_part a b h.records h.written)
 
 pub run_part_whole : (r : Run) (summary : Bool) (scene : SceneValue) (a b : Option (List ℕ)) → ShowsRun r summary scene a b → ShowsRunPart r summary scene a b

@@ -37,7 +37,7 @@ pub record ShowsPart (summary : Bool) (scene : SceneValue) (old new : Option (Li
 
 -- a scene's run was shown whole: the records of a run in threads, or what shows the scene's play
 abbrev pub ShowsRun : Run → Bool → SceneValue → Option (List ℕ) → Option (List ℕ) → Type 0
-ShowsRun run.Live summary scene old new = WroteLive scene old new
+ShowsRun run.Live summary scene old new = WroteLive true scene old new
 ShowsRun _ summary scene old new = ShowsPlay summary scene old new
 
 -- a prefix was written: of a run in threads whole records, and then at most one that is cut, or of what shows the scene's play

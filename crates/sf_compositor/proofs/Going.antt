@@ -1,5 +1,5 @@
 -- Seats that go on, call by call.
-use Rattle.std.proofs.Common.{◌≡◌, ℕ, ◌+◌, ◌≤◌, ◌==◌, true, false, List, [], ◌∷◌, ◌++◌, inl, inr, arith, ap, ◌∙◌, refl, sym, subst}
+use Rattle.std.proofs.Common.{◌≡◌, ℕ, ◌+◌, ◌≤◌, ◌==◌, List, [], ◌∷◌, ◌++◌, inl, inr, arith, ap, ◌∙◌, refl, sym, subst}
 use Rattle.std.proofs.lemmas.List.{append_assoc}
 use Rattle.std.specs.Prelude.{map}
 use Rattle.std.specs.List.{AllZip}
@@ -15,7 +15,7 @@ use Rattle.sf_shared.specs.declared.locks.Locks.{Locks}
 use Rattle.sf_shared.specs.declared.seats.Seats.{Seats}
 use Rattle.sf_shared.specs.Arriving.{ArrivalsPass}
 use Rattle.sf_shared.specs.Moves.{ChangesPasses, MadeLater, MovesPass, Stays}
-use Rattle.sf_shared.specs.Seats.{AreSeats, QueuePass, home_of, marks_of, tables_of, view_of}
+use Rattle.sf_shared.specs.Seats.{AreSeats, QueuePass, home_of, view_of}
 use Rattle.sf_calls.specs.Histories.{Begins}
 use Rattle.sf_shared.proofs.Staying.{stays_called}
 
@@ -109,7 +109,7 @@ module _ {B : Type 0} where
     stays = stays_on old mid new gave.stays (stays_called mid new changes);
     gives =
         give_more (home_of locks old) number releases release (view_of old) (view_of mid) (view_of new) gave.gives
-        (subst (λ (b : ℕ). GivesOne (record { marks = marks_of locks; is_exact = false; tells = true; tables = tables_of locks; serves = λ by. by == b; taken = 0 }) number release (view_of mid) (view_of new)) gave.stays.number one);
+        (subst (λ (b : ℕ). GivesOne (record (home_of locks old) { serves = λ by. by == b }) number release (view_of mid) (view_of new)) gave.stays.number one);
     later = later_on old mid new gave.later gave.last changes.later;
     last = (let a = gave.last in let b = changes.last in omega (arith, a, b));
     arrivals = ap (λ (s : Seats B). s.arrivals) changes.same ∙ gave.arrivals;

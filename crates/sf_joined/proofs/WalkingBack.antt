@@ -9,7 +9,7 @@ use Rattle.sf_token.specs.Pending.{Arrival}
 use Rattle.sf_scene.specs.Scene.{SceneValue}
 use Rattle.sf_scene.specs.declared.step.ActorScript.{ActorScript}
 use Rattle.sf_actor.specs.Desks.{DeskHome, mark_among}
-use Rattle.sf_actor.specs.Known.{is_sent_by, own_calls}
+use Rattle.sf_actor.specs.Known.{arrivals_told, is_sent_by, own_calls}
 use Rattle.sf_actor.specs.Parts.{PartsOf}
 use Rattle.sf_actor.specs.Scripts.{picture_at}
 use Rattle.sf_actor.specs.Tries.{ActorOf, Keeps, dequeues_in}
@@ -20,7 +20,7 @@ use Rattle.sf_steps.specs.Playable.{MayPlay}
 use Rattle.sf_steps.specs.declared.actor.Actor.{Actor}
 use Rattle.sf_shared.specs.declared.locks.Locks.{Locks}
 use Rattle.sf_shared.specs.declared.seats.Seats.{Seats}
-use Rattle.sf_shared.specs.Seats.{home_of, marks_of, view_of}
+use Rattle.sf_shared.specs.Seats.{home_of, marks_of, tells_of, view_of}
 use Rattle.sf_threads.specs.declared.seated_actor.SeatedActor.{SeatedActor}
 use Rattle.sf_threads.specs.Seating.{GetsSeats, IsNewcomer, home_for}
 use Rattle.sf_threads.specs.SeatedActors.{Came, moment_of}
@@ -44,7 +44,7 @@ module _ {B : Type 0} (scene : SceneValue) (table : TableId) (locks : Locks B) (
     is_new : IsNew (home_of locks sent.seats) (view_of sent.seats) actor.script newcomer.stock
     is_new = record {
       no_calls = λ queue. subst (λ (calls : List (Made B)). own_calls actor.script.number (mark_among (marks_of locks) queue) calls ≡ []) (sym (gets_seats.fresh.knows.calls queue)) (newcomer.new.no_calls queue);
-      no_arrivals = subst (λ (arrivals : List (Arrival ReadLeaseOf)). filter (is_sent_by actor.script.number) arrivals ≡ []) (sym gets_seats.fresh.knows.arrivals) newcomer.new.no_arrivals;
+      no_arrivals = subst (λ (arrivals : List (Arrival ReadLeaseOf)). arrivals_told (tells_of locks) (filter (is_sent_by actor.script.number) arrivals) ≡ []) (sym gets_seats.fresh.knows.arrivals) newcomer.new.no_arrivals;
       once = newcomer.new.once;
       enough = newcomer.new.enough;
     }

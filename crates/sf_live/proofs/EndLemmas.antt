@@ -114,7 +114,7 @@ module _ {B : Type 0} where
 
   module _ (table : TableId) (scene : SceneValue) (a b c : Option (List ℕ)) (player : PlayerOf B) (has : HasShownAll table scene a b player) where
     -- the rest of the records was written behind all others, or a part of it
-    pub live_written : (r : Result (Unit {0}) RunFault) → OnOk r (Writes b c (all_reply_records player.play.actor_set.actors ++ closing_of player)) → OnOk r (WroteLive scene a c)
+    pub live_written : (r : Result (Unit {0}) RunFault) → OnOk r (Writes b c (all_reply_records player.play.actor_set.actors ++ closing_of player)) → OnOk r (WroteLive (home_in player.play).tells scene a c)
     live_written (Ok u) rest =
         let written = subst (Writes a c) (all_records table scene has.so player has.stands)
         (writes_more a b c (opening scene ∷ events_records (vsyncs_alone has.so.events)) (all_reply_records player.play.actor_set.actors ++ closing_of player) has.written rest) in

@@ -1,5 +1,5 @@
 -- A player that goes on with a run in threads has shown its vsyncs.
-use Rattle.std.proofs.Common.{◌≡◌, ℕ, List, [], ◌∷◌, map, Option, ◌∙◌, refl, sym, subst}
+use Rattle.std.proofs.Common.{◌≡◌, ℕ, List, [], ◌∷◌, map, Option, ◌∙◌, ap, refl, sym, subst}
 use Rattle.atomic_table.specs.Seated.{TableId}
 use Rattle.sf_surface.specs.Tokens.{Issued, ReadLeaseOf}
 use Rattle.sf_turns.specs.Views.{SeatView}
@@ -9,6 +9,7 @@ use Rattle.sf_plan.specs.declared.plan.Plan.{Plan}
 use Rattle.sf_scene.specs.Limits.{most_layers}
 use Rattle.sf_scene.specs.declared.declarations.Pick.{Pick}
 use Rattle.sf_actor.specs.Scripts.{picture_at}
+use Rattle.sf_actor_set.specs.ActorSets.{ActorSetOf}
 use Rattle.sf_record.specs.Events.{events_records}
 use Rattle.sf_record.specs.declared.event.Event.TheVariants as event
 use Rattle.sf_record.specs.declared.event.VsyncReport.{VsyncReport}
@@ -19,6 +20,7 @@ use Rattle.sf_play.specs.Players.{PlayerOf, before_round}
 use Rattle.sf_play.specs.Standing.{StandsInRun}
 use Rattle.sf_show.specs.Writing.{Writes}
 use Rattle.sf_show.proofs.WritingLemmas.{writes_more}
+use Rattle.sf_shared.specs.Seats.{tells_of}
 use Rattle.sf_shared.specs.declared.locks.Locks.{Locks}
 use Rattle.sf_joined.specs.Frames.{AllFind}
 use Rattle.sf_joined.specs.Joined.{player_joined, so_joined}
@@ -55,6 +57,11 @@ module _ {B : Type 0} (lease : Ghosts ReadLeaseOf SeatView ReadLeaseOf Issued) (
               (subst (Writes run.before run.now) are wrote.0));
           shown = wrote.1;
         }
+
+-- the desk that is left tells places where the locks do
+pub tells_joined : {B : Type 0} (lease : Ghosts ReadLeaseOf SeatView ReadLeaseOf Issued) (table : TableId) (run : RunOf B) (locks : Locks B) (joined : Joined B) → IsTogether lease table run locks joined
+    → joined.actor_set.desk.tells ≡ tells_of locks
+tells_joined {B} lease table run locks joined t = ap (λ (actor_set : ActorSetOf B). actor_set.desk.tells) t.actor_set ∙ t.is.joins.closes.tells
 
 -- of the plan, the timelines, the sink and the screens as they came to the joins
 pub shown_so : {B : Type 0} (table : TableId) (run : RunOf B) (before now : Option (List ℕ)) (told timelines : List ℕ) (plan : Plan) (screens : List OutputScreen) (player : PlayerOf B) → HasCome run timelines plan now screens → told ≡ timelines

@@ -1,5 +1,5 @@
 -- Actors that have done nothing may be given seats where nothing is known.
-use Rattle.std.proofs.Common.{◌≡◌, ℕ, zero, suc, ◌+◌, ◌<◌, ◌≤◌, true, List, [], ◌∷◌, inl, inr, drop, filter, length, map, take, arith, refl, ap, sym, subst}
+use Rattle.std.proofs.Common.{◌≡◌, ℕ, zero, suc, ◌+◌, ◌<◌, ◌≤◌, Bool, true, false, List, [], ◌∷◌, inl, inr, drop, filter, length, map, take, arith, refl, ap, ◌∙◌, sym, subst}
 use Rattle.std.specs.Prelude.{◌==◌, All, IfSome}
 use Rattle.std.specs.List.{AllByRecursion, list_any, slice_index}
 use Rattle.std.specs.List.Sorted.{IsStrictlyIncreasing}
@@ -12,11 +12,12 @@ use Rattle.sf_scene.specs.declared.step.ActorScript.{ActorScript}
 use Rattle.sf_scene.specs.declared.step.Step.{Step}
 use Rattle.sf_scene.specs.declared.declarations.QueueDecl.{QueueDecl}
 use Rattle.sf_surface.specs.Histories.{Made}
+use Rattle.sf_surface.specs.Tokens.{ReadLeaseOf}
 use Rattle.sf_surface.specs.Objects.{ObjectOf}
 use Rattle.sf_surface.specs.declared.mark.QueueMark.{QueueMark}
 use Rattle.sf_token.specs.Arrivals.{sent}
 use Rattle.sf_actor.specs.Desks.{DeskHome, DeskView, mark_among}
-use Rattle.sf_actor.specs.Known.{is_sent_by, own_calls}
+use Rattle.sf_actor.specs.Known.{arrivals_told, is_sent_by, own_calls}
 use Rattle.sf_scene.specs.Named.{queue_named}
 use Rattle.sf_actor.specs.Scripts.{picture_at}
 use Rattle.sf_actor.specs.Tries.{dequeues_in}
@@ -29,7 +30,7 @@ use Rattle.sf_stamped.specs.Stamps.{unstamped}
 use Rattle.sf_shared.specs.Arriving.{ArrivalEntry}
 use Rattle.sf_shared.specs.Closing.{HasNoCalls}
 use Rattle.sf_shared.specs.First.{KnowsNothing}
-use Rattle.sf_shared.specs.Seats.{QueuePass, calls_known, is_at, marks_of}
+use Rattle.sf_shared.specs.Seats.{QueuePass, calls_known, is_at, marks_of, tells_of}
 use Rattle.sf_shared.specs.declared.locks.Locks.{Locks}
 use Rattle.sf_shared.specs.declared.seats.Seats.{Seats}
 use Rattle.sf_threads.specs.Seating.{IsNewcomer, home_for, number_of}
@@ -54,6 +55,11 @@ plays_over home other pictures script marks serves plays = record {
 
 same_number : (n : ℕ) → (n == n) ≡ true
 same_number n = eq-eqb n n refl
+
+-- no arrivals are told as none
+none_told : (tells : Bool) → arrivals_told {L = ReadLeaseOf} tells [] ≡ []
+none_told true = refl
+none_told false = refl
 
 no_calls : (B : Type 0) (declared : List QueueDecl) → AllByRecursion HasNoCalls (map (new_queue {B = B}) declared)
 no_calls B [] = tt
@@ -80,7 +86,7 @@ module _ {B : Type 0} where
     is = subst (λ (s : ActorScript). IsActor table actor (new_actor s share)) keep.is.script keep.is;
     new = record {
       no_calls = λ queue. ap (λ (calls : List (Made B)). own_calls actor.script.number (mark_among (marks_of locks) queue) calls) (none_known known.queues.items queue nothing.queues);
-      no_arrivals = ap (λ (calls : List ArrivalEntry). filter (is_sent_by actor.script.number) (sent (unstamped calls))) nothing.arrivals;
+      no_arrivals = ap (λ (calls : List ArrivalEntry). arrivals_told (tells_of locks) (filter (is_sent_by actor.script.number) (sent (unstamped calls)))) nothing.arrivals ∙ none_told (tells_of locks);
       once = keep.keeps.kept.permits.once;
       enough = subst (λ (s : ActorScript). dequeues_in s.steps ≤ length share) keep.is.script keep.keeps.kept.permits.enough;
     };

@@ -1,5 +1,5 @@
 -- What a compositor keeps before the first vsync of a run in threads, and what stands at its joins.
-use Rattle.std.proofs.Common.{◌≡◌, ℕ, ◌≤◌, List, [], ◌∷◌, map, Option, Some, None, Result, Ok, Err, inl, inr, ap, ◌∙◌, arith, refl, sym, subst}
+use Rattle.std.proofs.Common.{◌≡◌, ℕ, ◌≤◌, Bool, List, [], ◌∷◌, map, Option, Some, None, Result, Ok, Err, inl, inr, ap, ◌∙◌, arith, refl, sym, subst}
 use Rattle.std.specs.Prelude.{IfErr, is_some}
 use Rattle.std.proofs.lemmas.Bool.{false≢true}
 use Rattle.std.proofs.lemmas.List.Elements.{All-nil}
@@ -81,12 +81,12 @@ IsWanting (Ok x) = ⊥
 IsWanting (Err e) = IsWant e
 
 -- a run that ends for want of memory, where whole records were written, and then at most one that is cut
-pub ended_wanting : {A : Type 0} (scene : SceneValue) (start now : Option (List ℕ)) (count : ℕ) → CutSome start now → LiveEnded {A = A} scene (Err NoMemory) start now count count
-ended_wanting scene start now count cut = record { ok = tt; err = cut; later = omega arith; failed = λ is. absurd (subst IsWanting is tt) }
+pub ended_wanting : {A : Type 0} (tells : Bool) (scene : SceneValue) (start now : Option (List ℕ)) (count : ℕ) → CutSome start now → LiveEnded {A = A} tells scene (Err NoMemory) start now count count
+ended_wanting tells scene start now count cut = record { ok = tt; err = cut; later = omega arith; failed = λ is. absurd (subst IsWanting is tt) }
 
 -- the same behind the record that begins it
-pub ended_early : {A : Type 0} (scene : SceneValue) (start now : Option (List ℕ)) (count : ℕ) → Writes start now (opening scene ∷ []) → LiveEnded {A = A} scene (Err NoMemory) start now count count
-ended_early scene start now count begun = ended_wanting scene start now count (cut_part start now (opening scene ∷ []) (part_whole start now (opening scene ∷ []) begun))
+pub ended_early : {A : Type 0} (tells : Bool) (scene : SceneValue) (start now : Option (List ℕ)) (count : ℕ) → Writes start now (opening scene ∷ []) → LiveEnded {A = A} tells scene (Err NoMemory) start now count count
+ended_early tells scene start now count begun = ended_wanting tells scene start now count (cut_part start now (opening scene ∷ []) (part_whole start now (opening scene ∷ []) begun))
 
 abbrev IsMemory : Stopped → Type 0
 IsMemory stopped.NoMemory = Unit {0}
@@ -188,10 +188,9 @@ module _ {K B : Type 0} {naming : Naming B} (taken : K → Option (List ℕ)) (f
             all_sit)))
             still.few
 
-        pub came_together : (joined : Joined B) → IsTogether lease table ran opened.locks joined → CameTogether taken faults lease table scene c settled joined
+        pub came_together : (joined : Joined B) → IsTogether lease table ran opened.locks joined → CameTogether taken faults lease table scene opened.locks c settled joined
         came_together joined together = record {
           same = still.same;
-          locks = opened.locks;
           seats = returns.attended.seats;
           together = together;
           some = still.some;
@@ -223,8 +222,8 @@ module _ {K B : Type 0} {naming : Naming B} (taken : K → Option (List ℕ)) (f
     }
 
 -- so a player goes on with the run, from its joins
-module _ {K B : Type 0} {naming : Naming B} (taken : K → Option (List ℕ)) (faults : K → ℕ) (lease : Ghosts ReadLeaseOf SeatView ReadLeaseOf Issued) (table : TableId) (scene : SceneValue) (start now : Compositor K B naming) (joined : Joined B)
-    (came : CameTogether taken faults lease table scene start now joined) where
+module _ {K B : Type 0} {naming : Naming B} (taken : K → Option (List ℕ)) (faults : K → ℕ) (lease : Ghosts ReadLeaseOf SeatView ReadLeaseOf Issued) (table : TableId) (scene : SceneValue) (locks : Locks B) (start now : Compositor K B naming) (joined : Joined B)
+    (came : CameTogether taken faults lease table scene locks start now joined) where
   abbrev pub run_came : RunOf B
   run_came = run_by taken faults scene came.seats start now
 

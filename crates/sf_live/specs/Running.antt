@@ -64,10 +64,9 @@ module _ {K B : Type 0} {naming : Naming B} where
     }
 
     -- The run came to its joins. Whatever was shown, whole records were written.
-    pub record CameTogether (lease : Ghosts ReadLeaseOf SeatView ReadLeaseOf Issued) (table : TableId) (scene : SceneValue) (start c : Compositor K B naming)
+    pub record CameTogether (lease : Ghosts ReadLeaseOf SeatView ReadLeaseOf Issued) (table : TableId) (scene : SceneValue) (locks : Locks B) (start c : Compositor K B naming)
         (joined : Joined B) : Type 0 where
       pub same : IsSame start c
-      pub locks : Locks B
       pub seats : Seats B
       pub together : IsTogether lease table (run_by scene seats start c) locks joined
       pub some : WritesSome (taken start.sink.now) (taken c.sink.now)

@@ -5,6 +5,7 @@ ghost use Rattle.sf_turns.specs.Counts.{range};
 ghost use Rattle.sf_actor_set.specs.Scripts.{AreOfScene, permits_of};
 ghost use Rattle.sf_shared.specs.Closing.{HasNoCalls, Opens};
 ghost use Rattle.sf_shared.specs.First.{IsFirst};
+ghost use Rattle.sf_shared.specs.Seats.{tells_of};
 ghost use Rattle.sf_live.specs.Openings.{IsOpen, MayStart};
 
 use sf_actor::PlainDesk;
@@ -43,6 +44,7 @@ fn share<B: TableName>(
         table,
         times,
         turns,
+        tells: _,
     } = desk;
     Locks::open(alloc, queues, arrivals, table, times, turns)
 }
@@ -64,6 +66,7 @@ pub fn open<B: TableName>(
     requires whole { stock.buffers ≡ range 0 (permits_of scripts) }
     ensures opens { (of : AreOfScene queues.now pictures scripts) → seat.leaves ≡ [] → permits_of scripts ≤ B.table.slots → IfOk result (IsOpen of.scene B.table) }
     ensures may { IfOk result (MayStart B.table) }
+    ensures told { IfOk result (λ opened. tells_of opened.locks ≡ true) }
 {
     let actor_set = ActorSet::new(alloc, queues, pictures, scripts, seat, stock)?;
     let (pictures, actors, desk) = actor_set.into_parts();

@@ -1,4 +1,6 @@
-ghost use Rattle.std.specs.Prelude.{ℕ, List, Option};
+ghost use Rattle.std.specs.Prelude.{◌≡◌, ℕ, List, Option};
+ghost use Rattle.sf_play.specs.Players.{home_in};
+ghost use Rattle.sf_shared.specs.Seats.{tells_of};
 ghost use Rattle.sf_shared.specs.declared.locks.Locks.{Locks};
 ghost use Rattle.sf_threads.specs.Gates.{HavePassed};
 ghost use Rattle.sf_live.specs.Resuming.{GoesFrom};
@@ -34,6 +36,8 @@ pub(crate) fn go_on<B: TableName>(
         × (IsTogether ⟦<ReadLease<B> as Lease>⟧ B.table run locks joined × GoesFrom run start period order handler vsyncs) }
     ensures shown { (run : RunOf B) (locks : Locks B) (start : Option (List ℕ)) → IsTogether ⟦<ReadLease<B> as Lease>⟧ B.table run locks joined
         → GoesFrom run start period order handler vsyncs → HasShown B.table run.scene (plan_of run.scene) run.timelines start run.now run.screens result.0 }
+    ensures told { (run : RunOf B) (locks : Locks B) → IsTogether ⟦<ReadLease<B> as Lease>⟧ B.table run locks joined
+        → (home_in result.0.play).tells ≡ tells_of locks }
     ensures gates { HavePassed result.0.play.actor_set.actors result.1.items }
 {
     a_run_in_threads_goes_on::<B>();

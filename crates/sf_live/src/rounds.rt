@@ -4,6 +4,7 @@ ghost use Rattle.sf_io.specs.Causes.{Rose};
 ghost use Rattle.sf_live.specs.Rounds.{HasShown, HasShownAll, MayWriteTurn, PassesFor, ShowsOn, all_reply_records, turn_written};
 ghost use Rattle.sf_live.specs.Runs.{WroteLive};
 ghost use Rattle.sf_play.specs.Going.{fuel_of};
+ghost use Rattle.sf_play.specs.Players.{home_in};
 ghost use Rattle.sf_play.specs.Turning.{next_tried};
 ghost use Rattle.sf_record.specs.declared.record.Record.TheVariants as rec;
 ghost use Rattle.sf_run.specs.Replies.{reply_shown};
@@ -120,6 +121,7 @@ fn show_turn<R: Threads + Wait + Sync, K: Sink, G: Gate, B: TableName>(
         → OnErr result (CutSome start (K.taken sink.new)) }
     ensures gates { IfOk result (λ _. HavePassed player.new.play.actor_set.actors gates.new) }
     ensures less { IfOk result (λ goes_on. goes_on ≡ true → fuel_of player.new < fuel_of player.old) }
+    ensures told { IfOk result (λ _. (home_in player.new.play).tells ≡ (home_in player.old.play).tells) }
     ensures later { K.faults sink.old ≤ K.faults sink.new }
     ensures failed { IsErrOf result RunFault.WriteFault → Rose (K.faults sink.old) (K.faults sink.new) }
 {
@@ -156,6 +158,7 @@ fn show_rounds<R: Threads + Wait + Sync, K: Sink, G: Gate, B: TableName>(
     requires shown { (scene : SceneValue) × (start : Option (List ℕ)) × HasShown B.table scene plan.now timelines.now start (K.taken sink.old) screens.old player.old }
     ensures ok { (scene : SceneValue) (start : Option (List ℕ)) → HasShown B.table scene plan.now timelines.now start (K.taken sink.old) screens.old player.old
         → OnOk result (HasShownAll B.table scene start (K.taken sink.new) player.new) }
+    ensures told { OnOk result ((home_in player.new.play).tells ≡ (home_in player.old.play).tells) }
     ensures err { (scene : SceneValue) (start : Option (List ℕ)) → HasShown B.table scene plan.now timelines.now start (K.taken sink.old) screens.old player.old
         → OnErr result (CutSome start (K.taken sink.new)) }
     ensures later { K.faults sink.old ≤ K.faults sink.new }
@@ -248,7 +251,7 @@ pub(crate) fn write_rounds<R: Threads + Wait + Sync, K: Sink, G: Gate, B: TableN
     requires gates { HavePassed player.old.play.actor_set.actors gates.old }
     requires shown { (scene : SceneValue) × (start : Option (List ℕ)) × HasShown B.table scene plan.now timelines.now start (K.taken sink.old) screens.old player.old }
     ensures ok { (scene : SceneValue) (start : Option (List ℕ)) → HasShown B.table scene plan.now timelines.now start (K.taken sink.old) screens.old player.old
-        → OnOk result (WroteLive scene start (K.taken sink.new)) }
+        → OnOk result (WroteLive (home_in player.old.play).tells scene start (K.taken sink.new)) }
     ensures err { (scene : SceneValue) (start : Option (List ℕ)) → HasShown B.table scene plan.now timelines.now start (K.taken sink.old) screens.old player.old
         → OnErr result (CutSome start (K.taken sink.new)) }
     ensures later { K.faults sink.old ≤ K.faults sink.new }

@@ -48,7 +48,7 @@ pub(crate) fn run_threads<
     requires may { MayStart B.table opened }
     requires starts { (scene : SceneValue) × IsOpen scene B.table opened × Starts scene compositor }
     ensures together { (scene : SceneValue) → IsOpen scene B.table opened → Starts scene compositor.entry
-        → IfOk result.1 (CameTogether K.taken K.faults ⟦<ReadLease<B> as Lease>⟧ B.table scene compositor.entry result.0) }
+        → IfOk result.1 (CameTogether K.taken K.faults ⟦<ReadLease<B> as Lease>⟧ B.table scene opened.locks compositor.entry result.0) }
     ensures cut { IfErr result.1 (WasCut K.taken K.faults compositor.entry result.0) }
 {
     let Opened {

@@ -5,6 +5,7 @@ ghost use Rattle.sf_run.specs.Vsyncs.{rising_timelines};
 ghost use Rattle.sf_scene.specs.Scene.{SceneValue};
 ghost use Rattle.sf_show.specs.Writing.{Writes};
 ghost use Rattle.sf_turns.specs.Counts.{range};
+ghost use Rattle.sf_shared.specs.Seats.{tells_of};
 ghost use Rattle.sf_shared.specs.declared.locks.Locks.{Locks};
 ghost use Rattle.sf_live.specs.Openings.{MayStart};
 ghost use Rattle.sf_live.specs.Resuming.{GoesFrom, HasCome};
@@ -57,7 +58,7 @@ fn run_rounds<R: Threads + Wait + Sync, K: Sink, G: Gate, B: TableName>(
         × GoesFrom run start period order decider.handler vsyncs × HasCome run timelines.items plan (K.taken sink.old) screens) }
     ensures { (run : RunOf B) (locks : Locks B) (start : Option (List ℕ)) → IsTogether ⟦<ReadLease<B> as Lease>⟧ B.table run locks joined
         → GoesFrom run start period order decider.handler vsyncs → HasCome run timelines.items plan (K.taken sink.old) screens
-        → LiveEnded run.scene result start (K.taken sink.new) (K.faults sink.old) (K.faults sink.new) }
+        → LiveEnded (tells_of locks) run.scene result start (K.taken sink.new) (K.faults sink.old) (K.faults sink.new) }
 {
     let mut screens = screens;
     let handler = decider.into_handler();
@@ -97,7 +98,7 @@ fn run_opened<R: Threads + Wait + Sync, K: Sink, G: Gate + Sync, B: TableName + 
     requires may { MayStart B.table opened }
     requires starts { (scene : SceneValue) × (start : Option (List ℕ)) × MayRun B.table scene start (K.taken sink.old) timelines.items plan period order handler opened }
     ensures { (scene : SceneValue) (start : Option (List ℕ)) → MayRun B.table scene start (K.taken sink.old) timelines.items plan period order handler opened
-        → LiveEnded scene result start (K.taken sink.new) (K.faults sink.old) (K.faults sink.new) }
+        → LiveEnded (tells_of opened.locks) scene result start (K.taken sink.new) (K.faults sink.old) (K.faults sink.new) }
 {
     let compositor = Compositor {
         alloc,
@@ -158,7 +159,7 @@ fn run_scene<R: Threads + Wait + Sync, K: Sink, G: Gate + Sync, B: TableName + S
     requires whole { stock.buffers ≡ range 0 (permits_of scene.actors) }
     requires sized { permits_of scene.actors ≤ B.table.slots }
     ensures { (start : Option (List ℕ)) → Writes start (K.taken sink.old) (opening scene ∷ [])
-        → LiveEnded scene result start (K.taken sink.new) (K.faults sink.old) (K.faults sink.new) }
+        → LiveEnded true scene result start (K.taken sink.new) (K.faults sink.old) (K.faults sink.new) }
 {
     let Ok(plan) = plan_of(alloc, &scene) else {
         return Err(RunFault::NoMemory);
@@ -213,7 +214,7 @@ pub fn live<R: Threads + Wait + Sync, K: Sink, G: Gate + Sync, B: TableName + Se
     requires fresh { seat.leaves ≡ [] }
     requires whole { stock.buffers ≡ range 0 (permits_of scene.actors) }
     requires sized { permits_of scene.actors ≤ B.table.slots }
-    ensures { LiveEnded scene result (K.taken sink.old) (K.taken sink.new) (K.faults sink.old) (K.faults sink.new) }
+    ensures { LiveEnded true scene result (K.taken sink.old) (K.taken sink.new) (K.faults sink.old) (K.faults sink.new) }
 {
     let Ok(timelines) = rising_timelines(alloc, scene.timelines.as_slice()) else {
         return Err(RunFault::NoMemory);

@@ -1,5 +1,5 @@
 -- The ledger where nothing has happened.
-use Rattle.std.proofs.Common.{◌≡◌, ℕ, zero, suc, ◌+◌, ◌<◌, ◌≤◌, true, List, [], ◌∷◌, ◌++◌, arith, ap, ◌∙◌, sym, refl, inl, inr, map, drop}
+use Rattle.std.proofs.Common.{◌≡◌, ℕ, zero, suc, ◌+◌, ◌<◌, ◌≤◌, true, None, List, [], ◌∷◌, ◌++◌, arith, ap, ◌∙◌, sym, refl, inl, inr, map, drop}
 use Rattle.std.specs.Prelude.{Contains, take}
 use Rattle.std.specs.List.{All, flat_map, sum_by}
 use Rattle.std.proofs.lemmas.List.Elements.{All-cons, All-nil, Contains-append_cases}
@@ -74,7 +74,7 @@ module _ {B : Type 0} (whole : Whole B) (apart : AreApart whole.marks) (buffers 
     (actors : flat_map (λ (local : Local B). local.actors) locals ≡ new_actors scripts stock) (pendings : flat_map (λ (local : Local B). local.pending) locals ≡ [])
     (ons : flat_map (λ (local : Local B). local.on) locals ≡ []) (leaves : flat_map (λ (local : Local B). local.leaves) locals ≡ []) where
   home : DeskHome
-  home = record { marks = whole.marks; is_exact = true; tells = true; tables = []; serves = λ by. true; taken = 0 }
+  home = record { marks = whole.marks; is_exact = true; tells = true; tables = []; serves = λ by. true; intake = None; taken = 0 }
 
   view : DeskView B
   view = (state_at whole (λ lock. 0) locals).view

@@ -22,7 +22,7 @@ use Rattle.sf_actor.specs.Tries.{ActorOf, Keeps, Tries, next_step}
 use Rattle.sf_steps.specs.Actors.{Acts, IsActor}
 use Rattle.sf_shared.specs.declared.locks.Locks.{Locks}
 use Rattle.sf_shared.specs.declared.seats.Seats.{Seats}
-use Rattle.sf_shared.specs.Seats.{home_of, marks_of, tables_of, view_of}
+use Rattle.sf_shared.specs.Seats.{home_of, marks_of, view_of}
 use Rattle.sf_threads.specs.Walks.{IsSound, IsTry, Moment, Walk}
 use Rattle.sf_threads.specs.Walks.Walk.{Begin, More}
 use Rattle.sf_rights.specs.States.{AreApart, State}
@@ -50,7 +50,7 @@ use Rattle.sf_replay.specs.Members.{mine, total_in}
 module _ {B : Type 0} (table : TableId) (pictures : ℕ → Picture) (locks : Locks B) where
   -- what is kept over a desk is kept over that of other seats of the same caller
   keeps_there : (of : ActorOf B) (old new : Seats B) (view : DeskView B) → new.by ≡ old.by → Keeps pictures (home_of locks old) of view → Keeps pictures (home_of locks new) of view
-  keeps_there of old new view same keeps = subst (λ (n : ℕ). Keeps pictures (record { marks = marks_of locks; is_exact = false; tells = true; tables = tables_of locks; serves = λ by. by == n; taken = 0 }) of view) (sym same) keeps
+  keeps_there of old new view same keeps = subst (λ (n : ℕ). Keeps pictures (record (home_of locks old) { serves = λ by. by == n }) of view) (sym same) keeps
 
   -- what is known of a moment stays known
   pub try_sound : (before after : Moment B) → IsTry table pictures locks before after → IsSound table pictures locks after

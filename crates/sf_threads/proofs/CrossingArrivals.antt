@@ -1,9 +1,10 @@
--- The arrivals may cross to a thread.
+-- The arrivals may cross to a thread, and threads may share the intake.
 use denote.RattleType.{RattleType}
 use denote.Builtin.{unit}
-use denote.Param.Send.{IsSend}
+use denote.Param.Send.{IsSend, IsSync}
 use denote.Param.SendFields.{declared_send}
 use Rattle.std.specs.contracts.marker.Brand as brand
+use Rattle.sf_intake.specs.contracts.intake.Intake as intake
 use Rattle.sf_picture.specs.contracts.painted.Painted as painted
 use Rattle.sf_picture.specs.contracts.picture.Picture as picture
 use Rattle.sf_shared.specs.contracts.arrivals.StampedArrivals as arrived
@@ -19,8 +20,9 @@ use Rattle.sf_token.specs.contracts.home.BrandLeaseHome.TheImpl as homed
 use Rattle.sf_turns.specs.contracts.painted.PaintedStamped.TheImpl.{ghosts}
 use Rattle.sf_turns.specs.contracts.seat.TurnSeat as seat
 use Rattle.sf_turns.specs.declared.naming.TableName as naming
+use Rattle.sf_threads.proofs.CrossingIntake.{intake_sync}
 use Rattle.sf_threads.proofs.CrossingObjects.{arrivals_send, stamped_send}
-use Rattle.sf_threads.proofs.CrossingTokens.{read_send}
+use Rattle.sf_threads.proofs.CrossingTokens.{read_send, transaction_send}
 
 module _ (B : RattleType) (T : naming.Ghosts B.Denot) where
   abbrev Eye : RattleType
@@ -46,3 +48,8 @@ module _ (B : RattleType) (T : naming.Ghosts B.Denot) where
         (homed.ghosts (read.the_row B T)) arriving.no_dict arriving.no_dict) plain_send,
     tt,
   )
+
+  pub intake_shared : IsSync (intake.the_row (read.the_row B T) brand.the_row Eye (reading.the_row B T) (closing.the_row B T) (leased.ghosts B T leased.no_dict) (homed.ghosts (read.the_row B T)))
+  intake_shared =
+      intake_sync (read.the_row B T) brand.the_row Eye (reading.the_row B T) (closing.the_row B T) (leased.ghosts B T leased.no_dict) (homed.ghosts (read.the_row B T))
+      (transaction_send (read.the_row B T) Eye (reading.the_row B T) (closing.the_row B T) (leased.ghosts B T leased.no_dict) (read_send B T))

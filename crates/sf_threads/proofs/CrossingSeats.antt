@@ -4,7 +4,7 @@ use denote.RattleType.{RattleType}
 use denote.Builtin.{u32, u64, unit}
 use denote.Struct.Tuple.{Tuple}
 use denote.Param.Send.{IsSend, IsSync, sendable, view_send}
-use denote.Param.SendFields.{declared_send, declared_sync}
+use denote.Param.SendFields.{declared_send, declared_sync, variants_sync}
 use Rattle.std.proofs.Crossing.{Vec-send, Vec-sync, crosses}
 use Rattle.sf_calls.specs.contracts.pass.Pass as pass
 use Rattle.sf_shared.proofs.clock.Clock.TheSendSync as clock_shown
@@ -25,7 +25,7 @@ use Rattle.sf_surface.specs.contracts.object.QueueObjectObject.TheImpl as queued
 use Rattle.sf_times.proofs.seat.TimeSeat.TheSendSync as time_seat_shown
 use Rattle.sf_times.proofs.timelines.Timelines.TheSendSync as timelines_shown
 use Rattle.sf_turns.specs.declared.naming.TableName as naming
-use Rattle.sf_threads.proofs.CrossingArrivals.{Call, Reply, arrived_send}
+use Rattle.sf_threads.proofs.CrossingArrivals.{Call, Reply, arrived_send, intake_shared}
 use Rattle.sf_threads.proofs.CrossingObjects.{lock_sync, pass_send, stamped_send}
 use Rattle.sf_threads.proofs.CrossingTokens.{queue_send}
 use Rattle.sf_threads.proofs.CrossingTurns.{seat_send}
@@ -95,6 +95,6 @@ module _ (B : RattleType) (T : naming.Ghosts B.Denot) where
     Vec-sync (queue_lock.the_row B T) queue_lock_sync,
     (
       lock_sync (arrived.the_row B T) ArriveCall ArriveReply ArriveCall ArriveReply unit (arriving.ghosts B T arriving.no_dict) (arrived_send B T),
-      (timelines_shown.the_sync, tt),
+      (timelines_shown.the_sync, (search (sendable, crosses, variants_sync, intake_shared) depth 20, tt)),
     ),
   )

@@ -2,6 +2,7 @@ pub mod AttendLemmas
 pub mod SeatingLemmas
 pub mod CrossingActors
 pub mod CrossingArrivals
+pub mod CrossingIntake
 pub mod CrossingSeatedActors
 pub mod CrossingObjects
 pub mod CrossingSeats

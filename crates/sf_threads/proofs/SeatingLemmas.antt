@@ -10,7 +10,7 @@ use Rattle.sf_surface.specs.Histories.{Made}
 use Rattle.sf_surface.specs.Tokens.{ReadLeaseOf}
 use Rattle.sf_token.specs.Pending.{Arrival}
 use Rattle.sf_actor.specs.Desks.{DeskHome, mark_among}
-use Rattle.sf_actor.specs.Known.{is_sent_by, own_calls}
+use Rattle.sf_actor.specs.Known.{arrivals_told, is_sent_by, own_calls}
 use Rattle.sf_actor.specs.Scripts.{picture_at}
 use Rattle.sf_actor.specs.Tries.{Keeps}
 use Rattle.sf_steps.specs.Actors.{IsActor, IsNew, new_actor}
@@ -23,7 +23,7 @@ use Rattle.sf_shared.specs.declared.first.FirstSeats.{FirstSeats}
 use Rattle.sf_shared.specs.declared.locks.Locks.{Locks}
 use Rattle.sf_shared.specs.declared.seats.Seats.{Seats}
 use Rattle.sf_shared.specs.First.{Gives, IsFirst, IsGiven, KnowsNothing, KnowsSame, gave_of}
-use Rattle.sf_shared.specs.Seats.{AreSeats, home_of, view_of}
+use Rattle.sf_shared.specs.Seats.{AreSeats, home_of, tells_of, view_of}
 use Rattle.sf_threads.specs.declared.seated_actor.SeatedActor.{SeatedActor}
 use Rattle.sf_threads.specs.Seating.{GetsSeats, GivesEach, IsFresh, IsNewcomer, home_for, number_of}
 use Rattle.sf_threads.specs.SeatedActors.{MayTryNext}
@@ -149,7 +149,7 @@ module _ {B : Type 0} where
       still_new : IsNew (home_for locks actor.script.number) (view_of known) actor.script new.stock → IsNew (home_for locks actor.script.number) (view_of seated_actor.seats) actor.script new.stock
       still_new was = record {
         no_calls = λ queue. ap (λ (calls : List (Made B)). own_calls actor.script.number (mark_among (home_for locks actor.script.number).marks queue) calls) (gets_seats.fresh.knows.calls queue) ∙ was.no_calls queue;
-        no_arrivals = ap (λ (arrivals : List (Arrival ReadLeaseOf)). filter (is_sent_by actor.script.number) arrivals) gets_seats.fresh.knows.arrivals ∙ was.no_arrivals;
+        no_arrivals = ap (λ (arrivals : List (Arrival ReadLeaseOf)). arrivals_told (tells_of locks) (filter (is_sent_by actor.script.number) arrivals)) gets_seats.fresh.knows.arrivals ∙ was.no_arrivals;
         once = was.once;
         enough = was.enough;
       }

@@ -1,5 +1,5 @@
 -- The first seats give seats to actors, one after the other.
-use Rattle.std.specs.Prelude.{◌≡◌, ◌==◌, ℕ, true, false, List, []}
+use Rattle.std.specs.Prelude.{◌≡◌, ◌==◌, ℕ, false, List, []}
 use Rattle.std.specs.List.{FoldsTo}
 use Rattle.atomic_table.specs.Seated.{TableId}
 use Rattle.sf_picture.specs.declared.picture.Picture.{Picture}
@@ -11,7 +11,7 @@ use Rattle.sf_shared.specs.declared.first.FirstSeats.{FirstSeats}
 use Rattle.sf_shared.specs.declared.locks.Locks.{Locks}
 use Rattle.sf_shared.specs.declared.seats.Seats.{Seats}
 use Rattle.sf_shared.specs.First.{Gives, KnowsNothing, KnowsSame}
-use Rattle.sf_shared.specs.Seats.{AreSeats, marks_of, tables_of, view_of}
+use Rattle.sf_shared.specs.Seats.{AreSeats, marks_of, tables_of, tells_of, view_of}
 use Rattle.sf_threads.specs.declared.seated_actor.SeatedActor.{SeatedActor}
 
 module _ {B : Type 0} where
@@ -23,9 +23,10 @@ module _ {B : Type 0} where
   home_for locks number = record {
     marks = marks_of locks;
     is_exact = false;
-    tells = true;
+    tells = tells_of locks;
     tables = tables_of locks;
     serves = λ by. by == number;
+    intake = locks.intake;
     taken = 0;
   }
 

@@ -56,6 +56,9 @@ returns-clause-may g c =
           (shared.marks ∙ ap (λ (d : PlainOf g.row.B.Denot). map mark_of d.queues) c.into_parts-pictures.ensures.desk) opens.keep kept.plays));
     }
 
+pub returns-clause-told : goal.returns-clause-told
+returns-clause-told g c = c.in_ok-locks.ensures.first.own.tells
+
 pub returns-clause-opens : goal.returns-clause-opens
 returns-clause-opens g c = λ of fresh sized.
     let actor_set = c.in_ok-actor_set.actor_set in

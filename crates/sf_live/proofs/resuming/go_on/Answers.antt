@@ -1,9 +1,9 @@
-use Rattle.std.proofs.Common.{subst, sym}
+use Rattle.std.proofs.Common.{◌∙◌, ap, subst, sym}
 use Rattle.sf_scene.specs.Limits.{most_layers}
 use Rattle.sf_play.specs.Players.{PlayerOf}
 use Rattle.sf_play.specs.Standing.{IsStanding}
 use Rattle.sf_threads.specs.Gates.{HavePassed}
-use Rattle.sf_live.proofs.GoingOn.{has_shown, same_player}
+use Rattle.sf_live.proofs.GoingOn.{has_shown, same_player, tells_joined}
 use Rattle.sf_live.proofs.resuming.go_on.Goals as goal
 
 pub returns-clause-shown : goal.returns-clause-shown
@@ -20,6 +20,10 @@ resume-player-requires g c =
     let t = c.requires.goes.3.0 in
     subst (IsStanding g.B.TableName.table) (sym (same_player _ g.B.TableName.table run locks c.args.joined c.requires.goes.2 c.args.period c.args.order c.args.handler c.args.vsyncs t c.requires.goes.3.1))
     (c.a_run_in_threads_goes_on.ensures.standing run.scene run.scene.period (most_layers run.scene.version) locks run.last t.ends t.desk t.is t.few)
+
+pub returns-clause-told : goal.returns-clause-told
+returns-clause-told g c = λ run locks t.
+    ap (λ (player : PlayerOf g.row.B.Denot). player.play.actor_set.desk.tells) c.resume-player.ensures ∙ tells_joined _ g.B.TableName.table run locks c.args.joined t
 
 pub returns-clause-gates : goal.returns-clause-gates
 returns-clause-gates g c =

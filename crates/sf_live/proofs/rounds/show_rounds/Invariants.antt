@@ -1,11 +1,12 @@
-use Rattle.std.proofs.Common.{ℕ, ◌≤◌, List, Option}
+use Rattle.std.proofs.Common.{◌≡◌, ℕ, ◌≤◌, List, Option}
 use Rattle.sf_scene.specs.Scene.{SceneValue}
 use Rattle.sf_play.specs.Going.{fuel_of}
+use Rattle.sf_play.specs.Players.{home_in}
 use Rattle.sf_threads.specs.Gates.{HavePassed}
 use Rattle.sf_live.specs.Rounds.{HasShown}
 use Rattle.sf_live.proofs.rounds.show_rounds.Given as goal
 
--- what was shown is written behind what was there, and each actor has passed its gates
+-- what was shown is written behind what was there, each actor has passed its gates, and the desk tells places where it did
 abbrev pub invariant-turns : goal.invariant-turns
 invariant-turns g l =
     ((scene : SceneValue) (start : Option (List ℕ))
@@ -13,6 +14,7 @@ invariant-turns g l =
     → HasShown g.B.TableName.table scene l.plan l.timelines start (g.K.Sink.taken l.sink) l.screens l.player)
     × HavePassed l.player.play.actor_set.actors l.gates
     × (g.K.Sink.faults l.initial.sink ≤ g.K.Sink.faults l.sink)
+    × ((home_in l.player.play).tells ≡ (home_in l.initial.player.play).tells)
 
 abbrev pub decreases-turns : goal.decreases-turns
 decreases-turns g l = fuel_of l.player

@@ -60,3 +60,6 @@ returns-in-Err-write_turn-clause-err g c = λ scene start has.
     let may = may_write g.B.TableName.table scene c.args.plan.now has.so c.in-Ok.turn c.next.new.self has.planned goes in
     turn_cut g.B.TableName.table scene c.args.plan.now c.args.timelines.now start (g.K.Sink.taken c.args.sink.now) (g.K.Sink.taken c.write_turn.new.sink) c.args.screens.now c.args.player.now
     (turn_written (picture_at scene.pictures) c.args.plan.now c.args.timelines.now c.next.new.self c.in-Ok.turn) has (c.in-Err-write_turn.ensures.err scene may has.shown)
+
+pub returns-in-Ok-write_turn-clause-told : goal.returns-in-Ok-write_turn-clause-told
+returns-in-Ok-write_turn-clause-told g c = c.in-Ok.ensures.told

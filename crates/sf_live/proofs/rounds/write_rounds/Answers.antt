@@ -1,4 +1,6 @@
+use Rattle.std.proofs.Common.{Bool, OnOk, subst}
 use Rattle.sf_show.proofs.ClosingLemmas.{few_steps}
+use Rattle.sf_live.specs.Runs.{WroteLive}
 use Rattle.sf_live.proofs.EndLemmas.{live_cut, live_written}
 use Rattle.sf_live.proofs.rounds.write_rounds.Goals as goal
 
@@ -9,7 +11,8 @@ write_rest-requires g c =
 
 pub returns-clause-ok : goal.returns-clause-ok
 returns-clause-ok g c = λ scene start shown.
-    live_written g.B.TableName.table scene start _ _ c.show_rounds.new.player (c.in-Ok.ensures.ok scene start shown) c.write_rest.result c.write_rest.ensures.ok
+    subst (λ (tells : Bool). OnOk c.write_rest.result (WroteLive tells scene start (g.K.Sink.taken c.write_rest.new.sink))) c.in-Ok.ensures.told
+    (live_written g.B.TableName.table scene start _ _ c.show_rounds.new.player (c.in-Ok.ensures.ok scene start shown) c.write_rest.result c.write_rest.ensures.ok)
 
 pub returns-clause-err : goal.returns-clause-err
 returns-clause-err g c = λ scene start shown.

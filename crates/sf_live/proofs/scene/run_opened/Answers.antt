@@ -5,6 +5,7 @@ use Rattle.sf_show.specs.Writing.{CutSome}
 use Rattle.sf_threads.proofs.AttendLemmas.{of_ok}
 use Rattle.sf_run.specs.Played.{opening}
 use Rattle.sf_show.proofs.WritingLemmas.{cut_more}
+use Rattle.sf_shared.specs.Seats.{tells_of}
 use Rattle.sf_live.specs.Runs.{WroteLive}
 use Rattle.sf_live.proofs.RunLemmas.{goes_from, has_come, of_err, run_came, starts_here}
 use Rattle.sf_live.proofs.scene.run_opened.Goals as goal
@@ -22,10 +23,10 @@ run_rounds-requires-clause-goes g c κs within =
     let m = c.requires.starts.2 in
     let came = of_ok _ c.run_threads-compositor.result.1 c.in-Ok.joined c.in-Ok.is
     (c.run_threads-compositor.ensures.together c.requires.starts.0 m.opens (starts_here _ c.requires.starts.0 m refl refl refl refl c.new.ensures refl c.requires.some c.requires.few)) in (
-      run_came _ _ _ _ _ _ _ c.in-Ok.joined came,
-      came.locks,
+      run_came _ _ _ _ _ _ _ _ c.in-Ok.joined came,
+      c.args.opened.locks,
       c.requires.starts.1,
-      (came.together, goes_from _ _ _ _ _ _ _ c.in-Ok.joined came c.requires.starts.1 c.args.opened c.args.plan c.args.period c.args.order _ _ c.args.handler m refl refl, has_come _ _ _ _ _ _ _ c.in-Ok.joined came m.planned),
+      (came.together, goes_from _ _ _ _ _ _ _ _ c.in-Ok.joined came c.requires.starts.1 c.args.opened c.args.plan c.args.period c.args.order _ _ c.args.handler m refl refl, has_come _ _ _ _ _ _ _ _ c.in-Ok.joined came m.planned),
     )
 
 pub returns-in-Err : goal.returns-in-Err
@@ -46,12 +47,12 @@ returns-in-Ok g c = λ scene start m.
     let came = of_ok _ c.run_threads-compositor.result.1 c.in-Ok.joined c.in-Ok.is
     (c.run_threads-compositor.ensures.together scene m.opens (starts_here _ scene m refl refl refl refl c.new.ensures refl c.requires.some c.requires.few)) in
     let name = sym came.same.sink in
-    let ended = c.run_rounds.ensures (run_came _ _ _ _ _ _ _ c.in-Ok.joined came) came.locks start came.together
-    (goes_from _ _ _ _ _ _ _ c.in-Ok.joined came start c.args.opened c.args.plan c.args.period c.args.order _ _ c.args.handler m refl refl) (has_come _ _ _ _ _ _ _ c.in-Ok.joined came m.planned) in
+    let ended = c.run_rounds.ensures (run_came _ _ _ _ _ _ _ _ c.in-Ok.joined came) c.args.opened.locks start came.together
+    (goes_from _ _ _ _ _ _ _ _ c.in-Ok.joined came start c.args.opened c.args.plan c.args.period c.args.order _ _ c.args.handler m refl refl) (has_come _ _ _ _ _ _ _ _ c.in-Ok.joined came m.planned) in
     let rose = came.faults_rise in
     let later = ended.later in
     record {
-      ok = subst (λ s. OnOk c.run_rounds.result (WroteLive scene start (g.K.Sink.taken s))) (sym (c.sink-1.given.1 name)) ended.ok;
+      ok = subst (λ s. OnOk c.run_rounds.result (WroteLive (tells_of c.args.opened.locks) scene start (g.K.Sink.taken s))) (sym (c.sink-1.given.1 name)) ended.ok;
       err = subst (λ s. OnErr c.run_rounds.result (CutSome start (g.K.Sink.taken s))) (sym (c.sink-1.given.1 name)) ended.err;
       later = subst (λ s. g.K.Sink.faults c.args.sink.now ≤ g.K.Sink.faults s) (sym (c.sink-1.given.1 name)) (omega (arith, rose, later));
       failed = λ fails.

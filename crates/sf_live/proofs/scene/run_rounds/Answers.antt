@@ -1,7 +1,8 @@
-use Rattle.std.proofs.Common.{subst, sym}
+use Rattle.std.proofs.Common.{Bool, OnOk, subst, sym}
 use Rattle.sf_commit.specs.Handlers.{HandlerOf}
 use Rattle.sf_surface.specs.Tokens.{ReadLeaseOf}
 use Rattle.sf_live.specs.Resuming.{GoesFrom}
+use Rattle.sf_live.specs.Runs.{WroteLive}
 use Rattle.sf_live.proofs.GoingOn.{shown_so}
 use Rattle.sf_live.proofs.scene.run_rounds.Goals as goal
 
@@ -26,7 +27,8 @@ returns g c = λ run locks start t goes come.
     let shown = shown_so g.B.TableName.table run start (g.K.Sink.taken c.args.sink.now) c.deref.result.now c.args.timelines.items c.args.plan c.args.screens c.go_on-player.result.0 come c.deref.ensures.value
     (c.go_on-player.ensures.shown run locks start t (subst (λ (h : HandlerOf ReadLeaseOf). GoesFrom run start c.args.period c.args.order h c.args.vsyncs) (sym c.into_handler-handler.ensures) goes)) in
     record {
-      ok = c.write_rounds-written.ensures.ok run.scene start shown;
+      ok = subst (λ (tells : Bool). OnOk c.write_rounds-written.result (WroteLive tells run.scene start (g.K.Sink.taken c.write_rounds-written.new.sink))) (c.go_on-player.ensures.told run locks t)
+          (c.write_rounds-written.ensures.ok run.scene start shown);
       err = c.write_rounds-written.ensures.err run.scene start shown;
       later = c.write_rounds-written.ensures.later;
       failed = c.write_rounds-written.ensures.failed;

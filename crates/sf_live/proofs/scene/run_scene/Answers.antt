@@ -1,7 +1,8 @@
-use Rattle.std.proofs.Common.{◌≤◌, arith, sym, subst}
+use Rattle.std.proofs.Common.{◌≤◌, Bool, true, arith, sym, subst}
 use Rattle.sf_run.proofs.LimitLemmas.{few_layers}
 use Rattle.sf_scene.specs.Scene.{SceneValue}
 use Rattle.sf_actor_set.specs.Scripts.{permits_of}
+use Rattle.sf_live.specs.Runs.{LiveEnded}
 use Rattle.sf_live.proofs.Starting.{may_run, of_scene}
 use Rattle.sf_live.proofs.RunLemmas.{ended_early}
 use Rattle.sf_live.proofs.scene.run_scene.Goals as goal
@@ -24,17 +25,18 @@ run_opened-requires-clause-starts g c κs within = (
 
 pub returns : goal.returns
 returns g c = λ start begun.
-    c.run_opened.ensures c.args.scene start
+    subst (λ (tells : Bool). LiveEnded tells c.args.scene c.run_opened.result start (g.K.Sink.taken c.run_opened.new.sink) (g.K.Sink.faults c.args.sink.now) (g.K.Sink.faults c.run_opened.new.sink)) c.in-Ok-open.ensures.told
+    (c.run_opened.ensures c.args.scene start
     (may_run g.B.TableName.table c.args.scene _ _ _ _ _ _ _ _ c.scene.view_is
     (c.in-Ok-open.ensures.opens (of_scene c.args.scene _ _ c.scene.view_is c.scene.invariant c.as_slice.ensures) c.requires.fresh
     (subst (λ (s : SceneValue). permits_of s.actors ≤ g.B.TableName.table.slots) (sym c.scene.view_is) c.requires.sized))
-    c.in-Ok-with_limit.ensures c.most_layers.ensures c.in-Ok.ensures.value c.requires.rising begun)
+    c.in-Ok-with_limit.ensures c.most_layers.ensures c.in-Ok.ensures.value c.requires.rising begun))
 
 pub returns-in_default : goal.returns-in_default
-returns-in_default g c = λ start begun. ended_early c.args.scene start _ _ begun
+returns-in_default g c = λ start begun. ended_early true c.args.scene start _ _ begun
 
 pub returns-in_default-open : goal.returns-in_default-open
-returns-in_default-open g c = λ start begun. ended_early c.args.scene start _ _ begun
+returns-in_default-open g c = λ start begun. ended_early true c.args.scene start _ _ begun
 
 pub returns-in_default-with_limit : goal.returns-in_default-with_limit
-returns-in_default-with_limit g c = λ start begun. ended_early c.args.scene start _ _ begun
+returns-in_default-with_limit g c = λ start begun. ended_early true c.args.scene start _ _ begun

@@ -1,0 +1,55 @@
+-- Threads may share an intake.
+use denote.RattleType.{RattleType}
+use denote.Param.Send.{IsSend, IsSync, sendable, view_send, view_sync}
+use denote.Param.SendFields.{as_row_sync, declared_send, declared_sync, variants_send}
+use denote.Struct.Field.{row_field}
+use Rattle.std.proofs.Crossing as crossing
+use Rattle.std.proofs.Crossing.{crosses}
+use Rattle.std.specs.contracts.alloc.Global as heap
+use Rattle.std.specs.contracts.option.Option as option
+use Rattle.std.specs.contracts.impls.GlobalAllocator.TheImpl.{ghosts}
+use Rattle.atomic_blocks.proofs.block.Link.TheSendSync as link_shown
+use Rattle.atomic_blocks.proofs.web.Web.TheSendSync as web_shown
+use Rattle.atomic_blocks.specs.declared.web.BlockRule as rule
+use Rattle.crossbeam_queue.specs.contracts.seg_queue.Chained as chained
+use Rattle.crossbeam_queue.specs.contracts.seg_queue.Chained.TheInside as chained_inside
+use Rattle.crossbeam_queue.specs.contracts.seg_queue.Ends as ends
+use Rattle.crossbeam_queue.specs.contracts.seg_queue.Going as going
+use Rattle.crossbeam_queue.specs.contracts.seg_queue.Laps as laps
+use Rattle.crossbeam_queue.specs.Segments.{Segmented, idle}
+use Rattle.sf_intake.specs.Rule.{Kept, opened}
+use Rattle.sf_intake.specs.contracts.intake.Intake as intake
+use Rattle.sf_intake.specs.contracts.protocol.InOneOrder as order
+use Rattle.sf_intake.specs.contracts.protocol.Knows as knows
+use Rattle.sf_intake.specs.contracts.intake.Intake.TheInside as inside
+use Rattle.sf_intake.specs.contracts.posted.Posted as posted
+use Rattle.sf_intake.specs.contracts.posted.Posted.TheInside as posted_inside
+use Rattle.sf_token.specs.declared.home.LeaseHome as home
+use Rattle.sf_txn.specs.contracts.transaction.Transaction as transaction
+use Rattle.sf_txn.specs.declared.lease.Lease as lease
+
+ends_sync : (S : RattleType) → IsSync (ends.the_row S)
+ends_sync S = declared_sync (ends.the_type S) (link_shown.the_sync S, (link_shown.the_sync S, tt))
+
+module _ (S D K Q : RattleType) (gq : rule.Ghosts Q.Denot S.Denot D.Denot K.Denot) where
+  chained_sync : IsSend S → IsSync K → IsSync (chained.the_row S D K Q heap.the_row gq ghosts)
+  chained_sync s k = view_sync _ _ _ _ _ (declared_sync (chained_inside.the_type S D K Q heap.the_row gq ghosts) (
+    web_shown.the_sync S D K Q heap.the_row gq ghosts s crossing.send crossing.frees,
+    (as_row_sync (row_field K) k, (crossing.sync, tt)),
+  ))
+
+module _ (L N Eye Reading Closing : RattleType) (g : lease.Ghosts L.Denot Eye.Denot Reading.Denot Closing.Denot) (h : home.Ghosts N.Denot L.Denot) where
+  posted_send : IsSend (transaction.the_row L Eye Reading Closing g) → IsSend (posted.the_row L Eye Reading Closing g)
+  posted_send s = view_send _ _ _ _ _ (declared_send (posted_inside.the_type L Eye Reading Closing g) (search (sendable, crosses) depth 20, (search (sendable, crosses) depth 20, (search (sendable, crosses) depth 20, (s, tt)))))
+
+  pub intake_sync : IsSend (transaction.the_row L Eye Reading Closing g) → IsSync (intake.the_row L N Eye Reading Closing g h)
+  intake_sync s =
+      let one = posted.the_row L Eye Reading Closing g in
+      let post = option.the_row one in
+      let own = posted_send s in
+      let sent : IsSend post = search (sendable, crosses, variants_send, own) depth 20 in
+      view_sync _ _ _ _ _ (declared_sync (inside.the_type L N Eye Reading Closing g h) (
+        chained_sync post (going.the_row one (knows.the_row one)) (ends.the_row post) (laps.the_row (order.the_row L N))
+            (record { holds = Segmented (Kept h.holds); first = λ key. idle opened }) sent (ends_sync post),
+        tt,
+      ))
