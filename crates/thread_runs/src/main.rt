@@ -1,13 +1,14 @@
 //! Runs of what threads share: timelines, the turns of buffers, an object under a lock, a watch over
-//! who is idle. Standard input has runs with an empty line between them; the first line of a run says what it is of, and
-//! each other line is a call on it. A line is written for each call: the call, and what it
-//! answered. Lines that begin with '#' say what a run shows.
+//! who is idle, an intake of transactions. Standard input has runs with an empty line between them;
+//! the first line of a run says what it is of, and each other line is a call on it. A line is written
+//! for each call: the call, and what it answered. Lines that begin with '#' say what a run shows.
 #![tactic(auto)]
 
 mod answer;
 mod counted;
 mod counter;
 mod entered;
+mod intake_run;
 mod lock_run;
 mod seat;
 mod signals_run;

@@ -1,10 +1,10 @@
-//! What two threads do at once. Each line is a word and how often.
+//! What threads do at once. Each line is a word and how often.
 ghost use Rattle.std.specs.Prelude.{◌≡◌, Some, IfOk};
 
 use crate::counter::Counter;
 use crate::lock_run::Run;
 use crate::words::{number, words};
-use crate::{signals_run, write_run};
+use crate::{intake_run, signals_run, write_run};
 use sf_base::NoMemory;
 use sf_calls::{CallFault, CallLock, Pass};
 use std::alloc::Global;
@@ -104,6 +104,7 @@ pub fn play<R: Print + Threads + Wait + Sync>(
         let count = match word {
             "signals" => signals_run::play(rt, alloc, times),
             "writes" => write_run::play(rt, alloc, times),
+            "sends" => intake_run::play(rt, alloc, times),
             "adds" => add_rounds(rt, alloc, times),
             _ => 0,
         };
