@@ -3,10 +3,13 @@ use denote.RattleType.{RattleType}
 use denote.Param.Send.{IsSend, sendable, view_send}
 use denote.Param.SendFields.{declared_send}
 use Rattle.std.proofs.Crossing.{Vec-send, crosses}
+use Rattle.std.proofs.MapsCrossing as maps
 use Rattle.sf_turns.specs.declared.naming.TableName as naming
 use Rattle.sf_txn.specs.declared.lease.Lease as lease
 use Rattle.sf_txn.specs.contracts.transaction.Transaction as transaction
 use Rattle.sf_txn.specs.contracts.buffer.BufferOp as buffer
+use Rattle.sf_txn.specs.contracts.ops.Ops as ops
+use Rattle.sf_txn.specs.contracts.ops.Ops.TheInside as ops_inside
 use Rattle.sf_token.specs.contracts.arrived.Arrived as arrived
 use Rattle.sf_surface.specs.contracts.entry.HistEntry as entry
 use Rattle.sf_surface.specs.contracts.history.History as history
@@ -66,6 +69,16 @@ module _ (B : RattleType) (T : naming.Ghosts B.Denot) where
   pub holding_send : IsSend (holding.the_row B T)
   holding_send = search (sendable, crosses, read_send, write_send, owing_send, loose_send) depth 20
 
+-- the operations of a transaction, with the map of their places
+ops_send : IsSend ops.the_row
+ops_send = view_send _ _ _ _ _ (declared_send ops_inside.the_type (
+  search (sendable, crosses) depth 20,
+  (
+    search (sendable, crosses, op_shown.the_send) depth 20,
+    (search (sendable, crosses, maps.crosses) depth 20, (search (sendable, crosses) depth 20, tt)),
+  ),
+))
+
 module _ (L Eye Reading Closing : RattleType) (g : lease.Ghosts L.Denot Eye.Denot Reading.Denot Closing.Denot) where
   pub buffer_send : IsSend L → IsSend (buffer.the_row L Eye Reading Closing g)
   buffer_send s = search (sendable, crosses) depth 20
@@ -77,7 +90,7 @@ module _ (L Eye Reading Closing : RattleType) (g : lease.Ghosts L.Denot Eye.Deno
       search (sendable, crosses) depth 20,
       (
         search (sendable, crosses) depth 20,
-        (search (sendable, crosses, op_shown.the_send) depth 20, (Vec-send _ (buffer_send s), (search (sendable, crosses) depth 20, tt))),
+        (ops_send, (Vec-send _ (buffer_send s), (search (sendable, crosses) depth 20, tt))),
       ),
     ),
   ))
