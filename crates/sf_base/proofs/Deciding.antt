@@ -1,5 +1,5 @@
 -- What `==` decides of rectangles and of pixels.
-use Rattle.std.proofs.Common.{◌≡◌, ℕ, ap, Bool, true, refl}
+use Rattle.std.proofs.Common.{◌≡◌, ℕ, ap, Bool}
 use Rattle.std.specs.Prelude.{◌&&◌, nat_eq}
 use Rattle.std.specs.Bool.{Decides}
 use Rattle.std.specs.Ordering.{int_eq}

@@ -62,3 +62,12 @@ open_from-none t (v ∷ vs) (s ∷ ss) l e k = elim (leb_tells v s) [
   | inl reached ↦ reached-cons v s vs ss reached.1 (open_from-none (t + 1) vs ss (omega (arith, l)) (sym (open_from-more t v s vs ss reached.1) ∙ e)) k
   | inr above ↦ absurd (some-none (t, v) (sym (open_from-here t v s vs ss above.1) ∙ e))
 ]
+
+pub length-greater : (vs ws : List ℕ) → length vs ≡ length ws → length (greater_of_each vs ws) ≡ length vs
+unfolding greater_of_each
+length-greater [] [] l = refl
+length-greater [] (w ∷ ws) l = absurd (omega (arith, l))
+length-greater (v ∷ vs) [] l = absurd (omega (arith, l))
+length-greater (v ∷ vs) (w ∷ ws) l =
+    let rest : length (greater_of_each vs ws) ≡ length vs = length-greater vs ws (omega (arith, l)) in
+    omega (arith, rest)

@@ -1,4 +1,5 @@
 pub mod Deciding
 pub mod FenceLemmas
 pub mod Lists
+pub mod NoPoints
 pub mod PointLemmas

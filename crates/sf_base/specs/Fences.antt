@@ -3,8 +3,14 @@
 -- value 0 is signalled from the start and changes nothing.
 use Rattle.std.specs.Prelude.{ℕ, ◌+◌, ◌-◌, ◌≤◌, ◌↔◌, max, nat_le, if◌then◌else◌}
 use Rattle.std.specs.Prelude.{List, [], ◌∷◌, replicate, slice_index, slice_set, Option, None, Some}
-use Rattle.sf_base.specs.declared.fences.Fence.{Fence}
 use Rattle.sf_base.specs.declared.fences.Seen.{Seen}
+
+-- what contracts see of a fence: the value of each timeline
+pub record Fence : Type 0 where
+  pub values : List ℕ
+
+abbrev pub fence_from : List ℕ → Fence
+fence_from values = record { values = values }
 
 -- the value of a timeline, where timeline t stands at t - 1
 abbrev pub value_of : List ℕ → ℕ → ℕ

@@ -3,6 +3,7 @@ pub mod Bytes
 pub mod Fences
 pub mod Formats
 pub mod Geometry
+pub mod Kept
 pub mod Paint
 pub mod Points
 pub mod Slots

@@ -1,7 +1,9 @@
-ghost use Rattle.std.specs.Prelude.{◌≡◌, ◌≤◌, ◌<◌, ◌↔◌, ◌∷◌, IsNone, MatchOption, None, Some};
-ghost use Rattle.sf_base.specs.Fences.{IsSignalled, SignalledTogether, SignalledWith, first_open_of, merged, no_points, value_of, with_point};
+ghost use Rattle.std.specs.Prelude.{◌≡◌, ◌≤◌, ◌<◌, ◌↔◌, IsNone, IsTrue, MatchOption, None, Some, OnOk, OnErr, IfOk, length, max, slice_set, ◌-◌};
+ghost use Rattle.sf_base.specs.Fences.{IsSignalled, SignalledTogether, SignalledWith, fence_from, first_open_of, greater_of_each, merged, no_points, value_of, with_point};
 
-use crate::TimelineId;
+use crate::{NoMemory, TimelineId};
+use std::alloc::Global;
+use std::marker::Model;
 
 /// What was observed of the timelines: the value of timeline t stands at t - 1.
 #[derive(Clone, Copy)]
@@ -9,57 +11,150 @@ pub struct Seen {
     pub values: [u64; 64],
 }
 
-/// A fence, that is, a set of points of timelines. Of each timeline the greatest value is kept:
-/// that of timeline t stands at t - 1, and 0 means that the timeline has no point in the fence.
-#[derive(Clone, Copy, PartialEq, Eq)]
+/// Of each timeline the greatest value: that of timeline t stands at t - 1, and 0 means that the
+/// timeline has no point.
+#[derive(Clone, Copy)]
+struct Points {
+    values: [u64; 64],
+}
+
+/// Raises the value of a timeline to at least this one.
+fn raise(points: &mut Points, t: TimelineId, v: u64)
+    requires { (1 ≤ t.0) × (t.0 ≤ 64) }
+    ensures raised { points.new.values ≡ slice_set points.old.values (t.0 - 1) (max (value_of points.old.values t.0) v) }
+    ensures sized { length points.new.values ≡ 64 }
+{
+    let place = t.0 as usize - 1;
+    points.values[place] = points.values[place].max(v);
+}
+
+/// Raises the value of each timeline to at least that of other points.
+fn raise_all(points: &mut Points, other: &Points)
+    ensures raised { points.new.values ≡ greater_of_each points.old.values other.now.values }
+    ensures sized { length points.new.values ≡ 64 }
+{
+    for place in 0..64 {
+        points.values[place] = points.values[place].max(other.values[place]);
+    }
+}
+
+/// The lowest timeline whose value is above what was observed, with its value.
+fn first_above(points: &Points, seen: &Seen) -> Option<(TimelineId, u64)>
+    ensures signalled { IsNone result ↔ IsSignalled (fence_from points.now.values) seen.now }
+    ensures lowest { MatchOption result (first_open_of (fence_from points.now.values) seen.now ≡ None)
+        (λ point. first_open_of (fence_from points.now.values) seen.now ≡ Some ((point.0).0, point.1)) }
+{
+    for place in 0..64 {
+        if points.values[place] > seen.values[place] {
+            return Some((TimelineId(place as u32 + 1), points.values[place]));
+        }
+    }
+    None
+}
+
+/// A fence, that is, a set of points of timelines. Of each timeline the greatest value is kept. A
+/// fence without points takes no memory. Contracts see the values of all timelines.
+#[derive(Drop)]
 pub struct Fence {
-    pub values: [u64; 64],
+    points: Option<Box<Points>>,
+}
+
+impl Model for Fence {
+    ghost use Rattle.sf_base.specs.Fences.{Fence};
+    ghost use Rattle.sf_base.specs.Kept.{HasPlaces, fence_of};
+
+    ghost Value = { Fence };
+
+    ghost view = { λ f. fence_of f.points };
+
+    ghost invariant = { λ f. HasPlaces (fence_of f.points) };
 }
 
 impl Fence {
     /// The empty fence, which is signalled.
-    #[tactic(auto, unfolding(crate::specs::Fences::no_points))]
     pub fn none() -> Fence
         ensures { result ≡ no_points }
     {
-        Fence { values: [0; 64] }
+        Fence { points: None }
+    }
+
+    /// An equal fence.
+    pub fn copy(&self, alloc: Global) -> Result<Fence, NoMemory>
+        ensures { IfOk result (λ copy. copy ≡ self.now) }
+    {
+        match &self.points {
+            Some(points) => Ok(Fence {
+                points: Some(Box::new(alloc, *points.as_ref())?),
+            }),
+            None => Ok(Fence::none()),
+        }
     }
 
     /// Adds a point. A point of value 0 is signalled from the start, and changes nothing. Of a
     /// timeline, which is 1 to 64, the greatest value is kept.
-    #[tactic(auto, unfolding(crate::specs::Fences::with_point))]
-    pub fn add(&mut self, t: TimelineId, v: u64)
+    pub fn add(&mut self, alloc: Global, t: TimelineId, v: u64) -> Result<(), NoMemory>
         requires { (1 ≤ t.0) × (t.0 ≤ 64) }
-        ensures exact { self.new ≡ with_point self.old t.0 v }
-        ensures signalled { SignalledWith self.new self.old t.0 v }
+        ensures exact { OnOk result (self.new ≡ with_point self.old t.0 v) }
+        ensures signalled { OnOk result (SignalledWith self.new self.old t.0 v) }
+        ensures unchanged { OnErr result (self.new ≡ self.old) }
     {
-        let place = t.0 as usize - 1;
-        self.values[place] = self.values[place].max(v);
+        match &mut self.points {
+            Some(points) => raise(points.as_mut(), t, v),
+            None if v == 0 => {}
+            None => {
+                let mut points = Points { values: [0; 64] };
+                raise(&mut points, t, v);
+                self.points = Some(Box::new(alloc, points)?);
+            }
+        }
+        Ok(())
     }
 
     /// Adds the points of another fence. The merge is signalled exactly where both are.
-    #[tactic(auto, unfolding(crate::specs::Fences::merged))]
-    pub fn merge(&mut self, other: &Fence)
-        ensures exact { self.new ≡ merged self.old other.now }
-        ensures signalled { SignalledTogether self.new self.old other.now }
+    pub fn merge(&mut self, alloc: Global, other: &Fence) -> Result<(), NoMemory>
+        ensures exact { OnOk result (self.new ≡ merged self.old other.now) }
+        ensures signalled { OnOk result (SignalledTogether self.new self.old other.now) }
+        ensures unchanged { OnErr result (self.new ≡ self.old) }
     {
-        for place in 0..64 {
-            self.values[place] = self.values[place].max(other.values[place]);
+        let _ = &self.points;
+        let Some(points) = &other.points else {
+            return Ok(());
+        };
+        match &mut self.points {
+            Some(own) => raise_all(own.as_mut(), points.as_ref()),
+            None => self.points = Some(Box::new(alloc, *points.as_ref())?),
+        }
+        Ok(())
+    }
+
+    /// Whether the fence has no points. Each of the 64 timelines has a value.
+    pub fn is_none(&self) -> bool
+        ensures none { IsTrue result → self.now ≡ no_points }
+        ensures places { length self.now.values ≡ 64 }
+    {
+        self.points.is_none()
+    }
+
+    /// The value of a timeline, which is 1 to 64, or 0 where it has no point.
+    pub fn value(&self, t: TimelineId) -> u64
+        requires { (1 ≤ t.0) × (t.0 ≤ 64) }
+        ensures { result ≡ value_of self.now.values t.0 }
+    {
+        match &self.points {
+            Some(points) => points.values[t.0 as usize - 1],
+            None => 0,
         }
     }
 
     /// The lowest timeline with a point that is not signalled under what was observed, and the
     /// value that it waits for. None exactly where the fence is signalled.
-    #[tactic(auto, unfolding(crate::specs::Fences::first_open_of))]
     pub fn first_open(&self, seen: &Seen) -> Option<(TimelineId, u64)>
         ensures signalled { IsNone result ↔ IsSignalled self.now seen.now }
         ensures lowest { MatchOption result (first_open_of self.now seen.now ≡ None) (λ point. first_open_of self.now seen.now ≡ Some ((point.0).0, point.1)) }
     {
-        for place in 0..64 {
-            if self.values[place] > seen.values[place] {
-                return Some((TimelineId(place as u32 + 1), self.values[place]));
-            }
+        match &self.points {
+            Some(points) => first_above(points.as_ref(), seen),
+            None => None,
         }
-        None
     }
 }

@@ -1,6 +1,6 @@
 -- What goes back to a queue.
 use Rattle.std.specs.Prelude.{ℕ, List}
-use Rattle.sf_base.specs.declared.fences.Fence.{Fence}
+use Rattle.sf_base.specs.Fences.{Fence}
 use Rattle.sf_base.specs.declared.ids.QueueId.{QueueId}
 use Rattle.sf_ready.specs.declared.hold.Hold.{Hold}
 use Rattle.sf_view.specs.Views.{ViewOf}

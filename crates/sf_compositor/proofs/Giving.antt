@@ -2,7 +2,7 @@
 use Rattle.std.proofs.Common.{◌≡◌, ℕ, Ok, Err, Result, sym, subst}
 use Rattle.std.proofs.lemmas.Bool.{false≢true}
 use Rattle.std.specs.Prelude.{IfOk, None, OnOk, is_ok}
-use Rattle.sf_base.specs.declared.fences.Fence.{Fence}
+use Rattle.sf_base.specs.Fences.{Fence}
 use Rattle.sf_base.specs.declared.NoMemory.{NoMemory}
 use Rattle.sf_calls.specs.declared.fault.CallFault.{CallFault}
 use Rattle.sf_commit.specs.Releases.{ReleaseOf}

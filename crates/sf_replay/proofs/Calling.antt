@@ -1,7 +1,7 @@
 -- A try that makes a call on a queue, wherever that call is the next one there.
 use Rattle.std.proofs.Common.{◌≡◌, ℕ, ◌+◌, ◌-◌, Bool, true, false, List, [], ◌∷◌, ◌++◌, ap, sym, refl, subst, Option, Some, None}
 use Rattle.std.specs.Prelude.{if◌then◌else◌, nat_lt, slice_index}
-use Rattle.sf_base.specs.declared.fences.Fence.{Fence}
+use Rattle.sf_base.specs.Fences.{Fence}
 use Rattle.sf_base.specs.declared.status.QStatus.{QStatus}
 use Rattle.sf_picture.specs.declared.picture.Picture.{Picture}
 use Rattle.sf_scene.specs.declared.step.Step.{Step}

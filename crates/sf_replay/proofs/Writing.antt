@@ -22,7 +22,7 @@ use Rattle.sf_surface.specs.Histories.{Made, told_reply}
 use Rattle.sf_surface.specs.Calls.{write_token}
 use Rattle.sf_base.specs.declared.status.QStatus.{QStatus}
 use Rattle.sf_slots.specs.declared.calls.WriteToken.{WriteToken}
-use Rattle.sf_base.specs.declared.fences.Fence.{Fence}
+use Rattle.sf_base.specs.Fences.{Fence}
 use Rattle.sf_base.specs.declared.ids.QueueId.{QueueId}
 use Rattle.sf_surface.specs.Tokens.{WriteLeaseOf}
 use Rattle.sf_actor.specs.declared.done.Answered.{Answered}

@@ -12,7 +12,7 @@ use Rattle.std.proofs.lemmas.List.Quantifiers.{position-Some}
 use Rattle.std.proofs.Math.ListN.{get_or-eq_default}
 use Rattle.sf_base.specs.declared.ids.ActorId.{ActorId}
 use Rattle.sf_base.specs.declared.ids.SlotId.{SlotId}
-use Rattle.sf_base.specs.declared.fences.Fence.{Fence}
+use Rattle.sf_base.specs.Fences.{Fence}
 use Rattle.sf_base.specs.declared.geometry.Rect.{Rect}
 use Rattle.sf_base.specs.declared.status.QStatus.{QStatus}
 use Rattle.sf_base.specs.declared.status.QStatus.TheVariants as status

@@ -4,7 +4,7 @@ use Rattle.std.specs.Prelude.{filter_map}
 use Rattle.std.specs.List.{All}
 use Rattle.std.proofs.lemmas.Bool.{cases_Bool, eqb-true, eq-eqb, false≢true}
 use Rattle.std.proofs.lemmas.List.Elements.{All-cons, All-head, All-nil, All-push, All-tail, All-weaker}
-use Rattle.sf_base.specs.declared.fences.Fence.{Fence}
+use Rattle.sf_base.specs.Fences.{Fence}
 use Rattle.sf_slots.specs.declared.item.PlainItem.{PlainItem}
 use Rattle.sf_slots.specs.declared.slot.Slot.{Slot}
 use Rattle.sf_slots.specs.declared.slot.SlotState.TheVariants.{Free, Queued}

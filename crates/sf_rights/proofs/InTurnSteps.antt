@@ -6,7 +6,7 @@ use Rattle.std.proofs.lemmas.Bool.{cases_Bool, cases_eq, eqb-true, false≢true}
 use Rattle.std.proofs.lemmas.List.{length-append}
 use Rattle.std.proofs.lemmas.List.Elements.{Contains-append_cases, Contains-append_left}
 use Rattle.atomic_table.specs.Seated.{TableId}
-use Rattle.sf_base.specs.declared.fences.Fence.{Fence}
+use Rattle.sf_base.specs.Fences.{Fence}
 use Rattle.sf_calls.specs.Histories.{entry}
 use Rattle.sf_commit.specs.Handlers.{HandlerOf}
 use Rattle.sf_picture.specs.declared.picture.Picture.{Picture}

@@ -1,6 +1,6 @@
 -- A vsync of a compositor, as a change of a state: what it decides, and each release behind it.
 use Rattle.std.specs.Prelude.{◌≡◌, ℕ, true, List, map, ◌++◌, ◌∷◌, None}
-use Rattle.sf_base.specs.declared.fences.Fence.{Fence}
+use Rattle.sf_base.specs.Fences.{Fence}
 use Rattle.sf_base.specs.declared.fences.Seen.{Seen}
 use Rattle.sf_surface.specs.declared.call.QCall.TheVariants as call
 use Rattle.sf_surface.specs.declared.call.QReply.{QReply}

@@ -9,8 +9,7 @@ use Rattle.std.proofs.lemmas.Bool.{cases_eq, eq-eqb, eqb-true, ne_eqb, or_parts}
 use Rattle.std.proofs.lemmas.List.{append_cancel_left, length-map, map-append}
 use Rattle.std.proofs.lemmas.List.Elements.{All-cons, All-contains, All-head, All-map, All-nil, All-tail, All-weaker}
 use Rattle.std.proofs.lemmas.List.Sorted.{Contains-permutation, IsPermutation-sym}
-use Rattle.sf_base.specs.Fences.{IsSignalled}
-use Rattle.sf_base.specs.declared.fences.Fence.{Fence}
+use Rattle.sf_base.specs.Fences.{Fence, IsSignalled}
 use Rattle.sf_base.specs.declared.fences.Seen.{Seen}
 use Rattle.sf_calls.specs.Histories.{calls_by, entry}
 use Rattle.sf_slots.specs.Replies.{reply_after}

@@ -6,9 +6,8 @@ use Rattle.std.proofs.lemmas.Bool.{cases_eq, eq-eqb, eqb-true, ne_eqb}
 use Rattle.std.proofs.lemmas.List.{ext_get_or, get_or-replicate, get_or-set_other, get_or-set_same, length-set}
 use Rattle.std.proofs.lemmas.List.Elements.{All-append, All-cons, All-head, All-nil, All-tail}
 use Rattle.std.proofs.lemmas.List.Folds.{list_any-append}
-use Rattle.sf_base.specs.Fences.{no_points, value_of, with_point}
+use Rattle.sf_base.specs.Fences.{Fence, no_points, value_of, with_point}
 use Rattle.sf_base.specs.Points.{greatest, value_at}
-use Rattle.sf_base.specs.declared.fences.Fence.{Fence}
 use Rattle.sf_base.specs.declared.fences.Seen.{Seen}
 use Rattle.sf_base.proofs.PointLemmas.{value_else, value_here}
 use Rattle.sf_scene.specs.Scene.{SceneValue}

@@ -8,9 +8,8 @@ use Rattle.std.proofs.Math.ListN.{get_or-map}
 use Rattle.std.proofs.lemmas.List.Elements.{All-contains, All-head}
 use Rattle.std.proofs.lemmas.List.Sorted.{Contains-permutation, IsPermutation-sym}
 use Rattle.std.proofs.lemmas.Option.{slice_get-get_or}
-use Rattle.sf_base.specs.Fences.{IsSignalled, first_open_of, no_points, open_from, value_of, with_point}
+use Rattle.sf_base.specs.Fences.{Fence, IsSignalled, first_open_of, no_points, open_from, value_of, with_point}
 use Rattle.sf_base.specs.Points.{greatest}
-use Rattle.sf_base.specs.declared.fences.Fence.{Fence}
 use Rattle.sf_base.specs.declared.fences.Seen.{Seen}
 use Rattle.sf_base.specs.declared.ids.QueueId.{QueueId}
 use Rattle.sf_picture.specs.declared.picture.Picture.{Picture}

@@ -9,9 +9,8 @@ use Rattle.std.proofs.lemmas.List.{get_or-set_other, get_or-set_same, length-set
 use Rattle.std.proofs.lemmas.List.Elements.{All-contains, Contains-get_or, filter-append}
 use Rattle.std.proofs.lemmas.List.Kept.{AllPairs-from_increasing}
 use Rattle.std.proofs.lemmas.List.Sorted.{Contains-permutation}
-use Rattle.sf_base.specs.Fences.{no_points, value_of, with_point}
+use Rattle.sf_base.specs.Fences.{Fence, no_points, value_of, with_point}
 use Rattle.sf_base.specs.Points.{greatest, value_at}
-use Rattle.sf_base.specs.declared.fences.Fence.{Fence}
 use Rattle.sf_base.proofs.PointLemmas.{has_le}
 use Rattle.sf_slots.specs.declared.calls.Entry.{Entry}
 use Rattle.sf_slots.specs.Tells.{AreReplies}

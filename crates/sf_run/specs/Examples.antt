@@ -1,7 +1,7 @@
 -- Two examples on which the definitions are computed: an actor with one queue, and frames that are replaced on their layer.
 use Rattle.std.specs.Prelude.{ℕ, true, false, List, [], ◌∷◌, map, reverse, Some, None, pos}
 use Rattle.std.specs.Option.{unwrap_or}
-use Rattle.sf_base.specs.declared.fences.Fence.{Fence}
+use Rattle.sf_base.specs.Fences.{Fence}
 use Rattle.sf_base.specs.declared.format.Format.TheVariants as format
 use Rattle.sf_picture.specs.declared.picture.Picture.{Picture}
 use Rattle.sf_slots.specs.declared.calls.Entry.{Entry}

@@ -1,8 +1,7 @@
 -- A run in which an actor did one step more, while nobody else called or sent.
 use Rattle.std.specs.Prelude.{◌≡◌, ℕ, true, false, List, [], ◌∷◌, ◌++◌, length, map, Some, None, Contains}
 use Rattle.std.specs.List.{All, range_with_len}
-use Rattle.sf_base.specs.Fences.{IsSignalled}
-use Rattle.sf_base.specs.declared.fences.Fence.{Fence}
+use Rattle.sf_base.specs.Fences.{Fence, IsSignalled}
 use Rattle.sf_slots.specs.Tells.{AreReplies}
 use Rattle.sf_slots.specs.declared.calls.Entry.{Entry}
 use Rattle.sf_surface.specs.Drawing.{MayEnter}

@@ -1,7 +1,7 @@
 -- Who is stuck, of actors over a desk: what tells that the turn of a draw has not come.
 use Rattle.std.specs.Prelude.{◌≡◌, ℕ, ◌+◌, nat_lt, true, if◌then◌else◌, List, [], ◌∷◌, length, Some}
 use Rattle.std.specs.List.{flat_map}
-use Rattle.sf_base.specs.declared.fences.Fence.{Fence}
+use Rattle.sf_base.specs.Fences.{Fence}
 use Rattle.sf_scene.specs.Scene.{SceneValue}
 use Rattle.sf_surface.specs.Drawing.{IsShort}
 use Rattle.sf_actor.specs.declared.holding.Holding.{Holding}

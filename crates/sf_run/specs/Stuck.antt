@@ -3,8 +3,7 @@ use Rattle.std.specs.Prelude.{◌≡◌, ◌+◌, ◌==◌, nat_lt, Bool, true, 
 use Rattle.std.specs.Prelude.{List, [], ◌∷◌, filter, find, length, Option, Some, None, is_some, slice_get, option_to_list}
 use Rattle.std.specs.List.{All, flat_map, list_any}
 use Rattle.std.specs.Option.{option_map_or}
-use Rattle.sf_base.specs.Fences.{first_open_of}
-use Rattle.sf_base.specs.declared.fences.Fence.{Fence}
+use Rattle.sf_base.specs.Fences.{Fence, first_open_of}
 use Rattle.sf_base.specs.declared.fences.Seen.{Seen}
 use Rattle.sf_slots.specs.Replies.{reply_after}
 use Rattle.sf_scene.specs.Scene.{SceneValue}

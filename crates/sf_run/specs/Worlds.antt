@@ -4,9 +4,8 @@ use Rattle.std.specs.Prelude.{◌≡◌, ℕ, ◌+◌, ◌*◌, ◌==◌, nat_lt
 use Rattle.std.specs.Prelude.{List, [], ◌∷◌, ◌++◌, length, map, find, Option, Some, None, is_none}
 use Rattle.std.specs.List.{list_any, range_with_len}
 use Rattle.std.specs.Option.{option_map_or}
-use Rattle.sf_base.specs.Fences.{value_of}
+use Rattle.sf_base.specs.Fences.{Fence, value_of}
 use Rattle.sf_base.specs.declared.fences.Seen.{Seen}
-use Rattle.sf_base.specs.declared.fences.Fence.{Fence}
 use Rattle.sf_slots.specs.Replies.{reply_after}
 use Rattle.sf_slots.specs.declared.calls.PlainReply.{PlainReply}
 use Rattle.sf_slots.specs.declared.calls.PlainReply.TheVariants as reply

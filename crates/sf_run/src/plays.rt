@@ -1,6 +1,6 @@
 ghost use Rattle.std.specs.List.{All};
 ghost use Rattle.std.specs.Prelude.{◌≡◌, ◌⊎◌, ℕ, ◌+◌, ◌*◌, ◌==◌, ◌++◌, List, [], ◌∷◌, find, map, slice_get, slice_set, false, true, Some, None};
-ghost use Rattle.sf_base.specs.declared.fences.Fence.{Fence as FenceValue};
+ghost use Rattle.sf_base.specs.Fences.{Fence as FenceValue};
 ghost use Rattle.sf_surface.specs.Tokens.{ReadLeaseOf};
 ghost use Rattle.sf_surface.specs.declared.call.QCall.TheVariants as call;
 ghost use Rattle.sf_surface.specs.declared.call.QReply.{QReply};

@@ -1,7 +1,7 @@
 -- What a transaction shows of a buffer.
 use Rattle.std.specs.Prelude.{◌≡◌}
 use Rattle.sf_base.specs.Geometry.{LiesWithin}
-use Rattle.sf_base.specs.declared.fences.Fence.{Fence}
+use Rattle.sf_base.specs.Fences.{Fence}
 use Rattle.sf_base.specs.declared.ids.LayerId.{LayerId}
 use Rattle.sf_layer.specs.declared.shown.Shown.{Shown}
 use Rattle.sf_picture.specs.declared.picture.Picture.{Picture}

@@ -7,9 +7,8 @@ use Rattle.std.proofs.lemmas.Bool.{ne_eqb}
 use Rattle.std.proofs.lemmas.List.{append-nil}
 use Rattle.std.proofs.lemmas.List.Concat.{flat_map-append}
 use Rattle.std.proofs.lemmas.List.Elements.{All-cons, All-head, All-nil, All-tail, All-weaker}
-use Rattle.sf_base.specs.declared.fences.Fence.{Fence}
+use Rattle.sf_base.specs.Fences.{Fence, no_points}
 use Rattle.sf_base.specs.declared.fences.Seen.{Seen}
-use Rattle.sf_base.specs.Fences.{no_points}
 use Rattle.sf_ready.specs.declared.hold.Hold.{Hold}
 use Rattle.sf_commit.specs.Rounds.{Decided, Round, held}
 use Rattle.sf_scene.specs.Limits.{IsActor, IsWithinLimits, most_actors, most_layers}

@@ -1,46 +1,40 @@
-use Rattle.std.proofs.Common.{rules, ◌≡◌, ◌∙◌, ◌<◌, sym, ap, ℕ, ◌-◌, List, length, max, slice_set, slice_index, arith}
-use Rattle.sf_base.specs.declared.fences.Fence.{Fence}
-use Rattle.sf_base.specs.Fences.{greater_of_each, merged}
-use Rattle.sf_base.proofs.FenceLemmas.{merged_up_to, merged_up_to-at, merged_up_to-suc, merged_up_to-all, greater_of_each-at}
+use Rattle.std.proofs.Common.{◌≡◌, ◌∙◌, sym, ap}
+use Rattle.sf_base.specs.Fences.{fence_from, merged}
+use Rattle.sf_base.specs.Kept.{fence_of}
+use Rattle.sf_base.specs.declared.fences.Points.{Points}
+use Rattle.sf_base.proofs.NoPoints.{merge_kept, merged-none_first, merged-none_last, signalled_merge}
+use Rattle.sf_base.proofs.fences.Fence.merge.Goals.{in-Some-1, in-None-1}
 use Rattle.sf_base.proofs.fences.Fence.merge.Goals as goal
 
-pub loop-place-init : goal.loop-place-init
-unfolding merged_up_to greater_of_each
-loop-place-init c = search rules
+pub returns-in-Some-points-clause-exact : goal.returns-in-Some-points-clause-exact
+returns-in-Some-points-clause-exact c = merge_kept c.in-Some-points.own.value c.as_mut.result.now c.in-Some.points.value c.as_ref.result.now c.raise_all.new.points.values _ _ (sym c.self.view_is ∙ ap fence_of c.in-Some-points.is) (sym c.other.view_is ∙ ap fence_of c.in-Some.is) c.as_mut.ensures.value c.as_ref.ensures c.raise_all.ensures.raised
 
-pub loop-place-preserved : goal.loop-place-preserved
-loop-place-preserved c =
-    let place = c.loop-place.place in
-    let vs = c.args.self.now.values in
-    let ws = c.args.other.now.values in
-    let n : length vs ≡ 64 = search rules in
-    let m : length ws ≡ 64 = search rules in
-    let inside : place < length vs = omega arith in
-    let inside_other : place < length ws = omega arith in
-    ap (λ (r : ℕ). slice_set c.loop-place.self.values place r) c.max.ensures
-    ∙ ap (λ (l : List ℕ). slice_set l place (max (slice_index l place) (slice_index ws place))) c.loop-place.invariant
-    ∙ ap (λ (v : ℕ). slice_set (merged_up_to place vs ws) place (max v (slice_index ws place))) (merged_up_to-at place vs ws inside inside_other)
-    ∙ merged_up_to-suc place vs ws inside inside_other
-    ∙ ap (λ (k : ℕ). merged_up_to k vs ws) (omega arith)
+pub returns-in-Some-points-clause-signalled : goal.returns-in-Some-points-clause-signalled
+returns-in-Some-points-clause-signalled c =
+    signalled_merge _ c.args.self.now c.args.other.now
+    (merge_kept c.in-Some-points.own.value c.as_mut.result.now c.in-Some.points.value c.as_ref.result.now c.raise_all.new.points.values _ _ (sym c.self.view_is ∙ ap fence_of c.in-Some-points.is) (sym c.other.view_is ∙ ap fence_of c.in-Some.is) c.as_mut.ensures.value c.as_ref.ensures c.raise_all.ensures.raised)
+    (rw (← c.self.view_is, ← c.other.view_is) (c.self.invariant.places ∙ sym c.other.invariant.places))
 
-values_are : (c : goal.After-loop-place) → c.loop-place.self.values ≡ greater_of_each c.args.self.now.values c.args.other.now.values
-values_are c =
-    let n : length c.args.self.now.values ≡ 64 = search rules in
-    c.loop-place.invariant ∙ merged_up_to-all c.loop-place.place c.args.self.now.values c.args.other.now.values (omega arith)
+pub returns-in_default-clause-exact : goal.returns-in_default-clause-exact
+returns-in_default-clause-exact c =
+    sym (merged-none_last c.args.self.now c.args.other.now (sym c.other.view_is ∙ ap fence_of c.in_default.is) (rw (← c.self.view_is) c.self.invariant.places))
 
-pub returns-clause-exact : goal.returns-clause-exact
-unfolding merged
-returns-clause-exact c = ap (λ (l : List ℕ). let f : Fence = record { values = l } in f) (values_are c)
+pub returns-in_default-clause-signalled : goal.returns-in_default-clause-signalled
+returns-in_default-clause-signalled c =
+    signalled_merge c.args.self.now c.args.self.now c.args.other.now
+    (sym (merged-none_last c.args.self.now c.args.other.now (sym c.other.view_is ∙ ap fence_of c.in_default.is) (rw (← c.self.view_is) c.self.invariant.places)))
+    (rw (← c.self.view_is, ← c.other.view_is) (c.self.invariant.places ∙ sym c.other.invariant.places))
 
-pub returns-clause-signalled : goal.returns-clause-signalled
-returns-clause-signalled c seen =
-    let n : length c.args.self.now.values ≡ 64 = search rules in
-    let m : length c.args.other.now.values ≡ 64 = search rules in
-    let at : (k : ℕ) → slice_index c.loop-place.self.values k ≡ max (slice_index c.args.self.now.values k) (slice_index c.args.other.now.values k) =
-    λ k. ap (λ (l : List ℕ). slice_index l k) (values_are c) ∙ greater_of_each-at _ _ (n ∙ sym m) k in (
-      λ both. (
-        λ t low high. let e = at (t - 1) in let h = both t low high in omega arith,
-        λ t low high. let e = at (t - 1) in let h = both t low high in omega arith,
-      ),
-      λ each t low high. let e = at (t - 1) in let h = each.0 t low high in let i = each.1 t low high in omega arith,
-    )
+first : (c : goal.Joined-self-2) → c.match-self-2.self ≡ merged c.args.self.now c.args.other.now
+first c =
+    let kept = ap (λ (z : Points). fence_from z.values) (c.in_ok-new-in-None.ensures.ok ∙ c.as_ref-in-None.ensures)
+    ∙ (sym (sym c.other.view_is ∙ ap fence_of c.in-Some.is)
+    ∙ sym (merged-none_first c.args.self.now c.args.other.now (sym c.self.view_is ∙ ap fence_of c.in-None.is) (rw (← c.other.view_is) c.other.invariant.places))) in
+    elim c.match-self-2.branch [ in-Some-1 w ↦ w.self-is ∙ kept | in-None-1 w ↦ w.self-is ∙ kept ]
+
+pub returns-in_ok-new-in-None-clause-exact : goal.returns-in_ok-new-in-None-clause-exact
+returns-in_ok-new-in-None-clause-exact c = first c
+
+pub returns-in_ok-new-in-None-clause-signalled : goal.returns-in_ok-new-in-None-clause-signalled
+returns-in_ok-new-in-None-clause-signalled c =
+    signalled_merge c.match-self-2.self c.args.self.now c.args.other.now (first c) (rw (← c.self.view_is, ← c.other.view_is) (c.self.invariant.places ∙ sym c.other.invariant.places))
