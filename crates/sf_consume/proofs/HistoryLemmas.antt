@@ -1,7 +1,6 @@
 -- A history that tells of a queue goes on with the consumer's calls.
 use Rattle.std.proofs.Common.{◌≡◌, ℕ, false, ap, ◌∙◌, sym, subst, Some, None, slice_get}
-use Rattle.sf_base.specs.Fences.{no_points}
-use Rattle.sf_base.specs.declared.fences.Fence.{Fence}
+use Rattle.sf_base.specs.Fences.{Fence, no_points}
 use Rattle.sf_base.specs.declared.ids.ActorId.{ActorId}
 use Rattle.sf_base.specs.declared.ids.SlotId.{SlotId}
 use Rattle.sf_base.specs.declared.status.QStatus.{QStatus}

@@ -41,16 +41,16 @@ fn refused_read<R: Drop>(q: &Slots<R>, slot: SlotId, frame: u64) -> Option<QStat
 /// stands last in the freed list.
 ///
 /// NoInit on an abandoned queue; BadValue where there is no such slot; Stale where the slot's frame
-/// number is another; BadValue where the slot is not acquired. A refusal hands the right back.
+/// number is another; BadValue where the slot is not acquired. A refusal hands right and fence back.
 pub fn release<R: Drop>(
     q: &mut Slots<R>,
     slot: SlotId,
     frame: u64,
     right: R,
     fence: Fence,
-) -> Result<(), (QStatus, R)>
+) -> Result<(), (QStatus, (R, Fence))>
     ensures refusal { refusal_with result ≡ refusal_of (told_of q.old) nobody (call.Release (lease_of (told_of q.old) slot frame) fence) }
-    ensures back { IfErr result (λ refused. refused.1 ≡ right) }
+    ensures back { IfErr result (λ refused. refused.1 ≡ (right, fence)) }
     ensures unchanged { OnErr result (q.new ≡ q.old) }
     ensures done { OnOk result (q.new ≡ returned q.old slot.0 right fence) }
     ensures history { (by : ActorId) (lease : ReadToken) → IsLeaseOf (told_of q.old) slot frame lease →
@@ -58,7 +58,7 @@ pub fn release<R: Drop>(
         (refused_or (refusal_with result) reply.Done) }
 {
     match refused_read(q, slot, frame) {
-        Some(refused) => Err((refused, right)),
+        Some(refused) => Err((refused, (right, fence))),
         None => {
             q.free(slot, right, fence);
             Ok(())

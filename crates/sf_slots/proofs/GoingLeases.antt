@@ -1,7 +1,6 @@
 -- A history goes on with the calls on one slot.
 use Rattle.std.proofs.Common.{◌≡◌, ℕ, ◌+◌, Bool, true, false, not, ◌==◌, nat_le, List, [], ◌∷◌, ap, ◌∙◌, refl, Some, None, unwrap_or}
-use Rattle.sf_base.specs.Fences.{no_points}
-use Rattle.sf_base.specs.declared.fences.Fence.{Fence}
+use Rattle.sf_base.specs.Fences.{Fence, no_points}
 use Rattle.sf_base.specs.declared.ids.ActorId.{ActorId}
 use Rattle.sf_base.specs.declared.ids.SlotId.{SlotId}
 use Rattle.sf_base.specs.declared.status.QStatus.TheVariants as status

@@ -9,8 +9,7 @@ use Rattle.std.proofs.lemmas.List.Quantifiers.{position-Some}
 use Rattle.std.specs.Prelude.{nat_lt}
 use Rattle.std.specs.List.{position}
 use Rattle.std.proofs.lemmas.Option.{get_or_from_slice_get, slice_get_within}
-use Rattle.sf_base.specs.declared.fences.Fence.{Fence}
-use Rattle.sf_base.specs.Fences.{no_points}
+use Rattle.sf_base.specs.Fences.{Fence, no_points}
 use Rattle.sf_base.specs.declared.ids.QueueId.{QueueId}
 use Rattle.sf_slots.specs.declared.item.Item.{Item}
 use Rattle.sf_slots.specs.declared.slot.Slot.{Slot}

@@ -2,8 +2,7 @@
 use Rattle.std.proofs.Common.{◌≡◌, ℕ, ◌+◌, true, false, ◌==◌, List, [], ◌∷◌, ◌++◌, get_or, set, arith, ap, ◌∙◌, sym, refl, map, Some, inl, inr}
 use Rattle.std.proofs.lemmas.Bool.{cases_Bool}
 use Rattle.std.specs.Prelude.{if◌then◌else◌}
-use Rattle.sf_base.specs.declared.fences.Fence.{Fence}
-use Rattle.sf_base.specs.Fences.{no_points}
+use Rattle.sf_base.specs.Fences.{Fence, no_points}
 use Rattle.sf_slots.specs.declared.slot.Slot.{Slot}
 use Rattle.sf_slots.specs.declared.slot.SlotState.TheVariants.{Free, Dequeued, Queued, Acquired}
 use Rattle.sf_slots.specs.Told.{unused}

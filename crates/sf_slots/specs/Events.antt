@@ -1,8 +1,7 @@
 -- What happens to the slots of a queue, and what a list of events tells of each slot. The lists have
 -- the newest event first, so that each question looks back from now.
 use Rattle.std.specs.Prelude.{ℕ, ◌+◌, Bool, true, false, not, ◌==◌, if◌then◌else◌, List, [], ◌∷◌, ◌++◌, Option, Some, None, filter, filter_map}
-use Rattle.sf_base.specs.declared.fences.Fence.{Fence}
-use Rattle.sf_base.specs.Fences.{no_points}
+use Rattle.sf_base.specs.Fences.{Fence, no_points}
 use Rattle.sf_slots.specs.declared.item.PlainItem.{PlainItem}
 use Rattle.sf_slots.specs.declared.slot.Held.{Held}
 use Rattle.sf_slots.specs.declared.slot.SlotState.{SlotState}

@@ -2,10 +2,9 @@
 use Rattle.std.specs.Prelude.{◌≡◌, ℕ, ◌+◌, ◌-◌, ◌<◌, ◌≤◌, Bool, true, false, not, ◌==◌, ◌&&◌, nat_lt, is_some, if◌then◌else◌}
 use Rattle.std.specs.Prelude.{List, [], ◌∷◌, ◌++◌, length, map, filter, Option, Some, None, replicate, slice_get, slice_index_or, slice_set, take, drop}
 use Rattle.std.specs.List.{list_any, range_with_len}
-use Rattle.sf_base.specs.declared.fences.Fence.{Fence}
+use Rattle.sf_base.specs.Fences.{Fence, no_points}
 use Rattle.sf_base.specs.declared.ids.QueueId.{QueueId}
 use Rattle.sf_base.specs.declared.ids.SlotId.{SlotId}
-use Rattle.sf_base.specs.Fences.{no_points}
 use Rattle.sf_slots.specs.declared.item.Item.{Item}
 use Rattle.sf_slots.specs.declared.item.PlainItem.{PlainItem}
 use Rattle.sf_slots.specs.declared.settings.Settings.{Settings}

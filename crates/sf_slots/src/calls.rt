@@ -3,7 +3,7 @@ use crate::slot::Held;
 use sf_base::{ActorId, Fence, QStatus, Rect, SlotId};
 
 /// What a call says of a write lease.
-#[derive(Clone, Copy)]
+#[derive(Drop)]
 pub struct WriteToken {
     pub slot: SlotId,
     pub held: Held,
@@ -15,7 +15,7 @@ pub struct WriteToken {
 }
 
 /// What a call says of a read lease.
-#[derive(Clone, Copy)]
+#[derive(Drop)]
 pub struct ReadToken {
     pub slot: SlotId,
     pub frame: u64,
@@ -26,7 +26,7 @@ pub struct ReadToken {
 }
 
 /// A call on a queue as a history keeps it, without rights.
-#[derive(Clone, Copy)]
+#[derive(Drop)]
 pub enum PlainCall {
     Connect,
     Disconnect,
@@ -63,7 +63,7 @@ pub enum PlainCall {
 }
 
 /// What a call answered, without rights.
-#[derive(Clone, Copy)]
+#[derive(Drop)]
 pub enum PlainReply {
     Refused(QStatus),
     Done,
@@ -85,7 +85,7 @@ pub enum PlainReply {
 }
 
 /// A call with its reply, as a history keeps it.
-#[derive(Clone, Copy)]
+#[derive(Drop)]
 pub struct Entry {
     /// The actor, or 0 for the compositor.
     pub caller: ActorId,

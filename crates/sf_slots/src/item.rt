@@ -21,7 +21,7 @@ pub struct Item<R> {
 }
 
 /// A queued frame without its right.
-#[derive(Clone, Copy)]
+#[derive(Drop)]
 pub struct PlainItem {
     pub slot: SlotId,
     pub held: Held,

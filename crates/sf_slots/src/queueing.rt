@@ -1,8 +1,9 @@
 ghost use Rattle.std.specs.Prelude.{◌≡◌, ◌<◌, ◌≤◌, ◌+◌, ◌-◌, ◌^◌, [], ◌∷◌};
-ghost use Rattle.std.specs.Prelude.{◌++◌, ℕ, length, slice_get, slice_set, slice_index_or, drop, unwrap_or};
+ghost use Rattle.std.specs.Prelude.{◌++◌, ℕ, All, IsFalse, length, slice_get, slice_set, slice_index_or, drop, unwrap_or};
 ghost use Rattle.std.specs.Option.{option_copied, option_map};
 ghost use Rattle.circular_buffer.specs.Buffer.{buffer};
 ghost use Rattle.sf_slots.specs.declared.slot.SlotState.TheVariants as state;
+ghost use Rattle.sf_base.specs.Fences.{no_points};
 ghost use Rattle.sf_slots.specs.Told.{unused};
 ghost use Rattle.sf_slots.specs.declared.item.Item.{Item};
 ghost use Rattle.sf_slots.specs.Queue.{Queue, slot_in, last_in, is_droppable, replacing, slot_replaced, appended, enqueued, handed_over, dropping, IsLentWith};
@@ -13,6 +14,18 @@ use crate::slot::{Slot, SlotState};
 use crate::slots::Slots;
 use circular_buffer::HeapCircularBuffer;
 use sf_base::{Fence, SlotId};
+
+/// Whether one of these items has a fence with points.
+fn any_points<R>(items: &[Item<R>]) -> bool
+    ensures { IsFalse result → All (λ item. item.fence ≡ no_points) items.now }
+{
+    for item in items {
+        if !item.fence.is_none() {
+            return true;
+        }
+    }
+    false
+}
 
 /// Frees an item's slot, which keeps its fence and gets the item's right back.
 fn keep_back<R: Drop>(
@@ -58,6 +71,14 @@ impl<R: Drop> Slots<R> {
         ensures { option_copied result ≡ slice_get self.now.items 0 }
     {
         self.items.front()
+    }
+
+    /// Whether an item has a fence with points.
+    pub fn has_points(&self) -> bool
+        ensures { IsFalse result → All (λ item. item.fence ≡ no_points) self.now.items }
+    {
+        let (front, back) = self.items.as_slices();
+        any_points(front) || any_points(back)
     }
 
     /// The present time of the second item, 0 where it is automatic.
@@ -129,7 +150,8 @@ impl<R: Drop> Slots<R> {
     }
 
     /// Queues an item from its slot, behind the others.
-    fn append(&mut self, item: Item<R>)
+    fn append(&mut self, item: Item<R>, kept: Fence)
+        requires kept { kept ≡ item.fence }
         requires below { item.slot.0 < 64 }
         requires lent { IsLentWith self.old item.slot.0 item.held }
         requires numbered { self.old.settings.frames < 2 ^ 64 - 1 }
@@ -138,7 +160,7 @@ impl<R: Drop> Slots<R> {
         let slot = &mut self.slots[item.slot.0 as usize];
         slot.state = SlotState::Queued;
         slot.frame = item.frame;
-        slot.fence = item.fence;
+        slot.fence = kept;
         self.settings.queued = true;
         self.settings.frames += 1;
         push_item(&mut self.items, item);
@@ -148,8 +170,9 @@ impl<R: Drop> Slots<R> {
     /// of the last item, where that is droppable, or else behind it. The item has the next frame number
     /// and is droppable exactly in asynchronous mode. The slot of an item that is replaced is free,
     /// holds its right, keeps its fence, since the write may still be owed, and stands last in the
-    /// freed list; it is the answer.
-    pub fn enqueue(&mut self, item: Item<R>) -> Option<SlotId>
+    /// freed list; it is the answer. `kept` is the item's fence once more, for the slot to keep.
+    pub fn enqueue(&mut self, item: Item<R>, kept: Fence) -> Option<SlotId>
+        requires kept { kept ≡ item.fence }
         requires below { item.slot.0 < 64 }
         requires lent { IsLentWith self.old item.slot.0 item.held }
         requires numbered { self.old.settings.frames < 2 ^ 64 - 1 }
@@ -159,7 +182,7 @@ impl<R: Drop> Slots<R> {
         ensures after { self.new ≡ enqueued self.old item }
     {
         let replaced = self.replace_last();
-        self.append(item);
+        self.append(item, kept);
         replaced
     }
 }

@@ -3,16 +3,7 @@ ghost use Rattle.circular_buffer.specs.Buffer.{buffer};
 ghost use Rattle.sf_slots.specs.Told.{unused};
 ghost use Rattle.sf_slots.specs.Queue.{without, turned};
 
-use crate::slot::Slot;
 use circular_buffer::HeapCircularBuffer;
-
-/// A slot by its number.
-pub(crate) fn slot_of(slots: &[Slot], number: u32) -> Slot
-    requires { number < length slots.now }
-    ensures { result ≡ slice_index_or slots.now number unused }
-{
-    slots[number as usize]
-}
 
 /// Puts a slot last into a list that has room for it.
 pub(crate) fn push(list: &mut HeapCircularBuffer<u32>, number: u32)

@@ -20,7 +20,7 @@ pub struct Held {
 }
 
 /// What is known of a slot, apart from the right to its pixels.
-#[derive(Clone, Copy)]
+#[derive(Drop)]
 pub struct Slot {
     pub state: SlotState,
     /// Its buffer, if it has one.

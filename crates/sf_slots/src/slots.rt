@@ -5,13 +5,14 @@ ghost use Rattle.sf_slots.specs.Told.{unused, usable, count_in, is_in, forbids};
 ghost use Rattle.sf_slots.specs.Queue.{Queue, IsSound, slot_in, right_in, told_of, empty_queue, lent, taken, seated, next_held, marked, returned, cleared, emptied, IsOut};
 
 use crate::item::Item;
-use crate::rings::{push, put_right, remove, slot_of, take_right};
+use crate::rings::{push, put_right, remove, take_right};
 use crate::settings::Settings;
 use crate::slot::{Held, Slot, SlotState};
 use circular_buffer::HeapCircularBuffer;
 use sf_base::{Fence, NoMemory, QueueId, SlotId};
 use std::alloc::Global;
 use std::marker::Model;
+use std::mem;
 
 /// A BufferQueue: 64 slots, the items that wait for the consumer, the freed buffers and the
 /// settings. The right `R` to a buffer's pixels lies in its slot while that is free, in its item while
@@ -69,18 +70,28 @@ pub(crate) fn empty(slot: &mut Slot)
     slot.fence = Fence::none();
 }
 
-/// The slots as they are at first: free and without buffers.
-fn unused_slots(alloc: Global) -> Result<Vec<Slot>, NoMemory>
-    ensures { IfOk result (λ slots. slots.items ≡ replicate 64 unused) }
+/// A slot as it is at first: free and without a buffer.
+fn unused() -> Slot
+    ensures { result ≡ unused }
 {
-    let unused = Slot {
+    Slot {
         state: SlotState::Free,
         held: None,
         requested: false,
         frame: 0,
         fence: Fence::none(),
-    };
-    Ok(vec![in alloc; unused; 64]?)
+    }
+}
+
+/// The slots as they are at first: free and without buffers.
+fn unused_slots(alloc: Global) -> Result<Vec<Slot>, NoMemory>
+    ensures { IfOk result (λ slots. slots.items ≡ replicate 64 unused) }
+{
+    let mut slots = Vec::with_capacity(alloc, 64)?;
+    for _ in 0..64u32 {
+        slots.push(unused())?;
+    }
+    Ok(slots)
 }
 
 /// No rights yet.
@@ -136,11 +147,11 @@ impl<R: Drop> Slots<R> {
     }
 
     /// All that is known of a slot, apart from its right.
-    pub fn slot(&self, slot: SlotId) -> Slot
+    pub fn slot(&self, slot: SlotId) -> &Slot
         requires { slot.0 < 64 }
-        ensures { result ≡ slot_in self.now slot.0 }
+        ensures { result.now ≡ slot_in self.now slot.0 }
     {
-        slot_of(&self.slots, slot.0)
+        &self.slots[slot.0 as usize]
     }
 
     /// The state of a slot.
@@ -211,9 +222,8 @@ impl<R: Drop> Slots<R> {
     {
         let right = take_right(&mut self.rights, slot.0);
         let lent = &mut self.slots[slot.0 as usize];
-        let fence = lent.fence;
+        let fence = mem::replace(&mut lent.fence, Fence::none());
         lent.state = SlotState::Dequeued;
-        lent.fence = Fence::none();
         remove(&mut self.freed, slot.0);
         (right, fence)
     }

@@ -16,5 +16,5 @@ invariant_of-self g c =
     record {
       for_freed = c.self.invariant.for_freed;
       for_items = rw c.push_item.ensures c.self.invariant.for_items;
-      sound = rw (c.push_item.ensures, known) (IsSound-appended _ c.args.item c.self.invariant.sound c.requires.below lent);
+      sound = rw (c.push_item.ensures, known, c.requires.kept) (IsSound-appended _ c.args.item c.self.invariant.sound c.requires.below lent);
     }

@@ -12,5 +12,5 @@ invariant_of-self g c =
     record {
       for_freed = rw c.remove.ensures c.self.invariant.for_freed;
       for_items = c.self.invariant.for_items;
-      sound = rw (c.take_right-right.ensures.after, c.remove.ensures, known, c.none-taken.ensures) (IsSound-taken c.self.invariant.sound c.args.slot.0 inside free);
+      sound = rw (c.take_right-right.ensures.after, c.remove.ensures, known, c.none.ensures) (IsSound-taken c.self.invariant.sound c.args.slot.0 inside free);
     }

@@ -12,5 +12,5 @@ invariant_of-self g c =
     record {
       for_freed = rw c.remove.ensures c.self.invariant.for_freed;
       for_items = c.self.invariant.for_items;
-      sound = rw (c.take_right-right.ensures.after, c.remove.ensures, known, c.none-lent.ensures) (IsSound-lent c.self.invariant.sound c.args.slot.0 inside free);
+      sound = rw (c.take_right-right.ensures.after, c.remove.ensures, known, c.replace-fence.ensures.after, c.none.ensures) (IsSound-lent c.self.invariant.sound c.args.slot.0 inside free);
     }

@@ -18,5 +18,5 @@ invariant_of-self g c =
     record {
       for_freed = c.self.invariant.for_freed;
       for_items = rw c.in-Some.ensures.items c.self.invariant.for_items;
-      sound = rw (c.in-Some.ensures.items, known, c.none-slot.ensures) (IsSound-handed_over _ c.in-Some.item sound alone);
+      sound = rw (c.in-Some.ensures.items, known, c.none.ensures) (IsSound-handed_over _ c.in-Some.item sound alone);
     }
