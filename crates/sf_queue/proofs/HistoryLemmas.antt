@@ -1,8 +1,7 @@
 -- A history that tells of a queue goes on with the producer's calls.
 use Rattle.std.proofs.Common.{◌≡◌, ℕ, ◌+◌, Bool, true, false, not, ◌&&◌, ap, ap₂, ◌∙◌, sym, refl, subst, Some, None}
 use Rattle.std.specs.Prelude.{is_none, unwrap_or}
-use Rattle.sf_base.specs.Fences.{no_points}
-use Rattle.sf_base.specs.declared.fences.Fence.{Fence}
+use Rattle.sf_base.specs.Fences.{Fence, no_points}
 use Rattle.sf_base.specs.declared.ids.ActorId.{ActorId}
 use Rattle.sf_base.specs.declared.ids.SlotId.{SlotId}
 use Rattle.sf_slots.specs.declared.calls.PlainCall.{PlainCall}
@@ -22,8 +21,8 @@ use Rattle.sf_slots.proofs.GoingItems.{Continues-Queue}
 use Rattle.sf_slots.proofs.GoingSettings.{Continues-Disconnect, Continues-MaxDequeued, Continues-Async}
 use Rattle.sf_queue.specs.declared.queueing.QueueOrder.{QueueOrder}
 use Rattle.sf_queue.specs.Leases.{lease_of, IsLeaseOf}
-use Rattle.sf_queue.specs.Lending.{takes_fresh}
-use Rattle.sf_queue.specs.Orders.{queue_call, call_of, item_of}
+use Rattle.sf_queue.specs.Lending.{takes_fresh, wants_buffer}
+use Rattle.sf_queue.specs.Orders.{queue_call, order_call, call_of, item_of}
 use Rattle.std.proofs.Common.{Option, List, [], ◌∷◌, ◌⊎◌, inl, inr, arith, ◌==◌}
 use Rattle.std.proofs.lemmas.Bool.{cases_Bool}
 use Rattle.std.proofs.lemmas.Bool.Decides.{nat_tests}
@@ -113,6 +112,17 @@ queued_buffer told by order lease is_lease none = elim (lease_cases told order.s
       absurd (cc (lent.0, ap not neither.1))
 ]
 
+-- a frame that may be queued comes from a lent slot
+pub allowed_lent : {R : Type 0} (told : Told) (by : ActorId) (order : QueueOrder R) → refusal_of told by (order_call told order) ≡ None → refusal_of told by (call.Cancel (lease_of told order.slot order.buffer) no_points) ≡ None
+unfolding later_tests
+allowed_lent told by order none =
+    let lent_test = not (is_lent told order.slot (meant told order.slot order.buffer)) in
+    let own = (lent_test, BadValue) ∷ later_tests told order order.slot (meant told order.slot order.buffer) in
+    let first = unmet told.settings.abandoned NoInit ((not (is_producer told.settings.connected by), NoInit) ∷ own) none in
+    let second = unmet (not (is_producer told.settings.connected by)) NoInit own first.1 in
+    let third = unmet lent_test BadValue (later_tests told order order.slot (meant told order.slot order.buffer)) second.1 in
+    rw (first.0, second.0, third.0) refl
+
 pub request_refused : {R : Type 0} (q : Queue R) (by : ActorId) (slot : SlotId) (buffer : ℕ) (cause : QStatus) → Some cause ≡ refusal_of (told_of q) by (call.Cancel (lease_of (told_of q) slot buffer) no_points) → (lease : WriteToken) → IsLeaseOf (told_of q) slot buffer lease → Continues q q by (call.Request lease) (reply.Refused cause)
 request_refused q by slot buffer cause met lease is_lease = Continues-refused q by (call.Request lease) cause (request_same (told_of q) by slot buffer lease is_lease ∙ sym met)
 
@@ -165,6 +175,10 @@ right_of_none : (a b : Bool) → a ≡ true → false ≡ (a && not b) → b ≡
 right_of_none true true left none = refl
 right_of_none true false left none = absurd (cc (none))
 right_of_none false b left none = absurd (cc (left))
+
+-- a dequeue that is not refused takes a new buffer where it wants one
+pub fresh_where_wanted : (told : Told) (by : ActorId) (width height : ℕ) → refusal_of told by (call.Dequeue width height false) ≡ None → takes_fresh told by width height ≡ wants_buffer told width height
+fresh_where_wanted told by width height none = ap (λ cause. is_none cause && wants_buffer told width height) none
 
 -- the size of the slot's buffer, where a new one is wanted, and where none is
 pub wants_new : {R : Type 0} (q : Queue R) (by : ActorId) (width height : ℕ) (slot : SlotId) → slot_for true (told_of q) ≡ Some slot.0 → true ≡ takes_fresh (told_of q) by width height → has_size (slot_in q slot.0).held (size_asked q.settings width height) ≡ false

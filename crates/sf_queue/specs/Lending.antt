@@ -7,9 +7,10 @@ use Rattle.sf_base.specs.declared.status.QStatus.{QStatus}
 use Rattle.sf_slots.specs.declared.calls.PlainReply.{PlainReply}
 use Rattle.sf_slots.specs.declared.calls.PlainReply.TheVariants as reply
 use Rattle.sf_slots.specs.declared.slot.SlotState.TheVariants.{Free}
-use Rattle.sf_slots.specs.Queue.{Queue, told_of, slot_in, right_in, next_held, lent, seated}
+use Rattle.sf_slots.specs.Queue.{Queue, IsSound, told_of, slot_in, right_in, next_held, lent, seated}
 use Rattle.sf_slots.specs.declared.slot.Held.{Held}
 use Rattle.sf_base.specs.Fences.{no_points}
+use Rattle.sf_queue.specs.declared.lending.Chosen.{Chosen}
 use Rattle.sf_queue.specs.declared.lending.Dequeued.{Dequeued}
 use Rattle.sf_slots.specs.Told.{Told, slot_at, slot_for, usable}
 use Rattle.sf_slots.specs.Replies.{refusal_of, size_asked, has_size}
@@ -28,6 +29,16 @@ wants_buffer told width height = not (has_size (slot_at told (unwrap_or (slot_fo
 -- a dequeue makes a new buffer
 abbrev pub takes_fresh : Told → ActorId → ℕ → ℕ → Bool
 takes_fresh told by width height = is_none (refusal_of told by (call.Dequeue width height false)) && wants_buffer told width height
+
+-- what a dequeue that is not refused lends: the slot that is taken next, with a buffer of the size that is asked for
+pub record IsChosen {R : Type 0} (q : Queue R) (by : ActorId) (width height : ℕ) (chosen : Chosen) : Type 0 where
+  pub allowed : refusal_of (told_of q) by (call.Dequeue width height false) ≡ None
+  pub slot : IsSlotFor true q chosen.slot
+  pub wide : chosen.width ≡ (size_asked q.settings width height).0
+  pub high : chosen.height ≡ (size_asked q.settings width height).1
+  pub needs : chosen.needs ≡ wants_buffer (told_of q) width height
+  pub requested : chosen.requested ≡ (slot_in q chosen.slot.0).requested
+  pub sound : IsSound q
 
 -- a buffer of this size, whose number does not matter
 abbrev pub sized : ℕ → ℕ → Held
@@ -53,12 +64,16 @@ pub record IsRenewed {R : Type 0} (old new : Queue R) (size : ℕ × ℕ) (fresh
   pub old_right : given.old ≡ right_in old given.slot.0
   pub after : new ≡ seated (lent old given.slot.0) given.slot.0 size.0 size.1 false
 
--- the reply to a dequeue: a new buffer is not requested yet
-abbrev pub dequeue_reply : {R B : Type 0} → Queue R → Result (Dequeued R) (QStatus × B) → PlainReply
-dequeue_reply old (Err refused) = reply.Refused refused.0
-dequeue_reply old (Ok given) =
+-- the reply to a dequeue that lends a buffer: a new buffer is not requested yet
+abbrev pub dequeued_reply : {R : Type 0} → Queue R → Dequeued R → PlainReply
+dequeued_reply old given =
     reply.Dequeued given.slot given.held
     (if given.reallocated then false else (slot_in old given.slot.0).requested) given.reallocated given.fence
+
+-- the reply to a dequeue
+abbrev pub dequeue_reply : {R B : Type 0} → Queue R → Result (Dequeued R) (QStatus × B) → PlainReply
+dequeue_reply old (Err refused) = reply.Refused refused.0
+dequeue_reply old (Ok given) = dequeued_reply old given
 
 -- the reply to an attach
 abbrev pub attach_reply : Result (SlotId × Held) QStatus → PlainReply

@@ -72,7 +72,7 @@ fn vacate<R: Drop>(q: &mut Slots<R>, slot: SlotId)
     requires { slot.0 < 64 }
     ensures { q.new ≡ vacated q.old slot.0 }
 {
-    match q.slot(slot).state {
+    match q.state(slot) {
         SlotState::Free | SlotState::Dequeued => {
             let _ = q.clear(slot);
         }

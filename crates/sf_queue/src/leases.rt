@@ -123,7 +123,7 @@ pub fn request<R: Drop>(
 /// and stands last in the freed list.
 ///
 /// NoInit on an abandoned queue, and to another than the connected producer; BadValue where the slot
-/// is not lent with this buffer. A refusal hands the right back.
+/// is not lent with this buffer. A refusal hands right and fence back.
 pub fn cancel<R: Drop>(
     q: &mut Slots<R>,
     by: ActorId,
@@ -131,9 +131,9 @@ pub fn cancel<R: Drop>(
     buffer: u64,
     right: R,
     fence: Fence,
-) -> Result<(), (QStatus, R)>
+) -> Result<(), (QStatus, (R, Fence))>
     ensures refusal { refusal_with result ≡ refusal_of (told_of q.old) by (call.Cancel (lease_of (told_of q.old) slot buffer) fence) }
-    ensures back { IfErr result (λ refused. refused.1 ≡ right) }
+    ensures back { IfErr result (λ refused. refused.1 ≡ (right, fence)) }
     ensures unchanged { OnErr result (q.new ≡ q.old) }
     ensures done { OnOk result (q.new ≡ returned q.old slot.0 right fence) }
     ensures history { (lease : WriteToken) → IsLeaseOf (told_of q.old) slot buffer lease →
@@ -145,7 +145,7 @@ pub fn cancel<R: Drop>(
             q.free(slot, right, fence);
             Ok(())
         }
-        Err(refused) => Err((refused, right)),
+        Err(refused) => Err((refused, (right, fence))),
     }
 }
 

@@ -7,7 +7,7 @@ ghost use Rattle.sf_slots.specs.Queue.{told_of, slot_in, right_in, next_held, le
 ghost use Rattle.sf_slots.specs.Told.{slot_for};
 ghost use Rattle.sf_slots.specs.Replies.{refusal_of, is_producer_full, is_wrong_size, size_asked, has_size};
 ghost use Rattle.sf_slots.specs.Effects.{refusal_in, refusal_with};
-ghost use Rattle.sf_queue.specs.Lending.{IsSlotFor, wants_buffer, takes_fresh, sized, dequeue_reply, attach_reply, IsGiven};
+ghost use Rattle.sf_queue.specs.Lending.{IsSlotFor, IsChosen, takes_fresh, sized, dequeue_reply, dequeued_reply, attach_reply, IsGiven};
 
 use crate::connection::is_producer;
 use sf_base::{ActorId, Fence, QStatus, SlotId};
@@ -88,24 +88,39 @@ fn slot_to_dequeue<R: Drop>(
     }
 }
 
-/// The refusal that a dequeue would get, or whether it needs a new buffer: where the slot has none,
-/// or one of another size.
-pub fn dequeue_needs<R: Drop>(
+/// What a dequeue that is not refused lends.
+#[derive(Clone, Copy)]
+pub struct Chosen {
+    pub slot: SlotId,
+    /// The size that is asked for, in pixels.
+    pub width: u32,
+    pub height: u32,
+    /// Whether it needs a new buffer: where the slot has none, or one of another size.
+    pub needs: bool,
+    /// Whether the buffer in the slot is requested.
+    pub requested: bool,
+}
+
+/// The refusal that a dequeue would get, or what it lends.
+pub fn choose<R: Drop>(
     q: &Slots<R>,
     by: ActorId,
     width: u32,
     height: u32,
-) -> Result<bool, QStatus>
+) -> Result<Chosen, QStatus>
     ensures refusal { refusal_in result ≡ refusal_of (told_of q.now) by (call.Dequeue width height false) }
-    ensures needs { IfOk result (λ needs. needs ≡ wants_buffer (told_of q.now) width height) }
+    ensures chosen { IfOk result (IsChosen q.now by width height) }
 {
-    match slot_to_dequeue(q, by, width, height) {
-        Ok(slot) => {
-            let size = size_asked(&q.settings(), width, height);
-            Ok(!has_size(q.slot(slot).held, size))
-        }
-        Err(refused) => Err(refused),
-    }
+    let slot = slot_to_dequeue(q, by, width, height)?;
+    let size = size_asked(&q.settings(), width, height);
+    let known = q.slot(slot);
+    Ok(Chosen {
+        slot,
+        width: size.0,
+        height: size.1,
+        needs: !has_size(known.held, size),
+        requested: known.requested,
+    })
 }
 
 /// Lends the producer a buffer of this size in pixels, 0 by 0 for the queue's default size: that of
@@ -134,33 +149,48 @@ pub fn dequeue<R: Drop>(
     ensures history { (wait : Bool) →
         Continues q.old q.new by (call.Dequeue width height wait) (dequeue_reply q.old result) }
 {
-    let slot = match slot_to_dequeue(q, by, width, height) {
-        Ok(slot) => slot,
-        Err(refused) => return Err((refused, fresh)),
-    };
-    let size = size_asked(&q.settings(), width, height);
-    let known = q.slot(slot);
+    match choose(q, by, width, height) {
+        Ok(chosen) => Ok(dequeue_chosen(q, by, width, height, chosen, fresh)),
+        Err(refused) => Err((refused, fresh)),
+    }
+}
+
+/// Lends the buffer that `choose` told. It does what `dequeue` does.
+pub fn dequeue_chosen<R: Drop>(
+    q: &mut Slots<R>,
+    by: ActorId,
+    width: u32,
+    height: u32,
+    chosen: Chosen,
+    fresh: Option<R>,
+) -> Dequeued<R>
+    requires chosen { IsChosen q.old by width height chosen }
+    requires fresh { is_some fresh ≡ chosen.needs }
+    requires numbered { q.old.settings.buffers < 2 ^ 64 - 1 }
+    ensures given { IsGiven q.old q.new width height fresh result }
+    ensures history { (wait : Bool) →
+        Continues q.old q.new by (call.Dequeue width height wait) (dequeued_reply q.old result) }
+{
+    let slot = chosen.slot;
+    let known = q.held(slot);
     let (right, fence) = q.lend(slot);
-    match (fresh, right, known.held) {
-        (Some(right), old, _) => {
-            let held = q.seat(slot, size.0, size.1, false);
-            Ok(Dequeued {
-                slot,
-                held,
-                reallocated: true,
-                fence: Fence::none(),
-                right,
-                old,
-            })
-        }
-        (None, Some(right), Some(held)) => Ok(Dequeued {
+    match (fresh, right, known) {
+        (Some(right), old, _) => Dequeued {
+            slot,
+            held: q.seat(slot, chosen.width, chosen.height, false),
+            reallocated: true,
+            fence: Fence::none(),
+            right,
+            old,
+        },
+        (None, Some(right), Some(held)) => Dequeued {
             slot,
             held,
             reallocated: false,
             fence,
             right,
             old: None,
-        }),
+        },
         _ => unreachable!(),
     }
 }

@@ -11,6 +11,6 @@ mod queueing;
 
 pub use connection::{connect, disconnect};
 pub use leases::{cancel, cancel_allowed, detach, detach_allowed, lent_refusal, request};
-pub use lending::{Dequeued, attach, dequeue, dequeue_needs};
+pub use lending::{Chosen, Dequeued, attach, choose, dequeue, dequeue_chosen};
 pub use limits::{set_async, set_max_dequeued};
 pub use queueing::{QueueOrder, queue, queue_allowed, queue_refusal};

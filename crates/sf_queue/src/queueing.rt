@@ -14,8 +14,8 @@ use sf_base::{ActorId, Fence, QStatus, Rect, SlotId};
 use sf_slots::{Held, Item, Slots};
 
 /// A frame to queue: the slot and buffer that it was drawn into, or will be, the number and size of
-/// its picture in pixels, its desired present time in nanoseconds, its acquire fence, the part of the
-/// buffer to show, and the right to read its pixels.
+/// its picture in pixels, its desired present time in nanoseconds, its acquire fence, the same fence
+/// once more for the slot to keep, the part of the buffer to show, and the right to read its pixels.
 #[derive(Drop)]
 pub struct QueueOrder<R> {
     pub slot: SlotId,
@@ -25,6 +25,7 @@ pub struct QueueOrder<R> {
     pub height: u32,
     pub time: Option<u64>,
     pub fence: Fence,
+    pub kept: Fence,
     pub crop: Rect,
     pub right: R,
 }
@@ -113,7 +114,8 @@ pub fn queue<R: Drop>(
     by: ActorId,
     order: QueueOrder<R>,
 ) -> Result<u64, (QStatus, QueueOrder<R>)>
-    requires { q.old.settings.frames < 2 ^ 64 - 1 }
+    requires numbered { q.old.settings.frames < 2 ^ 64 - 1 }
+    requires kept { order.kept ≡ order.fence }
     ensures refusal { refusal_with result ≡ refusal_of (told_of q.old) by (order_call (told_of q.old) order) }
     ensures back { IfErr result (λ refused. refused.1 ≡ order) }
     ensures frame { IfOk result (λ frame. frame ≡ q.old.settings.frames + 1) }
@@ -132,10 +134,20 @@ pub fn queue<R: Drop>(
         order.height,
         order.crop,
     );
-    let held = match found {
-        Ok(held) => held,
-        Err(refused) => return Err((refused, order)),
-    };
+    match found {
+        Ok(held) => Ok(put(q, order, held)),
+        Err(refused) => Err((refused, order)),
+    }
+}
+
+/// Queues a frame from the buffer in its slot, and answers its number.
+fn put<R: Drop>(q: &mut Slots<R>, order: QueueOrder<R>, held: Held) -> u64
+    requires numbered { q.old.settings.frames < 2 ^ 64 - 1 }
+    requires kept { order.kept ≡ order.fence }
+    requires lent { IsLentThere (told_of q.old) order.slot order.buffer held }
+    ensures frame { result ≡ q.old.settings.frames + 1 }
+    ensures done { q.new ≡ enqueued q.old (item_of q.old order) }
+{
     let settings = q.settings();
     let frame = settings.frames + 1;
     let QueueOrder {
@@ -146,10 +158,11 @@ pub fn queue<R: Drop>(
         height: _,
         time,
         fence,
+        kept,
         crop,
         right,
     } = order;
-    let _ = q.enqueue(Item {
+    let item = Item {
         slot,
         held,
         frame,
@@ -159,22 +172,24 @@ pub fn queue<R: Drop>(
         fence,
         crop,
         right,
-    });
-    Ok(frame)
+    };
+    let _ = q.enqueue(item, kept);
+    frame
 }
 
 /// Queues a frame that is known not to be refused, as `queue_refusal` tells, and answers its number.
 /// It does what `queue` does.
 pub fn queue_allowed<R: Drop>(q: &mut Slots<R>, by: ActorId, order: QueueOrder<R>) -> u64
     requires numbered { q.old.settings.frames < 2 ^ 64 - 1 }
+    requires kept { order.kept ≡ order.fence }
     requires allowed { refusal_of (told_of q.old) by (order_call (told_of q.old) order) ≡ None }
     ensures frame { result ≡ q.old.settings.frames + 1 }
     ensures done { q.new ≡ enqueued q.old (item_of q.old order) }
     ensures history { (lease : WriteToken) → IsLeaseOf (told_of q.old) order.slot order.buffer lease →
         Continues q.old q.new by (call_of order lease) (reply.Queued (q.old.settings.frames + 1)) }
 {
-    match queue(q, by, order) {
-        Ok(frame) => frame,
+    match lent_to(q, by, order.slot, order.buffer) {
+        Ok(held) => put(q, order, held),
         Err(_) => unreachable!(),
     }
 }
