@@ -1,26 +1,22 @@
 ghost use Rattle.std.specs.Prelude.{◌≡◌, ◌<◌};
 ghost use Rattle.sf_turns.specs.Views.{Leaves, IsExactAlone};
 
+use crate::parts::Parts;
 use crate::seat::TurnSeat;
 use crate::stamped::Stamped;
-use crate::turn_table::{TableSeat, TurnTable};
+use crate::turn_table::TableSeat;
 use std::marker::Model;
-use std::sync::Arc;
 
 /// A turn that has entered, with its pixels handed out, after which the next one was issued. It
 /// can't be dropped: it must leave.
 pub struct Busy<P: Stamped> {
-    pub(crate) table: Arc<TurnTable<P>>,
+    pub(crate) parts: Box<Parts<P>>,
     pub(crate) seat: TableSeat<P>,
-    pub(crate) buffer: u32,
-    pub(crate) number: u64,
-    pub(crate) expects: P::Stamp,
-    pub(crate) promises: P::Stamp,
 }
 
 impl<P: Stamped> Model for Busy<P> {
     ghost use Rattle.std.specs.Arc.{arc_value};
-    ghost use Rattle.std.specs.Prelude.{◌≡◌, ◌<◌, false, [], ◌∷◌, Some};
+    ghost use Rattle.std.specs.Prelude.{◌≡◌, ◌<◌, false, [], ◌∷◌, Some, unwrap_or};
     ghost use Rattle.sf_turns.specs.declared.protocol.Home.TheVariants.{Vacant};
     ghost use Rattle.sf_turns.specs.declared.protocol.Stage.TheVariants as stage;
     ghost use Rattle.sf_turns.specs.Rule.{IsAside};
@@ -28,17 +24,24 @@ impl<P: Stamped> Model for Busy<P> {
 
     ghost Value = { IssuedView P.Stamp };
 
-    ghost view = { λ s. record { table = s.seat.table_id; buffer = s.buffer; number = s.number; expects = s.expects; promises = s.promises } };
+    ghost view = { λ s. record {
+      table = s.seat.table_id;
+      buffer = s.parts.value.buffer;
+      number = s.parts.value.number;
+      expects = s.parts.value.expects;
+      promises = unwrap_or s.parts.value.promises s.parts.value.expects;
+    } };
 
-    ghost invariant = { λ s. (arc_value s.table ≡ s.seat.table_id) × IsAside s.seat.me
+    ghost invariant = { λ s. (arc_value s.parts.value.table ≡ s.seat.table_id) × IsAside s.seat.me
         × (s.seat.me.0.token ≡ Some record {
-          buffer = s.buffer;
-          number = s.number;
+          buffer = s.parts.value.buffer;
+          number = s.parts.value.number;
           stage = stage.Inside;
-          expects = s.expects;
-          promise = Some s.promises;
+          expects = s.parts.value.expects;
+          promise = s.parts.value.promises;
         }) × (s.seat.me.0.opens ≡ false)
-        × (s.seat.me.0.stock ≡ []) × (s.seat.me.1 ≡ (s.buffer, Vacant) ∷ []) × (s.buffer < s.seat.table_id.slots) };
+        × (s.seat.me.0.stock ≡ []) × (s.seat.me.1 ≡ (s.parts.value.buffer, Vacant) ∷ []) × (s.parts.value.buffer < s.seat.table_id.slots)
+        × (s.parts.value.promises ≡ Some (unwrap_or s.parts.value.promises s.parts.value.expects)) };
 }
 
 impl<P: Stamped> Busy<P> {
@@ -47,21 +50,24 @@ impl<P: Stamped> Busy<P> {
         ensures number { result ≡ self.now.buffer }
         ensures inside { result < self.now.table.slots }
     {
-        self.buffer
+        self.parts.buffer
     }
 
     /// Its number in the chain of its buffer, from 0.
     pub fn number(&self) -> u64
         ensures { result ≡ self.now.number }
     {
-        self.number
+        self.parts.number
     }
 
     /// The stamp that it promised to leave.
     pub fn promised(&self) -> &P::Stamp
         ensures { result.now ≡ self.now.promises }
     {
-        &self.promises
+        match &self.parts.promises {
+            Some(promised) => promised,
+            None => unreachable!(),
+        }
     }
 
     /// Leaves, with the pixels as they were promised: they are home before the count of the
@@ -73,14 +79,10 @@ impl<P: Stamped> Busy<P> {
         ensures exact { IsExactAlone seat.new }
     {
         let Busy {
-            table,
+            parts,
             seat: mut own,
-            buffer,
-            number: _,
-            expects: _,
-            promises: _,
         } = self;
-        table.finish(&mut own, buffer, p);
-        seat.take_leave(own, buffer);
+        parts.table.finish(&mut own, parts.buffer, p);
+        seat.take_leave(own, parts.buffer);
     }
 }

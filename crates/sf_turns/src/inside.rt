@@ -2,9 +2,10 @@ ghost use Rattle.std.specs.Prelude.{◌≡◌, ◌<◌, IfOk, IfErr};
 ghost use Rattle.sf_turns.specs.Views.{issued_with, heir_expecting};
 
 use crate::busy::Busy;
+use crate::parts::{Parts, first_parts};
 use crate::stamped::Stamped;
 use crate::turn::Turn;
-use crate::turn_table::{TableSeat, TurnTable};
+use crate::turn_table::TableSeat;
 use sf_base::NoMemory;
 use std::marker::Model;
 use std::sync::Arc;
@@ -12,13 +13,8 @@ use std::sync::Arc;
 /// A turn that has entered, with its pixels handed out. It gives them back unused, or issues the
 /// next turn. Where it is dropped, the buffer has no further turn.
 pub struct Inside<P: Stamped> {
-    pub(crate) table: Arc<TurnTable<P>>,
+    pub(crate) parts: Box<Parts<P>>,
     pub(crate) seat: TableSeat<P>,
-    pub(crate) buffer: u32,
-    pub(crate) number: u64,
-    pub(crate) expects: P::Stamp,
-    pub(crate) loads: u64,
-    pub(crate) shown: bool,
 }
 
 impl<P: Stamped> Model for Inside<P> {
@@ -31,17 +27,24 @@ impl<P: Stamped> Model for Inside<P> {
 
     ghost Value = { TurnView P.Stamp };
 
-    ghost view = { λ s. record { table = s.seat.table_id; buffer = s.buffer; number = s.number; expects = s.expects; loads = s.loads; shown = s.shown } };
+    ghost view = { λ s. record {
+      table = s.seat.table_id;
+      buffer = s.parts.value.buffer;
+      number = s.parts.value.number;
+      expects = s.parts.value.expects;
+      loads = s.parts.value.loads;
+      shown = s.parts.value.shown;
+    } };
 
-    ghost invariant = { λ s. (arc_value s.table ≡ s.seat.table_id) × IsAside s.seat.me
+    ghost invariant = { λ s. (arc_value s.parts.value.table ≡ s.seat.table_id) × IsAside s.seat.me
         × (s.seat.me.0.token ≡ Some record {
-          buffer = s.buffer;
-          number = s.number;
+          buffer = s.parts.value.buffer;
+          number = s.parts.value.number;
           stage = stage.Inside;
-          expects = s.expects;
+          expects = s.parts.value.expects;
           promise = None;
         }) × (s.seat.me.0.opens ≡ false) × (s.seat.me.0.stock ≡ [])
-        × (s.seat.me.1 ≡ (s.buffer, Vacant) ∷ []) × (s.buffer < s.seat.table_id.slots) };
+        × (s.seat.me.1 ≡ (s.parts.value.buffer, Vacant) ∷ []) × (s.parts.value.buffer < s.seat.table_id.slots) };
 }
 
 impl<P: Stamped> Inside<P> {
@@ -50,21 +53,21 @@ impl<P: Stamped> Inside<P> {
         ensures number { result ≡ self.now.buffer }
         ensures inside { result < self.now.table.slots }
     {
-        self.buffer
+        self.parts.buffer
     }
 
     /// Its number in the chain of its buffer, from 0.
     pub fn number(&self) -> u64
         ensures { result ≡ self.now.number }
     {
-        self.number
+        self.parts.number
     }
 
     /// The stamp that it found.
     pub fn expects(&self) -> &P::Stamp
         ensures { result.now ≡ self.now.expects }
     {
-        &self.expects
+        &self.parts.expects
     }
 
     /// Gives the pixels back with the stamp that was found: it is then the same turn again, which
@@ -73,25 +76,9 @@ impl<P: Stamped> Inside<P> {
         requires { P.stamp_of p ≡ self.expects }
         ensures { result ≡ self }
     {
-        let Inside {
-            table,
-            mut seat,
-            buffer,
-            number,
-            expects,
-            loads,
-            shown,
-        } = self;
-        table.give_back(&mut seat, buffer, p);
-        Turn {
-            table,
-            seat,
-            buffer,
-            number,
-            expects,
-            loads,
-            shown,
-        }
+        let Inside { parts, mut seat } = self;
+        parts.table.give_back(&mut seat, parts.buffer, p);
+        Turn { parts, seat }
     }
 
     /// Issues the next turn, which expects what this one promises to leave. This one is then busy.
@@ -104,47 +91,31 @@ impl<P: Stamped> Inside<P> {
         ensures heir { IfOk result (λ r. r.1 ≡ heir_expecting self leaves) }
         ensures back { IfErr result (λ e. (e.1 ≡ self) × (e.2 ≡ leaves)) }
     {
-        if self.number == u64::MAX {
+        if self.parts.number == u64::MAX {
             return Err((NoMemory, self, leaves));
         }
-        let Ok(promises) = P::copy_stamp(self.table.alloc, &leaves) else {
+        let Ok(expects) = P::copy_stamp(self.parts.table.alloc, &leaves) else {
             return Err((NoMemory, self, leaves));
         };
-        let Ok(again) = Arc::try_clone(&self.table) else {
+        let Ok(again) = Arc::try_clone(&self.parts.table) else {
+            return Err((NoMemory, self, leaves));
+        };
+        let next = first_parts(again, self.parts.buffer, self.parts.number + 1, expects);
+        let Ok(next) = Box::new(self.parts.table.alloc, next) else {
             return Err((NoMemory, self, leaves));
         };
         let Inside {
-            table,
+            mut parts,
             mut seat,
-            buffer,
-            number,
-            expects,
-            loads: _,
-            shown: _,
         } = self;
-        let (heir, leaves) = table.issue(&mut seat, leaves);
-        let busy = Busy {
-            table,
-            seat,
-            buffer,
-            number,
-            expects,
-            promises,
-        };
-        Ok((busy, Turn::heir(again, heir, buffer, number + 1, leaves)))
+        let (heir, leaves) = parts.table.issue(&mut seat, leaves);
+        parts.promises = Some(leaves);
+        Ok((Busy { parts, seat }, Turn::heir(next, heir)))
     }
 }
 
 impl<P: Stamped> Drop for Inside<P> {
     fn drop(self) {
-        let Inside {
-            table: _,
-            seat: _,
-            buffer: _,
-            number: _,
-            expects: _,
-            loads: _,
-            shown: _,
-        } = self;
+        let Inside { parts: _, seat: _ } = self;
     }
 }

@@ -11,6 +11,7 @@ mod naming;
 mod open;
 mod owed;
 mod painted;
+mod parts;
 mod protocol;
 mod seat;
 mod stamped;

@@ -2,43 +2,46 @@ ghost use Rattle.std.specs.Prelude.{◌≡◌, ℕ, ◌<◌, ◌≤◌, IfOk, If
 ghost use Rattle.sf_turns.specs.Views.{Observes, IsExactAlone};
 
 use crate::busy::Busy;
+use crate::parts::Parts;
 use crate::seat::TurnSeat;
 use crate::stamped::Stamped;
-use crate::turn_table::{TableSeat, TurnTable};
+use crate::turn_table::TableSeat;
 use std::marker::Model;
-use std::sync::Arc;
 
 /// A turn that has not entered, after which the next one was issued: work that is still owed.
 /// Where it is dropped, no later turn of the buffer ever enters.
 pub struct Owed<P: Stamped> {
-    pub(crate) table: Arc<TurnTable<P>>,
+    pub(crate) parts: Box<Parts<P>>,
     pub(crate) seat: TableSeat<P>,
-    pub(crate) buffer: u32,
-    pub(crate) number: u64,
-    pub(crate) expects: P::Stamp,
-    pub(crate) promises: P::Stamp,
 }
 
 impl<P: Stamped> Model for Owed<P> {
     ghost use Rattle.std.specs.Arc.{arc_value};
-    ghost use Rattle.std.specs.Prelude.{◌≡◌, ◌<◌, false, [], Some};
+    ghost use Rattle.std.specs.Prelude.{◌≡◌, ◌<◌, false, [], Some, unwrap_or};
     ghost use Rattle.sf_turns.specs.declared.protocol.Stage.TheVariants as stage;
     ghost use Rattle.sf_turns.specs.Rule.{IsAside};
     ghost use Rattle.sf_turns.specs.Views.{IssuedView};
 
     ghost Value = { IssuedView P.Stamp };
 
-    ghost view = { λ s. record { table = s.seat.table_id; buffer = s.buffer; number = s.number; expects = s.expects; promises = s.promises } };
+    ghost view = { λ s. record {
+      table = s.seat.table_id;
+      buffer = s.parts.value.buffer;
+      number = s.parts.value.number;
+      expects = s.parts.value.expects;
+      promises = unwrap_or s.parts.value.promises s.parts.value.expects;
+    } };
 
-    ghost invariant = { λ s. (arc_value s.table ≡ s.seat.table_id) × IsAside s.seat.me
+    ghost invariant = { λ s. (arc_value s.parts.value.table ≡ s.seat.table_id) × IsAside s.seat.me
         × (s.seat.me.0.token ≡ Some record {
-          buffer = s.buffer;
-          number = s.number;
+          buffer = s.parts.value.buffer;
+          number = s.parts.value.number;
           stage = stage.Away;
-          expects = s.expects;
-          promise = Some s.promises;
+          expects = s.parts.value.expects;
+          promise = s.parts.value.promises;
         }) × (s.seat.me.0.opens ≡ false)
-        × (s.seat.me.0.stock ≡ []) × (s.seat.me.1 ≡ []) × (s.buffer < s.seat.table_id.slots) };
+        × (s.seat.me.0.stock ≡ []) × (s.seat.me.1 ≡ []) × (s.parts.value.buffer < s.seat.table_id.slots)
+        × (s.parts.value.promises ≡ Some (unwrap_or s.parts.value.promises s.parts.value.expects)) };
 }
 
 impl<P: Stamped> Owed<P> {
@@ -47,21 +50,24 @@ impl<P: Stamped> Owed<P> {
         ensures number { result ≡ self.now.buffer }
         ensures inside { result < self.now.table.slots }
     {
-        self.buffer
+        self.parts.buffer
     }
 
     /// Its number in the chain of its buffer, from 0.
     pub fn number(&self) -> u64
         ensures { result ≡ self.now.number }
     {
-        self.number
+        self.parts.number
     }
 
     /// The stamp that it promised to leave.
     pub fn promised(&self) -> &P::Stamp
         ensures { result.now ≡ self.now.promises }
     {
-        &self.promises
+        match &self.parts.promises {
+            Some(promised) => promised,
+            None => unreachable!(),
+        }
     }
 
     /// Enters, and takes the pixels, which have the stamp that was expected. The turn comes back
@@ -73,40 +79,22 @@ impl<P: Stamped> Owed<P> {
         ensures back { IfErr result (λ t. t ≡ self) }
         ensures exact { IsExactAlone seat.new }
     {
-        if seat.load_leaves(self.buffer) < self.number {
+        let (buffer, number) = (self.parts.buffer, self.parts.number);
+        if seat.load_leaves(buffer) < number {
             return Err(self);
         }
         let note = seat.note();
         let Owed {
-            table,
+            parts,
             seat: mut own,
-            buffer,
-            number,
-            expects,
-            promises,
         } = self;
-        let p = table.enter(&mut own, note, buffer);
-        let busy = Busy {
-            table,
-            seat: own,
-            buffer,
-            number,
-            expects,
-            promises,
-        };
-        Ok((busy, p))
+        let p = parts.table.enter(&mut own, note, buffer);
+        Ok((Busy { parts, seat: own }, p))
     }
 }
 
 impl<P: Stamped> Drop for Owed<P> {
     fn drop(self) {
-        let Owed {
-            table: _,
-            seat: _,
-            buffer: _,
-            number: _,
-            expects: _,
-            promises: _,
-        } = self;
+        let Owed { parts: _, seat: _ } = self;
     }
 }

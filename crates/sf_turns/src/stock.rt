@@ -1,6 +1,7 @@
 ghost use Rattle.std.specs.Prelude.{◌≡◌, ◌<◌, ◌≤◌, false, ◌∷◌, length, take, drop, IfOk, IfErr, OnErr};
 ghost use Rattle.sf_turns.specs.Views.{first_turn};
 
+use crate::parts::first_parts;
 use crate::stamped::Stamped;
 use crate::turn::Turn;
 use crate::turn_table::{TableSeat, TurnTable};
@@ -118,21 +119,20 @@ impl<P: Stamped> Permit<P> {
         let Ok(expects) = P::copy_stamp(self.table.alloc, p.stamp()) else {
             return Err((NoMemory, self, p));
         };
+        let Ok(again) = Arc::try_clone(&self.table) else {
+            return Err((NoMemory, self, p));
+        };
+        let parts = first_parts(again, self.buffer, 0, expects);
+        let Ok(parts) = Box::new(self.table.alloc, parts) else {
+            return Err((NoMemory, self, p));
+        };
         let Permit {
             table,
             mut seat,
             buffer,
         } = self;
         table.begin(&mut seat, buffer, p);
-        Ok(Turn {
-            table,
-            seat,
-            buffer,
-            number: 0,
-            expects,
-            loads: 0,
-            shown: false,
-        })
+        Ok(Turn { parts, seat })
     }
 }
 

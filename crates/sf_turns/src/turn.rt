@@ -6,9 +6,10 @@ ghost use Rattle.sf_turns.specs.Views.{Observes, issued_with, heir_expecting, lo
 
 use crate::inside::Inside;
 use crate::owed::Owed;
+use crate::parts::{Parts, first_parts};
 use crate::seat::TurnSeat;
 use crate::stamped::Stamped;
-use crate::turn_table::{TableSeat, TurnTable};
+use crate::turn_table::TableSeat;
 use sf_base::NoMemory;
 use std::marker::Model;
 use std::sync::Arc;
@@ -16,13 +17,8 @@ use std::sync::Arc;
 /// The last turn of a buffer's chain: the right to touch the pixels once, after all turns before
 /// it have left. Where it is dropped after they have left, the pixels are dropped with it.
 pub struct Turn<P: Stamped> {
-    pub(crate) table: Arc<TurnTable<P>>,
+    pub(crate) parts: Box<Parts<P>>,
     pub(crate) seat: TableSeat<P>,
-    pub(crate) buffer: u32,
-    pub(crate) number: u64,
-    pub(crate) expects: P::Stamp,
-    pub(crate) loads: u64,
-    pub(crate) shown: bool,
 }
 
 impl<P: Stamped> Model for Turn<P> {
@@ -34,17 +30,24 @@ impl<P: Stamped> Model for Turn<P> {
 
     ghost Value = { TurnView P.Stamp };
 
-    ghost view = { λ s. record { table = s.seat.table_id; buffer = s.buffer; number = s.number; expects = s.expects; loads = s.loads; shown = s.shown } };
+    ghost view = { λ s. record {
+      table = s.seat.table_id;
+      buffer = s.parts.value.buffer;
+      number = s.parts.value.number;
+      expects = s.parts.value.expects;
+      loads = s.parts.value.loads;
+      shown = s.parts.value.shown;
+    } };
 
-    ghost invariant = { λ s. (arc_value s.table ≡ s.seat.table_id) × IsAside s.seat.me
+    ghost invariant = { λ s. (arc_value s.parts.value.table ≡ s.seat.table_id) × IsAside s.seat.me
         × (s.seat.me.0.token ≡ Some record {
-          buffer = s.buffer;
-          number = s.number;
+          buffer = s.parts.value.buffer;
+          number = s.parts.value.number;
           stage = Away;
-          expects = s.expects;
+          expects = s.parts.value.expects;
           promise = None;
         }) × (s.seat.me.0.opens ≡ false) × (s.seat.me.0.stock ≡ [])
-        × (s.seat.me.1 ≡ []) × (s.buffer < s.seat.table_id.slots) };
+        × (s.seat.me.1 ≡ []) × (s.parts.value.buffer < s.seat.table_id.slots) };
 }
 
 impl<P: Stamped> Turn<P> {
@@ -53,21 +56,21 @@ impl<P: Stamped> Turn<P> {
         ensures number { result ≡ self.now.buffer }
         ensures inside { result < self.now.table.slots }
     {
-        self.buffer
+        self.parts.buffer
     }
 
     /// Its number in the chain of its buffer, from 0.
     pub fn number(&self) -> u64
         ensures { result ≡ self.now.number }
     {
-        self.number
+        self.parts.number
     }
 
     /// The stamp that it will find.
     pub fn expects(&self) -> &P::Stamp
         ensures { result.now ≡ self.now.expects }
     {
-        &self.expects
+        &self.parts.expects
     }
 
     /// Whether all turns before it have left, as one load through the seat shows it. Once it is
@@ -80,10 +83,10 @@ impl<P: Stamped> Turn<P> {
         ensures risen { self.old.loads ≤ self.new.loads }
         ensures exact { IsExactAlone seat.new }
     {
-        let count = seat.load_leaves(self.buffer);
-        let ready = self.number <= count;
-        self.loads = self.loads.saturating_add(1);
-        self.shown = ready;
+        let count = seat.load_leaves(self.parts.buffer);
+        let ready = self.parts.number <= count;
+        self.parts.loads = self.parts.loads.saturating_add(1);
+        self.parts.shown = ready;
         ready
     }
 
@@ -97,30 +100,17 @@ impl<P: Stamped> Turn<P> {
         ensures back { IfErr result (λ t. t ≡ self) }
         ensures exact { IsExactAlone seat.new }
     {
-        if seat.load_leaves(self.buffer) < self.number {
+        let (buffer, number) = (self.parts.buffer, self.parts.number);
+        if seat.load_leaves(buffer) < number {
             return Err(self);
         }
         let note = seat.note();
         let Turn {
-            table,
+            parts,
             seat: mut own,
-            buffer,
-            number,
-            expects,
-            loads,
-            shown,
         } = self;
-        let p = table.enter(&mut own, note, buffer);
-        let inside = Inside {
-            table,
-            seat: own,
-            buffer,
-            number,
-            expects,
-            loads,
-            shown,
-        };
-        Ok((inside, p))
+        let p = parts.table.enter(&mut own, note, buffer);
+        Ok((Inside { parts, seat: own }, p))
     }
 
     /// Issues the next turn, which expects what this one promises to leave. This one is then owed.
@@ -133,74 +123,57 @@ impl<P: Stamped> Turn<P> {
         ensures heir { IfOk result (λ r. r.1 ≡ heir_expecting self leaves) }
         ensures back { IfErr result (λ e. (e.1 ≡ self) × (e.2 ≡ leaves)) }
     {
-        if self.number == u64::MAX {
+        if self.parts.number == u64::MAX {
             return Err((NoMemory, self, leaves));
         }
-        let Ok(promises) = P::copy_stamp(self.table.alloc, &leaves) else {
+        let Ok(expects) = P::copy_stamp(self.parts.table.alloc, &leaves) else {
             return Err((NoMemory, self, leaves));
         };
-        let Ok(again) = Arc::try_clone(&self.table) else {
+        let Ok(again) = Arc::try_clone(&self.parts.table) else {
+            return Err((NoMemory, self, leaves));
+        };
+        let next = first_parts(again, self.parts.buffer, self.parts.number + 1, expects);
+        let Ok(next) = Box::new(self.parts.table.alloc, next) else {
             return Err((NoMemory, self, leaves));
         };
         let Turn {
-            table,
+            mut parts,
             mut seat,
-            buffer,
-            number,
-            expects,
-            loads: _,
-            shown: _,
         } = self;
-        let (heir, leaves) = table.issue(&mut seat, leaves);
-        let owed = Owed {
-            table,
-            seat,
-            buffer,
-            number,
-            expects,
-            promises,
-        };
-        Ok((owed, Turn::heir(again, heir, buffer, number + 1, leaves)))
+        let (heir, leaves) = parts.table.issue(&mut seat, leaves);
+        parts.promises = Some(leaves);
+        Ok((Owed { parts, seat }, Turn::heir(next, heir)))
     }
 
-    /// The turn that was issued with this seat, and that no load was made for.
-    pub(crate) fn heir(
-        table: Arc<TurnTable<P>>,
-        seat: TableSeat<P>,
-        buffer: u32,
-        number: u64,
-        expects: P::Stamp,
-    ) -> Turn<P>
-        requires table { arc_value table ≡ seat.table_id }
+    /// The turn that was issued with this seat.
+    pub(crate) fn heir(parts: Box<Parts<P>>, seat: TableSeat<P>) -> Turn<P>
+        requires table { arc_value parts.value.table ≡ seat.table_id }
         requires aside { IsAside seat.me }
-        requires token { seat.me.0.token ≡ Some record { buffer = buffer; number = number; stage = stage.Away; expects = expects; promise = None } }
+        requires token { seat.me.0.token ≡ Some record {
+          buffer = parts.value.buffer;
+          number = parts.value.number;
+          stage = stage.Away;
+          expects = parts.value.expects;
+          promise = None;
+        } }
         requires bare { (seat.me.0.opens ≡ false) × (seat.me.0.stock ≡ []) × (seat.me.1 ≡ []) }
-        requires range { buffer < seat.table_id.slots }
-        ensures { result ≡ record { table = seat.table_id; buffer = buffer; number = number; expects = expects; loads = 0; shown = false } }
+        requires range { parts.value.buffer < seat.table_id.slots }
+        ensures { result ≡ record {
+          table = seat.table_id;
+          buffer = parts.value.buffer;
+          number = parts.value.number;
+          expects = parts.value.expects;
+          loads = parts.value.loads;
+          shown = parts.value.shown;
+        } }
     {
-        Turn {
-            table,
-            seat,
-            buffer,
-            number,
-            expects,
-            loads: 0,
-            shown: false,
-        }
+        Turn { parts, seat }
     }
 }
 
 impl<P: Stamped> Drop for Turn<P> {
     fn drop(self) {
-        let Turn {
-            table,
-            seat,
-            buffer,
-            number,
-            expects: _,
-            loads: _,
-            shown: _,
-        } = self;
-        table.let_go(seat, buffer, number);
+        let Turn { parts, seat } = self;
+        parts.table.let_go(seat, parts.buffer, parts.number);
     }
 }
