@@ -1,9 +1,11 @@
 -- What the consumer's calls do to the queue.
 use Rattle.std.proofs.Common.{◌≡◌, ℕ, ◌<◌, Bool, true, false, not, ◌==◌, ◌&&◌, nat_le, suc, zero, List, [], ◌∷◌, get_or, slice_get, arith, ap, ◌∙◌, sym, refl, subst, Option, Some, None}
 use Rattle.std.specs.Prelude.{if◌then◌else◌}
+use Rattle.std.specs.List.{All}
 use Rattle.std.proofs.lemmas.Bool.Decides.{nat_tests}
+use Rattle.std.proofs.lemmas.List.Elements.{All-drop}
 use Rattle.atomic_table.specs.Seated.{TableId}
-use Rattle.sf_base.specs.declared.fences.Fence.{Fence}
+use Rattle.sf_base.specs.Fences.{Fence, no_points}
 use Rattle.sf_base.specs.declared.ids.ActorId.{ActorId}
 use Rattle.sf_base.specs.declared.status.QStatus.{QStatus}
 use Rattle.sf_base.specs.declared.status.QStatus.TheVariants.{NoInit, BadValue, Stale}
@@ -20,7 +22,6 @@ use Rattle.sf_slots.specs.Queue.{IsOut, Queue, IsSound, told_of, plain_item, slo
 use Rattle.sf_slots.specs.Replies.{Refusal, first_met, refusal_of, is_taken, is_buffer}
 use Rattle.sf_slots.specs.Tells.{Continues}
 use Rattle.sf_slots.proofs.Going.{Continues-refused, unmet, own_unmet, taken_there, taken_is_out}
-use Rattle.sf_base.specs.Fences.{no_points}
 use Rattle.sf_base.specs.declared.ids.SlotId.{SlotId}
 use Rattle.sf_consume.specs.declared.acquiring.Acquired.{Acquired as Taken}
 use Rattle.sf_consume.specs.Acquiring.{IsAcquired}
@@ -29,7 +30,7 @@ use Rattle.sf_surface.specs.declared.call.Gives.TheVariants as gives
 use Rattle.sf_surface.specs.declared.call.QCall.TheVariants as call
 use Rattle.sf_surface.specs.declared.call.QReply.{QReply}
 use Rattle.sf_surface.specs.Calls.{read_token}
-use Rattle.sf_surface.specs.Hands.{done_reply, own_lease, points_of, refused_reply, taken_lease}
+use Rattle.sf_surface.specs.Hands.{IsRoomFor, done_reply, own_lease, points_of, refused_reply, taken_lease}
 use Rattle.sf_surface.specs.Histories.{FromLog, Left, Stored, left_by}
 use Rattle.sf_surface.specs.Inside.{untaken_refusal}
 use Rattle.sf_surface.specs.Objects.{AreAll, AreRights, Does, IsFitItem, IsFrameOf}
@@ -76,6 +77,20 @@ dropped_same (suc n) q =
 -- a frame that is acquired is fit
 pub acquired_fit : (table : TableId) (q after : Queue Right) (expected : ℕ) (given : Taken Right) → AreRights table q → IsAcquired q after expected given → IsFitItem table given.item
 acquired_fit table q after expected given fit is = all-read (IsFitItem table) (dropped_first given.dropped q).items 0 given.item is.item (IsFit-dropped_first (λ s held right. IsRightOf table held right) (IsFitItem table) (λ item fits. fits.right) given.dropped q fit).items
+
+-- what holds of each frame holds of those that are left
+items_left : (P : Item Right → Type 0) (q : Queue Right) (found : Option (Item Right)) → All P q.items → All P (dropping_if q found).items
+items_left P q None all = all
+items_left P q (Some item) all = All-drop P 1 q.items all
+
+items_kept : (P : Item Right → Type 0) (n : ℕ) (q : Queue Right) → All P q.items → All P (dropped_first n q).items
+items_kept P zero q all = all
+items_kept P (suc n) q all = items_left P (dropped_first n q) (slice_get (dropped_first n q).items 0) (items_kept P n q all)
+
+-- there is room for the points of a frame that is acquired
+pub acquired_room : (q after : Queue Right) (expected capacity : ℕ) (given : Taken Right) → All (λ item. IsRoomFor item.fence capacity) q.items → IsAcquired q after expected given → IsRoomFor given.item.fence capacity
+acquired_room q after expected capacity given all is =
+    all-read (λ item. IsRoomFor item.fence capacity) (dropped_first given.dropped q).items 0 given.item is.item (items_kept (λ item. IsRoomFor item.fence capacity) given.dropped q all)
 
 -- a frame's slot does not have the lease's buffer
 untaken_met : (q : Queue Right) (said : ReadToken) (cause : QStatus) → (said.slot.0 < 64 → is_buffer (slot_in q said.slot.0).held said.held ≡ false) → cause ≡ untaken_refusal q said.slot.0 said.frame

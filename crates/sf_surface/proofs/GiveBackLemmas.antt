@@ -1,7 +1,7 @@
 -- What cancelling and detaching a lent buffer do to the queue.
 use Rattle.std.proofs.Common.{◌≡◌, ◌<◌, true, false, not, [], ◌∷◌, ap, ◌∙◌, sym, refl, subst, Some, None}
 use Rattle.atomic_table.specs.Seated.{TableId}
-use Rattle.sf_base.specs.declared.fences.Fence.{Fence}
+use Rattle.sf_base.specs.Fences.{Fence, no_points}
 use Rattle.sf_base.specs.declared.ids.ActorId.{ActorId}
 use Rattle.sf_base.specs.declared.status.QStatus.{QStatus}
 use Rattle.sf_base.specs.declared.status.QStatus.TheVariants.{BadValue}
@@ -15,7 +15,6 @@ use Rattle.sf_slots.specs.Replies.{refusal_of, is_producer, is_lent, is_buffer}
 use Rattle.sf_slots.specs.Tells.{Continues}
 use Rattle.sf_slots.proofs.Going.{Continues-refused, lent_is_out, lent_there, own_unmet}
 use Rattle.sf_queue.specs.Leases as write
-use Rattle.sf_base.specs.Fences.{no_points}
 use Rattle.sf_surface.specs.declared.call.Gives.TheVariants as gives
 use Rattle.sf_surface.specs.declared.call.QCall.TheVariants as call
 use Rattle.sf_surface.specs.declared.call.QReply.{QReply}

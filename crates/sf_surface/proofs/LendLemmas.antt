@@ -2,6 +2,7 @@
 use Rattle.std.proofs.Common.{◌≡◌, ℕ, ◌<◌, Bool, true, false, [], ◌∷◌, ap, ◌∙◌, sym, refl, subst, Some, None}
 use Rattle.std.specs.Prelude.{if◌then◌else◌}
 use Rattle.atomic_table.specs.Seated.{TableId}
+use Rattle.sf_base.specs.Fences.{Fence, no_points}
 use Rattle.sf_base.specs.declared.ids.ActorId.{ActorId}
 use Rattle.sf_base.specs.declared.status.QStatus.{QStatus}
 use Rattle.sf_picture.specs.declared.picture.Picture.{Picture}
@@ -14,8 +15,9 @@ use Rattle.sf_slots.specs.Queue.{Queue, IsSound, told_of, slot_in, lent, seated,
 use Rattle.sf_slots.specs.Replies.{refusal_of, is_producer, is_lent, is_buffer, size_asked}
 use Rattle.sf_slots.specs.Tells.{Continues}
 use Rattle.sf_slots.proofs.Going.{Continues-refused}
+use Rattle.sf_queue.specs.declared.lending.Chosen.{Chosen}
 use Rattle.sf_queue.specs.declared.lending.Dequeued.{Dequeued}
-use Rattle.sf_queue.specs.Lending.{IsRenewed, IsReused}
+use Rattle.sf_queue.specs.Lending.{IsChosen, IsRenewed, IsReused}
 use Rattle.sf_base.specs.declared.ids.SlotId.{SlotId}
 use Rattle.sf_turns.specs.Views.{PermitView, first_turn}
 use Rattle.sf_surface.specs.declared.call.Gives.TheVariants as gives
@@ -32,6 +34,20 @@ use Rattle.sf_surface.proofs.DoesLemmas.{moves_only, refuses}
 use Rattle.sf_surface.proofs.FitLemmas.{IsFit-lent, IsFit-renewed, IsFit-marked}
 use Rattle.sf_surface.proofs.FreeLemmas.{next_free}
 use Rattle.sf_surface.proofs.LeaseLemmas.{first_unlent, unlent}
+
+-- the fence of the slot that is next
+pub next_fence : (q : Queue Right) (slot s : ℕ) (fence : Fence) → Some slot ≡ slot_for true (told_of q) → slot_for true (told_of q) ≡ Some s → fence ≡ (slot_in q slot).fence → fence ≡ no_points → (slot_in q s).fence ≡ no_points
+next_fence q slot s fence chosen next is none =
+    let both : Some slot ≡ Some s = chosen ∙ next in
+    let same : slot ≡ s = cc (both) in
+    ap (λ (n : ℕ). (slot_in q n).fence) (sym same) ∙ (sym is ∙ none)
+
+-- the slot that was chosen is the next one
+pub chosen_next : (q : Queue Right) (by : ActorId) (width height : ℕ) (chosen : Chosen) (s : ℕ) → IsChosen q by width height chosen → slot_for true (told_of q) ≡ Some s → IsNextSlot q s chosen.requested
+chosen_next q by width height chosen s is next =
+    let both : Some chosen.slot.0 ≡ Some s = sym is.slot.chosen ∙ next in
+    let same : chosen.slot.0 ≡ s = cc (both) in
+    subst (λ (n : ℕ). IsNextSlot q n chosen.requested) same (record { below = is.slot.below; free = is.slot.free; requested_is = is.requested })
 
 module _ {B : Type 0} (table : TableId) where
   -- refusals of a lease whose buffer is not lent

@@ -4,7 +4,7 @@ use Rattle.std.specs.Prelude.{if◌then◌else◌}
 use Rattle.std.proofs.lemmas.Bool.{cases_Bool}
 use Rattle.std.proofs.lemmas.Bool.Decides.{nat_tests}
 use Rattle.atomic_table.specs.Seated.{TableId}
-use Rattle.sf_base.specs.declared.fences.Fence.{Fence}
+use Rattle.sf_base.specs.Fences.{Fence, no_points}
 use Rattle.sf_base.specs.declared.geometry.Rect.{Rect}
 use Rattle.sf_base.specs.declared.ids.ActorId.{ActorId}
 use Rattle.sf_base.specs.declared.ids.QueueId.{QueueId}
@@ -29,7 +29,6 @@ use Rattle.sf_slots.proofs.Going.{Continues-refused, lent_is_out, lent_there, ow
 use Rattle.sf_queue.specs.declared.queueing.QueueOrder.{QueueOrder}
 use Rattle.sf_queue.specs.Leases as write
 use Rattle.sf_queue.specs.Orders.{call_of, item_of, order_call, queue_call}
-use Rattle.sf_base.specs.Fences.{no_points}
 use Rattle.sf_base.specs.declared.ids.SlotId.{SlotId}
 use Rattle.sf_turns.specs.Views.{heir_expecting, issued_with}
 use Rattle.sf_surface.specs.Rights.{owed_of}

@@ -2,7 +2,7 @@
 use Rattle.std.specs.Prelude.{◌≡◌, ◌≢◌, ℕ, ◌==◌, true, if◌then◌else◌, List, [], ◌∷◌, Option, Some, None, Contains}
 use Rattle.sf_base.specs.declared.ids.ActorId.{ActorId}
 use Rattle.sf_base.specs.declared.ids.QueueId.{QueueId}
-use Rattle.sf_base.specs.declared.fences.Fence.{Fence}
+use Rattle.sf_base.specs.Fences.{Fence}
 use Rattle.sf_base.specs.declared.geometry.Rect.{Rect}
 use Rattle.sf_base.specs.declared.status.QStatus.TheVariants as status
 use Rattle.sf_calls.specs.declared.object.Entry.{Entry}

@@ -5,7 +5,7 @@ ghost use Rattle.sf_surface.specs.Objects.{Does};
 
 use crate::call::{Gives, QCall, QReply};
 use crate::held::{has_buffer, unlent_refusal};
-use crate::plain::write_token;
+use crate::plain::said_of;
 use crate::replies::refused;
 use crate::rights::{Finished, finish};
 use crate::token::WriteLease;
@@ -33,7 +33,7 @@ pub(crate) fn cancel<B: TableName>(
     ensures unchanged { OnErr result (slots.new ≡ slots.old) }
     ensures back { IfErr result (λ back. back.1 ≡ call.Cancel lease fence) }
 {
-    let said = write_token(queue, &lease);
+    let said = said_of(queue, &lease);
     if !has_buffer(slots, said.slot, said.held) {
         let cause = unlent_refusal(slots, by);
         return Ok(refused(cause, QCall::Cancel(lease, fence), room));

@@ -1,13 +1,13 @@
-ghost use Rattle.std.specs.Prelude.{◌≡◌, ◌<◌, ◌-◌, ◌^◌};
+ghost use Rattle.std.specs.Prelude.{◌≡◌, ◌<◌, ◌-◌, ◌^◌, All, vec_capacity};
 ghost use Rattle.sf_slots.specs.Queue.{plain_item, IsSound};
 ghost use Rattle.sf_surface.specs.declared.call.QCall.TheVariants as call;
-ghost use Rattle.sf_surface.specs.Hands.{own_lease, taken_lease};
+ghost use Rattle.sf_surface.specs.Hands.{IsRoomFor, own_lease, taken_lease};
 ghost use Rattle.sf_surface.specs.Inside.{IsSameSize};
 ghost use Rattle.sf_surface.specs.Objects.{AreRights, Does, IsFitItem};
 
 use crate::call::{Gives, QCall, QReply};
 use crate::held::{has_buffer, untaken_refusal};
-use crate::plain::read_token;
+use crate::plain::read_said;
 use crate::replies::{gives, refused};
 use crate::token::{Loose, ReadLease};
 use crate::values::Room;
@@ -57,6 +57,7 @@ pub(crate) fn acquire<B: TableName>(
     requires number { queue ≡ slots.old.number }
     requires rights { AreRights B.table slots.old }
     requires sound { IsSound slots.old }
+    requires room { All (λ item. IsRoomFor item.fence (vec_capacity room.values)) slots.old.items }
     ensures { Does B.table slots.old slots.new by (call.Acquire expected) result }
 {
     match sf_consume::acquire(slots, expected) {
@@ -90,7 +91,7 @@ pub(crate) fn release<B: TableName>(
     requires sound { IsSound slots.old }
     ensures { Does B.table slots.old slots.new by (call.Release lease fence) result }
 {
-    let said = read_token(queue, &lease);
+    let said = read_said(queue, &lease);
     if !has_buffer(slots, said.slot, said.held) {
         let cause = untaken_refusal(slots, said.slot, said.frame);
         return refused(cause, QCall::Release(lease, fence), room);
@@ -108,7 +109,7 @@ pub(crate) fn release<B: TableName>(
     } = lease;
     match sf_consume::release(slots, said.slot, said.frame, turn, fence) {
         Ok(()) => gives(room.none(), Gives::Nothing),
-        Err((cause, turn)) => {
+        Err((cause, (turn, fence))) => {
             let lease = ReadLease {
                 queue: of_queue,
                 slot,
@@ -137,7 +138,7 @@ pub(crate) fn detach_read<B: TableName>(
     requires sound { IsSound slots.old }
     ensures { Does B.table slots.old slots.new by (call.DetachRead lease) result }
 {
-    let said = read_token(queue, &lease);
+    let said = read_said(queue, &lease);
     if !has_buffer(slots, said.slot, said.held) {
         let cause = untaken_refusal(slots, said.slot, said.frame);
         return refused(cause, QCall::DetachRead(lease), room);

@@ -1,11 +1,11 @@
-ghost use Rattle.std.specs.Prelude.{◌≡◌, ◌<◌, ◌-◌, ◌^◌, true, Some};
+ghost use Rattle.std.specs.Prelude.{◌≡◌, ◌<◌, ◌-◌, ◌^◌, true, Some, vec_capacity};
 ghost use Rattle.sf_base.specs.declared.status.QStatus.TheVariants.{WouldBlock};
 ghost use Rattle.sf_calls.specs.Outcomes.{IfDone, IfNotYet, IfNoMemory};
 ghost use Rattle.sf_slots.specs.Queue.{told_of, IsSound};
 ghost use Rattle.sf_slots.specs.Replies.{refusal_of};
 ghost use Rattle.sf_surface.specs.Calls.{may_wait, told_call};
 ghost use Rattle.sf_surface.specs.Histories.{HasNotWaited};
-ghost use Rattle.sf_surface.specs.Inside.{HasDefaultSize};
+ghost use Rattle.sf_surface.specs.Inside.{HasDefaultSize, HasRoomFor};
 ghost use Rattle.sf_surface.specs.Marks.{PermitFits, outcome_of};
 ghost use Rattle.sf_surface.specs.Objects.{AreRights, Does};
 
@@ -55,6 +55,7 @@ pub(crate) fn dispatch<B: TableName>(
     requires sound { IsSound slots.old }
     requires rights { AreRights B.table slots.old }
     requires permit { PermitFits B.table call }
+    requires room { HasRoomFor slots.old call (vec_capacity room.values) }
     ensures done { IfDone result (Does B.table slots.old slots.new by call) }
     ensures waited { IfDone result (HasNotWaited call) }
     ensures not_yet { IfNotYet result (λ back. (back ≡ call) × (slots.new ≡ slots.old) × (may_wait call ≡ true)
@@ -79,7 +80,9 @@ pub(crate) fn dispatch<B: TableName>(
             time,
             crop,
             fence,
-        } => outcome(queue(slots, by, number, lease, picture, time, crop, fence, room)),
+        } => outcome(queue(
+            slots, alloc, by, number, lease, picture, time, crop, fence, room,
+        )),
         QCall::Cancel(lease, fence) => {
             outcome(cancel(slots, alloc, by, number, lease, fence, room))
         }

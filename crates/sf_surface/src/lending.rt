@@ -1,14 +1,14 @@
-ghost use Rattle.std.specs.Prelude.{◌≡◌, ◌≢◌, ℕ, ◌<◌, ◌≤◌, ◌-◌, ◌^◌, IfOk, IfErr, Some, None, true, false, if◌then◌else◌};
+ghost use Rattle.std.specs.Prelude.{◌≡◌, ◌≢◌, ℕ, ◌<◌, ◌≤◌, ◌-◌, ◌^◌, IfOk, IfErr, Some, None, true, false, vec_capacity, if◌then◌else◌};
 ghost use Rattle.sf_base.specs.declared.status.QStatus.TheVariants.{WouldBlock};
 ghost use Rattle.sf_calls.specs.Outcomes.{IfDone, IfNotYet, IfNoMemory};
 ghost use Rattle.sf_slots.specs.declared.calls.PlainCall.TheVariants as plain;
-ghost use Rattle.sf_slots.specs.Queue.{told_of, IsSound};
-ghost use Rattle.sf_slots.specs.Replies.{refusal_of, size_asked};
+ghost use Rattle.sf_slots.specs.Queue.{told_of, slot_in, IsSound};
+ghost use Rattle.sf_slots.specs.Replies.{refusal_of};
 ghost use Rattle.sf_slots.specs.Told.{slot_for};
 ghost use Rattle.sf_turns.specs.Views.{first_turn};
 ghost use Rattle.sf_surface.specs.declared.call.QCall.TheVariants as call;
-ghost use Rattle.sf_surface.specs.Hands.{blank_of, lent_reply};
-ghost use Rattle.sf_surface.specs.Inside.{HasDefaultSize, IsNextSlot, sized_buffer};
+ghost use Rattle.sf_surface.specs.Hands.{IsRoomFor, blank_of, lent_reply};
+ghost use Rattle.sf_surface.specs.Inside.{HasDefaultSize, sized_buffer};
 ghost use Rattle.sf_surface.specs.Objects.{AreRights, Does};
 ghost use Rattle.sf_surface.specs.Tokens.{IsRightOf};
 
@@ -20,22 +20,11 @@ use crate::work::Work;
 use sf_base::{ActorId, QStatus, QueueId};
 use sf_calls::Outcome;
 use sf_picture::{Painted, blank, paint};
-use sf_queue::{Dequeued, dequeue_needs};
-use sf_slots::{Settings, Slots};
+use sf_queue::{Dequeued, choose, dequeue_chosen};
+use sf_slots::Slots;
 use sf_turns::{Permit, TableName, Turn};
 use std::alloc::Global;
 use std::marker::PhantomData;
-
-/// The size that is asked for, where 0 by 0 means the default.
-fn size_asked(settings: &Settings, width: u32, height: u32) -> (u32, u32)
-    ensures { result ≡ size_asked settings.now width height }
-{
-    if width == 0 && height == 0 {
-        (settings.width, settings.height)
-    } else {
-        (width, height)
-    }
-}
 
 /// The first right to a new buffer of this size, transparent black. Want of memory hands the permit
 /// back.
@@ -62,16 +51,6 @@ fn open(
     }
 }
 
-/// Whether the buffer in the slot that a dequeue lends is requested.
-fn is_next_requested(slots: &Slots<Turn<Painted>>) -> bool
-    ensures { (s : ℕ) → slot_for true (told_of slots.now) ≡ Some s → IsNextSlot slots.now s result }
-{
-    match slots.next_free(true) {
-        Some(slot) => slots.requested(slot),
-        None => false,
-    }
-}
-
 /// The reply to a dequeue that lent a buffer, from a slot whose buffer was requested or not.
 fn lends<B: TableName>(
     queue: QueueId,
@@ -80,7 +59,8 @@ fn lends<B: TableName>(
     spare: Option<Permit<Painted>>,
     room: Room,
 ) -> QReply<B>
-    requires { IsRightOf B.table given.held given.right }
+    requires right { IsRightOf B.table given.held given.right }
+    requires room { IsRoomFor given.fence (vec_capacity room.values) }
     ensures { result ≡ lent_reply queue given (if given.reallocated then false else was_requested) spare }
 {
     let Dequeued {
@@ -126,14 +106,14 @@ pub(crate) fn dequeue<B: TableName>(
     requires rights { AreRights B.table slots.old }
     requires table { permit.table ≡ B.table }
     requires sound { IsSound slots.old }
+    requires room { (s : ℕ) → slot_for true (told_of slots.old) ≡ Some s → IsRoomFor (slot_in slots.old s).fence (vec_capacity room.values) }
     ensures done { IfDone result (Does B.table slots.old slots.new by (call.Dequeue width height wait permit)) }
     ensures waited { IfDone result (λ reply. wait ≡ true → reply.status ≢ WouldBlock) }
     ensures not_yet { IfNotYet result (λ back. (back ≡ call.Dequeue width height wait permit) × (slots.new ≡ slots.old) × (wait ≡ true)
         × (refusal_of (told_of slots.old) by (plain.Dequeue width height wait) ≡ Some WouldBlock)) }
     ensures no_memory { IfNoMemory result (λ back. (back ≡ call.Dequeue width height wait permit) × (slots.new ≡ slots.old)) }
 {
-    let was_requested = is_next_requested(slots);
-    match dequeue_needs(slots, by, width, height) {
+    match choose(slots, by, width, height) {
         Err(cause) => {
             let call = QCall::Dequeue {
                 width,
@@ -146,24 +126,21 @@ pub(crate) fn dequeue<B: TableName>(
                 _ => Outcome::Done(refused(cause, call, room)),
             }
         }
-        Ok(true) => {
-            let size = size_asked(&slots.settings(), width, height);
-            match open(alloc, permit, size.0, size.1) {
-                Ok(turn) => match sf_queue::dequeue(slots, by, width, height, Some(turn)) {
-                    Ok(given) => Outcome::Done(lends(queue, given, was_requested, None, room)),
-                    Err(_) => unreachable!(),
-                },
-                Err(permit) => Outcome::NoMemory(QCall::Dequeue {
-                    width,
-                    height,
-                    wait,
-                    permit,
-                }),
+        Ok(chosen) if chosen.needs => match open(alloc, permit, chosen.width, chosen.height) {
+            Ok(turn) => {
+                let given = dequeue_chosen(slots, by, width, height, chosen, Some(turn));
+                Outcome::Done(lends(queue, given, chosen.requested, None, room))
             }
-        }
-        Ok(false) => match sf_queue::dequeue(slots, by, width, height, None) {
-            Ok(given) => Outcome::Done(lends(queue, given, was_requested, Some(permit), room)),
-            Err(_) => unreachable!(),
+            Err(permit) => Outcome::NoMemory(QCall::Dequeue {
+                width,
+                height,
+                wait,
+                permit,
+            }),
         },
+        Ok(chosen) => {
+            let given = dequeue_chosen(slots, by, width, height, chosen, None);
+            Outcome::Done(lends(queue, given, chosen.requested, Some(permit), room))
+        }
     }
 }

@@ -1,4 +1,8 @@
-ghost use Rattle.std.specs.Prelude.{◌≡◌, OnOk};
+ghost use Rattle.std.specs.Prelude.{◌≡◌, ℕ, ◌≤◌, IfOk, OnOk, Some, true, false, vec_capacity};
+ghost use Rattle.sf_base.specs.Fences.{no_points};
+ghost use Rattle.sf_slots.specs.Queue.{slot_in, told_of};
+ghost use Rattle.sf_slots.specs.Told.{slot_for};
+ghost use Rattle.sf_surface.specs.Inside.{HasRoomFor};
 ghost use Rattle.sf_surface.specs.Kept.{HasRoom, calls_in};
 
 use crate::call::{QCall, QReply};
@@ -36,14 +40,40 @@ impl<B: TableName> Model for QueueObject<B> {
     ghost invariant = { λ o. IsKept B.table o.number o.history.shown.items (record { queue = o.slots; calls = calls_in o.history }) };
 }
 
+/// Whether the fence of the slot that a dequeue lends may have points.
+fn next_may_have_points(slots: &Slots<Turn<Painted>>) -> bool
+    ensures { result ≡ false → (s : ℕ) → slot_for true (told_of slots.now) ≡ Some s → (slot_in slots.now s).fence ≡ no_points }
+{
+    match slots.next_free(true) {
+        Some(slot) => !slots.slot(slot).fence.is_none(),
+        None => false,
+    }
+}
+
+/// Whether the reply to a call may tell points.
+fn may_tell_points<B: TableName>(slots: &Slots<Turn<Painted>>, call: &QCall<B>) -> bool
+    ensures { (n : ℕ) → (result ≡ true → 132 ≤ n) → HasRoomFor slots.now call.now n }
+{
+    match call {
+        QCall::Dequeue { .. } => next_may_have_points(slots),
+        QCall::Acquire(_) => slots.has_points(),
+        _ => false,
+    }
+}
+
 /// Makes room for one more call in a history, and for the values of its reply.
-fn ready<B: TableName>(history: &mut History<B>, alloc: Global) -> Result<Room, NoMemory>
+fn ready<B: TableName>(
+    history: &mut History<B>,
+    alloc: Global,
+    has_points: bool,
+) -> Result<Room, NoMemory>
     ensures shown { history.new.shown.items ≡ history.old.shown.items }
     ensures calls { calls_in history.new ≡ calls_in history.old }
     ensures room { OnOk result (HasRoom history.new) }
+    ensures points { IfOk result (λ room. has_points ≡ true → 132 ≤ vec_capacity room.values) }
 {
     history.reserve()?;
-    Room::new(alloc)
+    Room::new(alloc, has_points)
 }
 
 impl<B: TableName> QueueObject<B> {
@@ -132,7 +162,8 @@ impl<B: TableName> Object for QueueObject<B> {
     /// back and nothing is kept.
     fn apply(&mut self, by: u32, call: (u32, QCall<B>)) -> Outcome<(u32, QCall<B>), QReply<B>> {
         let (step, asked) = call;
-        let Ok(room) = ready(&mut self.history, self.alloc) else {
+        let has_points = may_tell_points(&self.slots, &asked);
+        let Ok(room) = ready(&mut self.history, self.alloc, has_points) else {
             return Outcome::NoMemory((step, asked));
         };
         let _settings = self.slots.settings();

@@ -7,8 +7,23 @@ use crate::token::{ReadLease, WriteLease};
 use crate::work::Work;
 use sf_base::{QueueId, SlotId};
 use sf_picture::Picture;
-use sf_slots::{ReadToken, WriteToken};
+use sf_slots::Held;
 use sf_turns::TableName;
+
+/// What a lease says of its buffer to a queue.
+#[derive(Clone, Copy)]
+pub(crate) struct Said {
+    pub(crate) slot: SlotId,
+    pub(crate) held: Held,
+}
+
+/// What a lease says of its frame to a queue.
+#[derive(Clone, Copy)]
+pub(crate) struct SaidFrame {
+    pub(crate) slot: SlotId,
+    pub(crate) frame: u64,
+    pub(crate) held: Held,
+}
 
 /// Whether two pictures are the same.
 pub(crate) fn is_same(a: &Picture, b: &Picture) -> bool
@@ -28,16 +43,6 @@ pub(crate) fn named_slot(queue: QueueId, of: QueueId, slot: SlotId) -> SlotId
     }
 }
 
-/// Whether the pixels are drawn.
-fn is_drawn(work: &Work) -> bool
-    ensures { result ≡ is_drawn work.now }
-{
-    match work {
-        Work::Fresh(_) => false,
-        Work::Drawn(..) => true,
-    }
-}
-
 /// Whether another picture than this one was drawn.
 fn shows_other(work: &Work, picture: &Picture) -> bool
     ensures { result ≡ shows_other work.now picture.now }
@@ -49,15 +54,13 @@ fn shows_other(work: &Work, picture: &Picture) -> bool
 }
 
 /// What a call says of a lease to write.
-pub(crate) fn write_token<B: TableName>(queue: QueueId, lease: &WriteLease<B>) -> WriteToken
-    ensures { result ≡ write_token queue lease.now }
+pub(crate) fn said_of<B: TableName>(queue: QueueId, lease: &WriteLease<B>) -> Said
+    ensures slot { result.slot ≡ (write_token queue lease.now).slot }
+    ensures held { result.held ≡ (write_token queue lease.now).held }
 {
-    WriteToken {
+    Said {
         slot: named_slot(queue, lease.queue, lease.slot),
         held: lease.held,
-        requested: lease.requested,
-        fence: lease.fence,
-        drawn: is_drawn(&lease.work),
     }
 }
 
@@ -77,32 +80,29 @@ pub(crate) fn queued_slot<B: TableName>(
 }
 
 /// What a call says of a lease that it queues.
-pub(crate) fn queued_token<B: TableName>(
+pub(crate) fn queued_said<B: TableName>(
     queue: QueueId,
     lease: &WriteLease<B>,
     picture: &Picture,
-) -> WriteToken
-    ensures { result ≡ queued_token queue lease.now picture.now }
+) -> Said
+    ensures slot { result.slot ≡ (queued_token queue lease.now picture.now).slot }
+    ensures held { result.held ≡ (queued_token queue lease.now picture.now).held }
 {
-    WriteToken {
+    Said {
         slot: queued_slot(queue, lease, picture),
         held: lease.held,
-        requested: lease.requested,
-        fence: lease.fence,
-        drawn: is_drawn(&lease.work),
     }
 }
 
 /// What a call says of a lease to read.
-pub(crate) fn read_token<B: TableName>(queue: QueueId, lease: &ReadLease<B>) -> ReadToken
-    ensures { result ≡ read_token queue lease.now }
+pub(crate) fn read_said<B: TableName>(queue: QueueId, lease: &ReadLease<B>) -> SaidFrame
+    ensures slot { result.slot ≡ (read_token queue lease.now).slot }
+    ensures frame { result.frame ≡ lease.now.frame }
+    ensures held { result.held ≡ (read_token queue lease.now).held }
 {
-    ReadToken {
+    SaidFrame {
         slot: named_slot(queue, lease.queue, lease.slot),
         frame: lease.frame,
         held: lease.held,
-        picture: lease.picture,
-        crop: lease.crop,
-        fence: lease.fence,
     }
 }

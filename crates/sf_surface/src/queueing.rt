@@ -5,7 +5,7 @@ ghost use Rattle.sf_surface.specs.Objects.{Does};
 
 use crate::call::{Gives, QCall, QReply};
 use crate::held::{has_buffer, unlent_refusal};
-use crate::plain::queued_token;
+use crate::plain::queued_said;
 use crate::replies::refused;
 use crate::rights::{Promised, promise};
 use crate::token::{Owing, WriteLease};
@@ -15,11 +15,13 @@ use sf_picture::{Painted, Picture};
 use sf_queue::{QueueOrder, queue_allowed, queue_refusal};
 use sf_slots::Slots;
 use sf_turns::{TableName, Turn};
+use std::alloc::Global;
 use std::marker::PhantomData;
 
 /// Queues a lent buffer as a frame that shows the picture.
 pub(crate) fn queue<B: TableName>(
     slots: &mut Slots<Turn<Painted>>,
+    alloc: Global,
     by: ActorId,
     queue: QueueId,
     lease: WriteLease<B>,
@@ -36,7 +38,7 @@ pub(crate) fn queue<B: TableName>(
     ensures unchanged { OnErr result (slots.new ≡ slots.old) }
     ensures back { IfErr result (λ back. back.1 ≡ call.Queue lease picture time crop fence) }
 {
-    let said = queued_token(queue, &lease, &picture);
+    let said = queued_said(queue, &lease, &picture);
     if !has_buffer(slots, said.slot, said.held) {
         let cause = unlent_refusal(slots, by);
         let call = QCall::Queue {
@@ -60,6 +62,16 @@ pub(crate) fn queue<B: TableName>(
         };
         return Ok(refused(cause, call, room));
     }
+    let Ok(kept) = fence.copy(alloc) else {
+        let call = QCall::Queue {
+            lease,
+            picture,
+            time,
+            crop,
+            fence,
+        };
+        return Err((NoMemory, call));
+    };
     let WriteLease {
         queue: of_queue,
         slot,
@@ -99,6 +111,7 @@ pub(crate) fn queue<B: TableName>(
         height,
         time,
         fence,
+        kept,
         crop,
         right: heir,
     };

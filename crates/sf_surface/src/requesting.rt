@@ -5,7 +5,7 @@ ghost use Rattle.sf_surface.specs.Objects.{Does};
 
 use crate::call::{Gives, QCall, QReply};
 use crate::held::{has_buffer, unlent_refusal};
-use crate::plain::write_token;
+use crate::plain::said_of;
 use crate::replies::{gives, refused};
 use crate::token::WriteLease;
 use crate::values::Room;
@@ -26,7 +26,7 @@ pub(crate) fn request<B: TableName>(
     requires sound { IsSound slots.old }
     ensures { Does B.table slots.old slots.new by (call.Request lease) result }
 {
-    let said = write_token(queue, &lease);
+    let said = said_of(queue, &lease);
     if !has_buffer(slots, said.slot, said.held) {
         return refused(unlent_refusal(slots, by), QCall::Request(lease), room);
     }

@@ -1,32 +1,31 @@
 use Rattle.std.proofs.Common.{◌∙◌, ap, refl, subst, sym, None}
-use Rattle.sf_base.specs.declared.ids.QueueId.{QueueId}
 use Rattle.sf_surface.specs.declared.call.Gives.TheVariants as gives
 use Rattle.sf_surface.specs.declared.work.Work.{Work}
-use Rattle.sf_surface.specs.Calls.{write_token}
 use Rattle.sf_surface.specs.Hands.{done_reply}
 use Rattle.sf_surface.specs.Tokens.{IsRightOf, IsWorkOf, WriteLeaseOf, ending_drawn, turn_after, turn_of}
+use Rattle.sf_surface.proofs.SaidLemmas.{write_said, write_same}
 use Rattle.sf_surface.proofs.LeaseLemmas.{after_right, says}
 use Rattle.sf_surface.proofs.GiveBackLemmas.{detach_refused, detach_unlent, detaches}
 use Rattle.sf_surface.proofs.detaching.detach.Goals as goal
 
 pub returns-then-not-has_buffer-clause-done : goal.returns-then-not-has_buffer-clause-done
 returns-then-not-has_buffer-clause-done g c =
-    let said = c.write_token-said.result in
-    let same = c.write_token-said.ensures ∙ ap (λ (n : QueueId). write_token n c.args.lease) c.requires.number in
+    let said = write_said c.args.lease c.said_of-said.result.slot c.said_of-said.result.held in
+    let same = write_same c.args.queue c.args.slots.now.number c.args.lease c.said_of-said.result.slot c.said_of-said.result.held c.said_of-said.ensures.slot c.said_of-said.ensures.held c.requires.number in
     detach_unlent g.B.TableName.table c.args.slots.now c.args.by c.args.lease said c.unlent_refusal-cause.result c.refused.result same c.unlent_refusal-cause.ensures.sound (c.if-not-has_buffer.ensures.other refl) c.unlent_refusal-cause.ensures.cause c.refused.ensures
 
 pub returns-in-Some-clause-done : goal.returns-in-Some-clause-done
 returns-in-Some-clause-done g c =
-    let said = c.write_token-said.result in
-    let same = c.write_token-said.ensures ∙ ap (λ (n : QueueId). write_token n c.args.lease) c.requires.number in
+    let said = write_said c.args.lease c.said_of-said.result.slot c.said_of-said.result.held in
+    let same = write_same c.args.queue c.args.slots.now.number c.args.lease c.said_of-said.result.slot c.said_of-said.result.held c.said_of-said.ensures.slot c.said_of-said.ensures.held c.requires.number in
     let there = c.if-not-has_buffer.ensures.there refl in
     detach_refused g.B.TableName.table c.args.slots.now c.args.by c.args.lease said c.in-Some.cause c.refused-in-Some.result same there c.in-Some.ensures c.refused-in-Some.ensures
 
 pub returns-in-Ok-clause-done : goal.returns-in-Ok-clause-done
 returns-in-Ok-clause-done g c =
     let q = c.args.slots.now in
-    let said = c.write_token-said.result in
-    let same = c.write_token-said.ensures ∙ ap (λ (n : QueueId). write_token n c.args.lease) c.requires.number in
+    let said = write_said c.args.lease c.said_of-said.result.slot c.said_of-said.result.held in
+    let same = write_same c.args.queue c.args.slots.now.number c.args.lease c.said_of-said.result.slot c.said_of-said.result.held c.said_of-said.ensures.slot c.said_of-said.ensures.held c.requires.number in
     let there = c.if-not-has_buffer.ensures.there refl in
     let held = ap (λ (l : WriteLeaseOf). l.held) c.lease.view_is in
     let heir = c.in-Ok.ensures.heir ∙ ap (λ (l : WriteLeaseOf). turn_after l.work) c.lease.view_is in

@@ -24,6 +24,9 @@ dispatch-requires-clause-frames g c =
     let inside = c.self.inside in
     (counters_low {B = g.row.B.Denot} g.B.TableName.table inside.number inside.history.shown.items (record { queue = inside.slots; calls = calls_in inside.history }) c.self.invariant (omega (arith, inside.history.shown.ok, inside.history.shown.small))).1
 
+pub dispatch-requires-clause-room : goal.dispatch-requires-clause-room
+dispatch-requires-clause-room g c = c.may_tell_points-has_points.ensures _ c.in-Ok.ensures.points
+
 pub invariant_of-self-in-Done : goal.invariant_of-self-in-Done
 invariant_of-self-in-Done g c =
     let table = g.B.TableName.table in
