@@ -4,8 +4,7 @@ use Rattle.std.specs.Prelude.{Contains, map}
 use Rattle.std.specs.List.{All}
 use Rattle.std.specs.Option.{option_map}
 use Rattle.std.proofs.lemmas.List.{append-nil}
-use Rattle.sf_base.specs.Fences.{IsSignalled, merged}
-use Rattle.sf_base.specs.declared.fences.Fence.{Fence}
+use Rattle.sf_base.specs.Fences.{Fence, IsSignalled, merged}
 use Rattle.sf_picture.specs.declared.picture.Picture.{Picture}
 use Rattle.sf_scene.specs.declared.change.Change.{Change}
 use Rattle.sf_scene.specs.declared.step.Step.{Step}

@@ -2,9 +2,8 @@
 use Rattle.std.proofs.Common.{◌≡◌, ℕ, ◌+◌, ◌-◌, List, [], ◌++◌, inl, inr, arith, ap, ◌∙◌, sym, refl, subst, Option, Some, None}
 use Rattle.std.specs.Prelude.{Contains}
 use Rattle.std.proofs.lemmas.List.{append-nil}
-use Rattle.sf_base.specs.Fences.{IsSignalled, merged, value_of}
+use Rattle.sf_base.specs.Fences.{Fence, IsSignalled, merged, value_of}
 use Rattle.sf_base.specs.Points.{greatest, points_from}
-use Rattle.sf_base.specs.declared.fences.Fence.{Fence}
 use Rattle.sf_base.specs.declared.fences.Seen.{Seen}
 use Rattle.sf_base.proofs.PointLemmas.{greatest-append}
 use Rattle.sf_picture.specs.declared.picture.Picture.{Picture}

@@ -2,8 +2,7 @@
 use Rattle.std.proofs.Common.{◌≡◌, ℕ, ◌-◌, ◌≤◌, suc, zero, List, [], ◌∷◌, replicate, arith}
 use Rattle.std.specs.Prelude.{slice_index}
 use Rattle.std.proofs.lemmas.List.{get_or-replicate}
-use Rattle.sf_base.specs.Fences.{IsSignalled, greater_of_each, merged, no_points, value_of}
-use Rattle.sf_base.specs.declared.fences.Fence.{Fence}
+use Rattle.sf_base.specs.Fences.{Fence, IsSignalled, greater_of_each, merged, no_points, value_of}
 use Rattle.sf_base.specs.declared.fences.Seen.{Seen}
 
 greater_within : (vs ws : List ℕ) (k most : ℕ) → slice_index vs k ≤ most → slice_index ws k ≤ most → slice_index (greater_of_each vs ws) k ≤ most

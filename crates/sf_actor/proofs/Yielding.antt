@@ -5,8 +5,7 @@ use Rattle.std.specs.List.{All, AllZip}
 use Rattle.std.proofs.lemmas.Bool.{cases_Bool, eq-eqb}
 use Rattle.std.proofs.lemmas.List.{append-nil}
 use Rattle.std.proofs.lemmas.List.Elements.{Contains-append_cases}
-use Rattle.sf_base.specs.Fences.{merged, no_points}
-use Rattle.sf_base.specs.declared.fences.Fence.{Fence}
+use Rattle.sf_base.specs.Fences.{Fence, merged, no_points}
 use Rattle.sf_base.specs.declared.ids.QueueId.{QueueId}
 use Rattle.sf_slots.specs.declared.calls.PlainCall.TheVariants as plain_call
 use Rattle.sf_slots.specs.declared.calls.PlainReply.{PlainReply}

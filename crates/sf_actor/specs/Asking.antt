@@ -1,7 +1,6 @@
 -- The calls that a step makes on queues.
 use Rattle.std.specs.Prelude.{ℕ, Bool, true, false, List, [], map, option_to_list, Option, Some, None, unwrap_or}
-use Rattle.sf_base.specs.Fences.{merged}
-use Rattle.sf_base.specs.declared.fences.Fence.{Fence}
+use Rattle.sf_base.specs.Fences.{Fence, merged}
 use Rattle.sf_base.specs.declared.ids.QueueId.{QueueId}
 use Rattle.sf_layer.specs.declared.shown.Shown.{Shown}
 use Rattle.sf_picture.specs.declared.picture.Picture.{Picture}

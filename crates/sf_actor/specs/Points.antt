@@ -1,8 +1,7 @@
 -- The tests of fences: for which points a step waits, which points a step needs before it takes a buffer out of its queue,
 -- and which points the steps before have shown.
 use Rattle.std.specs.Prelude.{◌==◌, if◌then◌else◌, Option, Some, None}
-use Rattle.sf_base.specs.Fences.{merged, no_points, with_point}
-use Rattle.sf_base.specs.declared.fences.Fence.{Fence}
+use Rattle.sf_base.specs.Fences.{Fence, merged, no_points, with_point}
 use Rattle.sf_base.specs.declared.fences.Seen.{Seen}
 use Rattle.sf_actor.specs.declared.done.Answered.{Answered}
 use Rattle.sf_actor.specs.declared.done.Answered.TheVariants as answered

@@ -1,7 +1,6 @@
 -- What the words of a step mean.
 use Rattle.std.specs.Prelude.{ℕ, Bool, ◌==◌, ◌&&◌, if◌then◌else◌, List, [], ◌∷◌, Option, Some, None, pos}
-use Rattle.sf_base.specs.Fences.{no_points, with_point}
-use Rattle.sf_base.specs.declared.fences.Fence.{Fence}
+use Rattle.sf_base.specs.Fences.{Fence, no_points, with_point}
 use Rattle.sf_base.specs.declared.format.Format.TheVariants as format
 use Rattle.sf_base.specs.declared.geometry.Rect.{Rect}
 use Rattle.sf_base.specs.declared.ids.LayerId.{LayerId}

@@ -2,8 +2,7 @@
 use Rattle.std.specs.Prelude.{◌≡◌, ℕ, ◌+◌, ◌⊎◌, Bool, true, false, ◌&&◌, if◌then◌else◌}
 use Rattle.std.specs.Prelude.{List, [], ◌∷◌, ◌++◌, map, replicate, get_or, slice_set, Option, Some, None}
 use Rattle.std.specs.List.{All, flat_map}
-use Rattle.sf_base.specs.Fences.{IsSignalled, no_points}
-use Rattle.sf_base.specs.declared.fences.Fence.{Fence}
+use Rattle.sf_base.specs.Fences.{Fence, IsSignalled, no_points}
 use Rattle.sf_base.specs.declared.fences.Seen.{Seen}
 use Rattle.sf_base.specs.declared.status.QStatus.TheVariants as status
 use Rattle.sf_picture.specs.declared.picture.Picture.{Picture}

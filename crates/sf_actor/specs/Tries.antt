@@ -2,9 +2,8 @@
 use Rattle.std.specs.Prelude.{◌≡◌, ◌≢◌, ℕ, ◌+◌, ◌<◌, ◌≤◌, Bool, true, false, if◌then◌else◌}
 use Rattle.std.specs.Prelude.{List, [], ◌∷◌, ◌++◌, drop, filter, length, get_or, Contains, Option, Some, None, slice_get}
 use Rattle.std.specs.List.{All}
-use Rattle.sf_base.specs.Fences.{IsSignalled, value_of}
+use Rattle.sf_base.specs.Fences.{Fence, IsSignalled, value_of}
 use Rattle.sf_base.specs.Points.{greatest, points_from}
-use Rattle.sf_base.specs.declared.fences.Fence.{Fence}
 use Rattle.sf_base.specs.declared.fences.Seen.{Seen}
 use Rattle.sf_picture.specs.declared.picture.Picture.{Picture}
 use Rattle.sf_scene.specs.declared.step.ActorScript.{ActorScript}

@@ -2,7 +2,7 @@ use sf_scene::Step;
 use sf_slots::PlainReply;
 
 /// What a step answered.
-#[derive(Clone, Copy)]
+#[derive(Drop)]
 pub enum Answered {
     /// A status of the actor's own: 0, or the number of the test that refused the step.
     Own(u32),

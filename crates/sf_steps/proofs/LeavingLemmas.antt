@@ -1,7 +1,7 @@
 -- A step that takes a buffer out of its queue, once its fence is passed.
 use Rattle.std.proofs.Common.{ℕ, Option}
 use Rattle.std.specs.Prelude.{IfOk, Result, Ok, Err}
-use Rattle.sf_base.specs.declared.fences.Fence.{Fence}
+use Rattle.sf_base.specs.Fences.{Fence}
 use Rattle.sf_picture.specs.declared.picture.Picture.{Picture}
 use Rattle.sf_scene.specs.declared.step.Step.{Step}
 use Rattle.sf_actor.specs.Desks.{DeskHome, DeskView}

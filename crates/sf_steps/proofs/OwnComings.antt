@@ -3,9 +3,8 @@ use Rattle.std.proofs.Common.{◌≡◌, ◌≢◌, ℕ, ◌+◌, ◌-◌, ◌<�
 use Rattle.std.specs.Prelude.{if◌then◌else◌, nat_lt, replicate, slice_index, slice_set, max}
 use Rattle.std.proofs.lemmas.Bool.{cases_Bool, false≢true, ltb-false, ltb-true}
 use Rattle.std.proofs.lemmas.List.{append-nil, get_or-set_same, length-append, length-replicate}
-use Rattle.sf_base.specs.Fences.{no_points, value_of, with_point}
+use Rattle.sf_base.specs.Fences.{Fence, no_points, value_of, with_point}
 use Rattle.sf_base.specs.Points.{points_from}
-use Rattle.sf_base.specs.declared.fences.Fence.{Fence}
 use Rattle.sf_base.specs.declared.fences.Seen.{Seen}
 use Rattle.sf_picture.specs.declared.picture.Picture.{Picture}
 use Rattle.sf_scene.specs.declared.step.Step.{Step}

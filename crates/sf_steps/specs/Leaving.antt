@@ -1,8 +1,7 @@
 -- What a step does that takes a buffer out of its queue: a loose buffer carries no fence, so the step is refused where a point
 -- of its fence is not signalled.
 use Rattle.std.specs.Prelude.{◌≡◌, ℕ, ◌==◌, Bool, true, false, if◌then◌else◌, map, Option, Some, None}
-use Rattle.sf_base.specs.Fences.{IsSignalled}
-use Rattle.sf_base.specs.declared.fences.Fence.{Fence}
+use Rattle.sf_base.specs.Fences.{Fence, IsSignalled}
 use Rattle.sf_base.specs.declared.fences.Seen.{Seen}
 use Rattle.sf_base.specs.Statuses.{number_of}
 use Rattle.sf_picture.specs.declared.picture.Picture.{Picture}

@@ -1,15 +1,16 @@
-ghost use Rattle.std.specs.Prelude.{◌≡◌};
+ghost use Rattle.std.specs.Prelude.{◌≡◌, IfOk};
 ghost use Rattle.sf_base.specs.Fences.{merged};
 ghost use Rattle.sf_surface.specs.declared.call.QCall.TheVariants as call;
 ghost use Rattle.sf_actor.specs.Scripts.{crop_of, fence_of};
 ghost use Rattle.sf_steps.specs.Forming.{ArePoints, IsCrop, cancel_fence, joining, moving, named};
 
-use sf_base::{Fence, QueueId, Rect, TimelineId};
+use sf_base::{Fence, NoMemory, QueueId, Rect, TimelineId};
 use sf_picture::Picture;
 use sf_scene::Points;
 use sf_slots::Held;
 use sf_surface::{QCall, ReadLease, Work, WriteLease};
 use sf_turns::TableName;
+use std::alloc::Global;
 
 /// No buffer.
 const NO_BUFFER: Held = Held {
@@ -117,17 +118,17 @@ fn crop_of(held: Held, crop: Option<(u32, u32, u32, u32)>) -> Rect
 }
 
 /// The fence of the points that a step names.
-pub fn fence_of(points: &Points) -> Fence
+pub fn fence_of(alloc: Global, points: &Points) -> Result<Fence, NoMemory>
     requires { ArePoints points.now }
-    ensures { result ≡ fence_of points.now }
+    ensures { IfOk result (λ fence. fence ≡ fence_of points.now) }
 {
     let mut fence = Fence::none();
     let mut rest = points.as_slice();
     while let [(timeline, value), later @ ..] = rest {
-        fence.add(TimelineId(*timeline), *value);
+        fence.add(alloc, TimelineId(*timeline), *value)?;
         rest = later;
     }
-    fence
+    Ok(fence)
 }
 
 /// A frame of a lent buffer, with the picture that was drawn in it or is promised.
@@ -156,32 +157,47 @@ pub fn queueing<B: TableName>(
 
 /// What a lent buffer that goes back unqueued leaves to be waited for: where nothing was drawn, what
 /// had to be waited for still.
-fn cancel_fence(work: &Work, mut named: Fence, own: &Fence) -> Fence
-    ensures { result ≡ cancel_fence work.now named own.now }
+fn cancel_fence(
+    alloc: Global,
+    work: &Work,
+    mut named: Fence,
+    own: &Fence,
+) -> Result<Fence, NoMemory>
+    ensures { IfOk result (λ fence. fence ≡ cancel_fence work.now named own.now) }
 {
     match work {
-        Work::Fresh(_) => named.merge(own),
+        Work::Fresh(_) => named.merge(alloc, own)?,
         Work::Drawn(..) => {}
     }
-    named
+    Ok(named)
 }
 
 /// A lent buffer that goes back unqueued.
-pub fn cancel<B: TableName>(name: u32, lease: WriteLease<B>, named: Fence) -> Asking<B>
-    ensures { result ≡ moving lease.queue name name lease.held (call.Cancel lease (cancel_fence lease.work named lease.fence)) }
+pub fn cancel<B: TableName>(
+    alloc: Global,
+    name: u32,
+    lease: WriteLease<B>,
+    named: Fence,
+) -> Result<Asking<B>, NoMemory>
+    ensures { IfOk result (λ asking. asking ≡ moving lease.queue name name lease.held (call.Cancel lease (cancel_fence lease.work named lease.fence))) }
 {
-    let fence = cancel_fence(&lease.work, named, &lease.fence);
+    let fence = cancel_fence(alloc, &lease.work, named, &lease.fence)?;
     let held = lease.held;
     let queue = lease.queue;
-    moving(queue, name, name, held, QCall::Cancel(lease, fence))
+    Ok(moving(queue, name, name, held, QCall::Cancel(lease, fence)))
 }
 
 /// A frame that goes back. Its own points stay to be waited for.
-pub fn release<B: TableName>(name: u32, lease: ReadLease<B>, mut fence: Fence) -> Asking<B>
-    ensures { result ≡ moving lease.queue name name lease.held (call.Release lease (merged fence lease.fence)) }
+pub fn release<B: TableName>(
+    alloc: Global,
+    name: u32,
+    lease: ReadLease<B>,
+    mut fence: Fence,
+) -> Result<Asking<B>, NoMemory>
+    ensures { IfOk result (λ asking. asking ≡ moving lease.queue name name lease.held (call.Release lease (merged fence lease.fence))) }
 {
-    fence.merge(&lease.fence);
+    fence.merge(alloc, &lease.fence)?;
     let held = lease.held;
     let queue = lease.queue;
-    moving(queue, name, name, held, QCall::Release(lease, fence))
+    Ok(moving(queue, name, name, held, QCall::Release(lease, fence)))
 }

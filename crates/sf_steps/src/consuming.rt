@@ -89,7 +89,9 @@ impl<B: TableName> Bindings<B> {
         ensures home { D.home desk.new ≡ D.home desk.old }
     {
         let lease = self.take_frame(name);
-        self.ask(desk, place, release(name, lease, fence_of(points)))
+        let fence = fence_of(self.alloc, points)?;
+        let asking = release(self.alloc, name, lease, fence)?;
+        self.ask(desk, place, asking)
     }
 
     /// Puts a loose buffer into a queue, held by its consumer.

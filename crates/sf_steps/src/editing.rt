@@ -1,4 +1,4 @@
-ghost use Rattle.std.specs.Prelude.{◌≡◌, ◌≢◌, ◌≤◌, true, OnOk};
+ghost use Rattle.std.specs.Prelude.{◌≡◌, ◌≢◌, ◌≤◌, true, IfOk, OnOk};
 ghost use Rattle.std.specs.List.{All};
 ghost use Rattle.sf_actor.specs.Desks.{has_queue};
 ghost use Rattle.sf_actor.specs.Scripts.{op_of, parent_of};
@@ -8,13 +8,14 @@ use crate::bindings::Bindings;
 use crate::calling::leave;
 use crate::tried::Tried;
 use sf_actor::{Desk, TokensOf};
-use sf_base::{ActorId, Fence, LayerId, NoMemory, Rect, TokenId};
+use sf_base::{ActorId, LayerId, NoMemory, Rect, TokenId};
 use sf_calls::CallFault;
 use sf_layer::{Kind, Op, Parent, Shown};
 use sf_scene::Change;
 use sf_surface::{QCall, QReply, ReadLease};
 use sf_turns::TableName;
 use sf_txn::{BufferOp, Transaction};
+use std::alloc::Global;
 
 /// The parent that a change names.
 fn parent_of(number: Option<u32>) -> Parent
@@ -57,11 +58,16 @@ fn op_of(change: Change) -> Op
 }
 
 /// A frame as a buffer of a transaction, on a layer. A queue showed the frame.
-fn buffer_of<B: TableName>(layer: u32, lease: ReadLease<B>) -> BufferOp<ReadLease<B>>
+fn buffer_of<B: TableName>(
+    alloc: Global,
+    layer: u32,
+    lease: ReadLease<B>,
+) -> Result<BufferOp<ReadLease<B>>, NoMemory>
     requires { lease.frame ≢ 0 }
-    ensures { result ≡ buffer_with layer lease }
+    ensures { IfOk result (λ buffer. buffer ≡ buffer_with layer lease) }
 {
-    BufferOp {
+    let fence = lease.fence.copy(alloc)?;
+    Ok(BufferOp {
         layer: LayerId(layer),
         shown: Shown {
             queue: lease.queue,
@@ -69,13 +75,14 @@ fn buffer_of<B: TableName>(layer: u32, lease: ReadLease<B>) -> BufferOp<ReadLeas
             picture: lease.picture,
             crop: lease.crop,
         },
-        fence: lease.fence,
+        fence,
         lease,
-    }
+    })
 }
 
 /// Gives back a frame whose place another took. Where its queue refuses that, it is let go.
 fn release_overtaken<B: TableName, D: Desk<TokensOf<B>>>(
+    alloc: Global,
     desk: &mut D,
     by: ActorId,
     place: u32,
@@ -87,8 +94,7 @@ fn release_overtaken<B: TableName, D: Desk<TokensOf<B>>>(
     ensures home { D.home desk.new ≡ D.home desk.old }
 {
     let queue = lease.queue;
-    let mut fence = Fence::none();
-    fence.merge(&lease.fence);
+    let fence = lease.fence.copy(alloc)?;
     match desk.call(by, queue, place, QCall::Release(lease, fence)) {
         Ok(reply) => {
             let QReply {
@@ -112,6 +118,7 @@ fn release_overtaken<B: TableName, D: Desk<TokensOf<B>>>(
 
 /// Gives back the frames of buffers whose places others took.
 fn release_all<B: TableName, D: Desk<TokensOf<B>>>(
+    alloc: Global,
     desk: &mut D,
     by: ActorId,
     place: u32,
@@ -123,7 +130,7 @@ fn release_all<B: TableName, D: Desk<TokensOf<B>>>(
     ensures home { D.home desk.new ≡ D.home desk.old }
 {
     for buffer in replaced {
-        release_overtaken(desk, by, place, buffer.lease)?;
+        release_overtaken(alloc, desk, by, place, buffer.lease)?;
     }
     Ok(())
 }
@@ -215,13 +222,14 @@ impl<B: TableName> Bindings<B> {
         ensures home { D.home desk.new ≡ D.home desk.old }
     {
         let lease = self.take_frame(name);
+        let buffer = buffer_of(self.alloc, layer, lease)?;
         let mut transaction = self.take_transaction(number);
-        let Ok(replaced) = transaction.set_buffer(buffer_of(layer, lease)) else {
+        let Ok(replaced) = transaction.set_buffer(buffer) else {
             return Err(NoMemory);
         };
         self.transactions.put(number, transaction);
         if let Some(buffer) = replaced {
-            release_overtaken(desk, self.by, place, buffer.lease)?;
+            release_overtaken(self.alloc, desk, self.by, place, buffer.lease)?;
         }
         Ok(Tried::Own(0))
     }
@@ -252,7 +260,7 @@ impl<B: TableName> Bindings<B> {
         };
         self.transactions.put(number, transaction);
         self.transactions.put(other, Transaction::new(self.alloc));
-        release_all(desk, self.by, place, replaced)?;
+        release_all(self.alloc, desk, self.by, place, replaced)?;
         Ok(Tried::Own(0))
     }
 

@@ -1,4 +1,5 @@
 ghost use Rattle.std.specs.Prelude.{◌≡◌};
+ghost use Rattle.std.specs.Option.{option_copied};
 ghost use Rattle.sf_steps.specs.Leaving.{Looks, was_ok};
 
 use crate::asking::{moving, named};
@@ -12,8 +13,8 @@ use sf_surface::QCall;
 use sf_turns::TableName;
 
 /// Whether a point of a fence is not signalled, as a look shows, if there is a fence.
-fn is_open<B: TableName, D: Desk<TokensOf<B>>>(desk: &mut D, fence: Option<Fence>) -> bool
-    ensures looks { Looks (D.home desk.old) fence (D.view desk.old) (D.view desk.new) result }
+fn is_open<B: TableName, D: Desk<TokensOf<B>>>(desk: &mut D, fence: Option<&Fence>) -> bool
+    ensures looks { Looks (D.home desk.old) (option_copied fence.entry) (D.view desk.old) (D.view desk.new) result }
     ensures home { D.home desk.new ≡ D.home desk.old }
 {
     match fence {
@@ -34,6 +35,7 @@ fn was_ok(tried: &Tried) -> bool
 
 impl<B: TableName> Bindings<B> {
     ghost use Rattle.std.specs.Prelude.{◌≡◌, ℕ, true, IfOk, None, get_or, length};
+    ghost use Rattle.std.specs.Option.{option_copied};
     ghost use Rattle.sf_picture.specs.declared.picture.Picture.{Picture};
     ghost use Rattle.sf_scene.specs.declared.step.Step.TheVariants as step;
     ghost use Rattle.sf_actor.specs.Desks.{has_queue};
@@ -97,22 +99,22 @@ impl<B: TableName> Bindings<B> {
     /// What a lent buffer has to wait for before it leaves its queue: nothing where its producer does
     /// not know it, since the queue refuses it then.
     #[tactic(auto, using(crate::proofs::HoldingLemmas::held))]
-    fn requested_fence(&self, name: u32) -> Option<Fence>
-        ensures { result ≡ requested_fence (name_in (holdings_of self.now) name) }
+    fn requested_fence(&self, name: u32) -> Option<&Fence>
+        ensures { option_copied result ≡ requested_fence (name_in (holdings_of self.now) name) }
     {
         match self.names.get(name) {
-            Some(Holding::Lends(lease)) if lease.requested => Some(lease.fence),
+            Some(Holding::Lends(lease)) if lease.requested => Some(&lease.fence),
             _ => None,
         }
     }
 
     /// What a frame has to wait for before its buffer leaves its queue.
     #[tactic(auto, using(crate::proofs::HoldingLemmas::held))]
-    fn frame_fence(&self, name: u32) -> Option<Fence>
-        ensures { result ≡ frame_fence (name_in (holdings_of self.now) name) }
+    fn frame_fence(&self, name: u32) -> Option<&Fence>
+        ensures { option_copied result ≡ frame_fence (name_in (holdings_of self.now) name) }
     {
         match self.names.get(name) {
-            Some(Holding::Reads(lease)) => Some(lease.fence),
+            Some(Holding::Reads(lease)) => Some(&lease.fence),
             _ => None,
         }
     }

@@ -164,7 +164,9 @@ impl<B: TableName> Bindings<B> {
         ensures home { D.home desk.new ≡ D.home desk.old }
     {
         let lease = self.take_lent(name);
-        self.ask(desk, place, cancel(name, lease, fence_of(points)))
+        let fence = fence_of(self.alloc, points)?;
+        let asking = cancel(self.alloc, name, lease, fence)?;
+        self.ask(desk, place, asking)
     }
 
     /// Puts a loose buffer into a queue, lent to its producer.
@@ -212,11 +214,12 @@ impl<B: TableName> Bindings<B> {
         ensures home { D.home desk.new ≡ D.home desk.old }
     {
         let picture = picture.copy(self.alloc)?;
+        let fence = fence_of(self.alloc, points)?;
         let lease = self.take_lent(name);
         self.ask(
             desk,
             place,
-            queueing(name, lease, picture, time, crop, fence_of(points)),
+            queueing(name, lease, picture, time, crop, fence),
         )
     }
 }

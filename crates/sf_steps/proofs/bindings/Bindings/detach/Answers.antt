@@ -1,5 +1,6 @@
 use Rattle.std.proofs.Common.{ℕ, subst, Option}
-use Rattle.sf_base.specs.declared.fences.Fence.{Fence}
+use Rattle.std.specs.Option.{option_copied}
+use Rattle.sf_base.specs.Fences.{Fence}
 use Rattle.sf_picture.specs.declared.picture.Picture.{Picture}
 use Rattle.sf_scene.specs.declared.step.Step.TheVariants as step
 use Rattle.sf_actor.specs.Desks.{DeskHome}
@@ -23,7 +24,7 @@ returns-clause-tries g c =
     let fence = requested_fence (name_in (holdings_of c.args.self.now) c.args.from) in
     let s = step.PDetach c.args.from c.args.to in
     let passed : LooksFor home fence old looked =
-    subst (λ (f : Option Fence). LooksFor home f old looked) c.requested_fence.ensures (subst (Looks home c.requested_fence.result old looked) c.if-is_open.false c.is_open.ensures.looks) in
+    subst (λ (f : Option Fence). LooksFor home f old looked) c.requested_fence.ensures (subst (Looks home (option_copied c.requested_fence.result) old looked) c.if-is_open.false c.is_open.ensures.looks) in
     ok-map _ _ c.detach_now.result
     (λ (came_to : Tried) makes (pictures : ℕ → Picture). leaves pictures home by c.args.place s fence c.args.self.now c.detach_now.new.self old looked new came_to passed
     (subst (λ (h : DeskHome). MakesCall pictures h by c.args.place s c.args.self.now c.detach_now.new.self looked new came_to) home_same (makes pictures)))

@@ -19,7 +19,7 @@ release_overtaken-requires-clause-there g c =
     let left = txns_left bindings c.take_frame-lease.new.self c.args.name (holding.Reads c.take_frame-lease.result) c.take_frame-lease.ensures in
     let there = ap (λ (txns : List (Option (Contents ReadLeaseOf))). get_or txns c.args.number None) (sym left) ∙ c.take_transaction-transaction.ensures.txn_there in
     subst (IsThere home) (sym c.buffer.view_is)
-    (replaced_there home txn.buffers c.buffer_of.result c.in-Some.buffer (queues_of home (get_or bindings.transactions c.args.number None) txn there c.requires.queues) (sym c.in-Ok.ensures.replaced ∙ c.in-Some.is))
+    (replaced_there home txn.buffers c.in_ok-buffer.buffer c.in-Some.buffer (queues_of home (get_or bindings.transactions c.args.number None) txn there c.requires.queues) (sym c.in-Ok.ensures.replaced ∙ c.in-Some.is))
 
 pub returns-clause-shows : goal.returns-clause-shows
 returns-clause-shows g c =
@@ -30,8 +30,8 @@ returns-clause-shows g c =
     let without = c.take_transaction-transaction.new.self in
     let txn = c.take_transaction-transaction.result in
     let buffer = buffer_with c.args.layer c.take_frame-lease.result in
-    let replaced = c.in-Ok.ensures.replaced ∙ ap (replaced_by txn.buffers) c.buffer_of.ensures in
-    let put = c.put.ensures ∙ ap (λ (t : Contents ReadLeaseOf). slice_set without.transactions c.args.number (Some t)) (c.in-Ok.ensures.ok ∙ ap (set_buffer txn) c.buffer_of.ensures) in
+    let replaced = c.in-Ok.ensures.replaced ∙ ap (replaced_by txn.buffers) c.in_ok-buffer.ensures in
+    let put = c.put.ensures ∙ ap (λ (t : Contents ReadLeaseOf). slice_set without.transactions c.args.number (Some t)) (c.in-Ok.ensures.ok ∙ ap (set_buffer txn) c.in_ok-buffer.ensures) in
     let by_same = ap (λ (h : Bindings _). h.by) c.take_transaction-transaction.ensures.txn_rest ∙ ap (λ (h : Bindings _). h.by) c.take_frame-lease.ensures.rest in
     let released : ReleasesAll home by c.args.place (option_to_list c.in-Ok.replaced) old new = elim c.match-replaced.branch [
       | in-Some+in_ok-release_overtaken w ↦
