@@ -65,13 +65,13 @@ fn on_lease<B: TableName>(
     alloc: Global,
     lease: WriteLease<B>,
     call: Call,
-    said: &Said,
+    said: Said,
 ) -> Result<QCall<B>, Left<B>>
     ensures { IfOk result (λ call. PermitFits B.table call) }
 {
     match call {
         Call::Request => Ok(QCall::Request(lease)),
-        Call::Queue => match grey(alloc, said) {
+        Call::Queue => match grey(alloc, &said) {
             Ok(picture) => Ok(QCall::Queue {
                 lease,
                 picture,
@@ -92,7 +92,7 @@ pub fn bringing<B: TableName>(
     alloc: Global,
     token: Gives<B>,
     call: Call,
-    said: &Said,
+    said: Said,
 ) -> Result<QCall<B>, Left<B>>
     ensures { IfOk result (λ call. PermitFits B.table call) }
 {

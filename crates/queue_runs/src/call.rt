@@ -1,6 +1,7 @@
 //! What a line of a case asks for: a call, and the words after its name.
 use case_words::{actor, fence, number32, number64, present_time, rect, slot};
 use sf_base::{ActorId, Fence, Rect, SlotId};
+use std::alloc::Global;
 use std::str::SplitWhitespace;
 
 /// What a line asks for.
@@ -63,7 +64,7 @@ pub enum Part {
 }
 
 /// All that a line may say of a call. What a call has no word for is 0.
-#[derive(Clone, Copy)]
+#[derive(Drop)]
 pub struct Said {
     pub by: ActorId,
     /// Where the token lies that a call brings, and where the token comes that it gets; for a call
@@ -198,7 +199,7 @@ fn place(words: &mut SplitWhitespace<'_>) -> Option<usize> {
 
 impl Said {
     /// Reads the words of one part.
-    fn read(&mut self, part: Part, words: &mut SplitWhitespace<'_>) -> Option<()> {
+    fn read(&mut self, alloc: Global, part: Part, words: &mut SplitWhitespace<'_>) -> Option<()> {
         match part {
             Part::Actor => self.by = actor(words)?,
             Part::Place => self.place = place(words)?,
@@ -212,7 +213,7 @@ impl Said {
             }
             Part::Time => self.time = present_time(words)?,
             Part::Crop => self.crop = rect(words)?,
-            Part::Fence => self.fence = fence(words)?,
+            Part::Fence => self.fence = fence(alloc, words)?,
             Part::Right => self.right = number64(words)?,
         }
         Some(())
@@ -227,7 +228,11 @@ pub enum Rights {
 }
 
 /// The call that these words ask for, and what they say of it.
-pub fn read(rights: Rights, words: &mut SplitWhitespace<'_>) -> Option<(Call, Said)> {
+pub fn read(
+    alloc: Global,
+    rights: Rights,
+    words: &mut SplitWhitespace<'_>,
+) -> Option<(Call, Said)> {
     let call = named(words.next()?)?;
     let parts = match rights {
         Rights::Numbers => parts_with_numbers(call)?,
@@ -253,7 +258,7 @@ pub fn read(rights: Rights, words: &mut SplitWhitespace<'_>) -> Option<(Call, Sa
         right: 0,
     };
     for part in parts {
-        said.read(*part, words)?;
+        said.read(alloc, *part, words)?;
     }
     Some((call, said))
 }

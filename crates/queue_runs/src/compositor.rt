@@ -41,6 +41,7 @@ fn showing<B: TableName>(
     if is_first {
         txn.set(LAYER, Op::Create(Kind::Buffer, Parent::Root))?;
     }
+    let fence = lease.fence.copy(alloc)?;
     let buffer = BufferOp {
         layer: LAYER,
         shown: Shown {
@@ -49,7 +50,7 @@ fn showing<B: TableName>(
             picture: lease.picture,
             crop: lease.crop,
         },
-        fence: lease.fence,
+        fence,
         lease,
     };
     match txn.set_buffer(buffer) {

@@ -1,5 +1,5 @@
 //! Calls on the slots of a queue whose rights are numbers.
-ghost use Rattle.std.specs.Prelude.{◌≡◌, is_some};
+ghost use Rattle.std.specs.Prelude.{◌≡◌, IfOk, is_some};
 ghost use Rattle.sf_queue.specs.Lending.{takes_fresh};
 ghost use Rattle.sf_slots.specs.Queue.{told_of};
 
@@ -7,7 +7,7 @@ use crate::call::{Call, Rights, Said, read};
 use crate::reply::{acquired, done, handed_back, known, lent, refused, seated, taken_in};
 use crate::state;
 use case_words::{BufferSize, is_buffer_size};
-use sf_base::QueueId;
+use sf_base::{NoMemory, QueueId};
 use sf_queue::QueueOrder;
 use sf_slots::Slots;
 use std::alloc::Global;
@@ -17,9 +17,8 @@ use std::io;
 fn fresh(q: &Slots<u64>, said: &Said) -> Option<u64>
     ensures { is_some result ≡ takes_fresh (told_of q.now) said.now.by said.now.width said.now.height }
 {
-    match sf_queue::dequeue_needs(q, said.by, said.width, said.height) {
-        Ok(true) => Some(said.right),
-        Ok(false) => None,
+    match sf_queue::choose(q, said.by, said.width, said.height) {
+        Ok(chosen) => chosen.needs.then_some(said.right),
         Err(_) => None,
     }
 }
@@ -37,8 +36,11 @@ fn dequeue(rt: &impl Print, q: &mut Slots<u64>, said: &Said) -> io::Result<()> {
 }
 
 /// The order of a frame.
-fn order(said: &Said) -> QueueOrder<u64> {
-    QueueOrder {
+fn order(alloc: Global, said: Said) -> Result<QueueOrder<u64>, NoMemory>
+    ensures { IfOk result (λ order. order.kept ≡ order.fence) }
+{
+    let kept = said.fence.copy(alloc)?;
+    Ok(QueueOrder {
         slot: said.slot,
         buffer: said.number,
         picture: said.picture,
@@ -47,28 +49,36 @@ fn order(said: &Said) -> QueueOrder<u64> {
         time: said.time,
         crop: said.crop,
         fence: said.fence,
+        kept,
         right: said.right,
-    }
+    })
 }
 
-fn queue(rt: &impl Print, q: &mut Slots<u64>, said: &Said) -> io::Result<()> {
+fn queue(rt: &impl Print, alloc: Global, q: &mut Slots<u64>, said: Said) -> io::Result<()> {
     if q.settings().frames == u64::MAX {
         return println!(rt; "not made");
     }
-    match sf_queue::queue(q, said.by, order(said)) {
+    let by = said.by;
+    let Ok(order) = order(alloc, said) else {
+        return println!(rt; "out of memory");
+    };
+    match sf_queue::queue(q, by, order) {
         Ok(frame) => println!(rt; "frame {frame}"),
         Err((cause, order)) => handed_back(rt, cause, order.right),
     }
 }
 
-fn queue_allowed(rt: &impl Print, q: &mut Slots<u64>, said: &Said) -> io::Result<()> {
+fn queue_allowed(rt: &impl Print, alloc: Global, q: &mut Slots<u64>, said: Said) -> io::Result<()> {
     if q.settings().frames == u64::MAX {
         return println!(rt; "not made");
     }
-    let order = order(said);
+    let by = said.by;
+    let Ok(order) = order(alloc, said) else {
+        return println!(rt; "out of memory");
+    };
     let refusal = sf_queue::queue_refusal(
         q,
-        said.by,
+        by,
         order.slot,
         order.buffer,
         order.width,
@@ -77,11 +87,11 @@ fn queue_allowed(rt: &impl Print, q: &mut Slots<u64>, said: &Said) -> io::Result
     );
     match refusal {
         Some(cause) => refused(rt, cause),
-        None => println!(rt; "frame {}", sf_queue::queue_allowed(q, said.by, order)),
+        None => println!(rt; "frame {}", sf_queue::queue_allowed(q, by, order)),
     }
 }
 
-fn cancel_allowed(rt: &impl Print, q: &mut Slots<u64>, said: &Said) -> io::Result<()> {
+fn cancel_allowed(rt: &impl Print, q: &mut Slots<u64>, said: Said) -> io::Result<()> {
     match sf_queue::lent_refusal(q, said.by, said.slot, said.number, false) {
         Some(cause) => refused(rt, cause),
         None => {
@@ -114,28 +124,40 @@ fn attach(rt: &impl Print, q: &mut Slots<u64>, call: Call, said: &Said) -> io::R
 }
 
 /// Makes a call of the producer, and prints its answer.
-fn produce(rt: &impl Print, q: &mut Slots<u64>, call: Call, said: &Said) -> io::Result<()> {
+fn produce(
+    rt: &impl Print,
+    alloc: Global,
+    q: &mut Slots<u64>,
+    call: Call,
+    said: Said,
+) -> io::Result<()> {
     match call {
         Call::Connect => done(rt, sf_queue::connect(q, said.by)),
         Call::Disconnect => done(rt, sf_queue::disconnect(q, said.by)),
         Call::MaxDequeued => done(rt, sf_queue::set_max_dequeued(q, said.count)),
         Call::Async => done(rt, sf_queue::set_async(q, said.count == 1)),
-        Call::Dequeue => dequeue(rt, q, said),
+        Call::Dequeue => dequeue(rt, q, &said),
         Call::Request => known(rt, sf_queue::request(q, said.by, said.slot, said.number)),
-        Call::Queue => queue(rt, q, said),
-        Call::QueueAllowed => queue_allowed(rt, q, said),
+        Call::Queue => queue(rt, alloc, q, said),
+        Call::QueueAllowed => queue_allowed(rt, alloc, q, said),
         Call::Cancel => taken_in(
             rt,
             sf_queue::cancel(q, said.by, said.slot, said.number, said.right, said.fence),
         ),
         Call::CancelAllowed => cancel_allowed(rt, q, said),
         Call::Detach => done(rt, sf_queue::detach(q, said.by, said.slot, said.number)),
-        _ => detach_allowed(rt, q, said),
+        _ => detach_allowed(rt, q, &said),
     }
 }
 
 /// Makes a call, and prints its answer.
-fn make(rt: &impl Print, q: &mut Slots<u64>, call: Call, said: &Said) -> io::Result<()> {
+fn make(
+    rt: &impl Print,
+    alloc: Global,
+    q: &mut Slots<u64>,
+    call: Call,
+    said: Said,
+) -> io::Result<()> {
     match call {
         Call::MaxAcquired => done(rt, sf_consume::set_max_acquired(q, said.count)),
         Call::Abandon => done(rt, sf_consume::abandon(q)),
@@ -148,18 +170,18 @@ fn make(rt: &impl Print, q: &mut Slots<u64>, call: Call, said: &Said) -> io::Res
             sf_consume::release(q, said.slot, said.number, said.right, said.fence),
         ),
         Call::DetachRead => done(rt, sf_consume::detach_read(q, said.slot, said.number)),
-        Call::Attach | Call::AttachRead => attach(rt, q, call, said),
-        _ => produce(rt, q, call, said),
+        Call::Attach | Call::AttachRead => attach(rt, q, call, &said),
+        _ => produce(rt, alloc, q, call, said),
     }
 }
 
 /// Does what a line asks for, and prints the line and its answer.
-fn follow(rt: &impl Print, q: &mut Slots<u64>, line: &str) -> io::Result<()> {
-    match read(Rights::Numbers, &mut line.split_whitespace()) {
+fn follow(rt: &impl Print, alloc: Global, q: &mut Slots<u64>, line: &str) -> io::Result<()> {
+    match read(alloc, Rights::Numbers, &mut line.split_whitespace()) {
         Some((Call::State, _)) => state::print(rt, q),
         Some((call, said)) => {
             print!(rt; "{line}: ")?;
-            make(rt, q, call, &said)
+            make(rt, alloc, q, call, said)
         }
         None => println!(rt; "{line}: not a call"),
     }
@@ -171,7 +193,7 @@ pub fn play(rt: &impl Print, alloc: Global, size: BufferSize, lines: &[String]) 
         return println!(rt; "out of memory");
     };
     for line in lines {
-        follow(rt, &mut queue, line.as_str())?;
+        follow(rt, alloc, &mut queue, line.as_str())?;
     }
     Ok(())
 }

@@ -1,5 +1,5 @@
 //! How answers are printed.
-use sf_base::{Fence, QStatus, SlotId};
+use sf_base::{Fence, QStatus, SlotId, TimelineId};
 use sf_consume::Acquired;
 use sf_queue::Dequeued;
 use sf_slots::Held;
@@ -39,10 +39,10 @@ pub fn done(rt: &impl Print, made: Result<(), QStatus>) -> io::Result<()> {
 }
 
 /// Prints the answer of a call that takes a right.
-pub fn taken_in(rt: &impl Print, made: Result<(), (QStatus, u64)>) -> io::Result<()> {
+pub fn taken_in(rt: &impl Print, made: Result<(), (QStatus, (u64, Fence))>) -> io::Result<()> {
     match made {
         Ok(()) => println!(rt; "done"),
-        Err((cause, right)) => handed_back(rt, cause, right),
+        Err((cause, (right, _))) => handed_back(rt, cause, right),
     }
 }
 
@@ -57,12 +57,13 @@ pub fn print_buffer(rt: &impl Print, held: Held) -> io::Result<()> {
 /// Prints a fence: its points, as `3:70`, or `-` where there are none.
 pub fn print_fence(rt: &impl Print, fence: &Fence) -> io::Result<()> {
     print!(rt; ", fence")?;
-    if *fence == Fence::none() {
-        print!(rt; " -")?;
+    if fence.is_none() {
+        return print!(rt; " -");
     }
-    for (place, value) in fence.values.iter().enumerate() {
-        if *value > 0 {
-            print!(rt; " {}:{value}", place + 1)?;
+    for timeline in 1..65 {
+        let value = fence.value(TimelineId(timeline));
+        if value > 0 {
+            print!(rt; " {timeline}:{value}")?;
         }
     }
     Ok(())

@@ -48,7 +48,7 @@ impl<B: TableName> Run<B> {
     }
 
     /// The call of a line, with the token or the permit that it brings.
-    fn call_of(&mut self, call: Call, said: &Said) -> Result<QCall<B>, Left<B>>
+    fn call_of(&mut self, call: Call, said: Said) -> Result<QCall<B>, Left<B>>
         ensures { IfOk result (λ call. PermitFits B.table call) }
     {
         if matches!(call, Call::Dequeue | Call::DequeueWait) {
@@ -62,7 +62,7 @@ impl<B: TableName> Run<B> {
                 permit,
             });
         }
-        match bare(call, said) {
+        match bare(call, &said) {
             Some(call) => Ok(call),
             None => bringing(self.alloc, self.take(said.place), call, said),
         }
@@ -90,17 +90,18 @@ impl<B: TableName> Run<B> {
     }
 
     /// Does what a line asks for, as the caller's next step.
-    pub fn act<W: Wait>(&mut self, rt: &W, by: Caller, call: Call, said: &Said) -> Answer {
+    pub fn act<W: Wait>(&mut self, rt: &W, by: Caller, call: Call, said: Said) -> Answer {
         self.desk.begin(by);
+        let place = said.place;
         let left = match call {
-            Call::Draw => self.draw(said),
+            Call::Draw => self.draw(&said),
             Call::Read => {
-                let token = self.take(said.place);
+                let token = self.take(place);
                 self.tools.read(self.alloc, token)
             }
-            Call::See => self.see(said),
+            Call::See => self.see(&said),
             Call::Show => {
-                let token = self.take(said.place);
+                let token = self.take(place);
                 self.compositor.show(token, &self.seen)
             }
             Call::Lend => (Gives::Nothing, self.compositor.lend()),
@@ -113,6 +114,6 @@ impl<B: TableName> Run<B> {
                 Err(left) => left,
             },
         };
-        self.keep(said.place, left)
+        self.keep(place, left)
     }
 }

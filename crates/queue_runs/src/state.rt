@@ -2,7 +2,7 @@
 ghost use Rattle.std.specs.Prelude.{◌<◌};
 
 use crate::reply::{print_buffer, print_fence};
-use sf_base::{Fence, SlotId};
+use sf_base::SlotId;
 use sf_slots::{SlotState, Slots};
 use std::io;
 
@@ -21,7 +21,7 @@ fn print_slot(rt: &impl Print, q: &Slots<u64>, slot: SlotId) -> io::Result<()>
     requires { slot.0 < 64 }
 {
     let known = q.slot(slot);
-    if known.held.is_none() && known.frame == 0 && known.fence == Fence::none() {
+    if known.held.is_none() && known.frame == 0 && known.fence.is_none() {
         return Ok(());
     }
     print!(rt; "  slot {}: {}, ", slot.0, state_name(q.state(slot)))?;

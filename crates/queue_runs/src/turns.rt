@@ -32,8 +32,8 @@ fn answer_to<B: TableName, W: Wait>(rt: &W, run: &mut Run<B>, line: &str) -> Ans
         Some("2") => Caller::Second,
         _ => return Answer::Plain("no caller"),
     };
-    match read(Rights::Turns, &mut words) {
-        Some((call, said)) => run.act(rt, by, call, &said),
+    match read(run.alloc, Rights::Turns, &mut words) {
+        Some((call, said)) => run.act(rt, by, call, said),
         None => Answer::Plain("not a call"),
     }
 }
