@@ -1,6 +1,6 @@
 //! The words of a case's line, as the programs read them that run cases of calls: each function
 //! takes the next word, or the next few, of a line that is cut at white space. It answers None where
-//! the words end, or say something else.
+//! the words end, say something else, or name a fence for which there is no memory.
 #![tactic(auto)]
 
 mod fences;
