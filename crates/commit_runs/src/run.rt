@@ -108,7 +108,7 @@ impl Run {
         let frame = number64(words)?;
         let page = number32(words)?;
         let fence = match form {
-            "behind" => point_fence(words)?,
+            "behind" => point_fence(self.alloc, words)?,
             _ => Fence::none(),
         };
         let shown = Shown {

@@ -1,5 +1,5 @@
 use page_lease::{Ends, Page};
-use sf_base::{Fence, TokenId};
+use sf_base::{Fence, TimelineId, TokenId};
 use sf_commit::{Commit, Release, Vsync};
 use sf_picture::Painted;
 use sf_ready::Hold;
@@ -69,10 +69,10 @@ fn tell_commit(told: &mut String, commit: &Commit) -> Result<(), AllocError> {
 
 // The points of a fence.
 fn tell_fence(told: &mut String, fence: &Fence) -> Result<(), AllocError> {
-    for place in 0..64 {
-        let value = fence.values[place];
+    for timeline in 1..65 {
+        let value = fence.value(TimelineId(timeline));
         if value > 0 {
-            write!(told, ", after {value} of timeline {}", place + 1)?;
+            write!(told, ", after {value} of timeline {timeline}")?;
         }
     }
     writeln!(told)

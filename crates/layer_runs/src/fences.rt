@@ -14,7 +14,7 @@ impl Made {
                 self.other = Fence::none();
                 self.seen.values = [0; 64];
             }
-            "merge" => self.fence.merge(&self.other),
+            "merge" => self.fence.merge(self.alloc, &self.other).ok()?,
             "open" => return Some(Answer::Open(self.fence.first_open(&self.seen))),
             _ => self.tell(form, words)?,
         }
@@ -25,8 +25,8 @@ impl Made {
     fn tell(&mut self, form: &str, words: &mut SplitWhitespace<'_>) -> Option<()> {
         let (timeline, value) = point(words)?;
         match form {
-            "add" => self.fence.add(timeline, value),
-            "other" => self.other.add(timeline, value),
+            "add" => self.fence.add(self.alloc, timeline, value).ok()?,
+            "other" => self.other.add(self.alloc, timeline, value).ok()?,
             "seen" => self.seen.values[timeline.0 as usize - 1] = value,
             _ => return None,
         }
