@@ -91,7 +91,7 @@ fn open_one<L: Lease + Drop>(eye: &mut L::Eye, one: OnLayer<L>) -> (Reading<L>, 
             let (place, painted) = apart(image);
             (reading, place, painted)
         }
-        Pixels::Brought(_, lease) => {
+        Pixels::Brought(_fence, lease) => {
             let (reading, painted) = lease.open(eye);
             (reading, None, Some(painted))
         }
