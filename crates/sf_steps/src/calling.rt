@@ -17,12 +17,18 @@ fn brought<B: TableName>(call: QCall<B>) -> Gives<B>
     ensures { result ≡ brought call }
 {
     match call {
-        QCall::Request(lease) | QCall::Cancel(lease, _) | QCall::Detach(lease) => {
-            Gives::Write(lease)
-        }
-        QCall::Queue { lease, .. } => Gives::Write(lease),
+        QCall::Request(lease) | QCall::Detach(lease) => Gives::Write(lease),
+        QCall::Cancel(lease, _fence) => Gives::Write(lease),
+        QCall::Queue {
+            lease,
+            picture: _picture,
+            time: _time,
+            crop: _crop,
+            fence: _fence,
+        } => Gives::Write(lease),
         QCall::Attach(loose) | QCall::AttachRead(loose) => Gives::Free(loose),
-        QCall::Release(lease, _) | QCall::DetachRead(lease) => Gives::Read(lease),
+        QCall::Release(lease, _fence) => Gives::Read(lease),
+        QCall::DetachRead(lease) => Gives::Read(lease),
         other => {
             drop(other);
             Gives::Nothing

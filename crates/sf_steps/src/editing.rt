@@ -8,7 +8,7 @@ use crate::bindings::Bindings;
 use crate::calling::leave;
 use crate::tried::Tried;
 use sf_actor::{Desk, TokensOf};
-use sf_base::{ActorId, LayerId, NoMemory, Rect, TokenId};
+use sf_base::{ActorId, Fence, LayerId, NoMemory, Rect, TokenId};
 use sf_calls::CallFault;
 use sf_layer::{Kind, Op, Parent, Shown};
 use sf_scene::Change;
@@ -94,7 +94,8 @@ fn release_overtaken<B: TableName, D: Desk<TokensOf<B>>>(
     ensures home { D.home desk.new ≡ D.home desk.old }
 {
     let queue = lease.queue;
-    let fence = lease.fence.copy(alloc)?;
+    let mut fence = Fence::none();
+    fence.merge(alloc, &lease.fence)?;
     match desk.call(by, queue, place, QCall::Release(lease, fence)) {
         Ok(reply) => {
             let QReply {

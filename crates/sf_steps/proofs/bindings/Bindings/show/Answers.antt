@@ -9,7 +9,7 @@ use Rattle.sf_steps.specs.Editing.{IsThere, Releases, ReleasesAll, buffer_with}
 use Rattle.sf_steps.specs.declared.bindings.Bindings.{Bindings}
 use Rattle.sf_steps.proofs.ShowingLemmas.{queues_of, replaced_there, txns_left}
 use Rattle.sf_steps.proofs.bindings.Bindings.show.Goals as goal
-use Rattle.sf_steps.proofs.bindings.Bindings.show.Goals.{in-Some+in_ok-release_overtaken, in_default-replaced}
+use Rattle.sf_steps.proofs.bindings.Bindings.show.Goals.{in-Some+in_ok-release_overtaken+in-None-1, in-Some+in_ok-release_overtaken+in-Some-1, in_default-replaced}
 
 pub release_overtaken-requires-clause-there : goal.release_overtaken-requires-clause-there
 release_overtaken-requires-clause-there g c =
@@ -34,7 +34,12 @@ returns-clause-shows g c =
     let put = c.put.ensures ∙ ap (λ (t : Contents ReadLeaseOf). slice_set without.transactions c.args.number (Some t)) (c.in-Ok.ensures.ok ∙ ap (set_buffer txn) c.in_ok-buffer.ensures) in
     let by_same = ap (λ (h : Bindings _). h.by) c.take_transaction-transaction.ensures.txn_rest ∙ ap (λ (h : Bindings _). h.by) c.take_frame-lease.ensures.rest in
     let released : ReleasesAll home by c.args.place (option_to_list c.in-Ok.replaced) old new = elim c.match-replaced.branch [
-      | in-Some+in_ok-release_overtaken w ↦
+      | in-Some+in_ok-release_overtaken+in-None-1 w ↦
+          let next = g.D.Desk.view w.release_overtaken.new.desk in
+          let given_back = subst (λ (b : Buffer ReadLeaseOf). Releases home by c.args.place b.lease old next) w.buffer.view_is
+          (subst (λ (a : ActorId). Releases home a.0 c.args.place w.buffer.inside.lease old next) by_same w.in_ok-release_overtaken.ensures.releases) in
+          subst (λ (o : Option (Buffer ReadLeaseOf)). ReleasesAll home by c.args.place (option_to_list o) old new) (sym w.in-Some.is) (next, given_back, ap g.D.Desk.view w.desk-is)
+      | in-Some+in_ok-release_overtaken+in-Some-1 w ↦
           let next = g.D.Desk.view w.release_overtaken.new.desk in
           let given_back = subst (λ (b : Buffer ReadLeaseOf). Releases home by c.args.place b.lease old next) w.buffer.view_is
           (subst (λ (a : ActorId). Releases home a.0 c.args.place w.buffer.inside.lease old next) by_same w.in_ok-release_overtaken.ensures.releases) in
