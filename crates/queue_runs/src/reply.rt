@@ -42,7 +42,7 @@ pub fn done(rt: &impl Print, made: Result<(), QStatus>) -> io::Result<()> {
 pub fn taken_in(rt: &impl Print, made: Result<(), (QStatus, (u64, Fence))>) -> io::Result<()> {
     match made {
         Ok(()) => println!(rt; "done"),
-        Err((cause, (right, _))) => handed_back(rt, cause, right),
+        Err((cause, (right, _fence))) => handed_back(rt, cause, right),
     }
 }
 
