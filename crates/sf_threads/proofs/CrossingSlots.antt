@@ -11,6 +11,7 @@ use Rattle.circular_buffer.specs.contracts.heap.HeapCircularBuffer as buffer
 use Rattle.circular_buffer.specs.contracts.heap.HeapCircularBuffer.TheInside as inside
 use Rattle.circular_buffer.specs.contracts.ring.Ring as ring
 use Rattle.std.specs.contracts.option.Option as option
+use Rattle.sf_base.proofs.fences.Fence.TheSendSync as fence_shown
 use Rattle.sf_slots.specs.contracts.slots.Slots as slots
 use Rattle.sf_slots.specs.contracts.slots.Slots.TheInside as slots_inside
 use Rattle.sf_slots.specs.contracts.item.Item as item
@@ -22,7 +23,7 @@ module _ (R : RattleType) where
   option_send s = search sendable depth 20
 
   pub item_send : IsSend R → IsSend (item.the_row R)
-  item_send s = search (sendable, crosses) depth 20
+  item_send s = search (sendable, crosses, fence_shown.the_send) depth 20
 
   pub ring_send : IsSend R → IsSend (ring.the_row R heap.the_row ghosts)
   ring_send s = search (sendable, crosses, Cells-send, deed_shown.the_send) depth 20

@@ -4,6 +4,7 @@ use denote.Param.Send.{IsSend, sendable, view_send}
 use denote.Param.SendFields.{declared_send}
 use Rattle.std.proofs.Crossing.{Vec-send, crosses}
 use Rattle.std.proofs.MapsCrossing as maps
+use Rattle.sf_base.proofs.fences.Fence.TheSendSync as fence_shown
 use Rattle.sf_turns.specs.declared.naming.TableName as naming
 use Rattle.sf_txn.specs.declared.lease.Lease as lease
 use Rattle.sf_txn.specs.contracts.transaction.Transaction as transaction
@@ -40,7 +41,7 @@ module _ (B : RattleType) (T : naming.Ghosts B.Denot) where
   queue_send = search (sendable, crosses, slots_send, turn_send) depth 20
 
   pub read_send : IsSend (read.the_row B T)
-  read_send = search (sendable, crosses, turn_send) depth 20
+  read_send = search (sendable, crosses, fence_shown.the_send, turn_send) depth 20
 
   pub write_send : IsSend (write.the_row B T)
   write_send = view_send _ _ _ _ _ (declared_send (write_inside.the_type B T) (
@@ -61,7 +62,7 @@ module _ (B : RattleType) (T : naming.Ghosts B.Denot) where
   ))
 
   pub owing_send : IsSend (owing.the_row B T)
-  owing_send = search (sendable, crosses, owed_send) depth 20
+  owing_send = search (sendable, crosses, fence_shown.the_send, owed_send) depth 20
 
   pub loose_send : IsSend (loose.the_row B T)
   loose_send = search (sendable, crosses, turn_send) depth 20
