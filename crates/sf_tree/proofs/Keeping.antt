@@ -1,9 +1,9 @@
 -- What every tree keeps, operation by operation.
-use Rattle.std.proofs.Common.{◌≡◌, ℕ, ◌+◌, ◌<◌, ◌≤◌, ◌≢◌, Bool, true, false, not, cond, List, [], ◌∷◌, ◌++◌, length, get_or, map, Option, Some, None, is_some, refl, ap, ◌∙◌, sym, subst, arith, inl, inr, ◌⊎◌, length-append, length-set, pos, rules}
+use Rattle.std.proofs.Common.{◌≡◌, ℕ, ◌+◌, ◌<◌, ◌≤◌, Bool, true, false, not, cond, List, [], ◌∷◌, ◌++◌, length, get_or, map, Option, Some, None, is_some, refl, ap, ◌∙◌, sym, subst, arith, inl, inr, ◌⊎◌, length-append, length-set, pos, rules}
 use Rattle.std.specs.List.{All, AllPairs, filter, find, slice_get, slice_set}
 use Rattle.std.specs.Prelude.{◌==◌, eqb, if◌then◌else◌, IfSome}
 use Rattle.std.proofs.lemmas.Bool.{eqb-true, eq-eqb, lt-ltb}
-use Rattle.std.proofs.lemmas.List.{length-map, get_or-map, get_or-set_same, get_or-set_other}
+use Rattle.std.proofs.lemmas.List.{length-map, get_or-map}
 use Rattle.std.proofs.lemmas.List.Elements.{All-filter, All-map, All-push, All-set}
 use Rattle.std.proofs.lemmas.List.Folds.{position_or_len-set}
 use Rattle.std.proofs.lemmas.List.Kept.{AllPairs-filter}
@@ -25,7 +25,7 @@ use Rattle.sf_tree.specs.Known.{IsBounded}
 use Rattle.sf_tree.specs.Layers.{is_numbered, layer_of, index_of, has_layer, has_parent}
 use Rattle.sf_tree.proofs.Edits.{edited_number}
 use Rattle.sf_tree.proofs.Lookups.{has_layer-place, layer_of-place, index_of-absent}
-use Rattle.sf_tree.proofs.Places.{IsDistinct-push, index_of_push}
+use Rattle.sf_tree.proofs.Places.{IsDistinct-push, IsDistinct-set, index_of_push}
 use Rattle.sf_tree.proofs.Ranks.{bounded_rank}
 
 pub IsTree_nil : (most : ℕ) → most ≤ 9216 → IsTree most []
@@ -134,7 +134,7 @@ IsTree-set most xs place layer y t inside at number tied range of_kind no_cycle 
   limit = t.limit;
   few = rw (length-set xs place y) t.few;
   numbered = All-set (λ layer. 0 < layer.number.0) xs place y (rw number (rw (get_or_from_slice_get xs place layer layer at) at (t.numbered place layer inside))) t.numbered;
-  distinct = distinct;
+  distinct = IsDistinct-set xs place y (ap (λ (l : Layer). l.number) (get_or_from_slice_get xs place layer y at) ∙ sym number) t.distinct;
   tied = All-set (IsTied next) xs place y (IsTied-stays xs next y stays tied) (λ k d h. IsTied-stays xs next (get_or xs k d) stays (t.tied k d h));
   no_cycle = no_cycle;
   in_range = All-set IsLayerInRange xs place y range t.in_range;
@@ -150,22 +150,6 @@ IsTree-set most xs place layer y t inside at number tied range of_kind no_cycle 
     stays : (id : LayerId) → has_layer xs id ≡ true → has_layer next id ≡ true
     stays id h = has_layer-place next id ∙ (ap is_some (same id) ∙ (sym (has_layer-place xs id) ∙ h))
 
-    distinct : IsDistinct next
-    distinct k d h = by_place (eqb k place) refl
-      where
-        low : k < length xs
-        low = rw (length-set xs place y) at h
-
-        by_place : (b : Bool) → eqb k place ≡ b → index_of next (get_or next k d).number ≡ Some k
-        by_place true e =
-            let at_place : k ≡ place = eqb-true k place e in
-            let number_there : (get_or next place d).number ≡ layer.number = ap (λ (l : Layer). l.number) (get_or-set_same xs place y d inside) ∙ number in
-            let first : index_of xs layer.number ≡ Some place = rw (get_or_from_slice_get xs place layer layer at) at (t.distinct place layer inside) in
-            subst (λ (j : ℕ). index_of next (get_or next j d).number ≡ Some j) (sym at_place) (ap (λ (n : LayerId). index_of next n) number_there ∙ (same layer.number ∙ first))
-        by_place false e =
-            let apart : k ≢ place = λ p. let clash : true ≡ false = sym (eq-eqb k place p) ∙ e in cc in
-            rw (get_or-set_other xs place k y d apart) (same (get_or xs k d).number ∙ t.distinct k d low)
-
 pairs_from_distinct : (xs : List Layer) → IsDistinct xs → AllPairs (λ a b. (a.number.0 == b.number.0) ≡ false) xs
 pairs_from_distinct xs distinct i j d low inside = (position-Some (is_numbered (get_or xs j d).number) xs j d (distinct j d inside)).2 i low
 
@@ -177,6 +161,13 @@ pairs-without : (id : LayerId) (xs : List Layer) → AllPairs (λ a b. (a.number
 pairs-without id xs pairs i j d low inside =
     let size : j < length xs = rw (length-map xs (without_steps_to id)) at inside in
     rw (get_or-map (without_steps_to id) xs i d d (omega arith), get_or-map (without_steps_to id) xs j d d size) (pairs i j d low size)
+
+pub IsDistinct-without : (xs : List Layer) (id : LayerId) → IsDistinct xs → IsDistinct (without id xs)
+IsDistinct-without xs id distinct =
+    distinct_from_pairs (without id xs) (pairs-without id (filter stays xs) (AllPairs-filter (λ (a b : Layer). (a.number.0 == b.number.0) ≡ false) stays xs (pairs_from_distinct xs distinct)))
+  where
+    stays : Layer → Bool
+    stays layer = not (is_numbered id layer)
 
 -- the others stay where one layer goes
 has_layer-without : (xs : List Layer) (id other : LayerId) → (other.0 == id.0) ≡ false → has_layer xs other ≡ true → has_layer (without id xs) other ≡ true
@@ -238,7 +229,7 @@ IsTree-destroyed most xs id t = record {
   limit = t.limit;
   few = rw (length-map kept (without_steps_to id), length-filter stays xs) (omega (arith, count_by-le-length stays xs, t.few));
   numbered = All-map (λ layer. 0 < layer.number.0) (without_steps_to id) kept (All-filter stays (λ layer. 0 < layer.number.0) xs t.numbered);
-  distinct = distinct_from_pairs (without id xs) (pairs-without id kept (AllPairs-filter (λ (a b : Layer). (a.number.0 == b.number.0) ≡ false) stays xs (pairs_from_distinct xs t.distinct)));
+  distinct = IsDistinct-without xs id t.distinct;
   tied = All-map (IsTied (without id xs)) (without_steps_to id) kept (All-filter stays (λ layer. IsTied (without id xs) (without_steps_to id layer)) xs (λ k d h. IsTied-without xs id (get_or xs k d) (t.tied k d h)));
   no_cycle = record { rank = t.no_cycle.rank; ranked = All-map (IsRanked t.no_cycle.rank) (without_steps_to id) kept (All-filter stays (λ layer. IsRanked t.no_cycle.rank (without_steps_to id layer)) xs (λ k d h. IsRanked-without t.no_cycle.rank id (get_or xs k d) (t.no_cycle.ranked k d h))) };
   in_range = All-map IsLayerInRange (without_steps_to id) kept (All-filter stays (λ layer. IsLayerInRange (without_steps_to id layer)) xs (λ k d h. let r = t.in_range k d h in record { x = r.x; y = r.y; crop = r.crop; shown = r.shown; orient = r.orient }));

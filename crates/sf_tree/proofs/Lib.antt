@@ -7,6 +7,7 @@ pub mod Searching
 pub mod Exploring
 pub mod Ranks
 pub mod Keeping
+pub mod Removing
 pub mod Moving
 pub mod NoCycles
 pub mod KeepingMoves

@@ -15,10 +15,10 @@ use Rattle.sf_tree.specs.Kept.{IsDistinct}
 use Rattle.sf_tree.specs.Layers.{is_numbered, layer_of, index_of, has_layer}
 use Rattle.sf_tree.proofs.Places.{index_of_same, index_of_inside}
 
-some_is : (n l k : ℕ) → cond (nat_lt n l) (Some n) None ≡ Some k → n ≡ k
+pub some_is : (n l k : ℕ) → cond (nat_lt n l) (Some n) None ≡ Some k → n ≡ k
 some_is n l k h = grind (arith, common_steps)
 
-none_is : (n l : ℕ) → cond (nat_lt n l) (Some n) None ≡ None → l ≤ n
+pub none_is : (n l : ℕ) → cond (nat_lt n l) (Some n) None ≡ None → l ≤ n
 none_is n l h = grind (arith, common_steps)
 
 -- the layer of a number stands at its place
@@ -76,26 +76,5 @@ is_numbered-place xs id p layer e at = rw (get_or_from_slice_get xs p layer laye
 pub with_layer-place : (xs : List Layer) (id : LayerId) (f : Layer → Layer) (p : ℕ) (layer : Layer) → IsDistinct xs → index_of xs id ≡ Some p → slice_get xs p ≡ Some layer → with_layer id f xs ≡ slice_set xs p (f layer)
 with_layer-place xs id f p layer distinct e at =
     map_one (is_numbered id) f xs p layer at (is_numbered-place xs id p layer e at) (λ k d inside other. numbered_alone xs id p k d distinct e inside other)
-
-index_of-unnumbered : (xs : List Layer) (id : LayerId) (d : Layer) → All (λ layer. is_numbered id layer ≡ false) xs → index_of xs id ≡ None
-index_of-unnumbered xs id d h = by_place (index_of xs id) refl
-  where
-    by_place : (o : Option ℕ) → index_of xs id ≡ o → index_of xs id ≡ None
-    by_place None e = e
-    by_place (Some k) e =
-        let clash : true ≡ false = sym ((position-Some (is_numbered id) xs k d e).1) ∙ h k d (index_of_inside xs id k e) in cc
-
--- no layer that stays has the number of a later one
-pub index_of-without : (xs : List Layer) (id : LayerId) (i : ℕ) (d : Layer) → IsDistinct xs → i < length xs → index_of (without id (take i xs)) (get_or xs i d).number ≡ None
-index_of-without xs id i d distinct inside =
-    index_of-unnumbered _ number d (All-map (λ layer. is_numbered number layer ≡ false) (without_steps_to id) _ (All-filter (λ layer. not (is_numbered id layer)) (λ layer. is_numbered number layer ≡ false) (take i xs) before))
-  where
-    number : LayerId
-    number = (get_or xs i d).number
-
-    before : All (λ layer. is_numbered number layer ≡ false) (take i xs)
-    before k e h =
-        let low : k < i = omega (arith, length-take {A = Layer}, h) in
-        rw (get_or-take i xs k e low) ((position-Some (is_numbered number) xs i e (distinct i d inside)).2 k low)
 
 pub ruleset lookups = (layer_of-none, layer_of-place, has_layer-place, index_of-absent, with_layer-place, is_numbered-place)

@@ -1,8 +1,8 @@
 -- Where layers of a list are found, as the list grows and shrinks at its end.
-use Rattle.std.proofs.Common.{◌≡◌, ℕ, ◌+◌, ◌-◌, ◌<◌, ◌≤◌, Bool, true, false, cond, List, [], ◌∷◌, ◌++◌, length, get_or, take, Option, Some, None, is_some, refl, ap, ◌∙◌, sym, arith, length-append, inl, inr, ◌⊎◌}
-use Rattle.std.specs.List.{position, position_or_len}
+use Rattle.std.proofs.Common.{◌≡◌, ◌≢◌, ℕ, ◌+◌, ◌-◌, ◌<◌, ◌≤◌, Bool, true, false, cond, List, [], ◌∷◌, ◌++◌, length, get_or, take, Option, Some, None, is_some, refl, ap, ◌∙◌, sym, subst, arith, length-append, length-set, inl, inr, ◌⊎◌}
+use Rattle.std.specs.List.{position, position_or_len, slice_set}
 use Rattle.std.specs.Prelude.{nat_lt, ◌==◌, eqb}
-use Rattle.std.proofs.lemmas.List.Folds.{position_or_len_push}
+use Rattle.std.proofs.lemmas.List.Folds.{position_or_len_push, position_or_len-set}
 use Rattle.std.proofs.lemmas.List.Sums.{prefix_len-le-length}
 use Rattle.std.proofs.lemmas.Grind.{common_steps}
 use Rattle.std.proofs.lemmas.Bool.{eqb-true, eq-eqb, cases_lt}
@@ -10,10 +10,11 @@ use Rattle.std.specs.BTreeMap.{BTreeMap, get, is_at}
 use Rattle.std.specs.Ordering.{nat_cmp}
 use Rattle.std.proofs.Math.ListN.{get_or-append}
 use Rattle.std.proofs.Math.Seq.{get_or-append_seam}
-use Rattle.std.proofs.lemmas.List.{take_at}
+use Rattle.std.proofs.lemmas.List.{get_or-set_other, get_or-set_same, take_at}
+use Rattle.std.proofs.lemmas.List.Quantifiers.{position-Some}
 use Rattle.sf_base.specs.declared.ids.LayerId.{LayerId}
 use Rattle.sf_layer.specs.declared.layer.Layer.{Layer}
-use Rattle.sf_tree.specs.Index.{IsIndexed}
+use Rattle.sf_tree.specs.Index.{IsIndexed, IsNoted, StandsUpTo}
 use Rattle.sf_tree.specs.Kept.{IsDistinct}
 use Rattle.sf_tree.specs.Layers.{is_numbered, index_of}
 
@@ -48,7 +49,7 @@ some_inside n l k h = grind (arith, common_steps)
 pub index_of_inside : (xs : List Layer) (id : LayerId) (k : ℕ) → index_of xs id ≡ Some k → k < length xs
 index_of_inside xs id k e = some_inside _ _ k e
 
-is_at_number : (a b : ℕ) → is_at (nat_cmp a) b ≡ eqb a b
+pub is_at_number : (a b : ℕ) → is_at (nat_cmp a) b ≡ eqb a b
 is_at_number a b = grind (arith, common_steps)
 
 -- a list with a layer of a new number at its end
@@ -65,11 +66,20 @@ IsDistinct-push xs y distinct new place d inside = by_place (cases_lt place (len
         let at : place ≡ length xs = omega (arith, length-append xs (y ∷ []), inside) in
         rw (at, get_or-append_seam xs y [] d, index_of_push xs y new y.number, eq-eqb y.number.0 y.number.0 refl) refl
 
+-- what is noted of a layer that is found elsewhere in the same way
+IsNoted-as : (xs ys : List Layer) (id : LayerId) (bound : Option ℕ) → index_of ys id ≡ index_of xs id → IsNoted xs id bound → IsNoted ys id bound
+IsNoted-as xs ys id None same h = same ∙ h
+IsNoted-as xs ys id (Some bound) same h = record { place = h.place; found = same ∙ h.found; up_to = h.up_to }
+
 pub IsIndexed-push : (xs : List Layer) (y : Layer) (m n : BTreeMap ℕ ℕ) → IsIndexed xs m → index_of xs y.number ≡ None → ((q : ℕ) → get nat_cmp n q ≡ cond (is_at (nat_cmp y.number.0) q) (Some (length xs)) (get nat_cmp m q)) → IsIndexed (xs ++ y ∷ []) n
 IsIndexed-push xs y m n old new put = record {
-  found = λ q. put q ∙ (rw (is_at_number y.number.0 q, old.found q) (sym (index_of_push xs y new (record { 0 = q }))));
+  noted = λ id. subst (IsNoted (xs ++ y ∷ []) id) (sym (put id.0)) (subst (λ (b : Bool). IsNoted (xs ++ y ∷ []) id (cond b (Some (length xs)) (get nat_cmp m id.0))) (sym (is_at_number y.number.0 id.0)) (by_number id (eqb y.number.0 id.0) refl));
   distinct = IsDistinct-push xs y old.distinct new;
 }
+  where
+    by_number : (id : LayerId) (b : Bool) → eqb y.number.0 id.0 ≡ b → IsNoted (xs ++ y ∷ []) id (cond b (Some (length xs)) (get nat_cmp m id.0))
+    by_number id true e = record { place = length xs; found = index_of_push xs y new id ∙ (rw e refl); up_to = omega arith }
+    by_number id false e = IsNoted-as xs (xs ++ y ∷ []) id (get nat_cmp m id.0) (index_of_push xs y new id ∙ (rw e refl)) (old.noted id)
 
 -- a list without the layer at its end
 last_is_new : (xs : List Layer) (y : Layer) → IsDistinct (xs ++ y ∷ []) → index_of xs y.number ≡ None
@@ -98,19 +108,80 @@ IsDistinct-pop xs y distinct place d inside = by_number (eqb y.number.0 (get_or 
 
 pub IsIndexed-pop : (xs : List Layer) (y : Layer) (m n : BTreeMap ℕ ℕ) → IsIndexed (xs ++ y ∷ []) m → ((q : ℕ) → get nat_cmp n q ≡ cond (is_at (nat_cmp y.number.0) q) None (get nat_cmp m q)) → IsIndexed xs n
 IsIndexed-pop xs y m n old gone = record {
-  found = λ q. gone q ∙ (rw (is_at_number y.number.0 q, old.found q, index_of_push xs y new (record { 0 = q })) (by_number q (eqb y.number.0 q) refl));
+  noted = λ id. subst (IsNoted xs id) (sym (gone id.0)) (subst (λ (b : Bool). IsNoted xs id (cond b None (get nat_cmp m id.0))) (sym (is_at_number y.number.0 id.0)) (by_number id (eqb y.number.0 id.0) refl));
   distinct = IsDistinct-pop xs y old.distinct;
 }
   where
     new : index_of xs y.number ≡ None
     new = last_is_new xs y old.distinct
 
-    by_number : (q : ℕ) (b : Bool) → eqb y.number.0 q ≡ b → cond (eqb y.number.0 q) None (cond (eqb y.number.0 q) (Some (length xs)) (index_of xs (record { 0 = q }))) ≡ index_of xs (record { 0 = q })
-    by_number q true e = rw e (sym (sym (index_of_same xs y.number (record { 0 = q }) e) ∙ new))
-    by_number q false e = rw e refl
+    by_number : (id : LayerId) (b : Bool) → eqb y.number.0 id.0 ≡ b → IsNoted xs id (cond b None (get nat_cmp m id.0))
+    by_number id true e = sym (index_of_same xs y.number id e) ∙ new
+    by_number id false e = IsNoted-as (xs ++ y ∷ []) xs id (get nat_cmp m id.0) (sym (index_of_push xs y new id ∙ (rw e refl))) (old.noted id)
+
+-- an index of the same entries
+pub IsIndexed-same : (xs : List Layer) (m n : BTreeMap ℕ ℕ) → IsIndexed xs m → n.entries ≡ m.entries → IsIndexed xs n
+IsIndexed-same xs m n old same = record { noted = λ id. subst (IsNoted xs id) (get_same id.0) (old.noted id); distinct = old.distinct }
+  where
+    get_same : (q : ℕ) → get nat_cmp m q ≡ get nat_cmp n q
+    get_same q = rw same refl
 
 -- a layer that came to the end of the list and went, while the index stayed
 pub IsIndexed-undone : (xs zs : List Layer) (y : Layer) (m n : BTreeMap ℕ ℕ) → IsIndexed xs m → zs ≡ take (length (xs ++ y ∷ []) - 1) (xs ++ y ∷ []) → n.entries ≡ m.entries → IsIndexed zs n
 IsIndexed-undone xs zs y m n old taken same =
     let all : zs ≡ xs = taken ∙ take_at xs (y ∷ []) _ (omega (arith, length-append xs (y ∷ []))) in
-    rw all (record { found = λ q. rw same (old.found q); distinct = old.distinct })
+    rw all (IsIndexed-same xs m n old same)
+
+-- a layer's own place is noted
+pub IsIndexed-noted : (xs : List Layer) (place : ℕ) (d : Layer) (m n : BTreeMap ℕ ℕ) → IsIndexed xs m → place < length xs → ((q : ℕ) → get nat_cmp n q ≡ cond (is_at (nat_cmp (get_or xs place d).number.0) q) (Some place) (get nat_cmp m q)) → IsIndexed xs n
+IsIndexed-noted xs place d m n old inside put = record {
+  noted = λ id. subst (IsNoted xs id) (sym (put id.0)) (subst (λ (b : Bool). IsNoted xs id (cond b (Some place) (get nat_cmp m id.0))) (sym (is_at_number number.0 id.0)) (by_number id (eqb number.0 id.0) refl));
+  distinct = old.distinct;
+}
+  where
+    number : LayerId
+    number = (get_or xs place d).number
+
+    by_number : (id : LayerId) (b : Bool) → eqb number.0 id.0 ≡ b → IsNoted xs id (cond b (Some place) (get nat_cmp m id.0))
+    by_number id true e = record { place = place; found = sym (index_of_same xs number id e) ∙ old.distinct place d inside; up_to = omega arith }
+    by_number id false e = old.noted id
+
+-- another state of a layer is found where the layer was
+index_of-state : (xs : List Layer) (place : ℕ) (y : Layer) → (get_or xs place y).number ≡ y.number → (id : LayerId) → index_of (slice_set xs place y) id ≡ index_of xs id
+index_of-state xs place y number id =
+    rw (position_or_len-set (is_numbered id) xs place y y (ap (λ (n : LayerId). eqb n.0 id.0) (sym number)), length-set xs place y) refl
+
+pub IsDistinct-set : (xs : List Layer) (place : ℕ) (y : Layer) → (get_or xs place y).number ≡ y.number → IsDistinct xs → IsDistinct (slice_set xs place y)
+IsDistinct-set xs place y number distinct k d h = by_place (eqb k place) refl
+  where
+    low : k < length xs
+    low = rw (length-set xs place y) at h
+
+    by_place : (b : Bool) → eqb k place ≡ b → index_of (slice_set xs place y) (get_or (slice_set xs place y) k d).number ≡ Some k
+    by_place true e =
+        let at : k ≡ place = eqb-true k place e in
+        let inside : place < length xs = omega (arith, low) in
+        let there : (get_or (slice_set xs place y) place d).number ≡ (get_or xs place y).number = ap (λ (l : Layer). l.number) (get_or-set_same xs place y d inside) ∙ sym number in
+        let first : index_of (slice_set xs place y) (get_or (slice_set xs place y) place d).number ≡ Some place =
+        ap (index_of (slice_set xs place y)) there ∙ (index_of-state xs place y number (get_or xs place y).number ∙ distinct place y inside) in
+        subst (λ (j : ℕ). index_of (slice_set xs place y) (get_or (slice_set xs place y) j d).number ≡ Some j) (sym at) first
+    by_place false e =
+        let apart : k ≢ place = λ p. let clash : true ≡ false = sym (eq-eqb k place p) ∙ e in cc in
+        rw (get_or-set_other xs place k y d apart) (index_of-state xs place y number (get_or xs k d).number ∙ distinct k d low)
+
+pub IsIndexed-set : (xs : List Layer) (place : ℕ) (y : Layer) (m : BTreeMap ℕ ℕ) → IsIndexed xs m → (get_or xs place y).number ≡ y.number → IsIndexed (slice_set xs place y) m
+IsIndexed-set xs place y m old number = record {
+  noted = λ id. IsNoted-as xs (slice_set xs place y) id (get nat_cmp m id.0) (index_of-state xs place y number id) (old.noted id);
+  distinct = IsDistinct-set xs place y number old.distinct;
+}
+
+-- a layer stands before a place where another one is
+pub stands_before : (xs : List Layer) (id : LayerId) (p : ℕ) (d : Layer) → StandsUpTo xs id p → (get_or xs p d).number.0 ≢ id.0 → StandsUpTo xs id (p - 1)
+stands_before xs id p d s other = record { place = s.place; found = s.found; up_to = omega (arith, s.up_to, apart) }
+  where
+    apart : s.place ≢ p
+    apart e = other (eqb-true _ _ (subst (λ (k : ℕ). is_numbered id (get_or xs k d) ≡ true) e ((position-Some (is_numbered id) xs s.place d s.found).1)))
+
+-- a layer is found where its number stands
+pub stands_here : (xs : List Layer) (id : LayerId) (p : ℕ) (d : Layer) → IsDistinct xs → p < length xs → (get_or xs p d).number.0 ≡ id.0 → index_of xs id ≡ Some p
+stands_here xs id p d distinct inside e = sym (index_of_same xs (get_or xs p d).number id (eq-eqb _ _ e)) ∙ distinct p d inside

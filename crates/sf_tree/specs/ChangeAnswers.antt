@@ -18,6 +18,12 @@ IsChange (Ok undo) old new change = (change ≡ Ok new) × CanUndo undo new × (
 IsChange (Err (fault.Rejected cause)) old new change = (change ≡ Err cause) × (new ≡ old)
 IsChange (Err fault.NoMemory) old new change = new ≡ old
 
+-- all of the change was made, or it has this cause
+abbrev pub IsDone : Result (Unit {0}) ChangeFault → List Layer → Result (List Layer) Reject → Type 0
+IsDone (Ok _) new change = change ≡ Ok new
+IsDone (Err (fault.Rejected cause)) new change = change ≡ Err cause
+IsDone (Err fault.NoMemory) new change = Unit {0}
+
 -- why a layer cannot hang where it hangs, if it cannot
 abbrev pub draw_cause : List Layer → LayerId → Option Reject
 draw_cause tree id = if reaches_itself all_steps tree id then Some reject.DrawCycle else None

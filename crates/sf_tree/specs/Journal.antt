@@ -9,12 +9,11 @@ use Rattle.sf_tree.specs.declared.journal.Undo.TheVariants as undo
 abbrev pub undone : Undo → List Layer → List Layer
 undone undo.Created layers = take (length layers - 1) layers
 undone (undo.Edited place layer) layers = slice_set layers place layer
-undone (undo.Destroyed before) layers = before
 
 -- the change can be taken back
 abbrev pub CanUndo : Undo → List Layer → Type 0
 CanUndo (undo.Edited place layer) layers = (place < length layers) × ((slice_index_or layers place layer).number ≡ layer.number)
-CanUndo _ layers = Unit {0}
+CanUndo undo.Created layers = Unit {0}
 
 -- the layers before changes of which the last is taken back first
 abbrev pub back : List Undo → List Layer → List Layer

@@ -1,8 +1,11 @@
-ghost use Rattle.std.specs.Prelude.{◌≡◌, ◌≤◌, length, IfErr, OnOk, OnErr};
+ghost use Rattle.std.specs.Prelude.{◌≡◌, ◌≤◌, List, length, IfErr, OnOk, OnErr};
+ghost use Rattle.sf_layer.specs.declared.layer.Layer.{Layer as LayerValue};
 ghost use Rattle.sf_tree.specs.Answers.{IsRejection};
-ghost use Rattle.sf_tree.specs.Changes.{after_from};
+ghost use Rattle.sf_tree.specs.ChangeAnswers.{IsDone};
+ghost use Rattle.sf_tree.specs.Changes.{after_from, changed};
+ghost use Rattle.sf_tree.specs.Journal.{GoesBack};
 
-use crate::changes::{ChangeFault, change};
+use crate::changes::{ChangeFault, change, destroy};
 use crate::journal::{Journal, take_back};
 use crate::layers::Layers;
 use sf_base::LayerId;
@@ -27,6 +30,30 @@ pub enum ApplyFault {
     NoMemory,
 }
 
+// Does one operation in place, and notes how it is taken back.
+fn step(
+    alloc: Global,
+    layers: &mut Layers,
+    journal: &mut Journal,
+    most: u32,
+    operation: &(LayerId, Op),
+) -> Result<(), ChangeFault>
+    ensures done { IsDone result layers.new (changed most layers.old operation.now.0 operation.now.1) }
+    ensures back { (first : List LayerValue) → GoesBack journal.old layers.old first → GoesBack journal.new layers.new first }
+{
+    if let Op::Destroy = operation.1 {
+        return destroy(alloc, layers, journal, operation.0);
+    }
+    let undo = change(alloc, layers, most, operation.0, &operation.1)?;
+    match journal.remember(undo) {
+        Ok(()) => Ok(()),
+        Err(undo) => {
+            take_back(layers, undo);
+            Err(ChangeFault::NoMemory)
+        }
+    }
+}
+
 // Does all operations in place, in order, or leaves the layers as they were.
 pub fn apply_all(
     alloc: Global,
@@ -43,15 +70,8 @@ pub fn apply_all(
     let mut number = 0u32;
     for operation in ops {
         number += 1;
-        match change(alloc, layers, most, operation.0, &operation.1) {
-            Ok(undo) => match journal.remember(undo) {
-                Ok(()) => {}
-                Err(undo) => {
-                    take_back(layers, undo);
-                    journal.go_back(layers);
-                    return Err(ApplyFault::NoMemory);
-                }
-            },
+        match step(alloc, layers, &mut journal, most, operation) {
+            Ok(()) => {}
             Err(ChangeFault::Rejected(cause)) => {
                 journal.go_back(layers);
                 return Err(ApplyFault::Reject {
@@ -64,6 +84,9 @@ pub fn apply_all(
                 return Err(ApplyFault::NoMemory);
             }
         }
+    }
+    if journal.has_all() {
+        layers.note_places();
     }
     Ok(())
 }

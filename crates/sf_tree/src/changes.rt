@@ -1,10 +1,13 @@
-ghost use Rattle.std.specs.Prelude.{◌≡◌, ◌<◌, IfOk, length, slice_index_or};
+ghost use Rattle.std.specs.Prelude.{◌≡◌, ◌≢◌, ◌<◌, List, IfOk, length, slice_index_or};
+ghost use Rattle.sf_layer.specs.declared.layer.Layer.{Layer as LayerValue};
+ghost use Rattle.sf_layer.specs.declared.op.Op.TheVariants as variants;
 ghost use Rattle.sf_tree.specs.Changes.{changed, created, destroyed, edited, edited_layer, fits_kind, made_relative, new_layer, reparented};
 ghost use Rattle.sf_tree.specs.Layers.{layer_of};
-ghost use Rattle.sf_tree.specs.ChangeAnswers.{draw_cause, IsChange, parent_cause, Settles};
+ghost use Rattle.sf_tree.specs.ChangeAnswers.{draw_cause, IsChange, IsDone, parent_cause, Settles};
+ghost use Rattle.sf_tree.specs.Journal.{GoesBack};
 
 use crate::cycles::{Along, reaches_itself};
-use crate::journal::Undo;
+use crate::journal::{Journal, Undo};
 use crate::layers::Layers;
 use crate::reject::Reject;
 use sf_base::{LayerId, NoMemory, Rgba};
@@ -69,16 +72,26 @@ fn create(
     }
 }
 
-#[tactic(auto, unfolding(crate::specs::Changes::destroyed))]
-fn destroy(alloc: Global, layers: &mut Layers, id: LayerId) -> Result<Undo, ChangeFault>
-    ensures { IsChange result layers.old layers.new (destroyed layers.old id) }
+// Destroys a layer in place, once the journal has all layers.
+#[tactic(auto, using(crate::proofs::Lookups::lookups), unfolding(crate::specs::Changes::destroyed))]
+pub fn destroy(
+    alloc: Global,
+    layers: &mut Layers,
+    journal: &mut Journal,
+    id: LayerId,
+) -> Result<(), ChangeFault>
+    ensures done { IsDone result layers.new (destroyed layers.old id) }
+    ensures back { (first : List LayerValue) → GoesBack journal.old layers.old first → GoesBack journal.new layers.new first }
 {
-    if !layers.has(id) {
+    let Some(place) = layers.index_of(id) else {
         return Err(ChangeFault::Rejected(Reject::UnknownLayer));
-    }
-    match layers.without(alloc, id) {
-        Ok(rest) => Ok(Undo::Destroyed(std::mem::replace(layers, rest))),
-        Err(_) => Err(ChangeFault::NoMemory),
+    };
+    match journal.keep_all(alloc, layers) {
+        Ok(()) => {
+            layers.remove(id, place);
+            Ok(())
+        }
+        Err(NoMemory) => Err(ChangeFault::NoMemory),
     }
 }
 
@@ -232,7 +245,7 @@ fn relate(
     settle(layers, place, before, fault)
 }
 
-// Does one operation in place, and tells how it is taken back.
+// Does one operation in place, but for `destroy`, and tells how it is taken back.
 pub fn change(
     alloc: Global,
     layers: &mut Layers,
@@ -240,11 +253,11 @@ pub fn change(
     id: LayerId,
     op: &Op,
 ) -> Result<Undo, ChangeFault>
+    requires { op.now ≢ variants.Destroy }
     ensures { IsChange result layers.old layers.new (changed most layers.old id op.now) }
 {
     match *op {
         Op::Create(kind, parent) => create(layers, most, id, kind, parent),
-        Op::Destroy => destroy(alloc, layers, id),
         Op::Reparent(parent) => reparent(alloc, layers, id, parent),
         Op::Relative(other, z) => relate(alloc, layers, id, other, z),
         _ => edit(layers, id, op),

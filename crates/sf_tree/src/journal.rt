@@ -1,8 +1,9 @@
-ghost use Rattle.std.specs.Prelude.{◌≡◌, List, OnOk, OnErr, IfErr, unwrap_or};
+ghost use Rattle.std.specs.Prelude.{◌≡◌, List, is_some, OnOk, OnErr, IfErr, unwrap_or};
 ghost use Rattle.sf_layer.specs.declared.layer.Layer.{Layer as LayerValue};
 ghost use Rattle.sf_tree.specs.Journal.{back, CanGoBack, CanUndo, GoesBack, undone};
 
 use crate::layers::Layers;
+use sf_base::NoMemory;
 use sf_layer::Layer;
 use std::alloc::Global;
 
@@ -13,8 +14,6 @@ pub enum Undo {
     Created,
     // The layer at a place is as it was.
     Edited(usize, Layer),
-    // All layers are as they were.
-    Destroyed(Layers),
 }
 
 // Takes one change back.
@@ -25,7 +24,6 @@ pub fn take_back(layers: &mut Layers, undo: Undo)
     match undo {
         Undo::Created => layers.pop(),
         Undo::Edited(place, layer) => layers.set(place, layer),
-        Undo::Destroyed(before) => *layers = before,
     }
 }
 
@@ -57,6 +55,26 @@ impl Journal {
         }
     }
 
+    // Whether it has all layers as they were, so that later changes need not be noted.
+    pub fn has_all(&self) -> bool
+        ensures { result ≡ is_some self.now.before }
+    {
+        self.before.is_some()
+    }
+
+    // Keeps all layers as they are now, unless it has them already. Whatever is made of the layers
+    // from then on is taken back.
+    pub fn keep_all(&mut self, alloc: Global, layers: &Layers) -> Result<(), NoMemory>
+        ensures ok { OnOk result ((next first : List LayerValue) → GoesBack self.old layers.now first → GoesBack self.new next first) }
+        ensures err { OnErr result ((first : List LayerValue) → GoesBack self.old layers.now first → GoesBack self.new layers.now first) }
+    {
+        if self.has_all() {
+            return Ok(());
+        }
+        self.before = Some(layers.copy(alloc)?);
+        Ok(())
+    }
+
     // Notes how the last change is taken back, or hands it back for want of memory.
     pub fn remember(&mut self, undo: Undo) -> Result<(), Undo>
         ensures ok { OnOk result ((layers first : List LayerValue) → CanUndo undo layers →
@@ -64,18 +82,12 @@ impl Journal {
         ensures same { IfErr result (λ given. given ≡ undo) }
         ensures err { OnErr result ((layers first : List LayerValue) → GoesBack self.old layers first → GoesBack self.new layers first) }
     {
-        if self.before.is_some() {
+        if self.has_all() {
             return Ok(());
         }
-        match undo {
-            Undo::Destroyed(before) => {
-                self.before = Some(before);
-                Ok(())
-            }
-            change => match self.changes.push(change) {
-                Ok(()) => Ok(()),
-                Err(refused) => Err(refused.value),
-            },
+        match self.changes.push(undo) {
+            Ok(()) => Ok(()),
+            Err(refused) => Err(refused.value),
         }
     }
 

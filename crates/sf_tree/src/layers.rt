@@ -1,6 +1,7 @@
-ghost use Rattle.std.specs.Prelude.{◌≡◌, ◌<◌, ◌-◌, ◌++◌, ◌∷◌, [], List, length, take, IfOk, OnOk, OnErr, slice_get, slice_set, slice_index_or};
+ghost use Rattle.std.specs.Prelude.{◌≡◌, ◌<◌, ◌-◌, ◌++◌, ◌∷◌, [], None, Some, List, length, map, take, IfOk, OnOk, OnErr, slice_get, slice_set, slice_index_or};
 ghost use Rattle.sf_tree.specs.Layers.{index_of, has_layer, has_parent};
 ghost use Rattle.sf_tree.specs.Changes.{without, without_steps_to};
+ghost use Rattle.sf_tree.specs.Index.{IsIndexed, StandsUpTo};
 ghost use Rattle.sf_tree.specs.Kept.{IsDistinct};
 
 use sf_base::{LayerId, NoMemory};
@@ -13,6 +14,8 @@ use std::marker::Model;
 // the list.
 pub struct Layers {
     list: Vec<Layer>,
+    // No layer stands after its place here. It stands before it where older layers were removed
+    // since the place was noted.
     places: BTreeMap<u32, usize>,
 }
 
@@ -55,7 +58,10 @@ impl Layers {
         ensures place { result ≡ index_of self.now id }
         ensures distinct { IsDistinct self.now }
     {
-        self.places.get(&id.0).copied()
+        match self.places.get(&id.0) {
+            Some(place) => Some(place_up_to(&self.list, id, *place)),
+            None => None,
+        }
     }
 
     // The layer at a place.
@@ -118,36 +124,90 @@ impl Layers {
         self.list[place] = layer;
     }
 
-    // The layers without one of them.
-    pub fn without(&self, alloc: Global, id: LayerId) -> Result<Layers, NoMemory>
-        ensures { IfOk result (λ rest. rest ≡ without id self.now) }
+    // A copy of all layers.
+    pub fn copy(&self, alloc: Global) -> Result<Layers, NoMemory>
+        ensures { IfOk result (λ copy. copy ≡ self.now) }
     {
-        let mut rest = Layers::new(alloc);
-        for layer in &self.list {
-            if layer.number.0 != id.0 {
-                rest.push(without_steps_to(id, layer))?;
-            }
-        }
-        Ok(rest)
+        let mut list = Vec::new(alloc);
+        list.extend_from_slice(&self.list)?;
+        let places = self.places.clone()?;
+        Ok(Layers { list, places })
+    }
+
+    // The layer of a number, which stands at this place, goes. The places of the newer ones are
+    // noted by `note_places`.
+    pub fn remove(&mut self, id: LayerId, place: usize)
+        requires { index_of self.old id ≡ Some place }
+        ensures { self.new ≡ without id self.old }
+    {
+        self.places.remove(&id.0);
+        self.list.remove(place);
+        clear_steps_to(&mut self.list, id);
+    }
+
+    // Notes the places of all layers, after some were removed.
+    pub fn note_places(&mut self)
+        ensures { self.new ≡ self.old }
+    {
+        note_places(&mut self.places, &self.list);
     }
 }
 
-// A layer whose parent and relative layer are not this one.
-fn without_steps_to(id: LayerId, layer: &Layer) -> Layer
-    ensures { result ≡ without_steps_to id layer.now }
+// The place of the layer of a number, which stands at this one or before it.
+fn place_up_to(list: &[Layer], id: LayerId, bound: usize) -> usize
+    requires distinct { IsDistinct list.now }
+    requires bound { StandsUpTo list.now id bound }
+    ensures { index_of list.now id ≡ Some result }
 {
-    let parent = match layer.parent {
-        Parent::Layer(other) if other.0 == id.0 => Parent::Nothing,
-        other => other,
-    };
-    let relative = match layer.relative {
-        Some(other) if other.0 == id.0 => None,
-        other => other,
-    };
-    Layer {
-        parent,
-        relative,
-        ..*layer
+    let mut place = bound.min(list.len() - 1);
+    while list[place].number.0 != id.0 {
+        place -= 1;
+    }
+    place
+}
+
+fn note_places(places: &mut BTreeMap<u32, usize>, list: &[Layer])
+    requires { IsIndexed list.now places.old }
+    ensures { IsIndexed list.now places.new }
+{
+    for place in 0..list.len() {
+        note_place(places, list, place);
+    }
+}
+
+fn note_place(places: &mut BTreeMap<u32, usize>, list: &[Layer], place: usize)
+    requires inside { place < length list.now }
+    requires indexed { IsIndexed list.now places.old }
+    ensures { IsIndexed list.now places.new }
+{
+    match places.insert(list[place].number.0, place) {
+        Ok(_) => {}
+        // The number is noted already, so this takes no memory.
+        Err(_) => {}
+    }
+}
+
+// No layer has this one as parent or is relative to it any more.
+fn clear_steps_to(list: &mut [Layer], id: LayerId)
+    ensures { list.new ≡ map (without_steps_to id) list.old }
+{
+    for layer in list.iter_mut() {
+        clear_steps(layer, id);
+    }
+}
+
+fn clear_steps(layer: &mut Layer, id: LayerId)
+    ensures { layer.new ≡ without_steps_to id layer.old }
+{
+    if let Parent::Layer(other) = layer.parent
+        && other.0 == id.0
+    {
+        layer.parent = Parent::Nothing;
+    }
+    if let Some(other) = layer.relative
+        && other.0 == id.0
+    {
+        layer.relative = None;
     }
 }
 
