@@ -5,6 +5,7 @@ pub mod JournalLemmas
 pub mod Reaching
 pub mod Searching
 pub mod Exploring
+pub mod Unreached
 pub mod Ranks
 pub mod Keeping
 pub mod Removing

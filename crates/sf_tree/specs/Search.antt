@@ -1,7 +1,7 @@
 -- Which steps a search of the tree goes along, and what it knows on the way.
 use Rattle.std.specs.Prelude.{◌≡◌, ℕ, ◌<◌, ◌==◌, ◌⊎◌, Bool, true, false, List, []}
 use Rattle.std.specs.Prelude.{◌∷◌, ◌++◌, ◌+◌, length, Option, Some, None, IfSome, slice_index_or}
-use Rattle.std.specs.List.{AllByRecursion, Contains}
+use Rattle.std.specs.List.{AllByRecursion, Contains, list_any}
 use Rattle.sf_base.specs.declared.ids.LayerId.{LayerId}
 use Rattle.sf_layer.specs.declared.layer.Layer.{Layer}
 use Rattle.sf_tree.specs.declared.cycles.Along.{Along}
@@ -16,6 +16,10 @@ steps_along along.All layer = all_steps layer
 abbrev pub relative_along : Along → Layer → Option LayerId
 relative_along along.Parents layer = None
 relative_along along.All layer = layer.relative
+
+-- a step from the layer leads to the layer of this number
+abbrev pub leads_to : Along → LayerId → Layer → Bool
+leads_to along id layer = list_any (λ next. next.0 == id.0) (steps_along along layer)
 
 -- another layer is reached from the first one, in at most so many steps; the first one in none
 abbrev pub IsReached : (Layer → List LayerId) → List Layer → LayerId → ℕ → LayerId → Type 0

@@ -1,9 +1,10 @@
-ghost use Rattle.std.specs.Prelude.{◌≡◌, ℕ, ◌+◌, ◌<◌, ◌∷◌, [], List, length, true, false, IfOk, IfSome, IsSomeAnd, option_to_list, slice_index_or};
+ghost use Rattle.std.specs.Prelude.{◌≡◌, ◌==◌, ℕ, ◌+◌, ◌<◌, ◌∷◌, [], List, length, true, false, IfOk, IfSome, IsSomeAnd, option_to_list, slice_index_or};
+ghost use Rattle.std.specs.List.{All, list_any};
 ghost use Rattle.sf_base.specs.declared.ids.LayerId.{LayerId as LayerIdValue};
 ghost use Rattle.sf_layer.specs.declared.layer.Layer.{Layer as LayerValue};
 ghost use Rattle.sf_tree.specs.Layers.{index_of};
 ghost use Rattle.sf_tree.specs.Steps.{reaches, reaches_itself, to_parent};
-ghost use Rattle.sf_tree.specs.Search.{Grows, IsExplored, IsSearch, KeepsSearch, relative_along, steps_along};
+ghost use Rattle.sf_tree.specs.Search.{Grows, IsExplored, IsSearch, KeepsSearch, leads_to, relative_along, steps_along};
 
 use crate::layers::Layers;
 use sf_base::{LayerId, NoMemory};
@@ -35,6 +36,39 @@ fn relative_step(layer: &Layer, along: Along) -> Option<LayerId>
         Along::Parents => None,
         Along::All => layer.relative,
     }
+}
+
+// Whether a step, if there is one, leads to the layer of a number.
+fn is_step_to(next: Option<LayerId>, id: LayerId) -> bool
+    ensures { result ≡ list_any (λ other. other.0 == id.0) (option_to_list next) }
+{
+    match next {
+        Some(other) => other.0 == id.0,
+        None => false,
+    }
+}
+
+// Whether a step from a layer does.
+#[tactic(auto, using(crate::proofs::Unreached::led_by_no_step))]
+fn leads_to(layer: &Layer, along: Along, id: LayerId) -> bool
+    ensures { result ≡ false → leads_to along id layer.now ≡ false }
+{
+    if is_step_to(parent_step(layer), id) {
+        return true;
+    }
+    is_step_to(relative_step(layer, along), id)
+}
+
+// Whether a step from any of these layers does.
+fn any_leads_to(layers: &[Layer], along: Along, id: LayerId) -> bool
+    ensures { result ≡ false → All (λ layer. leads_to along id layer ≡ false) layers.now }
+{
+    for layer in layers {
+        if leads_to(layer, along, id) {
+            return true;
+        }
+    }
+    false
 }
 
 // What a search along steps from a layer has found.
@@ -125,6 +159,9 @@ impl Search {
     }
 }
 
+// How many layers a search explores before it looks whether a step leads back at all.
+const MOST_BLIND: usize = 16;
+
 // Whether a layer reaches itself by one step or more.
 #[tactic(auto, unfolding(crate::specs::Steps::reaches_itself))]
 pub fn reaches_itself(
@@ -141,6 +178,9 @@ pub fn reaches_itself(
     let mut search = Search::from(alloc, layers, id, place)?;
     let mut index = 0;
     while index < search.found.len() {
+        if index == MOST_BLIND && !any_leads_to(layers.as_slice(), along, id) {
+            return Ok(false);
+        }
         if search.explore(layers, id, along, index)? {
             return Ok(true);
         }

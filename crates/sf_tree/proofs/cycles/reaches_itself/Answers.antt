@@ -1,7 +1,10 @@
-use Rattle.std.proofs.Common.{◌≡◌, ◌<◌, ◌≤◌, sym, ap, ◌∙◌, refl, arith, Ok, false, length, length-append}
-use Rattle.sf_tree.specs.Search.{steps_along, Grows}
+use Rattle.std.proofs.Common.{◌≡◌, ◌<◌, ◌≤◌, sym, subst, ap, ◌∙◌, refl, arith, Ok, false, List, length, length-append}
+use Rattle.std.specs.List.{All}
+use Rattle.sf_layer.specs.declared.layer.Layer.{Layer}
+use Rattle.sf_tree.specs.Search.{leads_to, steps_along, Grows}
 use Rattle.sf_tree.specs.Steps.{reaches_itself}
 use Rattle.sf_tree.proofs.Reaching.{reaches-unknown, reaches-explored, reaches-le}
+use Rattle.sf_tree.proofs.Unreached.{reaches-unled}
 use Rattle.sf_tree.proofs.Exploring.{explored_more, Contains-grows, found-le}
 use Rattle.sf_tree.proofs.cycles.reaches_itself.Goals as goal
 
@@ -16,6 +19,11 @@ loop-index-init c = record {
   explored = λ k d h. absurd (omega arith);
   inside = omega arith;
 }
+
+pub returns-then-not-any_leads_to : goal.returns-then-not-any_leads_to
+unfolding reaches_itself
+returns-then-not-any_leads_to c =
+    sym (reaches-unled c.args.along c.args.layers.now c.args.id (subst (λ (layers : List Layer). All (λ layer. leads_to c.args.along c.args.id layer ≡ false) layers) c.as_slice.ensures.value (c.if-not-any_leads_to.ensures refl)) (length c.args.layers.now) c.args.id)
 
 pub returns-then-branch : goal.returns-then-branch
 unfolding reaches_itself
