@@ -1,5 +1,5 @@
 -- A layer that no step leads to is not reached.
-use Rattle.std.proofs.Common.{◌≡◌, ℕ, zero, suc, Bool, true, false, List, [], ◌∷◌, Option, Some, None, refl, ap, ◌∙◌, sym, subst, get_or, take, length, ◌+◌, ◌<◌, ◌≤◌}
+use Rattle.std.proofs.Common.{◌≡◌, ℕ, zero, suc, Bool, true, false, List, [], ◌∷◌, Option, Some, None, is_some, refl, ap, ◌∙◌, sym, subst, get_or, take, length, ◌+◌, ◌<◌, ◌≤◌}
 use Rattle.std.specs.List.{All, list_any, slice_get}
 use Rattle.std.specs.Prelude.{◌==◌, ◌||◌, option_to_list}
 use Rattle.std.proofs.lemmas.List.{take_all, take_more}
@@ -21,6 +21,21 @@ led_by_no_step along.Parents id layer first same none more = rw same at none
 led_by_no_step along.All id layer first same none more =
     let here : list_any (λ (other : LayerId). other.0 == id.0) (to_parent layer.parent) ≡ false = rw same at none in
     rw (list_any-append (λ (other : LayerId). other.0 == id.0) (to_parent layer.parent) (option_to_list layer.relative), here) more
+
+pub no_step : (way : Along) (layer : Layer) (first : Option LayerId) → option_to_list first ≡ to_parent layer.parent → is_some first ≡ false → is_some (relative_along way layer) ≡ false → steps_along way layer ≡ []
+no_step way layer (Some id) same none more = cc
+no_step along.Parents layer None same none more = sym same
+no_step along.All layer None same none more = rw (sym same, no_relative layer.relative more) refl
+  where
+    no_relative : (relative : Option LayerId) → is_some relative ≡ false → relative ≡ None
+    no_relative None h = refl
+    no_relative (Some id) h = cc
+
+-- a layer without a step reaches none
+pub reaches-stepless : (steps : Layer → List LayerId) (layers : List Layer) (id to : LayerId) (layer : Layer) → layer_of layers id ≡ Some layer → steps layer ≡ [] → (k : ℕ) → reaches steps layers k id to ≡ false
+unfolding reaches
+reaches-stepless steps layers id to layer found none zero = refl
+reaches-stepless steps layers id to layer found none (suc k) = rw (found, none) refl
 
 none_on : (p q : LayerId → Bool) → ((x : LayerId) → q x ≡ false) → (xs : List LayerId) → list_any p xs ≡ false → list_any (λ x. p x || q x) xs ≡ false
 none_on p q none [] h = refl

@@ -38,6 +38,17 @@ fn relative_step(layer: &Layer, along: Along) -> Option<LayerId>
     }
 }
 
+// Whether there is a step from a layer.
+#[tactic(auto, using(crate::proofs::Unreached::no_step))]
+fn has_step(layer: &Layer, along: Along) -> bool
+    ensures { result ≡ false → steps_along along layer.now ≡ [] }
+{
+    if parent_step(layer).is_some() {
+        return true;
+    }
+    relative_step(layer, along).is_some()
+}
+
 // Whether a step, if there is one, leads to the layer of a number.
 fn is_step_to(next: Option<LayerId>, id: LayerId) -> bool
     ensures { result ≡ list_any (λ other. other.0 == id.0) (option_to_list next) }
@@ -175,6 +186,9 @@ pub fn reaches_itself(
     let Some(place) = layers.index_of(id) else {
         return Ok(false);
     };
+    if !has_step(&layers.at(place), along) {
+        return Ok(false);
+    }
     let mut search = Search::from(alloc, layers, id, place)?;
     let mut index = 0;
     while index < search.found.len() {

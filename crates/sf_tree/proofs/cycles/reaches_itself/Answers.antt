@@ -4,13 +4,19 @@ use Rattle.sf_layer.specs.declared.layer.Layer.{Layer}
 use Rattle.sf_tree.specs.Search.{leads_to, steps_along, Grows}
 use Rattle.sf_tree.specs.Steps.{reaches_itself}
 use Rattle.sf_tree.proofs.Reaching.{reaches-unknown, reaches-explored, reaches-le}
-use Rattle.sf_tree.proofs.Unreached.{reaches-unled}
+use Rattle.sf_tree.proofs.Unreached.{reaches-stepless, reaches-unled}
+use Rattle.sf_tree.proofs.Lookups.{layer_of-place}
 use Rattle.sf_tree.proofs.Exploring.{explored_more, Contains-grows, found-le}
 use Rattle.sf_tree.proofs.cycles.reaches_itself.Goals as goal
 
 pub returns-in_default : goal.returns-in_default
 unfolding reaches_itself
 returns-in_default c = sym (reaches-unknown (steps_along c.args.along) c.args.layers.now (length c.args.layers.now) c.args.id c.args.id (sym c.index_of.ensures.place ∙ c.in_default.is))
+
+pub returns-then-not-has_step : goal.returns-then-not-has_step
+unfolding reaches_itself
+returns-then-not-has_step c =
+    sym (reaches-stepless (steps_along c.args.along) c.args.layers.now c.args.id c.args.id c.at.result (layer_of-place c.args.layers.now c.args.id c.in-Some.place (sym c.in-Some.ensures.place) ∙ c.at.ensures) (c.if-not-has_step.ensures refl) (length c.args.layers.now))
 
 pub loop-index-init : goal.loop-index-init
 loop-index-init c = record {
