@@ -15,4 +15,5 @@ pub mod KeepingMoves
 pub mod KeepingAll
 pub mod ShowLemmas
 pub mod ZOrder
+pub mod Rising
 pub mod BelowLemmas

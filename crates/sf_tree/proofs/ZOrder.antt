@@ -70,7 +70,7 @@ flag_is tree flags place d b layer same at e =
     let inside : place < length tree = inside_from_slice_get tree place layer at in
     ap (shows tree) (sym (get_or_from_slice_get tree place layer layer at)) ∙ (sym (get_or-map (shows tree) tree place layer d inside) ∙ (rw same at e))
 
-drop_one : (tree : List Layer) (place : ℕ) (layer : Layer) → 0 < place → slice_get tree (place - 1) ≡ Some layer → drop (place - 1) tree ≡ layer ∷ drop place tree
+pub drop_one : (tree : List Layer) (place : ℕ) (layer : Layer) → 0 < place → slice_get tree (place - 1) ≡ Some layer → drop (place - 1) tree ≡ layer ∷ drop place tree
 drop_one tree zero layer some at = absurd (omega arith)
 drop_one tree (suc p) layer some at = by_number (suc p - 1) (omega arith) at
   where

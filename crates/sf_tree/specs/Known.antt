@@ -1,6 +1,6 @@
 -- What is found out of layers on the way to a draw order.
 use Rattle.std.specs.Prelude.{◌≡◌, ℕ, ◌<◌, ◌≤◌, Bool, List, length, Option, Some, None, slice_index_or}
-use Rattle.std.specs.Prelude.{slice_get, slice_set, ◌∷◌, ◌++◌, [], filter, true, false, not, ℤ}
+use Rattle.std.specs.Prelude.{slice_get, slice_set, ◌∷◌, ◌++◌, [], drop, filter, int_lt, reverse, true, false, not, ℤ}
 use Rattle.std.specs.List.{All, AllZip}
 use Rattle.sf_base.specs.declared.ids.LayerId.{LayerId}
 use Rattle.sf_layer.specs.declared.layer.Layer.{Layer}
@@ -38,6 +38,16 @@ pub record IsEntry (tree : List Layer) (from : ℕ) (entry : (ℤ × ℕ) × Uni
   pub at : slice_get tree entry.0.1 ≡ Some layer
   pub z : entry.0.0 ≡ layer.z
   pub later : from ≤ entry.0.1
+
+-- the first of these layers has this z or a greater one
+abbrev pub IsFrom : ℤ → List Layer → Type 0
+IsFrom z [] = Unit {0}
+IsFrom z (layer ∷ layers) = int_lt layer.z z ≡ false
+
+-- the places, from the last to the first, are those of the layers from a place on that show, by z, of which the first has this z or a greater one
+pub record IsRising (tree : List Layer) (from : ℕ) (z : ℤ) (places : List ℕ) : Type 0 where
+  pub at : AtPlaces tree (reverse places) (in_z_order (filter (shows tree) (drop from tree)))
+  pub first : IsFrom z (in_z_order (filter (shows tree) (drop from tree)))
 
 -- the layers that show, by z
 unfoldable pub showing : List Layer → List Layer

@@ -1,4 +1,4 @@
-ghost use Rattle.std.specs.Prelude.{◌≡◌, ◌<◌, ◌++◌, ◌∷◌, [], List, filter, slice_index_or, slice_set, length, map, IfOk, OnOk, slice_get};
+ghost use Rattle.std.specs.Prelude.{◌≡◌, ◌<◌, ◌++◌, ◌∷◌, [], List, filter, slice_index_or, slice_set, length, map, IfOk, IfSome, OnOk, slice_get};
 ghost use Rattle.std.specs.BTreeMap.{keys};
 ghost use Rattle.std.specs.List.{All, flat_map};
 ghost use Rattle.sf_layer.specs.declared.layer.Layer.{Layer as LayerValue};
@@ -22,11 +22,43 @@ fn places(alloc: Global, sorted: &BTreeMap<(i32, usize), ()>) -> Result<Vec<usiz
     Ok(sorted.keys().map(|key| key.1).collect(alloc)?)
 }
 
+// The places of the layers that show, by creation, where none has a lower z than an older one; so
+// they stand by z too.
+fn by_creation(
+    alloc: Global,
+    layers: &Layers,
+    flags: &[bool],
+) -> Result<Option<Vec<usize>>, NoMemory>
+    requires { flags.now ≡ map (shows layers.now) layers.now }
+    ensures { IfOk result (λ made. IfSome made (λ list. AtPlaces layers.now list.items (showing layers.now))) }
+{
+    let mut list: Vec<usize> = Vec::new(alloc);
+    let mut above = i32::MAX;
+    let mut place = flags.len();
+    while place > 0 {
+        place -= 1;
+        if !flags[place] {
+            continue;
+        }
+        let z = layers.at(place).z;
+        if z > above {
+            return Ok(None);
+        }
+        list.push(place)?;
+        above = z;
+    }
+    list.reverse();
+    Ok(Some(list))
+}
+
 // The places of the layers that show, by z, and by creation where z is equal.
 fn by_z(alloc: Global, layers: &Layers, flags: &[bool]) -> Result<Vec<usize>, NoMemory>
     requires { flags.now ≡ map (shows layers.now) layers.now }
     ensures { IfOk result (λ list. AtPlaces layers.now list.items (showing layers.now)) }
 {
+    if let Some(list) = by_creation(alloc, layers, flags)? {
+        return Ok(list);
+    }
     let mut sorted: BTreeMap<(i32, usize), ()> = BTreeMap::new(alloc);
     let mut place = flags.len();
     while place > 0 {
