@@ -17,7 +17,12 @@ pub struct Layers {
     // No layer stands after its place here. It stands before it where older layers were removed
     // since the place was noted.
     places: BTreeMap<u32, usize>,
+    // How many layers were removed since all places were noted.
+    removed: usize,
 }
+
+// How far a layer may stand before its noted place at the end of a transaction.
+const MOST_REMOVED: usize = 16;
 
 impl Model for Layers {
     ghost use Rattle.std.specs.Prelude.{List};
@@ -38,6 +43,7 @@ impl Layers {
         Layers {
             list: Vec::new(alloc),
             places: BTreeMap::new(alloc),
+            removed: 0,
         }
     }
 
@@ -131,11 +137,15 @@ impl Layers {
         let mut list = Vec::new(alloc);
         list.extend_from_slice(&self.list)?;
         let places = self.places.clone()?;
-        Ok(Layers { list, places })
+        Ok(Layers {
+            list,
+            places,
+            removed: self.removed,
+        })
     }
 
-    // The layer of a number, which stands at this place, goes. The places of the newer ones are
-    // noted by `note_places`.
+    // The layer of a number, which stands at this place, goes. The places of the newer ones
+    // are noted by `note_places`.
     pub fn remove(&mut self, id: LayerId, place: usize)
         requires { index_of self.old id ≡ Some place }
         ensures { self.new ≡ without id self.old }
@@ -143,13 +153,17 @@ impl Layers {
         self.places.remove(&id.0);
         self.list.remove(place);
         clear_steps_to(&mut self.list, id);
+        self.removed = self.removed.saturating_add(1);
     }
 
-    // Notes the places of all layers, after some were removed.
+    // Notes the places of all layers, once many were removed.
     pub fn note_places(&mut self)
         ensures { self.new ≡ self.old }
     {
-        note_places(&mut self.places, &self.list);
+        if self.removed > MOST_REMOVED {
+            note_places(&mut self.places, &self.list);
+            self.removed = 0;
+        }
     }
 }
 
@@ -213,6 +227,10 @@ fn clear_steps(layer: &mut Layer, id: LayerId)
 
 impl Drop for Layers {
     fn drop(self) {
-        let Layers { list: _, places: _ } = self;
+        let Layers {
+            list: _,
+            places: _,
+            removed: _,
+        } = self;
     }
 }
