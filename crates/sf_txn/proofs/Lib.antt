@@ -4,3 +4,5 @@ pub mod Showing
 pub mod Keeping
 pub mod Looking
 pub mod Places
+pub mod Merging
+pub mod Fronts

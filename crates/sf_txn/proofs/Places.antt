@@ -3,7 +3,7 @@ use Rattle.std.proofs.Common.{◌≡◌, ℕ, zero, suc, ◌+◌, ◌*◌, ◌<�
 use Rattle.std.specs.BTreeMap.{BTreeMap, get, is_at}
 use Rattle.std.specs.List.{All, AllPairs, position_from}
 use Rattle.std.specs.Ordering.{nat_cmp}
-use Rattle.std.specs.Prelude.{◌==◌, eqb, nat_le}
+use Rattle.std.specs.Prelude.{◌==◌, eqb, nat_le, Option, is_some, not}
 use Rattle.std.proofs.lemmas.Grind.{common_steps}
 use Rattle.std.proofs.lemmas.List.{take_more}
 use Rattle.std.proofs.lemmas.List.Elements.{All-cons, All-head, All-tail, filter-append}
@@ -13,7 +13,7 @@ use Rattle.sf_base.specs.declared.ids.LayerId.{LayerId}
 use Rattle.sf_layer.specs.Kinds.{kind_of}
 use Rattle.sf_layer.specs.declared.op.Op.{Op}
 use Rattle.sf_layer.specs.declared.op.Op.TheVariants as op
-use Rattle.sf_txn.specs.Places.{HasPlaces, emptied, is_kept, kept, key_of, taken}
+use Rattle.sf_txn.specs.Places.{HasPlaces, IsNoted, emptied, is_kept, kept, key_of, taken}
 use Rattle.sf_txn.specs.Transactions.{Stays, is_cumulative, replaces, with_op, without_first}
 use Rattle.sf_txn.proofs.Apart.{by_numbers, cumulative_by_kind, none_left, pairs-head, pairs-tail}
 
@@ -74,22 +74,22 @@ length-emptied later (x ∷ xs) = by_test (replaces later x) refl (length-emptie
     by_test false e rest = rw e (ap suc rest)
 
 -- what replaces one is for its layer, and an empty place has none
-numbers : (later earlier : O) → replaces later earlier ≡ true → (is_cumulative later.1 ≡ false) × ((earlier.0.0 == later.0.0) ≡ true) × ((kind_of earlier.1 == kind_of later.1) ≡ true)
+pub numbers : (later earlier : O) → replaces later earlier ≡ true → (is_cumulative later.1 ≡ false) × ((earlier.0.0 == later.0.0) ≡ true) × ((kind_of earlier.1 == kind_of later.1) ≡ true)
 numbers later earlier h = by_numbers (is_cumulative later.1) (earlier.0.0 == later.0.0) (kind_of earlier.1 == kind_of later.1) h
 
-layer_of : (later earlier : O) → replaces later earlier ≡ true → later.0.0 ≡ earlier.0.0
+pub layer_of : (later earlier : O) → replaces later earlier ≡ true → later.0.0 ≡ earlier.0.0
 layer_of later earlier h = grind (arith, common_steps, (numbers later earlier h).1)
 
 kind_is : (later earlier : O) → replaces later earlier ≡ true → kind_of later.1 ≡ kind_of earlier.1
 kind_is later earlier h = grind (arith, common_steps, (numbers later earlier h).2)
 
-kept_one : (later earlier : O) → 0 < later.0.0 → replaces later earlier ≡ true → is_kept earlier ≡ true
+pub kept_one : (later earlier : O) → 0 < later.0.0 → replaces later earlier ≡ true → is_kept earlier ≡ true
 kept_one later earlier some h = grind (arith, common_steps, layer_of later earlier h)
 
 not_taken : (later : O) → replaces later taken ≡ true → is_cumulative later.1 ≡ true
 not_taken later e = cumulative_by_kind later.1 ∙ ap (λ k. nat_le k 1) (kind_is later taken e)
 
-taken-stays : (later : O) → replaces later taken ≡ false
+pub taken-stays : (later : O) → replaces later taken ≡ false
 taken-stays later = by_test (replaces later taken) refl
   where
     by_test : (b : Bool) → replaces later taken ≡ b → replaces later taken ≡ false
@@ -186,11 +186,11 @@ kind_few (op.Orient _) = omega arith
 by_key : (a k b l : ℕ) → k < 16 → l < 16 → a * 16 + k ≡ b * 16 + l → (a ≡ b) × (k ≡ l)
 by_key a k b l few less same = (omega (arith, few, less, same), omega (arith, few, less, same))
 
-is_at_number : (a b : ℕ) → is_at (nat_cmp a) b ≡ eqb a b
+pub is_at_number : (a b : ℕ) → is_at (nat_cmp a) b ≡ eqb a b
 is_at_number a b = grind (arith, common_steps)
 
 -- an operation of this key replaces another where the other of the key does
-same_key : (later other x : O) → is_cumulative later.1 ≡ false → key_of later ≡ key_of other → replaces other x ≡ replaces later x
+pub same_key : (later other x : O) → is_cumulative later.1 ≡ false → key_of later ≡ key_of other → replaces other x ≡ replaces later x
 same_key later other x plain same =
     let both = by_key later.0.0 (kind_of later.1) other.0.0 (kind_of other.1) (kind_few later.1) (kind_few other.1) same in
     let cumulative : is_cumulative other.1 ≡ false = cumulative_by_kind other.1 ∙ (ap (λ k. nat_le k 1) (sym both.1) ∙ (sym (cumulative_by_kind later.1) ∙ plain)) in
@@ -199,7 +199,7 @@ same_key later other x plain same =
 same_of : (later x : O) → replaces later x ≡ true → key_of later ≡ key_of x
 same_of later x h = rw (layer_of later x h, kind_is later x h) refl
 
-self_replaces : (later : O) → is_cumulative later.1 ≡ false → replaces later later ≡ true
+pub self_replaces : (later : O) → is_cumulative later.1 ≡ false → replaces later later ≡ true
 self_replaces later plain =
     let layer : (later.0.0 == later.0.0) ≡ true = grind (arith, common_steps) in
     let kind : (kind_of later.1 == kind_of later.1) ≡ true = grind (arith, common_steps) in
@@ -215,7 +215,7 @@ other_key later other x differ h = by_test (replaces other x) refl
         let differs : eqb (key_of later) (key_of other) ≡ false = differ in
         absurd (grind (arith, common_steps, same, differs))
 
-not_other : (later other : O) → eqb (key_of later) (key_of other) ≡ false → replaces other later ≡ false
+pub not_other : (later other : O) → eqb (key_of later) (key_of other) ≡ false → replaces other later ≡ false
 not_other later other differ = by_test (replaces other later) refl
   where
     by_test : (b : Bool) → replaces other later ≡ b → replaces other later ≡ false
@@ -248,7 +248,7 @@ places-put later xs m n plain none found after other some = by_test (eqb (key_of
 never : (later x : O) → is_cumulative later.1 ≡ true → replaces later x ≡ false
 never later x h = rw h refl
 
-not_it : (later other : O) → is_cumulative later.1 ≡ true → replaces other later ≡ false
+pub not_it : (later other : O) → is_cumulative later.1 ≡ true → replaces other later ≡ false
 not_it later other h = by_test (replaces other later) refl
   where
     by_test : (b : Bool) → replaces other later ≡ b → replaces other later ≡ false
@@ -261,6 +261,13 @@ pub places-kept : (later : O) (xs : List O) (m : BTreeMap ℕ ℕ) → is_cumula
 places-kept later xs m cumulative found other some =
     found other some ∙ (sym (position-other other later 0 xs (λ x h. absurd (true≢false (sym h ∙ never later x cumulative))))
     ∙ sym (position-before other later 0 (emptied later xs) (not_it later other cumulative)))
+
+pub places-noted : (later : O) (xs : List O) (m n : BTreeMap ℕ ℕ) → AllPairs Stays xs → HasPlaces xs m → IsNoted later (length xs) m n → HasPlaces (emptied later xs ++ later ∷ []) n
+places-noted later xs m n apart found noted = by_kind (is_cumulative later.1) refl
+  where
+    by_kind : (b : Bool) → is_cumulative later.1 ≡ b → HasPlaces (emptied later xs ++ later ∷ []) n
+    by_kind true c = λ other some. noted (key_of other) ∙ rw c (places-kept later xs m c found other some)
+    by_kind false c = places-put later xs m n c (none-emptied later xs apart) found (λ q. noted q ∙ rw c refl)
 
 -- where nothing is replaced, no place is emptied
 pub emptied-none : (later : O) (xs : List O) → All (λ earlier. Stays earlier later) xs → emptied later xs ≡ xs
@@ -286,18 +293,6 @@ kept-with_op later xs some =
     let one : is_kept later ≡ true = grind (arith, common_steps) in
     let last : kept (later ∷ []) ≡ later ∷ [] = rw one refl in
     filter-append is_kept (without_first (replaces later) xs) (later ∷ []) ∙ (ap (λ ys. kept (without_first (replaces later) xs) ++ ys) last ∙ ap (λ ys. ys ++ later ∷ []) (kept-without later xs some))
-
--- an operation put last where no place is empty, and none is emptied
-pub whole-put : (later : O) (xs : List O) → 0 < later.0.0 → kept xs ≡ xs → None ≡ position_from (replaces later) 0 xs → kept (emptied later xs ++ later ∷ []) ≡ emptied later xs ++ later ∷ []
-whole-put later xs some whole none =
-    let one : is_kept later ≡ true = grind (arith, common_steps) in
-    let last : kept (later ∷ []) ≡ later ∷ [] = rw one refl in
-    rw (sym (emptied-None later xs none)) (filter-append is_kept xs (later ∷ []) ∙ (ap (λ ys. kept xs ++ ys) last ∙ ap (λ ys. ys ++ later ∷ []) whole))
-
-pub after-is : (later : O) (xs : List O) (m n : BTreeMap ℕ ℕ) (key at : ℕ) → key ≡ key_of later → at ≡ length xs
-    → ((q : ℕ) → get nat_cmp n q ≡ cond (is_at (nat_cmp key) q) (Some at) (get nat_cmp m q)) → After later (length xs) m n
-after-is later xs m n key at same there after = λ q.
-    after q ∙ (ap (λ k. cond (is_at (nat_cmp k) q) (Some at) (get nat_cmp m q)) same ∙ ap (λ k. cond (is_at (nat_cmp (key_of later)) q) (Some k) (get nat_cmp m q)) there)
 
 -- places of one more
 before-all : (ops : List O) (i : ℕ) (d : O) → i < length ops → AllPairs Stays ops → All (λ earlier. Stays earlier (get_or ops i d)) (take i ops)
@@ -358,3 +353,7 @@ length-kept (x ∷ xs) = by_test (is_kept x) refl (length-kept xs)
     by_test : (b : Bool) → is_kept x ≡ b → length (kept xs) ≤ length xs → length (kept (x ∷ xs)) ≤ length (x ∷ xs)
     by_test true e h = rw e (omega (arith, h))
     by_test false e h = rw e (omega (arith, h))
+
+pub no_index : {X : Type 0} (o : Option X) (b : Bool) → is_some o ≡ not b → b ≡ true → o ≡ None
+no_index None b e h = refl
+no_index (Some x) b e h = let off : not b ≡ false = rw h refl in absurd (true≢false (e ∙ off))

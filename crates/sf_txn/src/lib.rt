@@ -4,6 +4,7 @@
 #![tactic(auto)]
 
 mod buffer;
+mod index;
 mod lease;
 mod lists;
 mod look;

@@ -23,7 +23,7 @@ fn replaces(later: &(LayerId, Op), earlier: &(LayerId, Op)) -> bool
 }
 
 /// The place of the operation whose place another takes.
-fn place_of_op(ops: &[(LayerId, Op)], later: &(LayerId, Op)) -> Option<usize>
+pub(crate) fn place_of_op(ops: &[(LayerId, Op)], later: &(LayerId, Op)) -> Option<usize>
     ensures { result ≡ position (replaces later.now) ops.now }
 {
     ops.iter().position(|earlier| replaces(later, earlier))

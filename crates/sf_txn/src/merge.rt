@@ -4,6 +4,7 @@ ghost use Rattle.sf_txn.specs.Transactions.{all_replaced, later_time, merged};
 use crate::buffer::BufferOp;
 use crate::lease::Lease;
 use crate::lists::put_buffers;
+use crate::ops::Ops;
 use crate::transaction::Transaction;
 use sf_base::NoMemory;
 
@@ -24,7 +25,7 @@ impl<L: Lease + Drop> Transaction<L> {
     /// order in which they went. Want of memory hands both transactions back.
     pub fn merge(
         mut self,
-        other: Transaction<L>,
+        mut other: Transaction<L>,
     ) -> Result<(Transaction<L>, Vec<BufferOp<L>>), (NoMemory, Transaction<L>, Transaction<L>)>
         ensures merged { IfOk result (λ r. r.0 ≡ merged self other) }
         ensures replaced { IfOk result (λ r. r.1.items ≡ all_replaced self.buffers other.buffers) }
@@ -33,15 +34,19 @@ impl<L: Lease + Drop> Transaction<L> {
         let Ok(mut replaced) = Vec::with_capacity(self.alloc, other.buffers.len()) else {
             return Err((NoMemory, self, other));
         };
-        if self.ops.make_room(other.ops.len()).is_err()
-            || self.buffers.reserve(other.buffers.len()).is_err()
+        let Ok(before) = self.ops.make_room_for(&mut other.ops) else {
+            return Err((NoMemory, self, other));
+        };
+        if self.buffers.reserve(other.buffers.len()).is_err()
             || self.barriers.extend_from_slice(&other.barriers).is_err()
         {
             return Err((NoMemory, self, other));
         }
-        self.ops.put_all(&other.ops);
         self.desired = later_time(self.desired, other.desired);
-        put_buffers(&mut self.buffers, other.into_buffers(), &mut replaced);
+        let ops = std::mem::replace(&mut other.ops, Ops::new(self.alloc));
+        let buffers = std::mem::replace(&mut other.buffers, Vec::new(self.alloc));
+        self.ops.merge(ops, before);
+        put_buffers(&mut self.buffers, buffers, &mut replaced);
         Ok((self, replaced))
     }
 }

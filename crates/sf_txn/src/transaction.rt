@@ -107,21 +107,6 @@ impl<L: Lease + Drop> Transaction<L> {
         &self.barriers
     }
 
-    /// Its buffers alone. It takes no memory.
-    pub(crate) fn into_buffers(self) -> Vec<BufferOp<L>>
-        ensures { result.items ≡ self.buffers }
-    {
-        let Transaction {
-            alloc: _,
-            token: _,
-            desired: _,
-            ops: _,
-            buffers,
-            barriers: _,
-        } = self;
-        buffers
-    }
-
     /// All that the transaction holds. It takes no memory.
     pub fn into_parts(self) -> Parts<L>
         ensures token { result.token ≡ self.token }

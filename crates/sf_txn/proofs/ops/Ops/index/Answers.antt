@@ -1,30 +1,32 @@
-use Rattle.std.proofs.Common.{◌≡◌, ◌∙◌, ap, rules}
-use Rattle.std.proofs.lemmas.Fn.{filter_same}
-use Rattle.sf_txn.specs.Places.{Listed, is_kept, kept}
+use Rattle.std.proofs.Common.{◌≡◌, ◌∙◌, ◌++◌, List, ap, replicate, sym}
+use Rattle.sf_base.specs.declared.ids.LayerId.{LayerId}
+use Rattle.sf_layer.specs.declared.op.Op.{Op}
+use Rattle.sf_txn.specs.Places.{Listed, kept, taken}
+use Rattle.sf_txn.proofs.Fronts.{apart-replicate, kept-replicate, listed-behind}
 use Rattle.sf_txn.proofs.Places.{apart-kept, kept-kept}
 use Rattle.sf_txn.proofs.ops.Ops.index.Goals as goal
 
 pub places_of-requires : goal.places_of-requires
 places_of-requires c =
-    let e : c.retain.new.self.items ≡ kept c.self.inside.items.items = filter_same _ is_kept _ (λ x b f' k. search rules) _ _ c.retain.ensures.filtered in
-    rw (c.deref.ensures.value, e) (apart-kept c.self.inside.items.items c.self.invariant.apart)
+    let ops = kept c.self.inside.items.items in
+    let list : ops ≡ c.args.self.now.list = ap (λ (l : Listed). l.list) c.self.view_is in
+    let items : c.in_ok-items.items.items ≡ replicate c.args.front taken ++ ops =
+    c.in_ok-items.ensures ∙ ap (λ (xs : List (LayerId × Op)). replicate c.args.front taken ++ xs) (c.deref.ensures.value ∙ (c.in_ok-copied.ensures ∙ sym list)) in
+    rw (c.deref-2.ensures.value, items) (apart-replicate c.args.front ops (apart-kept c.self.inside.items.items c.self.invariant.apart))
 
 pub invariant_of-self : goal.invariant_of-self
 invariant_of-self c =
-    let e : c.retain.new.self.items ≡ kept c.self.inside.items.items = filter_same _ is_kept _ (λ x b f' k. search rules) _ _ c.retain.ensures.filtered in
-    record { apart = rw e (apart-kept c.self.inside.items.items c.self.invariant.apart); found = tt; whole = λ z. rw e (kept-kept c.self.inside.items.items) }
+    let ops = kept c.self.inside.items.items in
+    let list : ops ≡ c.args.self.now.list = ap (λ (l : Listed). l.list) c.self.view_is in
+    let items : c.in_ok-items.items.items ≡ replicate c.args.front taken ++ ops =
+    c.in_ok-items.ensures ∙ ap (λ (xs : List (LayerId × Op)). replicate c.args.front taken ++ xs) (c.deref.ensures.value ∙ (c.in_ok-copied.ensures ∙ sym list)) in
+    listed-behind c.args.front ops c.in_ok-items.items.items c.in_ok-places.places c.in_ok-new.field-0 items (apart-kept c.self.inside.items.items c.self.invariant.apart)
+    (rw c.deref-2.ensures.value at c.in_ok-places.ensures) c.in_ok-new.ensures.ok
 
-pub returns-in_err-places_of : goal.returns-in_err-places_of
-returns-in_err-places_of c =
-    let e : c.retain.new.self.items ≡ kept c.self.inside.items.items = filter_same _ is_kept _ (λ x b f' k. search rules) _ _ c.retain.ensures.filtered in
-    rw e (kept-kept c.self.inside.items.items) ∙ ap (λ (l : Listed). l.list) c.self.view_is
-
-pub invariant_of-self-2 : goal.invariant_of-self-2
-invariant_of-self-2 c =
-    let e : c.retain.new.self.items ≡ kept c.self.inside.items.items = filter_same _ is_kept _ (λ x b f' k. search rules) _ _ c.retain.ensures.filtered in
-    record { apart = rw e (apart-kept c.self.inside.items.items c.self.invariant.apart); found = rw c.deref.ensures.value at c.in_ok-places_of.ensures; whole = λ z. rw e (kept-kept c.self.inside.items.items) }
-
-pub returns : goal.returns
-returns c =
-    let e : c.retain.new.self.items ≡ kept c.self.inside.items.items = filter_same _ is_kept _ (λ x b f' k. search rules) _ _ c.retain.ensures.filtered in
-    rw e (kept-kept c.self.inside.items.items) ∙ ap (λ (l : Listed). l.list) c.self.view_is
+pub returns-clause-list : goal.returns-clause-list
+returns-clause-list c =
+    let ops = kept c.self.inside.items.items in
+    let list : ops ≡ c.args.self.now.list = ap (λ (l : Listed). l.list) c.self.view_is in
+    let items : c.in_ok-items.items.items ≡ replicate c.args.front taken ++ ops =
+    c.in_ok-items.ensures ∙ ap (λ (xs : List (LayerId × Op)). replicate c.args.front taken ++ xs) (c.deref.ensures.value ∙ (c.in_ok-copied.ensures ∙ sym list)) in
+    ap (λ (xs : List (LayerId × Op)). kept xs) items ∙ (kept-replicate c.args.front ops ∙ (kept-kept c.self.inside.items.items ∙ list))

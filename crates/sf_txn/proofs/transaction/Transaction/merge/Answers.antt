@@ -7,11 +7,11 @@ pub invariant_of-self-2 : goal.invariant_of-self-2
 invariant_of-self-2 g c =
     let few : length c.self.inside.ops.list + length c.other.inside.ops.list ≤ 4294967295 = grind (arith, common_steps) in
     let ok : is_ok c.extend_from_slice.result ≡ true = grind (arith, common_steps) in
-    rw (c.put_all.ensures, c.put_buffers.ensures.buffers, c.into_buffers.ensures, sym c.other.view_is, c.extend_from_slice.ensures.items, c.later_time-self-inside.ensures, c.make_room.ensures.list, c.reserve.ensures.items, c.deref.ensures.value, ok)
+    rw (c.merge.ensures, c.put_buffers.ensures.buffers, c.replace-ops.ensures.value, c.replace-buffers.ensures.value, c.make_room_for.ensures.list, c.make_room_for.ensures.later, c.extend_from_slice.ensures.items, c.later_time-self-inside.ensures, c.reserve.ensures.items, c.deref.ensures.value, ok)
     (IsTransaction-merged _ _ c.self.invariant c.other.invariant few)
 
 pub returns-clause-merged : goal.returns-clause-merged
 returns-clause-merged g c =
     let ok : is_ok c.extend_from_slice.result ≡ true = grind (arith, common_steps) in
-    rw (c.put_all.ensures, c.put_buffers.ensures.buffers, c.into_buffers.ensures, c.extend_from_slice.ensures.items, c.later_time-self-inside.ensures, c.make_room.ensures.list, c.reserve.ensures.items, sym c.self.view_is, sym c.other.view_is, c.deref.ensures.value, ok)
+    rw (c.merge.ensures, c.put_buffers.ensures.buffers, c.replace-ops.ensures.value, c.replace-buffers.ensures.value, c.make_room_for.ensures.list, c.make_room_for.ensures.later, c.extend_from_slice.ensures.items, c.later_time-self-inside.ensures, c.reserve.ensures.items, sym c.self.view_is, sym c.other.view_is, c.deref.ensures.value, ok)
     refl

@@ -1,6 +1,6 @@
 use Rattle.std.proofs.Common.{◌∙◌, sym, arith}
 use Rattle.sf_txn.proofs.Places.{emptied-None, emptied-Some, emptied-inside}
-use Rattle.sf_txn.proofs.ops.empty_at.Goals as goal
+use Rattle.sf_txn.proofs.index.empty_at.Goals as goal
 
 pub index_mut-requires : goal.index_mut-requires
 index_mut-requires c = omega (arith, emptied-inside c.args.operation.now c.in-Some.place c.args.items.now.items (sym c.in-Some.is ∙ c.requires), c.args.items.now.ok.0)

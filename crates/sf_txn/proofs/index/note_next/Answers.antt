@@ -2,7 +2,7 @@ use Rattle.std.proofs.Common.{◌∙◌, ap, cond, Some, sym}
 use Rattle.std.specs.BTreeMap.{get, is_at}
 use Rattle.std.specs.Ordering.{nat_cmp}
 use Rattle.sf_txn.proofs.Places.{places-more, places-same}
-use Rattle.sf_txn.proofs.ops.note.Goals as goal
+use Rattle.sf_txn.proofs.index.note_next.Goals as goal
 
 pub returns-then-is_cumulative : goal.returns-then-is_cumulative
 returns-then-is_cumulative c =
