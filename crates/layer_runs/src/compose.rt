@@ -142,7 +142,7 @@ pub fn add<R: Threads + Sync>(
             compose(rt, workers, view, contents, &sources, part, frame).ok()
         }
         Work::Seen => {
-            let Ok(shown) = visible(alloc, view) else {
+            let Ok(shown) = visible(alloc, view, part) else {
                 return None;
             };
             compose_seen(alloc, view, contents, &sources, &shown, part, frame).ok()

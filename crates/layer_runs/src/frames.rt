@@ -26,9 +26,26 @@ pub fn changed(rt: &impl Print, alloc: Global, before: &View, view: &View) -> io
     }
 }
 
+/// The points of a display, where its edges lie where a region's may.
+fn display(alloc: Global, view: &View) -> Option<Region> {
+    let rect = Rect {
+        x: 0,
+        y: 0,
+        width: view.width,
+        height: view.height,
+    };
+    bounded(alloc, rect)
+}
+
+/// What shows on the whole display of each drawn layer, from the back.
+fn shown_in_all(alloc: Global, view: &View) -> Option<Vec<Region>> {
+    let all = display(alloc, view)?;
+    visible(alloc, view, &all).ok()
+}
+
 /// Prints what shows of each drawn layer, from the back.
 pub fn shows(rt: &impl Print, alloc: Global, view: &View) -> io::Result<()> {
-    let Ok(shown) = visible(alloc, view) else {
+    let Some(shown) = shown_in_all(alloc, view) else {
         return println!(rt; "shows: no memory");
     };
     println!(rt; "shows:")?;
@@ -101,15 +118,7 @@ fn turn<R: Threads + Sync>(
 ) -> Option<()> {
     let part = match work {
         Work::Seen => dirty(alloc, before, view).ok()?,
-        Work::Whole | Work::Parallel(_) => {
-            let display = Rect {
-                x: 0,
-                y: 0,
-                width: view.width,
-                height: view.height,
-            };
-            bounded(alloc, display)?
-        }
+        Work::Whole | Work::Parallel(_) => display(alloc, view)?,
     };
     add(rt, alloc, work, view, contents, &part, frame)
 }
@@ -143,7 +152,7 @@ pub fn marks(alloc: Global, tree: &Tree, before: &Option<View>, count: u32) -> O
     for _ in 0..count {
         let view = view_of(alloc, tree, before.width, before.height).ok()?;
         let part = dirty(alloc, before, &view).ok()?;
-        let shown = visible(alloc, &view).ok()?;
+        let shown = visible(alloc, &view, &part).ok()?;
         total = total
             .saturating_add(part.rects().len())
             .saturating_add(shown.len());

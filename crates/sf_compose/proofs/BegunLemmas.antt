@@ -6,7 +6,7 @@ use Rattle.sf_base.specs.Bytes.{pixel_in}
 use Rattle.sf_base.specs.Paint.{painted}
 use Rattle.sf_base.specs.declared.geometry.Rect.{Rect}
 use Rattle.sf_base.specs.declared.pixel.Rgba.{Rgba}
-use Rattle.sf_damage.specs.Visible.{AreVisible}
+use Rattle.sf_damage.specs.Visible.{AreVisibleAt}
 use Rattle.sf_picture.specs.declared.picture.Picture.{Picture}
 use Rattle.sf_view.specs.Image.{opaque_black}
 use Rattle.sf_view.specs.declared.drawn.Drawn.{Drawn}
@@ -16,6 +16,7 @@ use Rattle.sf_compose.specs.Frames.{is_in_box, Repaints}
 use Rattle.sf_compose.specs.Ground.{hides}
 use Rattle.sf_compose.specs.Painting.{is_in_area, Paints}
 use Rattle.sf_compose.specs.Readings.{AreReadable, IsReadable, under_drawn, under_one}
+use Rattle.sf_compose.specs.Seen.{AreSeenAt}
 use Rattle.sf_compose.proofs.GroundLemmas.{hidden}
 use Rattle.sf_compose.proofs.LayerLemmas.{under_drawn-more}
 use Rattle.sf_compose.proofs.PaintLemmas.{painted-black, Paints-then}
@@ -105,7 +106,7 @@ rest_of xs zero = let all : length xs - 0 ≡ length xs = omega arith in rw all 
 rest_of [] (suc n) = take_nil (0 - suc n) [] refl
 rest_of (x ∷ xs) (suc n) = let less : suc (length xs) - suc n ≡ length xs - n = omega arith in rw less (rest_of xs n)
 
-AllZip-drop : {A B : Type 0} (R : A → B → Type 0) (n : ℕ) (xs : List A) (ys : List B) → AllZip R xs ys → AllZip R (drop n xs) (drop n ys)
+pub AllZip-drop : {A B : Type 0} (R : A → B → Type 0) (n : ℕ) (xs : List A) (ys : List B) → AllZip R xs ys → AllZip R (drop n xs) (drop n ys)
 AllZip-drop R zero xs ys all = all
 AllZip-drop R (suc n) [] [] all = tt
 AllZip-drop R (suc n) [] (y ∷ ys) all = absurd all
@@ -115,17 +116,21 @@ AllZip-drop R (suc n) (x ∷ xs) (y ∷ ys) all = AllZip-drop R n xs ys all.1
 pub AreReadable-drop : (contents : List Picture) (layers : List Drawn) (sources : List ℕ) (n : ℕ) → AreReadable contents layers sources → AreReadable contents (drop n layers) (drop n sources)
 AreReadable-drop contents layers sources n a = record { all = AllZip-drop (λ drawn source. IsReadable contents drawn.content source) n layers sources a.all }
 
-pub AreVisible-drop : (n : ℕ) (layers : List Drawn) (shows : List (List Rect)) → AreVisible layers shows → AreVisible (drop n layers) (drop n shows)
-AreVisible-drop zero layers shows a = a
-AreVisible-drop (suc n) [] [] a = a
-AreVisible-drop (suc n) [] (r ∷ rs) a = let long : suc (length rs) ≡ 0 = ap length a in absurd (omega (arith, long))
-AreVisible-drop (suc n) (d ∷ ds) [] a = absurd a
-AreVisible-drop (suc n) (d ∷ ds) (r ∷ rs) a = AreVisible-drop n ds rs a.1
+pub AreSeenAt-long : (test : ℕ → ℕ → Bool) (layers : List Drawn) (shows : List (List Rect)) → AreSeenAt test layers shows → length shows ≡ length layers
+AreSeenAt-long test [] shows a = ap length a
+AreSeenAt-long test (d ∷ ds) [] a = absurd a
+AreSeenAt-long test (d ∷ ds) (r ∷ rs) a = ap suc (AreSeenAt-long test ds rs a.1)
 
-pub AreVisible-long : (layers : List Drawn) (shows : List (List Rect)) → AreVisible layers shows → length shows ≡ length layers
-AreVisible-long [] shows a = ap length a
-AreVisible-long (d ∷ ds) [] a = absurd a
-AreVisible-long (d ∷ ds) (r ∷ rs) a = ap suc (AreVisible-long ds rs a.1)
+-- regions that have what shows at some points have it at fewer
+pub AreSeenAt-within : (some fewer : ℕ → ℕ → Bool) (layers : List Drawn) (shows : List (List Rect)) → ((x y : ℕ) → fewer x y ≡ true → some x y ≡ true) → AreSeenAt some layers shows → AreSeenAt fewer layers shows
+AreSeenAt-within some fewer [] shows within a = a
+AreSeenAt-within some fewer (d ∷ ds) [] within a = a
+AreSeenAt-within some fewer (d ∷ ds) (r ∷ rs) within a = (λ x y t. a.0 x y (within x y t), AreSeenAt-within some fewer ds rs within a.1)
+
+pub AreSeenAt-visible : (some : ℤ → ℤ → Bool) (fewer : ℕ → ℕ → Bool) (layers : List Drawn) (shows : List (List Rect)) → ((x y : ℕ) → fewer x y ≡ true → some (pos x) (pos y) ≡ true) → AreVisibleAt some layers shows → AreSeenAt fewer layers shows
+AreSeenAt-visible some fewer [] shows within a = a
+AreSeenAt-visible some fewer (d ∷ ds) [] within a = a
+AreSeenAt-visible some fewer (d ∷ ds) (r ∷ rs) within a = (λ x y t. a.0 (pos x) (pos y) (within x y t), AreSeenAt-visible some fewer ds rs within a.1)
 
 -- slices
 
@@ -134,6 +139,13 @@ slice_higher left right top y z a b h k = grind (arith, nat_tests)
 
 slice_apart : (left right top y z a b : ℕ) → is_in_box left right top y a b ≡ true → is_in_box left right y z a b ≡ false
 slice_apart left right top y z a b t = grind (arith, nat_tests)
+
+-- a slice lies in its area
+pub slice_within : (area slice : Area) (top x y : ℕ) → slice.left ≡ area.left → slice.right ≡ area.right → slice.top ≡ top → area.top ≤ top → slice.bottom ≤ area.bottom → is_in_area slice x y ≡ true → is_in_area area x y ≡ true
+slice_within area slice top x y is_left is_right is_top low high t = box_within slice.left slice.right slice.top slice.bottom area.left area.right area.top area.bottom x y is_left is_right (rw is_top low) high t
+  where
+    box_within : (l r t b left right up down x y : ℕ) → l ≡ left → r ≡ right → up ≤ t → b ≤ down → is_in_box l r t b x y ≡ true → is_in_box left right up down x y ≡ true
+    box_within l r t b left right up down x y p q h k in_slice = grind (arith, nat_tests)
 
 -- one slice more
 pub Paints-slice : (w base : ℕ) (area slice : Area) (top : ℕ) (f : ℕ → ℕ → Rgba → Rgba) (old mid new : List ℕ) → slice.left ≡ area.left → slice.right ≡ area.right → slice.top ≡ top → area.top ≤ top → top < slice.bottom → Paints w base (is_in_box area.left area.right area.top top) f old mid → Paints w base (is_in_area slice) f mid new → Paints w base (is_in_box area.left area.right area.top slice.bottom) f old new

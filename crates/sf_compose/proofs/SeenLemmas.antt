@@ -1,28 +1,33 @@
 -- Layers that are painted only where they show.
-use Rattle.std.proofs.Common.{◌≡◌, ℕ, zero, suc, ◌+◌, ◌-◌, ◌<◌, ◌≤◌, ◌&&◌, ◌||◌, Bool, true, false, if◌then◌else◌, List, [], ◌∷◌, length, get_or, take, drop, refl, ap, ◌∙◌, sym, arith, ℤ, pos, inl, inr}
+use Rattle.std.proofs.Common.{◌≡◌, ℕ, zero, suc, ◌+◌, ◌-◌, ◌*◌, ◌<◌, ◌≤◌, ◌&&◌, ◌||◌, Bool, true, false, if◌then◌else◌, List, [], ◌∷◌, length, get_or, take, drop, refl, ap, ◌∙◌, sym, arith, add-one, ℤ, pos, inl, inr}
 use Rattle.std.specs.List.{AllZip, list_any}
-use Rattle.std.proofs.Math.Seq.{take-length}
+use Rattle.std.proofs.Math.Seq.{drop-cons, drop-length}
 use Rattle.std.proofs.lemmas.Bool.{and_parts, both_ways, eqb-true, false_from_ne_true, false≢true, or_cases, or_left, or_right}
 use Rattle.std.proofs.lemmas.List.Folds.{list_any_more}
+use Rattle.sf_base.specs.Bytes.{pixel_in}
 use Rattle.sf_base.specs.Geometry.{covers}
 use Rattle.sf_base.specs.declared.geometry.Rect.{Rect}
 use Rattle.sf_base.specs.declared.pixel.Rgba.{Rgba}
 use Rattle.sf_damage.proofs.VisibleLemmas.{painted-solid}
-use Rattle.sf_damage.specs.Visible.{AreVisible, hides_all, hides_at, shows_at}
+use Rattle.sf_damage.specs.Visible.{hides_all, hides_at, shows_at}
 use Rattle.sf_picture.specs.declared.picture.Picture.{Picture}
 use Rattle.sf_region.specs.Canonical.{IsDisjoint}
 use Rattle.sf_region.specs.Points.{has}
+use Rattle.sf_view.specs.Image.{opaque_black}
 use Rattle.sf_view.specs.Views.{is_in_clip}
 use Rattle.sf_view.specs.declared.content.Content.TheVariants as content
 use Rattle.sf_view.specs.declared.drawn.Drawn.{Drawn}
 use Rattle.sf_compose.specs.declared.area.Area.{Area}
 use Rattle.sf_compose.specs.Painting.{is_in_area, Paints}
+use Rattle.sf_compose.specs.Begun.{IsBegun, Spares}
 use Rattle.sf_compose.specs.Readings.{AreReadable, IsReadable, pixel_from, under_drawn, under_one}
-use Rattle.sf_compose.proofs.PaintLemmas.{Paints-clipped, Paints-none, Paints-over, Paints-same, Paints-then}
+use Rattle.sf_compose.specs.Seen.{AreSeenAt}
+use Rattle.sf_compose.proofs.BegunLemmas.{AllZip-drop}
+use Rattle.sf_compose.proofs.PaintLemmas.{Paints-none, Paints-then}
 
 -- rectangles that share no point
 
-has_at : (rs : List Rect) (i : ℕ) (d : Rect) (x y : ℤ) → i < length rs → covers (get_or rs i d) x y ≡ true → has rs x y ≡ true
+pub has_at : (rs : List Rect) (i : ℕ) (d : Rect) (x y : ℤ) → i < length rs → covers (get_or rs i d) x y ≡ true → has rs x y ≡ true
 has_at [] i d x y h t = absurd (omega arith)
 has_at (r ∷ rs) zero d x y h t = or_left (covers r x y) (has rs x y) t
 has_at (r ∷ rs) (suc i) d x y h t = or_right (covers r x y) (has rs x y) (has_at rs i d x y (omega arith) t)
@@ -85,27 +90,49 @@ seen-step contents d ds s ss x y shown under all is = rw is (by_tests (is_in_cli
     by_tests true true t u = rw (t, u) (layers-hide contents x y ds ss all u under _)
     by_tests false h t u = rw t refl
 
--- one layer, where it shows, and then those above it
-pub Paints-seen : (w base : ℕ) (area : Area) (contents : List Picture) (layers : List Drawn) (sources : List ℕ) (shows : List (List Rect)) (d : Drawn) (ds : List Drawn) (s : ℕ) (ss : List ℕ) (region : List Rect) (regions : List (List Rect)) (old mid new : List ℕ) → (d ∷ ds) ≡ layers → (s ∷ ss) ≡ sources → (region ∷ regions) ≡ shows → AreReadable contents layers sources → AreVisible layers shows → Paints w base (λ x y. is_in_area area x y && has region (pos x) (pos y)) (λ x y under. under_one contents (pos x) (pos y) under d s) old mid → Paints w base (is_in_area area) (λ x y under. under_drawn contents (pos x) (pos y) under ds ss) mid new → Paints w base (is_in_area area) (λ x y under. under_drawn contents (pos x) (pos y) under layers sources) old new
-Paints-seen w base area contents layers sources shows d ds s ss region regions old mid new is_layers is_sources is_shows readable visible a b =
-    let all : AllZip (λ drawn source. IsReadable contents drawn.content source) (d ∷ ds) (s ∷ ss) = rw (← is_layers, ← is_sources) at readable.all in
-    let seen : AreVisible (d ∷ ds) (region ∷ regions) = rw (← is_layers, ← is_shows) at visible in
-    rw (← is_layers, ← is_sources) (
-    Paints-same w base (is_in_area area) (is_in_area area)
-    (λ x y under. under_drawn contents (pos x) (pos y) (if has region (pos x) (pos y) then under_one contents (pos x) (pos y) under d s else under) ds ss)
-    (λ x y under. under_drawn contents (pos x) (pos y) under (d ∷ ds) (s ∷ ss)) old new
-    (Paints-over w base (is_in_area area) (λ x y under. if has region (pos x) (pos y) then under_one contents (pos x) (pos y) under d s else under) (λ x y under. under_drawn contents (pos x) (pos y) under ds ss) old mid new
-    (Paints-clipped w base (λ x y. is_in_area area x y && has region (pos x) (pos y)) (is_in_area area) (λ x y. has region (pos x) (pos y)) (λ x y under. under_one contents (pos x) (pos y) under d s) old mid a (λ x y. refl)) b)
-    (λ x y. refl)
-    (λ x y under t. seen-step contents d ds s ss (pos x) (pos y) (has region (pos x) (pos y)) under all.1 (seen.0 (pos x) (pos y))))
+-- what shows of a layer with those above it
+seen_at : (test : ℕ → ℕ → Bool) (layers : List Drawn) (shows : List (List Rect)) (n : ℕ) (d : Drawn) (r : List Rect) (x y : ℕ) → n < length layers → AreSeenAt test layers shows → test x y ≡ true
+    → has (get_or shows n r) (pos x) (pos y) ≡ shows_at (get_or layers n d) (drop (suc n) layers) (pos x) (pos y)
+seen_at test [] shows n d r x y h visible t = absurd (omega arith)
+seen_at test (l ∷ ls) [] n d r x y h visible t = absurd visible
+seen_at test (l ∷ ls) (region ∷ regions) zero d r x y h visible t = visible.0 x y t
+seen_at test (l ∷ ls) (region ∷ regions) (suc n) d r x y h visible t = seen_at test ls regions n d r x y (omega arith) visible.1 t
 
--- lists as a first and others
+-- one layer more, painted where it shows
+pub IsBegun-seen : (w base : ℕ) (area : Area) (contents : List Picture) (layers : List Drawn) (sources : List ℕ) (shows : List (List Rect)) (n : ℕ) (d : Drawn) (s : ℕ) (r : List Rect) (old new : List ℕ) → n < length layers → n < length sources → AreReadable contents layers sources → AreSeenAt (is_in_area area) layers shows
+    → Paints w base (λ x y. is_in_area area x y && has (get_or shows n r) (pos x) (pos y)) (λ x y under. under_one contents (pos x) (pos y) under (get_or layers n d) (get_or sources n s)) old new
+    → IsBegun w base (is_in_area area) contents layers sources n old → IsBegun w base (is_in_area area) contents layers sources (n + 1) new
+IsBegun-seen w base area contents layers sources shows n d s r old new h k readable visible painted begun = rw (add-one n) (record {
+  image = λ x y wide low t.
+      (let drawn = get_or layers n d in
+      let source = get_or sources n s in
+      let above = drop (suc n) layers in
+      let later = drop (suc n) sources in
+      let under = pixel_in old ((y - base) * w + x) in
+      let here : pixel_in new ((y - base) * w + x) ≡ (if has (get_or shows n r) (pos x) (pos y) then under_one contents (pos x) (pos y) under drawn source else under) = rw t at (painted.pixels x y wide low) in
+      ap (λ (p : Rgba). under_drawn contents (pos x) (pos y) p above later) here
+      ∙ (seen-step contents drawn above source later (pos x) (pos y) (has (get_or shows n r) (pos x) (pos y)) under (AllZip-drop (λ drawn source. IsReadable contents drawn.content source) (suc n) layers sources readable.all) (seen_at (is_in_area area) layers shows n d r x y h visible t)
+      ∙ (ap (λ (ls : List Drawn). under_drawn contents (pos x) (pos y) under ls (source ∷ later)) (sym (drop-cons layers n d h)) ∙ (ap (λ (ss : List ℕ). under_drawn contents (pos x) (pos y) under (drop n layers) ss) (sym (drop-cons sources n s k)) ∙ begun.image x y wide low t))));
+})
 
-pub first-others : {A : Type 0} (xs : List A) (d : A) → 1 ≤ length xs → get_or xs 0 d ∷ take (length xs - 1) (drop 1 xs) ≡ xs
-first-others [] d some = absurd (omega arith)
-first-others (x ∷ xs) d some =
-    let less : suc (length xs) - 1 ≡ length xs = omega arith in
-    ap (λ others. x ∷ others) (rw less (take-length xs))
+-- beside an area is none of its part
+pub part_beside : (area : Area) (region : List Rect) (x y : ℕ) → is_in_area area x y ≡ false → (is_in_area area x y && has region (pos x) (pos y)) ≡ false
+part_beside area region x y t = rw t refl
+
+-- and none
+pub IsBegun-ended : (w base : ℕ) (p : ℕ → ℕ → Bool) (contents : List Picture) (layers : List Drawn) (sources : List ℕ) (n : ℕ) (old new : List ℕ) → n ≡ length layers → Spares w base p old new → IsBegun w base p contents layers sources n new
+    → Paints w base p (λ x y under. under_drawn contents (pos x) (pos y) opaque_black layers sources) old new
+IsBegun-ended w base p contents layers sources n old new all spared begun = record {
+  size = spared.size;
+  pixels = λ x y wide low. by_test x y wide low (p x y) refl;
+}
+  where
+    none : drop n layers ≡ []
+    none = rw all (drop-length layers)
+
+    by_test : (x y : ℕ) → x < w → base ≤ y → (t : Bool) → p x y ≡ t → pixel_in new ((y - base) * w + x) ≡ (if p x y then under_drawn contents (pos x) (pos y) opaque_black layers sources else pixel_in old ((y - base) * w + x))
+    by_test x y wide low true t = rw t (ap (λ (ls : List Drawn). under_drawn contents (pos x) (pos y) (pixel_in new ((y - base) * w + x)) ls (drop n sources)) (sym none) ∙ begun.image x y wide low t)
+    by_test x y wide low false t = rw t (spared.rest x y wide low t)
 
 -- what stands for a drawn layer of an empty list
 abbrev pub no_layer : Drawn

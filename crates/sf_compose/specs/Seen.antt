@@ -1,6 +1,9 @@
--- What is asked of drawn layers that are painted.
-use Rattle.std.specs.Prelude.{◌≡◌, ◌≤◌, ℕ, true, List, pos}
+-- What is asked of drawn layers that are painted, and of the regions that say where they show.
+use Rattle.std.specs.Prelude.{◌≡◌, ◌≤◌, ℕ, Bool, true, List, [], ◌∷◌, pos}
 use Rattle.std.specs.List.{All}
+use Rattle.sf_base.specs.declared.geometry.Rect.{Rect}
+use Rattle.sf_damage.specs.Visible.{shows_at}
+use Rattle.sf_region.specs.Points.{has}
 use Rattle.sf_view.specs.Contents.{is_in_content}
 use Rattle.sf_view.specs.Views.{is_in_clip}
 use Rattle.sf_view.specs.declared.drawn.Drawn.{Drawn}
@@ -12,3 +15,10 @@ pub record IsPaintable (drawn : Drawn) : Type 0 where
 
 abbrev pub ArePaintable : List Drawn → Type 0
 ArePaintable layers = All IsPaintable layers
+
+-- for each drawn layer, from the back, a region that has, of the points of a display that pass a test, those that show of it
+abbrev pub AreSeenAt : (ℕ → ℕ → Bool) → List Drawn → List (List Rect) → Type 0
+AreSeenAt test [] regions = regions ≡ []
+AreSeenAt test (drawn ∷ above) [] = ⊥
+AreSeenAt test (drawn ∷ above) (region ∷ regions) =
+    ((x y : ℕ) → test x y ≡ true → has region (pos x) (pos y) ≡ shows_at drawn above (pos x) (pos y)) × AreSeenAt test above regions

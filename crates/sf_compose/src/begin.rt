@@ -7,7 +7,7 @@ ghost use Rattle.sf_compose.specs.Seen.{ArePaintable};
 
 use crate::area::Area;
 use crate::band::Band;
-use crate::ground::{OPAQUE_BLACK, hides};
+use crate::ground::{OPAQUE_BLACK, has_area, hides};
 use crate::layer::{copy_layer, paint_area};
 use crate::pixels::Pixels;
 use sf_view::Drawn;
@@ -35,6 +35,9 @@ pub fn begin<C: Pixels>(
     while at > 0 {
         let above = at;
         at -= 1;
+        if !has_area(&layers[at].clip, area) {
+            continue;
+        }
         if hides(&layers[at], area) {
             return at;
         }

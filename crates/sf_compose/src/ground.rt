@@ -22,7 +22,7 @@ fn spans(start: i32, extent: u32, first: u32, end: u32) -> bool
 }
 
 // Whether a rectangle has each point of an area.
-fn has_area(rect: &Rect, area: Area) -> bool
+pub fn has_area(rect: &Rect, area: Area) -> bool
     ensures { result ≡ has_area area rect.now }
 {
     spans(rect.x, rect.width, area.left, area.right)

@@ -2,7 +2,7 @@ ghost use Rattle.std.specs.Prelude.{◌≡◌, ◌*◌, ◌≤◌, length, map, 
 ghost use Rattle.sf_compose.specs.Bands.{HasRows};
 ghost use Rattle.sf_compose.specs.Frames.{KeepsRest, Repaints, ShowsPart};
 ghost use Rattle.sf_compose.specs.Readings.{AreReadable, read_image};
-ghost use Rattle.sf_damage.specs.Visible.{AreVisible};
+ghost use Rattle.sf_damage.specs.Visible.{AreVisibleIn};
 ghost use Rattle.sf_region.specs.Points.{has};
 
 use crate::band::{Band, all_rows};
@@ -89,7 +89,7 @@ pub fn compose_seen_by<R: Threads + Sync, C: Pixels + Sync>(
     requires some { 1 ≤ workers }
     requires few { workers ≤ 16 }
     requires readable { AreReadable (map C.picture contents.now) view.now.drawn sources.now }
-    requires visible { AreVisible view.now.drawn shows.now }
+    requires visible { AreVisibleIn part.now view.now.drawn shows.now }
     requires room { length frame.old ≡ 4 * (view.now.width * view.now.height) }
     ensures image { OnOk result (ShowsPart view.now part.now
         (read_image (map C.picture contents.now) view.now sources.now) frame.new) }
@@ -100,7 +100,7 @@ pub fn compose_seen_by<R: Threads + Sync, C: Pixels + Sync>(
     compose_bands(
         rt,
         &|band: Band, bytes: &mut [u8]|
-            requires { AreReadable (map C.picture contents.now) view.now.drawn sources.now × AreVisible view.now.drawn shows.now × HasRows band bytes.now }
+            requires { AreReadable (map C.picture contents.now) view.now.drawn sources.now × AreVisibleIn part.now view.now.drawn shows.now × HasRows band bytes.now }
             ensures { Repaints band.width band.top band.bottom (λ x y. has part.entry.now (pos x) (pos y))
                 (read_image (map C.picture contents.entry.now) view.entry.now sources.entry.now) bytes.entry.now bytes.exit.now }
         {

@@ -1,11 +1,11 @@
-ghost use Rattle.std.specs.Prelude.{◌≡◌, ◌*◌, ◌≤◌, ◌&&◌, length, map, drop, OnErr, OnOk, pos};
+ghost use Rattle.std.specs.Prelude.{◌≡◌, ◌*◌, ◌&&◌, length, map, OnErr, OnOk, pos};
 ghost use Rattle.sf_base.specs.Geometry.{covers};
 ghost use Rattle.sf_compose.specs.Bands.{HasRows, IsInBand};
 ghost use Rattle.sf_compose.specs.Frames.{KeepsRest, Repaints, ShowsPart};
 ghost use Rattle.sf_compose.specs.Painting.{is_in_area, Paints};
 ghost use Rattle.sf_compose.specs.Readings.{AreReadable, IsReadable, read_image, under_drawn, under_one};
-ghost use Rattle.sf_compose.specs.Seen.{ArePaintable, IsPaintable};
-ghost use Rattle.sf_damage.specs.Visible.{AreVisible};
+ghost use Rattle.sf_compose.specs.Seen.{ArePaintable, AreSeenAt, IsPaintable};
+ghost use Rattle.sf_damage.specs.Visible.{AreVisibleAt, AreVisibleIn};
 ghost use Rattle.sf_region.specs.Canonical.{IsDisjoint};
 ghost use Rattle.sf_region.specs.Points.{has};
 ghost use Rattle.sf_view.specs.Image.{opaque_black};
@@ -45,64 +45,6 @@ fn paint_parts<C: Pixels>(
     }
 }
 
-// Paints drawn layers over an area, from the back, each only where it shows.
-fn paint_seen<C: Pixels>(
-    layers: &[Drawn],
-    contents: &[C],
-    sources: &[u32],
-    shows: &[Region],
-    frame: &mut [u8],
-    band: Band,
-    area: Area,
-)
-    requires readable { AreReadable (map C.picture contents.now) layers.now sources.now }
-    requires paintable { ArePaintable layers.now }
-    requires visible { AreVisible layers.now shows.now }
-    requires within { IsInBand band area }
-    requires room { HasRows band frame.old }
-    ensures { Paints band.width band.top (is_in_area area) (λ x y under.
-        under_drawn (map C.picture contents.now) (pos x) (pos y) under layers.now sources.now) frame.old frame.new }
-{
-    let [drawn, above @ ..] = layers else {
-        return;
-    };
-    let [source, later @ ..] = sources else {
-        return;
-    };
-    let [show, others @ ..] = shows else {
-        return;
-    };
-    paint_parts(drawn, contents, *source, show.rects(), frame, band, area);
-    paint_seen(above, contents, later, others, frame, band, area);
-}
-
-// Paints drawn layers from a number on over an area, from the back, each only where it shows.
-fn paint_seen_from<C: Pixels>(
-    first: usize,
-    layers: &[Drawn],
-    contents: &[C],
-    sources: &[u32],
-    shows: &[Region],
-    band: Band,
-    area: Area,
-    frame: &mut [u8],
-)
-    requires few { first ≤ length layers.now }
-    requires few_sources { first ≤ length sources.now }
-    requires few_shows { first ≤ length shows.now }
-    requires readable { AreReadable (map C.picture contents.now) layers.now sources.now }
-    requires paintable { ArePaintable layers.now }
-    requires visible { AreVisible layers.now shows.now }
-    requires within { IsInBand band area }
-    requires room { HasRows band frame.old }
-    ensures { Paints band.width band.top (is_in_area area) (λ x y under.
-        under_drawn (map C.picture contents.now) (pos x) (pos y) under (drop first layers.now) (drop first sources.now)) frame.old frame.new }
-{
-    let (layers, sources) = (&layers[first..], &sources[first..]);
-    let shows = &shows[first..];
-    paint_seen(layers, contents, sources, shows, frame, band, area);
-}
-
 // Composes an area, layer after layer, of each only what shows.
 fn compose_slice_seen<C: Pixels>(
     layers: &[Drawn],
@@ -115,14 +57,18 @@ fn compose_slice_seen<C: Pixels>(
 )
     requires readable { AreReadable (map C.picture contents.now) layers.now sources.now }
     requires paintable { ArePaintable layers.now }
-    requires visible { AreVisible layers.now shows.now }
+    requires visible { AreSeenAt (is_in_area area) layers.now shows.now }
     requires within { IsInBand band area }
     requires room { HasRows band frame.old }
     ensures { Paints band.width band.top (is_in_area area) (λ x y under.
         under_drawn (map C.picture contents.now) (pos x) (pos y) opaque_black layers.now sources.now) frame.old frame.new }
 {
-    let first = begin(layers, contents, sources, band, area, frame);
-    paint_seen_from(first, layers, contents, sources, shows, band, area, frame);
+    let mut at = begin(layers, contents, sources, band, area, frame);
+    while at < layers.len() {
+        let parts = shows[at].rects();
+        paint_parts(&layers[at], contents, sources[at], parts, frame, band, area);
+        at += 1;
+    }
 }
 
 // Composes an area, slice by slice, of each layer only what shows.
@@ -137,7 +83,7 @@ fn compose_area_seen<C: Pixels>(
 )
     requires readable { AreReadable (map C.picture contents.now) layers.now sources.now }
     requires paintable { ArePaintable layers.now }
-    requires visible { AreVisible layers.now shows.now }
+    requires visible { AreSeenAt (is_in_area area) layers.now shows.now }
     requires within { IsInBand band area }
     requires room { HasRows band frame.old }
     ensures { Paints band.width band.top (is_in_area area) (λ x y under.
@@ -166,7 +112,7 @@ fn compose_rect_seen<C: Pixels>(
     frame: &mut [u8],
 )
     requires readable { AreReadable (map C.picture contents.now) view.now.drawn sources.now }
-    requires visible { AreVisible view.now.drawn shows.now }
+    requires visible { AreVisibleAt (covers rect.now) view.now.drawn shows.now }
     requires room { HasRows band frame.old }
     ensures { Repaints band.width band.top band.bottom (λ x y. covers rect.now (pos x) (pos y))
         (read_image (map C.picture contents.now) view.now sources.now) frame.old frame.new }
@@ -194,7 +140,7 @@ pub fn compose_band_seen<C: Pixels>(
     frame: &mut [u8],
 )
     requires readable { AreReadable (map C.picture contents.now) view.now.drawn sources.now }
-    requires visible { AreVisible view.now.drawn shows.now }
+    requires visible { AreVisibleIn part.now view.now.drawn shows.now }
     requires room { HasRows band frame.old }
     ensures { Repaints band.width band.top band.bottom (λ x y. has part.now (pos x) (pos y))
         (read_image (map C.picture contents.now) view.now sources.now) frame.old frame.new }
@@ -205,9 +151,9 @@ pub fn compose_band_seen<C: Pixels>(
 }
 
 /// Composes a view into a part of a frame as `compose_one` does, with the same bytes, and paints of
-/// each layer only what shows of it: `shows` has for each drawn layer, from the back, the points that
-/// no opaque layer above it hides, as `sf_damage::visible` gives them. After want of memory the frame
-/// is as it was.
+/// each layer only what shows of it: `shows` has for each drawn layer, from the back, a region that of
+/// the points of the part has those that no opaque layer above hides, as `sf_damage::visible` gives it.
+/// After want of memory the frame is as it was.
 pub fn compose_seen<C: Pixels>(
     _alloc: Global,
     view: &View,
@@ -218,7 +164,7 @@ pub fn compose_seen<C: Pixels>(
     frame: &mut [u8],
 ) -> Result<(), NoMemory>
     requires readable { AreReadable (map C.picture contents.now) view.now.drawn sources.now }
-    requires visible { AreVisible view.now.drawn shows.now }
+    requires visible { AreVisibleIn part.now view.now.drawn shows.now }
     requires room { length frame.old ≡ 4 * (view.now.width * view.now.height) }
     ensures image { OnOk result (ShowsPart view.now part.now
         (read_image (map C.picture contents.now) view.now sources.now) frame.new) }

@@ -1,3 +1,4 @@
+mod BoundsLemmas
 mod DiffersLemmas
 mod GatheredLemmas
 mod HalvingLemmas

@@ -4,6 +4,7 @@ use Rattle.std.specs.List.{list_any}
 use Rattle.std.proofs.lemmas.Bool.{and_parts, both_ways, eqb-true, false≢true, or_cases}
 use Rattle.sf_base.specs.Blend.{blended, product}
 use Rattle.sf_base.specs.Paint.{painted}
+use Rattle.sf_base.specs.declared.geometry.Rect.{Rect}
 use Rattle.sf_base.specs.declared.pixel.Rgba.{Rgba}
 use Rattle.sf_picture.specs.declared.picture.Picture.{Picture}
 use Rattle.sf_view.specs.Contents.{pixel_of, source_of}
@@ -11,7 +12,7 @@ use Rattle.sf_view.specs.Image.{opaque_black}
 use Rattle.sf_view.specs.Stacks.{sheet_of, stack, under_stack, view_image}
 use Rattle.sf_view.specs.Views.{ViewOf, is_in_clip}
 use Rattle.sf_view.specs.declared.drawn.Drawn.{Drawn}
-use Rattle.sf_damage.specs.Visible.{hides_all, hides_at, over_one, seen_over}
+use Rattle.sf_damage.specs.Visible.{AreVisibleAt, hides_all, hides_at, over_one, seen_over}
 
 cover-whole : (a : ℕ) → a ≡ 255 → 255 - (a * 255 + 127) / 255 ≡ 0
 cover-whole a e = rw e refl
@@ -65,3 +66,9 @@ seen-same picture x y (d ∷ ds) under = by_tests (is_in_clip d x y) (list_any (
 pub hidden_is_nothing : (picture : ℕ → Picture) (view : ViewOf) (x y : ℤ) → seen_over picture x y opaque_black view.drawn ≡ view_image picture view x y
 unfolding stack view_image
 hidden_is_nothing picture view x y = seen-same picture x y view.drawn opaque_black
+
+-- regions that have what shows at some points have it at fewer
+pub AreVisibleAt-within : (some fewer : ℤ → ℤ → Bool) (layers : List Drawn) (regions : List (List Rect)) → ((x y : ℤ) → fewer x y ≡ true → some x y ≡ true) → AreVisibleAt some layers regions → AreVisibleAt fewer layers regions
+AreVisibleAt-within some fewer [] regions within visible = visible
+AreVisibleAt-within some fewer (d ∷ ds) [] within visible = visible
+AreVisibleAt-within some fewer (d ∷ ds) (r ∷ rs) within visible = (λ x y t. visible.0 x y (within x y t), AreVisibleAt-within some fewer ds rs within visible.1)

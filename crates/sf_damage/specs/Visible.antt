@@ -1,5 +1,5 @@
 -- Which points of its clip a drawn layer shows.
-use Rattle.std.specs.Prelude.{◌≡◌, ℕ, ℤ, ◌==◌, Bool, not, ◌&&◌, List, [], ◌∷◌, if◌then◌else◌}
+use Rattle.std.specs.Prelude.{◌≡◌, ℕ, ℤ, ◌==◌, Bool, true, not, ◌&&◌, List, [], ◌∷◌, if◌then◌else◌}
 use Rattle.std.specs.List.{list_any}
 use Rattle.sf_base.specs.Paint.{painted}
 use Rattle.sf_base.specs.declared.geometry.Rect.{Rect}
@@ -23,12 +23,16 @@ hides_at x y drawn = hides_all drawn && is_in_clip drawn x y
 abbrev pub shows_at : Drawn → List Drawn → ℤ → ℤ → Bool
 shows_at drawn above x y = is_in_clip drawn x y && not (list_any (hides_at x y) above)
 
--- for each drawn layer, from the back, a region that has the points that show of it
-abbrev pub AreVisible : List Drawn → List (List Rect) → Type 0
-AreVisible [] regions = regions ≡ []
-AreVisible (drawn ∷ above) [] = ⊥
-AreVisible (drawn ∷ above) (region ∷ regions) =
-    ((x y : ℤ) → has region x y ≡ shows_at drawn above x y) × AreVisible above regions
+-- for each drawn layer, from the back, a region that has, of the points that pass a test, those that show of it
+abbrev pub AreVisibleAt : (ℤ → ℤ → Bool) → List Drawn → List (List Rect) → Type 0
+AreVisibleAt test [] regions = regions ≡ []
+AreVisibleAt test (drawn ∷ above) [] = ⊥
+AreVisibleAt test (drawn ∷ above) (region ∷ regions) =
+    ((x y : ℤ) → test x y ≡ true → has region x y ≡ shows_at drawn above x y) × AreVisibleAt test above regions
+
+-- the same of the points of a part
+abbrev pub AreVisibleIn : List Rect → List Drawn → List (List Rect) → Type 0
+AreVisibleIn part layers regions = AreVisibleAt (has part) layers regions
 
 -- a pixel under a drawn layer at a point
 abbrev pub over_one : (ℕ → Picture) → ℤ → ℤ → Rgba → Drawn → Rgba

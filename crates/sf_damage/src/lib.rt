@@ -5,6 +5,7 @@
 //! what shows. Layers that did not change cost comparisons, and no operations on regions.
 #![tactic(auto)]
 
+mod bounds;
 mod changes;
 mod damaged;
 mod differing;

@@ -1,11 +1,12 @@
-ghost use Rattle.std.specs.Prelude.{◌≡◌, ℤ, ◌&&◌, not, IfOk, OnOk, [], reverse};
+ghost use Rattle.std.specs.Prelude.{◌≡◌, ℤ, ◌&&◌, not, true, IfOk, OnOk, [], reverse};
 ghost use Rattle.std.specs.List.{All, filter, list_any};
 ghost use Rattle.sf_base.specs.Geometry.{covers};
 ghost use Rattle.sf_region.specs.Points.{IsInBounds, has};
 ghost use Rattle.sf_damage.specs.Damage.{AreNear};
 ghost use Rattle.sf_damage.specs.Meeting.{meets};
-ghost use Rattle.sf_damage.specs.Visible.{AreVisible, hides_all, hides_at};
+ghost use Rattle.sf_damage.specs.Visible.{AreVisibleAt, AreVisibleIn, hides_all, hides_at};
 
+use crate::bounds::bounds;
 use crate::gathered::region_of;
 use crate::parts::{is_empty, meets};
 use sf_base::{NoMemory, Rect};
@@ -33,12 +34,17 @@ fn those_met(alloc: Global, rects: &[Rect], rect: &Rect) -> Result<Vec<Rect>, No
     Ok(met)
 }
 
-// The points of a rectangle that none of these others has. Only those that it meets are gone over.
-fn left(alloc: Global, rect: Rect, hidden: &[Rect]) -> Result<Region, NoMemory>
+// Of the points of a window, those of a rectangle that none of these others has. Only those that it
+// meets are gone over, and none of them where it doesn't meet the window.
+fn left(alloc: Global, rect: Rect, window: &Rect, hidden: &[Rect]) -> Result<Region, NoMemory>
     requires near { IsInBounds rect }
     requires hidden { All IsInBounds hidden.now }
-    ensures { IfOk result (λ rest. (x y : ℤ) → has rest x y ≡ (covers rect x y && not (has hidden.now x y))) }
+    ensures { IfOk result (λ rest. (x y : ℤ) → covers window.now x y ≡ true
+        → has rest x y ≡ (covers rect x y && not (has hidden.now x y))) }
 {
+    if !meets(&rect, window) {
+        return Ok(Region::empty(alloc));
+    }
     let met = those_met(alloc, hidden, &rect)?;
     let cover = Region::rect(alloc, rect)?;
     let over = region_of(alloc, &met)?;
@@ -48,26 +54,28 @@ fn left(alloc: Global, rect: Rect, hidden: &[Rect]) -> Result<Region, NoMemory>
     Ok(cover.subtract(&over)?)
 }
 
-// Appends what shows of each of the layers, from the front, and the clips that hide what is below
-// them.
+// Appends what shows in a window of each of the layers, from the front, and the clips that hide what
+// is below them there.
 fn show(
     alloc: Global,
     layers: &[Drawn],
+    window: &Rect,
     shown: &mut Vec<Region>,
     hidden: &mut Vec<Rect>,
 ) -> Result<(), NoMemory>
     requires near { AreNear layers.now }
     requires none { shown.old.items ≡ [] }
     requires nothing { hidden.old.items ≡ [] }
-    ensures shown { OnOk result (AreVisible layers.now (reverse shown.new.items)) }
-    ensures hidden { OnOk result ((x y : ℤ) → has hidden.new.items x y ≡ list_any (hides_at x y) layers.now) }
+    ensures shown { OnOk result (AreVisibleAt (covers window.now) layers.now (reverse shown.new.items)) }
+    ensures hidden { OnOk result ((x y : ℤ) → covers window.now x y ≡ true
+        → has hidden.new.items x y ≡ list_any (hides_at x y) layers.now) }
     ensures near { OnOk result (All IsInBounds hidden.new.items) }
 {
     let [drawn, above @ ..] = layers else {
         return Ok(());
     };
-    show(alloc, above, shown, hidden)?;
-    let region = left(alloc, drawn.clip, hidden)?;
+    show(alloc, above, window, shown, hidden)?;
+    let region = left(alloc, drawn.clip, window, hidden)?;
     let adds = hides_all(drawn) && !is_empty(&region);
     shown.push(region)?;
     if adds {
@@ -77,15 +85,24 @@ fn show(
     }
 }
 
-/// Of each drawn layer of a view, from the back, the points at which it shows: its clip without
-/// the clips of the layers above it that are opaque and have alpha 255. Translucent layers hide
-/// nothing.
-pub fn visible(alloc: Global, view: &View) -> Result<Vec<Region>, NoMemory>
-    ensures { IfOk result (λ regions. AreVisible view.now.drawn regions.items) }
+/// Of each drawn layer of a view, from the back, where it shows in a part of the display. Of the points
+/// of the part the region of a layer has exactly those of its clip that no layer above it hides: the
+/// layers that are opaque and have alpha 255 hide what is below their clips, and translucent ones
+/// nothing. Beside the part the regions may have any points. A layer beside the part's bounds costs a
+/// comparison.
+pub fn visible(alloc: Global, view: &View, part: &Region) -> Result<Vec<Region>, NoMemory>
+    ensures { IfOk result (λ regions. AreVisibleIn part.now view.now.drawn regions.items) }
 {
     let mut shown = Vec::new(alloc);
     let mut hidden = Vec::new(alloc);
-    show(alloc, view.drawn.as_slice(), &mut shown, &mut hidden)?;
+    let window = bounds(part);
+    show(
+        alloc,
+        view.drawn.as_slice(),
+        &window,
+        &mut shown,
+        &mut hidden,
+    )?;
     shown.reverse();
     Ok(shown)
 }

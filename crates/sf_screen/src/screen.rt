@@ -116,7 +116,7 @@ fn compose_again<R: Threads + Sync, C: Pixels + Sync>(
     ensures err { OnErr result (frame.new ≡ frame.old) }
 {
     let part = dirty(alloc, old, view)?;
-    let shows = visible(alloc, view)?;
+    let shows = visible(alloc, view, &part)?;
     compose_seen_by(rt, workers, view, contents, sources, &shows, &part, frame)
 }
 

@@ -1,5 +1,6 @@
 use Rattle.std.proofs.Common.{arith}
-use Rattle.sf_compose.proofs.BegunLemmas.{Paints-slice}
+use Rattle.sf_compose.specs.Painting.{is_in_area}
+use Rattle.sf_compose.proofs.BegunLemmas.{AreSeenAt-within, Paints-slice, slice_within}
 use Rattle.sf_compose.proofs.FrameLemmas.{box_without_height}
 use Rattle.sf_compose.proofs.PaintLemmas.{Paints-ended, Paints-none}
 use Rattle.sf_compose.proofs.seen.compose_area_seen.Goals as goal
@@ -13,6 +14,12 @@ compose_slice_seen-requires-clause-within g c = record {
   low = omega (arith, c.slice_from-slice.ensures.top, c.requires.within.low, c.loop-top.invariant.0);
   high = omega (arith, c.slice_from-slice.ensures.bottom, c.requires.within.high);
 }
+
+pub compose_slice_seen-requires-clause-visible : goal.compose_slice_seen-requires-clause-visible
+compose_slice_seen-requires-clause-visible g c =
+    AreSeenAt-within (is_in_area c.args.area) (is_in_area c.slice_from-slice.result) c.args.layers.now c.args.shows.now
+    (λ x y t. slice_within c.args.area c.slice_from-slice.result c.loop-top.top x y c.slice_from-slice.ensures.left c.slice_from-slice.ensures.right c.slice_from-slice.ensures.top c.loop-top.invariant.0 c.slice_from-slice.ensures.bottom t)
+    c.requires.visible
 
 pub loop-top-preserved : goal.loop-top-preserved
 loop-top-preserved g c = (

@@ -3,14 +3,23 @@ use Rattle.std.proofs.lemmas.List.{take_all}
 use Rattle.std.proofs.lemmas.List.Folds.{list_any_more}
 use Rattle.sf_base.specs.declared.geometry.Rect.{Rect}
 use Rattle.sf_base.specs.Geometry.{covers}
+use Rattle.sf_damage.proofs.VisibleLemmas.{AreVisibleAt-within}
 use Rattle.sf_region.specs.Points.{has}
 use Rattle.sf_compose.specs.Frames.{Repaints}
 use Rattle.sf_compose.specs.Readings.{read_image}
 use Rattle.sf_compose.proofs.FrameLemmas.{Repaints-none, Repaints-then}
+use Rattle.sf_compose.proofs.SeenLemmas.{has_at}
 use Rattle.sf_compose.proofs.seen.compose_band_seen.Goals as goal
 
 abbrev nowhere : Rect
 nowhere = record { x = pos 0; y = pos 0; width = 0; height = 0 }
+
+pub compose_rect_seen-requires-clause-visible : goal.compose_rect_seen-requires-clause-visible
+compose_rect_seen-requires-clause-visible g c =
+    let rects : c.rects-rect-items.result.now ≡ c.args.part.now = c.rects-rect-items.ensures.same in
+    let within : c.loop-rect.rect-index < length c.args.part.now = rw rects at c.loop-rect-test.true in
+    rw rects (AreVisibleAt-within (has c.args.part.now) (covers (get_or c.args.part.now c.loop-rect.rect-index nowhere)) c.args.view.now.drawn c.args.shows.now
+    (λ x y t. has_at c.args.part.now c.loop-rect.rect-index nowhere x y within t) c.requires.visible)
 
 pub loop-rect-init : goal.loop-rect-init
 loop-rect-init g c = Repaints-none _ _ _ _ _ _ (λ x y. refl)

@@ -1,12 +1,20 @@
 use Rattle.std.proofs.Common.{◌≡◌, ◌∙◌, List, map, pos, ap, refl, sym, subst}
+use Rattle.std.proofs.lemmas.Bool.{and_parts}
 use Rattle.sf_base.specs.Geometry.{covers}
 use Rattle.sf_view.specs.Image.{opaque_black}
 use Rattle.sf_view.specs.Views.{ViewOf}
 use Rattle.sf_view.specs.declared.drawn.Drawn.{Drawn}
 use Rattle.sf_compose.specs.Painting.{is_in_area, Paints}
 use Rattle.sf_compose.specs.Readings.{read_image, under_drawn}
-use Rattle.sf_compose.proofs.BegunLemmas.{Repaints-area}
+use Rattle.sf_compose.proofs.BegunLemmas.{AreSeenAt-visible, Repaints-area}
 use Rattle.sf_compose.proofs.seen.compose_rect_seen.Goals as goal
+
+pub compose_area_seen-requires-clause-visible : goal.compose_area_seen-requires-clause-visible
+unfolding covers
+compose_area_seen-requires-clause-visible g c =
+    let layers : c.as_slice.result.now ≡ c.args.view.now.drawn = c.as_slice.ensures ∙ ap (λ (v : ViewOf). v.drawn) c.view.view_is in
+    rw layers (AreSeenAt-visible (covers c.args.rect.now) (is_in_area c.cut-area.result) c.args.view.now.drawn c.args.shows.now
+    (λ x y t. (and_parts _ _ (sym (c.cut-area.ensures.points x y) ∙ t)).1) c.requires.visible)
 
 pub returns : goal.returns
 unfolding covers read_image

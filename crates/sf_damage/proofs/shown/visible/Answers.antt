@@ -1,0 +1,14 @@
+use Rattle.std.proofs.Common.{◌≡◌, ◌∙◌, List, ap, subst, reverse}
+use Rattle.sf_base.specs.Geometry.{covers}
+use Rattle.sf_region.specs.Points.{has}
+use Rattle.sf_view.specs.Views.{ViewOf}
+use Rattle.sf_view.specs.declared.drawn.Drawn.{Drawn}
+use Rattle.sf_damage.specs.Visible.{AreVisibleAt}
+use Rattle.sf_damage.proofs.VisibleLemmas.{AreVisibleAt-within}
+use Rattle.sf_damage.proofs.shown.visible.Goals as goal
+
+pub returns : goal.returns
+returns c =
+    let layers : c.as_slice.result.now ≡ c.args.view.now.drawn = c.as_slice.ensures ∙ ap (λ (v : ViewOf). v.drawn) c.view.view_is in
+    rw c.reverse.ensures.items (AreVisibleAt-within (covers c.bounds-window.result) (has c.args.part.now) c.args.view.now.drawn (reverse c.show.new.shown.items) c.bounds-window.ensures
+    (subst (λ (drawn : List Drawn). AreVisibleAt (covers c.bounds-window.result) drawn (reverse c.show.new.shown.items)) layers c.in_ok-show.ensures.shown))
