@@ -13,7 +13,8 @@ use crate::text::next_word;
 pub fn is(word: &[u8], text: &[u8]) -> bool
     ensures { result ≡ bytes_eq word.now text.now }
 {
-    word == text
+    // Most differ in length, which is found without a call.
+    word.len() == text.len() && word == text
 }
 
 // How many words a line has.
