@@ -91,7 +91,7 @@ fn write_turn<R: Threads + Sync, K: Sink, B: TableName>(
             plan,
             screens,
             player.handler(),
-            report,
+            report.into_report(),
         ),
         Turn::Step(_) | Turn::Idle | Turn::End => Ok(()),
     }

@@ -3,11 +3,13 @@
 //! A run whose actors did their steps in threads goes on by the same rounds.
 #![tactic(auto)]
 
+mod kept;
 mod laws;
 mod place;
 mod player;
 mod turn;
 
+pub use kept::KeptReport;
 pub use laws::{
     replies_may_be_shown_last, the_next_actor_is_the_one_that_is_tried,
     the_vsyncs_of_rounds_can_be_numbered, what_stands_at_its_end_fits,

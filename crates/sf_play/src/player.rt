@@ -27,6 +27,7 @@ use std::marker::Model;
 
 /// The play of a scene, one turn after another.
 pub struct Player<B: TableName> {
+    pub(crate) alloc: Global,
     pub(crate) period: u64,
     pub(crate) order: Items<Pick>,
     pub(crate) actor_set: ActorSet<B>,
@@ -107,6 +108,7 @@ impl<B: TableName> Player<B> {
         let actor_set = ActorSet::new(alloc, queues.as_slice(), pictures, actors, seat, stock)?;
         let handler = Handler::with_limit(alloc, width, height, most_layers(version))?;
         Ok(Player {
+            alloc,
             period,
             order,
             actor_set,
@@ -133,6 +135,7 @@ impl<B: TableName> Player<B> {
         ensures { result ≡ before_round period order actor_set handler vsyncs }
     {
         Player {
+            alloc,
             period,
             order,
             actor_set,
@@ -183,6 +186,7 @@ impl<B: TableName> Player<B> {
     /// Ends the play.
     pub fn finish(self) {
         let Player {
+            alloc: _,
             period: _,
             order: _,
             actor_set: _,

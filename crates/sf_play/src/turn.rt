@@ -13,12 +13,12 @@ ghost use Rattle.sf_play.specs.declared.place.Place.TheVariants as at;
 ghost use Rattle.sf_report.specs.Reports.{has_commits};
 ghost use Rattle.sf_play.specs.Turning.{KeepsActorSet, Picks, Rounds, TriesStep, Turns, TurnsAt, is_step, next_tried, picked_place, turn_by};
 
+use crate::kept::KeptReport;
 use crate::place::Place;
 use crate::player::Player;
 use sf_actor::Stepped;
 use sf_base::NoMemory;
 use sf_ready::Hold;
-use sf_report::VsyncReport;
 use sf_surface::ReadLease;
 use sf_turns::TableName;
 use sf_txn::Lease;
@@ -30,7 +30,7 @@ pub enum Turn {
     Step(usize),
     /// The picked actor did nothing: it has ended, or it is not time for its next step.
     Idle,
-    Vsync(VsyncReport),
+    Vsync(KeptReport),
     /// Nothing, and nothing will be done any more.
     End,
 }
@@ -109,7 +109,8 @@ impl<B: TableName> Player<B> {
         ensures place { self.new.place ≡ self.old.place }
     {
         if number == 0 {
-            return Ok(Turn::Vsync(self.vsync()?));
+            let report = self.vsync()?;
+            return Ok(Turn::Vsync(KeptReport::new(self.alloc, report)?));
         }
         match self.actor_set.place_of(number) {
             Some(place) => self.step(place),
@@ -134,7 +135,7 @@ impl<B: TableName> Player<B> {
         let commits = report.has_commits();
         let waits = waits_for_time(self.held.as_slice());
         self.place = behind_round(stepped, commits, waits);
-        Ok(Turn::Vsync(report))
+        Ok(Turn::Vsync(KeptReport::new(self.alloc, report)?))
     }
 
     /// Does the next turn, from this place on.

@@ -113,7 +113,7 @@ fn write_turn<R: Threads + Sync, K: Sink, B: TableName>(
             plan,
             screens,
             player.handler(),
-            report,
+            report.into_report(),
         ),
         Turn::Idle => Ok(()),
         Turn::End => Ok(()),
