@@ -9,6 +9,7 @@ use Rattle.sf_turns.specs.declared.naming.TableName as naming
 use Rattle.sf_txn.specs.declared.lease.Lease as lease
 use Rattle.sf_txn.specs.contracts.transaction.Transaction as transaction
 use Rattle.sf_txn.specs.contracts.buffer.BufferOp as buffer
+use Rattle.sf_txn.specs.contracts.index.Index as index
 use Rattle.sf_txn.specs.contracts.ops.Ops as ops
 use Rattle.sf_txn.specs.contracts.ops.Ops.TheInside as ops_inside
 use Rattle.sf_token.specs.contracts.arrived.Arrived as arrived
@@ -70,14 +71,18 @@ module _ (B : RattleType) (T : naming.Ghosts B.Denot) where
   pub holding_send : IsSend (holding.the_row B T)
   holding_send = search (sendable, crosses, read_send, write_send, owing_send, loose_send) depth 20
 
--- the operations of a transaction, with the map of their places
+-- where the operations of a transaction are
+index_send : IsSend index.the_row
+index_send = declared_send index.the_type (
+  search (sendable, crosses, maps.crosses) depth 20,
+  (search (sendable, crosses) depth 20, (search (sendable, crosses) depth 20, tt)),
+)
+
+-- the operations of a transaction, with their index
 ops_send : IsSend ops.the_row
 ops_send = view_send _ _ _ _ _ (declared_send ops_inside.the_type (
   search (sendable, crosses) depth 20,
-  (
-    search (sendable, crosses, op_shown.the_send) depth 20,
-    (search (sendable, crosses, maps.crosses) depth 20, (search (sendable, crosses) depth 20, tt)),
-  ),
+  (search (sendable, crosses, op_shown.the_send) depth 20, (search (sendable, crosses, index_send) depth 20, tt)),
 ))
 
 module _ (L Eye Reading Closing : RattleType) (g : lease.Ghosts L.Denot Eye.Denot Reading.Denot Closing.Denot) where
