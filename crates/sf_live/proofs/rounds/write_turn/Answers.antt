@@ -2,8 +2,12 @@ use Rattle.std.proofs.Common.{ap, ◌∙◌, subst, sym, OnErr, OnOk}
 use Rattle.sf_commit.specs.Handlers.{HandlerOf}
 use Rattle.sf_surface.specs.Tokens.{ReadLeaseOf}
 use Rattle.sf_actor.specs.Scripts.{picture_at}
+use Rattle.sf_play.specs.Playing.{expected_by}
 use Rattle.sf_play.specs.declared.turn.Turn.{Turn}
+use Rattle.sf_report.specs.Stages.{IsStage}
+use Rattle.sf_report.specs.declared.report.VsyncReport.{VsyncReport}
 use Rattle.sf_screen.specs.ScreenLists.{AreShown}
+use Rattle.sf_show.specs.Vsyncs.{vsync_shown}
 use Rattle.sf_show.specs.Writing.{Writes, WritesPart}
 use Rattle.sf_show.proofs.WritingLemmas.{writes_none}
 use Rattle.sf_live.specs.Rounds.{MayWriteTurn, turn_written}
@@ -16,19 +20,26 @@ show_vsync-requires-clause-unlent g c κs within = ap (λ (h : HandlerOf ReadLea
 pub show_vsync-requires-clause-stage : goal.show_vsync-requires-clause-stage
 show_vsync-requires-clause-stage g c κs within =
     let tells = subst (λ (t : Turn). MayWriteTurn c.requires.may.0 c.args.plan.now t c.args.player.now) c.in-Vsync.is c.requires.may.1 in
-    stage_told c.requires.may.0 c.args.plan.now c.in-Vsync.report c.args.player.now c.handler.result.now tells c.handler.ensures.handler
+    subst (λ (r : VsyncReport). IsStage expected_by c.args.plan.now c.handler.result.now r.view r.sources) (sym c.into_report.ensures)
+    (stage_told c.requires.may.0 c.args.plan.now c.in-Vsync.report c.args.player.now c.handler.result.now tells c.handler.ensures.handler)
 
 pub returns-in-Vsync-clause-ok : goal.returns-in-Vsync-clause-ok
 returns-in-Vsync-clause-ok g c = λ scene may shown.
     let tells = subst (λ (t : Turn). MayWriteTurn scene c.args.plan.now t c.args.player.now) c.in-Vsync.is may in
-    let wrote = c.show_vsync.ensures.ok (picture_at scene.pictures) (expected_told scene c.args.plan.now c.in-Vsync.report c.args.player.now c.handler.result.now tells c.handler.ensures.handler) shown in
+    let wrote =
+    subst (λ (r : VsyncReport). OnOk c.show_vsync.result (Writes (g.K.Sink.taken c.args.sink.now) (g.K.Sink.taken c.show_vsync.new.sink) (vsync_shown (picture_at scene.pictures) c.args.plan.now c.args.timelines.now r c.handler.result.now.tree.layers) × AreShown (picture_at scene.pictures) c.show_vsync.new.screens))
+    c.into_report.ensures
+    (c.show_vsync.ensures.ok (picture_at scene.pictures) (expected_told scene c.args.plan.now c.in-Vsync.report c.args.player.now c.handler.result.now tells c.handler.ensures.handler) shown) in
     subst (λ (t : Turn). OnOk c.show_vsync.result (Writes (g.K.Sink.taken c.args.sink.now) (g.K.Sink.taken c.show_vsync.new.sink) (turn_written (picture_at scene.pictures) c.args.plan.now c.args.timelines.now c.args.player.now t)
     × AreShown (picture_at scene.pictures) c.show_vsync.new.screens)) (sym c.in-Vsync.is) (rw c.handler.ensures.handler at wrote)
 
 pub returns-in-Vsync-clause-err : goal.returns-in-Vsync-clause-err
 returns-in-Vsync-clause-err g c = λ scene may shown.
     let tells = subst (λ (t : Turn). MayWriteTurn scene c.args.plan.now t c.args.player.now) c.in-Vsync.is may in
-    let cut = c.show_vsync.ensures.err (picture_at scene.pictures) (expected_told scene c.args.plan.now c.in-Vsync.report c.args.player.now c.handler.result.now tells c.handler.ensures.handler) shown in
+    let cut =
+    subst (λ (r : VsyncReport). OnErr c.show_vsync.result (WritesPart (g.K.Sink.taken c.args.sink.now) (g.K.Sink.taken c.show_vsync.new.sink) (vsync_shown (picture_at scene.pictures) c.args.plan.now c.args.timelines.now r c.handler.result.now.tree.layers)))
+    c.into_report.ensures
+    (c.show_vsync.ensures.err (picture_at scene.pictures) (expected_told scene c.args.plan.now c.in-Vsync.report c.args.player.now c.handler.result.now tells c.handler.ensures.handler) shown) in
     subst (λ (t : Turn). OnErr c.show_vsync.result (WritesPart (g.K.Sink.taken c.args.sink.now) (g.K.Sink.taken c.show_vsync.new.sink) (turn_written (picture_at scene.pictures) c.args.plan.now c.args.timelines.now c.args.player.now t)))
     (sym c.in-Vsync.is) (rw c.handler.ensures.handler at cut)
 

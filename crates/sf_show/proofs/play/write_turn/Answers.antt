@@ -8,6 +8,7 @@ use Rattle.sf_commit.specs.Handlers.{HandlerOf}
 use Rattle.sf_plan.specs.declared.plan.Plan.{Plan}
 use Rattle.sf_play.specs.Playing.{expected_by}
 use Rattle.sf_report.specs.Stages.{AreExpected, IsStage}
+use Rattle.sf_report.specs.declared.report.VsyncReport.{VsyncReport}
 use Rattle.sf_screen.specs.ScreenLists.{AreShown}
 use Rattle.sf_surface.specs.Tokens.{ReadLeaseOf}
 use Rattle.sf_show.specs.Vsyncs.{vsync_shown}
@@ -21,8 +22,9 @@ use Rattle.sf_show.proofs.play.write_turn.Goals as goal
 pub show_vsync-requires-clause-stage : goal.show_vsync-requires-clause-stage
 show_vsync-requires-clause-stage g c = λ lives outlives.
     let tells = subst (λ (t : Turn). MayShowTurn c.requires.may.0 t c.args.player.now) c.in-Vsync.is c.requires.may.2 in
-    subst (λ (h : HandlerOf ReadLeaseOf). IsStage expected_by c.args.plan.now h c.in-Vsync.report.view c.in-Vsync.report.sources) (sym c.handler.ensures.handler)
-    (subst (λ (p : Plan). IsStage expected_by p c.args.player.now.play.handler c.in-Vsync.report.view c.in-Vsync.report.sources) (sym c.requires.may.1) tells.stage)
+    subst (λ (r : VsyncReport). IsStage expected_by c.args.plan.now c.handler.result.now r.view r.sources) (sym c.into_report.ensures)
+    (subst (λ (h : HandlerOf ReadLeaseOf). IsStage expected_by c.args.plan.now h c.in-Vsync.report.view c.in-Vsync.report.sources) (sym c.handler.ensures.handler)
+    (subst (λ (p : Plan). IsStage expected_by p c.args.player.now.play.handler c.in-Vsync.report.view c.in-Vsync.report.sources) (sym c.requires.may.1) tells.stage))
 
 pub returns-in-Step-clause-ok : goal.returns-in-Step-clause-ok
 returns-in-Step-clause-ok g c = λ scene may shown.
@@ -69,7 +71,9 @@ returns-in-Vsync-clause-ok g c = λ scene may shown.
     subst (λ (t : Turn). OnOk c.show_vsync.result (Writes (g.K.Sink.taken c.args.sink.now) (g.K.Sink.taken c.show_vsync.new.sink) (turn_shown (picture_at scene.pictures) c.args.plan.now c.args.timelines.now c.args.player.now.play t) × AreShown (picture_at scene.pictures) c.show_vsync.new.screens))
     (sym c.in-Vsync.is)
     (subst (λ (h : HandlerOf ReadLeaseOf). OnOk c.show_vsync.result (Writes (g.K.Sink.taken c.args.sink.now) (g.K.Sink.taken c.show_vsync.new.sink) (vsync_shown (picture_at scene.pictures) c.args.plan.now c.args.timelines.now c.in-Vsync.report h.tree.layers) × AreShown (picture_at scene.pictures) c.show_vsync.new.screens))
-    c.handler.ensures.handler (c.show_vsync.ensures.ok (picture_at scene.pictures) expected shown))
+    c.handler.ensures.handler
+    (subst (λ (r : VsyncReport). OnOk c.show_vsync.result (Writes (g.K.Sink.taken c.args.sink.now) (g.K.Sink.taken c.show_vsync.new.sink) (vsync_shown (picture_at scene.pictures) c.args.plan.now c.args.timelines.now r c.handler.result.now.tree.layers) × AreShown (picture_at scene.pictures) c.show_vsync.new.screens))
+    c.into_report.ensures (c.show_vsync.ensures.ok (picture_at scene.pictures) expected shown)))
 
 pub returns-in-Vsync-clause-err : goal.returns-in-Vsync-clause-err
 returns-in-Vsync-clause-err g c = λ scene may shown.
@@ -78,4 +82,6 @@ returns-in-Vsync-clause-err g c = λ scene may shown.
     subst (λ (t : Turn). OnErr c.show_vsync.result (WritesPart (g.K.Sink.taken c.args.sink.now) (g.K.Sink.taken c.show_vsync.new.sink) (turn_shown (picture_at scene.pictures) c.args.plan.now c.args.timelines.now c.args.player.now.play t)))
     (sym c.in-Vsync.is)
     (subst (λ (h : HandlerOf ReadLeaseOf). OnErr c.show_vsync.result (WritesPart (g.K.Sink.taken c.args.sink.now) (g.K.Sink.taken c.show_vsync.new.sink) (vsync_shown (picture_at scene.pictures) c.args.plan.now c.args.timelines.now c.in-Vsync.report h.tree.layers)))
-    c.handler.ensures.handler (c.show_vsync.ensures.err (picture_at scene.pictures) expected shown))
+    c.handler.ensures.handler
+    (subst (λ (r : VsyncReport). OnErr c.show_vsync.result (WritesPart (g.K.Sink.taken c.args.sink.now) (g.K.Sink.taken c.show_vsync.new.sink) (vsync_shown (picture_at scene.pictures) c.args.plan.now c.args.timelines.now r c.handler.result.now.tree.layers)))
+    c.into_report.ensures (c.show_vsync.ensures.err (picture_at scene.pictures) expected shown)))
