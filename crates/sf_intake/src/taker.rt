@@ -213,6 +213,7 @@ impl<L: Lease + Drop, N: LeaseHome<L>> Taker<L, N> {
     ) -> Result<Vec<Arrived<L>>, NoMemory>
         requires own { self.old.intake ≡ intake.now }
         ensures ok { IfOk result (λ list. HasTaken N.holds self.old self.new list.items) }
+        ensures short { IfOk result (λ list. length list.items < 4096 → self.new.waiting ≡ []) }
         ensures err { OnErr result (HasPopped self.old self.new) }
     {
         self.fill(intake, rt)?;
