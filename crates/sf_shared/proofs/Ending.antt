@@ -30,7 +30,8 @@ use Rattle.sf_shared.specs.declared.seats.Seats.{Seats}
 use Rattle.sf_shared.specs.Arriving.{ArrivalEntry, Arrived, Arriving}
 use Rattle.sf_shared.specs.Closing.{AreClosed, Closes, GoesOnIn, HasNoEntry, IsClosed, IsLast, IsOrdered}
 use Rattle.sf_shared.specs.First.{HasAll, IsFirst, Leads, TookPass, gave_of, took_of}
-use Rattle.sf_shared.specs.Seats.{IsPassOf, QueueEntry, QueuePass, calls_known, home_of, is_at, lock_mark, mark_in, tells_of, view_of}
+use Rattle.sf_shared.specs.Seats.{IsPassOf, QueueEntry, QueuePass, arrivals_known, calls_known, home_of, is_at, lock_mark, mark_in, tells_of, view_of}
+use Rattle.sf_shared.proofs.Handing.{first_known}
 use Rattle.sf_shared.proofs.Going.{calls_unstamped, goes_unstamped, sent_goes}
 use Rattle.sf_shared.proofs.Ordering.{contains_cons}
 use Rattle.sf_shared.proofs.Passing.{as_long, zip_at}
@@ -219,7 +220,7 @@ module _ {B : Type 0} where
     calls_left queue = closed_calls first.seats.by queue locks.queues.items first.seats.queues.items desk.queues is.own.queues left.queues
 
     arrivals_left : (plain_view desk).arrivals ≡ (view_of first.seats).arrivals
-    arrivals_left = ap sent left.arrivals
+    arrivals_left = ap sent left.arrivals ∙ sym (first_known locks first.seats.by first.seats.arrivals.gave first.seats.last first.seats.intake first.seats.arrivals.seen is.number is.own.way)
 
     -- who had no seats
     none_stamped : (by : ℕ) → (Contains (first.seats.by ∷ gave_of first) by → ⊥) → calls_by by first.seats.arrivals.seen ≡ []
@@ -256,9 +257,10 @@ module _ {B : Type 0} where
               subst (λ (calls : List (Made B)). GoesOnWithout seats.by (calls_known seats.queues.items queue) calls) (sym (calls_left queue))
               (closed_goes first.seats.by seats.by queue locks.queues.items first.seats.queues.items seats.queues.items desk.queues is.own.queues taken.own.queues left.queues taken.queues);
           arrivals =
-              subst (λ (list : List (Arrival ReadLeaseOf)). ArriveWithout seats.by (sent (unstamped seats.arrivals.seen)) list) (sym arrivals_left)
+              subst (λ (list : List (Arrival ReadLeaseOf)). ArriveWithout seats.by list (plain_view desk).arrivals) (sym (ap (λ at_intake. arrivals_known at_intake seats.arrivals.seen) taken.own.nothing))
+              (subst (λ (list : List (Arrival ReadLeaseOf)). ArriveWithout seats.by (sent (unstamped seats.arrivals.seen)) list) (sym (ap sent left.arrivals))
               (sent_goes seats.by (unstamped seats.arrivals.seen) (unstamped first.seats.arrivals.seen)
-              (goes_unstamped seats.by seats.arrivals.seen first.seats.arrivals.seen (left.taken (seats.by, seats.arrivals.seen) taken.arrivals)));
+              (goes_unstamped seats.by seats.arrivals.seen first.seats.arrivals.seen (left.taken (seats.by, seats.arrivals.seen) taken.arrivals))));
           values =
               subst (λ v. Rise (values_of seats.times.knows.known) (values_of v.knows.known)) (sym left.times) (values_rise seats.times.knows.known first.seats.times.knows.known taken.known);
           signals = subst (λ v. AreAmong seats.times.knows.signals v.knows.signals) (sym left.times) taken.signals;
@@ -272,5 +274,5 @@ module _ {B : Type 0} where
         record {
           calls = λ queue.
               ap (calls_by by) (calls_left queue) ∙ closed_nobody first.seats.by by queue (gave_of first) locks.queues.items first.seats.queues.items desk.queues is.own.queues is.queues left.queues not;
-          arrivals = ap (list_any (is_sent_by by)) arrivals_left ∙ none_sent by (unstamped first.seats.arrivals.seen) (no_entry by first.seats.arrivals.seen none);
+          arrivals = ap (λ calls. list_any (is_sent_by by) (sent calls)) left.arrivals ∙ none_sent by (unstamped first.seats.arrivals.seen) (no_entry by first.seats.arrivals.seen none);
         }

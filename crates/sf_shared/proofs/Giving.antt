@@ -1,5 +1,5 @@
 -- Seats that the first ones give.
-use Rattle.std.proofs.Common.{◌≡◌, ℕ, ◌+◌, false, List, [], ◌∷◌, ◌++◌, length, arith, ap, ap₂, ◌∙◌, sym, refl, subst}
+use Rattle.std.proofs.Common.{◌≡◌, ℕ, ◌+◌, false, List, [], ◌∷◌, ◌++◌, length, Some, arith, ap, ap₂, ◌∙◌, sym, refl, subst}
 use Rattle.std.specs.Prelude.{map, Contains}
 use Rattle.std.specs.List.{AllByRecursion, AllZip}
 use Rattle.atomic_table.specs.Seated.{TableId}
@@ -17,9 +17,10 @@ use Rattle.sf_shared.specs.declared.locks.Locks.{Locks}
 use Rattle.sf_shared.specs.declared.locks.QueueLock.{QueueLock}
 use Rattle.sf_shared.specs.declared.seats.Seats.{Seats}
 use Rattle.sf_shared.specs.Arriving.{ArrivalsPass}
-use Rattle.sf_shared.specs.First.{Gives, IsFirst, IsGiven, IsTaken, KnowsNothing, Leads, TookPass, gave_of}
+use Rattle.sf_shared.specs.First.{Gives, HandsOut, IsFirst, IsGiven, IsTaken, KnowsNothing, Leads, TookPass, gave_of}
 use Rattle.sf_shared.specs.Passes.{IsAt, MayGive}
-use Rattle.sf_shared.specs.Seats.{AreSeats, IsInOrder, IsPassOf, QueuePass, calls_known, calls_made, moment, moments_of, sent_in, takes_in}
+use Rattle.sf_shared.specs.Seats.{AreSeats, IsAtIntake, IsInOrder, IsPassOf, QueuePass, arrivals_known, calls_known, calls_made, moment, moments_of, post_moment, posts_of, sent_in, takes_in}
+use Rattle.sf_shared.proofs.Handing.{GivesAt, gives_at}
 
 pub zip_map : {X Y Z : Type 0} (R : X → Y → Type 0) (S : X → Z → Type 0) (f : Y → Z) (xs : List X) (ys : List Y) → ((x : X) (y : Y) → R x y → S x (f y)) → AllZip R xs ys → AllZip S xs (map f ys)
 zip_map R S f [] [] each all = tt
@@ -101,13 +102,21 @@ module _ {B : Type 0} where
     pub arrivals : new.seats.arrivals ≡ giving by old.seats.arrivals
     pub times : new.seats.times ≡ record old.seats.times { knows = lending old.seats.times.knows }
     pub turns : new.seats.turns ≡ record old.seats.turns { out = old.seats.turns.out + 1 }
+    pub pass : new.seats.pass ≡ Some new.seats.arrivals
+    pub hands : HandsOut by seats.arrivals old.seats.intake new.seats.intake seats.pass seats.intake
     pub given_number : seats.by ≡ by
     pub given_queues : seats.queues.items ≡ map (given by) old.seats.queues.items
     pub given_arrivals : seats.arrivals ≡ given by old.seats.arrivals
     pub given_times : seats.times ≡ record old.seats.times { knows = split_off old.seats.times.knows }
     pub given_turns : seats.turns ≡ record old.seats.turns { is_first = false; out = 0; leaves = [] }
 
-  module _ (by : ℕ) (buffers : TableId) (locks : Locks B) (old new : FirstSeats B) (seats : Seats B) (first : IsFirst buffers locks old) (unused : KnowsNothing old.seats) (s : IsSplit by old new seats) where
+  module _ (by : ℕ) (buffers : TableId) (locks : Locks B) (old new : FirstSeats B) (seats : Seats B) (first : IsFirst buffers locks old) (fresh : Contains (old.seats.by ∷ gave_of old) by → ⊥) (unused : KnowsNothing old.seats) (s : IsSplit by old new seats) where
+    hands : GivesAt locks by seats.arrivals (gave_of old) old.seats.intake new.seats.intake seats.pass seats.intake
+    hands =
+        gives_at locks old.seats.by by seats.arrivals (gave_of old) old.seats.last old.seats.intake new.seats.intake seats.pass seats.intake first.number fresh
+        (ap (λ (p : ArrivalsPass). p.table) s.given_arrivals ∙ first.own.own_arrivals) (ap (λ (p : ArrivalsPass). p.mark) s.given_arrivals ∙ first.own.marked) (ap (λ (p : ArrivalsPass). p.by) s.given_arrivals)
+        (ap (λ (p : ArrivalsPass). p.seen) s.given_arrivals ∙ unused.arrivals) first.own.way s.hands
+
     gave_is : gave_of new ≡ by ∷ gave_of old
     gave_is = ap (λ (p : ArrivalsPass). p.gave) s.arrivals
 
@@ -122,10 +131,10 @@ module _ {B : Type 0} where
 
     same_order : moments_of new.seats ≡ moments_of old.seats
     same_order =
-        ap (λ (b : ℕ). calls_made b new.seats.queues.items ++ sent_in (calls_by b new.seats.arrivals.seen)) s.number
+        ap (λ (b : ℕ). calls_made b new.seats.queues.items ++ (sent_in (calls_by b new.seats.arrivals.seen) ++ map post_moment (posts_of new.seats.intake))) s.number
         ∙ ap₂ (λ (xs ys : List (ℕ × ℕ)). xs ++ ys)
         (ap (calls_made old.seats.by) s.queues ∙ same_moments (giving by) (λ p. refl) old.seats.by old.seats.queues.items)
-        (ap (λ calls. sent_in (calls_by old.seats.by calls)) arrived_same)
+        (ap₂ (λ calls posts. sent_in (calls_by old.seats.by calls) ++ map post_moment posts) arrived_same hands.posts)
 
     own_seats : AreSeats buffers locks new.seats
     own_seats = record {
@@ -139,7 +148,8 @@ module _ {B : Type 0} where
           subst (λ (c : Clock). IsInOrder c (moments_of new.seats)) (sym s.last)
           (subst (λ (xs : List (ℕ × ℕ)). IsInOrder old.seats.last xs) (sym same_order) first.own.in_order);
       takes = λ other. absurd (other (s.number ∙ first.number));
-      tells = first.own.tells;
+      pass = s.pass ∙ sym (hands.same_pass new.seats.arrivals);
+      way = subst (λ (bs : List ℕ). IsAtIntake locks new.seats.by bs new.seats.last new.seats.intake) (sym gave_is) (hands.way new.seats.by new.seats.last);
     }
 
     leads_all : AllByRecursion (Leads (gave_of new)) new.seats.queues.items
@@ -189,11 +199,12 @@ module _ {B : Type 0} where
       last = s.last;
       knows = record {
         calls = λ queue. ap (λ (ps : List (QueuePass B)). calls_known ps queue) s.queues ∙ same_calls (giving by) (λ p. refl) (λ p. refl) old.seats.queues.items queue;
-        arrivals = ap (λ calls. sent (unstamped calls)) arrived_same;
+        arrivals = hands.known new.seats.arrivals.seen ∙ ap (arrivals_known old.seats.intake) arrived_same;
       };
       nothing = record {
         queues = subst (λ (ps : List (QueuePass B)). AllByRecursion (λ (pass : QueuePass B). pass.seen ≡ []) ps) (sym s.queues) (nothing_after (giving by) (λ p. refl));
         arrivals = arrived_same ∙ unused.arrivals;
+        posts = hands.posts ∙ unused.posts;
       };
       times = s.times;
       turns = s.turns;
@@ -206,10 +217,13 @@ module _ {B : Type 0} where
     given_nothing = record {
       queues = subst (λ (ps : List (QueuePass B)). AllByRecursion (λ (pass : QueuePass B). pass.seen ≡ []) ps) (sym s.given_queues) (nothing_after (given by) (λ p. refl));
       arrivals = given_arrived;
+      posts = hands.given_posts;
     }
 
     given_moments : moments_of seats ≡ []
-    given_moments = ap₂ (λ (xs ys : List (ℕ × ℕ)). xs ++ ys) (no_moments seats.by seats.queues.items given_nothing.queues) (ap (λ calls. sent_in (calls_by seats.by calls)) given_arrived)
+    given_moments =
+        ap₂ (λ (xs ys : List (ℕ × ℕ)). xs ++ ys) (no_moments seats.by seats.queues.items given_nothing.queues)
+        (ap₂ (λ calls posts. sent_in (calls_by seats.by calls) ++ map post_moment posts) given_arrived hands.given_posts)
 
     pub seats_given : AreSeats buffers locks seats
     seats_given = record {
@@ -224,7 +238,8 @@ module _ {B : Type 0} where
       own_turns = ap (λ (v : TurnsView). v.table) s.given_turns ∙ first.own.own_turns;
       in_order = subst (λ (xs : List (ℕ × ℕ)). IsInOrder seats.last xs) (sym given_moments) (none_in_order seats.last);
       takes = λ other. ap (λ calls. takes_in (calls_by seats.by calls)) given_arrived;
-      tells = first.own.tells;
+      pass = hands.given_there;
+      way = subst (λ (n : ℕ). IsAtIntake locks n seats.arrivals.gave seats.last seats.intake) (sym s.given_number) (hands.given_way seats.last seats.arrivals.gave);
     }
 
     pub given_is : IsGiven by old.seats seats
@@ -232,7 +247,8 @@ module _ {B : Type 0} where
       number = s.given_number;
       knows = record {
         calls = λ queue. ap (λ (ps : List (QueuePass B)). calls_known ps queue) s.given_queues ∙ same_calls (given by) (λ p. refl) (λ p. refl) old.seats.queues.items queue;
-        arrivals = ap (λ calls. sent (unstamped calls)) (ap (λ (p : ArrivalsPass). p.seen) s.given_arrivals);
+        arrivals =
+            hands.given_known seats.arrivals.seen given_arrived ∙ sym (hands.known_is old.seats.arrivals.seen ∙ ap (λ calls. sent (unstamped calls)) unused.arrivals);
       };
       nothing = given_nothing;
       times = s.given_times;

@@ -1,6 +1,6 @@
 -- Seats and the home of a desk of them.
-use Rattle.std.proofs.Common.{◌≡◌, ℕ, List, [], ◌∷◌, length, arith, ap, ap₂, ◌∙◌, sym, refl, Some}
-use Rattle.std.specs.Prelude.{is_none, map}
+use Rattle.std.proofs.Common.{◌≡◌, ℕ, List, [], ◌∷◌, length, arith, ap, ap₂, ◌∙◌, refl, Some}
+use Rattle.std.specs.Prelude.{map}
 use Rattle.std.specs.List.{AllZip}
 use Rattle.atomic_table.specs.Seated.{TableId}
 use Rattle.sf_base.specs.declared.ids.QueueId.{QueueId}
@@ -10,6 +10,7 @@ use Rattle.sf_shared.specs.declared.locks.QueueLock.{QueueLock}
 use Rattle.sf_shared.specs.declared.seats.Seats.{Seats}
 use Rattle.sf_shared.specs.Seats.{AreSeats, IsPassOf, QueuePass, home_of, lock_mark}
 use Rattle.sf_shared.specs.Shared.{IsHome}
+use Rattle.sf_shared.proofs.Handing.{way_there}
 
 abbrev first_or : {X : Type 0} → X → List X → X
 first_or d [] = d
@@ -63,5 +64,6 @@ module _ {B : Type 0} where
     own_turns = are.own_turns;
     in_order = are.in_order;
     takes = are.takes;
-    tells = ap is_none (sym home.intake) ∙ are.tells;
+    pass = are.pass;
+    way = way_there was locks seats.by seats.arrivals.gave seats.last seats.intake home.intake (ap (first_or was.arrivals) home.tables) are.way;
   }

@@ -1,12 +1,16 @@
 pub mod Calling
 pub mod Ending
+pub mod Forwarding
 pub mod Giving
 pub mod Going
+pub mod Handing
 pub mod Homing
 pub mod Meeting
 pub mod Opening
 pub mod Ordering
 pub mod Passing
+pub mod Posting
+pub mod Reuniting
 pub mod Sending
 pub mod Splitting
 pub mod Staying

@@ -1,5 +1,5 @@
 -- Seats that the first ones take in.
-use Rattle.std.proofs.Common.{◌≡◌, ℕ, zero, suc, ◌+◌, ◌<◌, ◌≤◌, ◌==◌, List, [], ◌∷◌, ◌++◌, inl, inr, length, get_or, set, arith, ap, ap₂, ◌∙◌, sym, refl, subst}
+use Rattle.std.proofs.Common.{◌≡◌, ℕ, zero, suc, ◌+◌, ◌<◌, ◌≤◌, ◌==◌, List, [], ◌∷◌, ◌++◌, inl, inr, length, get_or, set, Some, arith, ap, ap₂, ◌∙◌, sym, refl, subst}
 use Rattle.std.specs.Prelude.{map, Contains}
 use Rattle.std.specs.List.{AllByRecursion, AllZip}
 use Rattle.std.specs.declared.snapshot.Snapshot.{Snapshot}
@@ -23,7 +23,8 @@ use Rattle.sf_shared.specs.declared.seats.Seats.{Seats}
 use Rattle.sf_shared.specs.Arriving.{ArrivalsPass}
 use Rattle.sf_shared.specs.First.{IsFirst, IsTaken, Leads, Meets, TookPass, gave_of, took_of}
 use Rattle.sf_shared.specs.Passes.{IsAt, IsFirstPass, KeepsOwn, all_met}
-use Rattle.sf_shared.specs.Seats.{AreSeats, IsInOrder, IsPassOf, QueuePass, calls_known, calls_made, is_at, mark_in, moment, moments_of, sent_in}
+use Rattle.sf_shared.specs.Seats.{AreSeats, AreWhole, IsAtIntake, IsInOrder, IsPassOf, QueuePass, calls_known, calls_made, is_at, mark_in, moment, moments_of, pass_at, post_moment, posts_of, sent_in}
+use Rattle.sf_shared.proofs.Handing.{first_pass_at, way_later}
 use Rattle.sf_shared.proofs.Going.{goes_unstamped}
 use Rattle.sf_shared.proofs.Ordering.{contains_cons}
 use Rattle.sf_shared.proofs.Passing.{zip_at}
@@ -122,8 +123,10 @@ module _ {B : Type 0} where
     pub own_arrivals : GoesOnWithout old.seats.arrivals.by old.seats.arrivals.seen new.seats.arrivals.seen
     pub times : new.seats.times ≡ record old.seats.times { knows = joined_times old.seats.times.knows seats.times.knows }
     pub turns : new.seats.turns ≡ joined_turns old.seats.turns seats.turns
+    pub pass : new.seats.pass ≡ Some new.seats.arrivals
+    pub intake : new.seats.intake ≡ old.seats.intake
 
-  module _ (buffers : TableId) (locks : Locks B) (seats : Seats B) (old new : FirstSeats B) (first : IsFirst buffers locks old) (theirs : AreSeats buffers locks seats) (m : IsMet seats old new) where
+  module _ (buffers : TableId) (locks : Locks B) (seats : Seats B) (old new : FirstSeats B) (first : IsFirst buffers locks old) (theirs : AreWhole buffers locks seats) (m : IsMet seats old new) where
     gave_same : gave_of new ≡ gave_of old
     gave_same = ap (λ (p : ArrivalsPass). p.gave) m.arrivals
 
@@ -137,9 +140,10 @@ module _ {B : Type 0} where
 
     moments_same : moments_of new.seats ≡ moments_of old.seats
     moments_same =
-        ap (λ (b : ℕ). calls_made b new.seats.queues.items ++ sent_in (calls_by b new.seats.arrivals.seen)) m.number
+        ap (λ (b : ℕ). calls_made b new.seats.queues.items ++ (sent_in (calls_by b new.seats.arrivals.seen) ++ map post_moment (posts_of new.seats.intake))) m.number
         ∙ ap₂ (λ (xs ys : List (ℕ × ℕ)). xs ++ ys)
-        (met_moments old.seats.by locks.queues.items old.seats.queues.items new.seats.queues.items first.own.queues m.own_calls) (ap sent_in arrivals_go.calls)
+        (met_moments old.seats.by locks.queues.items old.seats.queues.items new.seats.queues.items first.own.queues m.own_calls)
+        (ap₂ (λ calls at_intake. sent_in calls ++ map post_moment (posts_of at_intake)) arrivals_go.calls m.intake)
 
     in_order : IsInOrder new.seats.last (moments_of new.seats)
     in_order = subst (λ (xs : List (ℕ × ℕ)). IsInOrder new.seats.last xs) (sym moments_same) (record {
@@ -158,7 +162,14 @@ module _ {B : Type 0} where
       own_turns = ap (λ (v : TurnsView). v.table) m.turns ∙ first.own.own_turns;
       in_order = in_order;
       takes = λ other. absurd (other (m.number ∙ first.number));
-      tells = first.own.tells;
+      pass =
+          m.pass
+          ∙ sym (ap (λ at_intake. pass_at at_intake new.seats.arrivals) m.intake ∙ first_pass_at locks old.seats.by old.seats.arrivals.gave old.seats.last old.seats.intake new.seats.arrivals first.number first.own.way);
+      way =
+          subst (λ (n : ℕ). IsAtIntake locks n new.seats.arrivals.gave new.seats.last new.seats.intake) (sym m.number)
+          (subst (λ (bs : List ℕ). IsAtIntake locks old.seats.by bs new.seats.last new.seats.intake) (sym gave_same)
+          (subst (λ at_intake. IsAtIntake locks old.seats.by old.seats.arrivals.gave new.seats.last at_intake) (sym m.intake)
+          (way_later locks old.seats.by old.seats.arrivals.gave old.seats.last new.seats.last old.seats.intake m.stamp first.own.way)));
     }
 
     leads_all : AllByRecursion (Leads (gave_of new)) new.seats.queues.items

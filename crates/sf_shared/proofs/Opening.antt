@@ -1,6 +1,6 @@
 -- Queues that are put under locks, and taken out of them, one after another.
 use Rattle.std.proofs.Common.{◌≡◌, ℕ, List, [], ◌∷◌, ◌++◌, inl, inr, length, true, Some, ap, ap₂, ◌∙◌, sym, refl, subst, arith}
-use Rattle.std.specs.Prelude.{map, Contains}
+use Rattle.std.specs.Prelude.{Bool, map, Contains}
 use Rattle.std.specs.List.{AllByRecursion, AllZip}
 use Rattle.std.proofs.lemmas.Bool.{cases_Bool}
 use Rattle.std.proofs.lemmas.List.{append-nil}
@@ -19,10 +19,11 @@ use Rattle.sf_shared.specs.declared.locks.Locks.{Locks}
 use Rattle.sf_shared.specs.declared.locks.QueueLock.{QueueLock}
 use Rattle.sf_shared.specs.declared.seats.Seats.{Seats}
 use Rattle.sf_shared.specs.Arriving.{ArrivalsPass}
-use Rattle.sf_shared.specs.Closing.{AreClosed, AreOpened, HasNoCalls, IsClosed, IsLast, IsOpened, Opens}
+use Rattle.sf_shared.specs.Closing.{AreClosed, AreOpened, HasNoCalls, IsClosed, IsLast, IsOpened, Opens, OpensIntake}
 use Rattle.sf_shared.specs.First.{IsFirst, KnowsNothing, Leads, gave_of}
 use Rattle.sf_shared.proofs.Giving.{no_moments, none_in_order}
-use Rattle.sf_shared.specs.Seats.{AreSeats, IsInOrder, IsPassOf, QueuePass, calls_known, is_at, lock_mark, moments_of, sent_in, tells_of}
+use Rattle.sf_shared.specs.Seats.{AreSeats, IsInOrder, IsPassOf, QueuePass, calls_known, is_at, lock_mark, moments_of, post_moment, sent_in}
+use Rattle.sf_shared.proofs.Handing.{OpensAt, opens_at}
 
 appended : {X : Type 0} (xs ys : List X) (x : X) → (xs ++ x ∷ []) ++ ys ≡ xs ++ (x ∷ ys)
 appended [] ys x = refl
@@ -145,7 +146,7 @@ module _ {B : Type 0} where
   ]
 
   -- the first caller's seats, as they are made of what was opened
-  pub record IsMade (objects : List (ObjectOf B)) (times : TimesView) (turns : TurnsView) (locks : Locks B) (first : FirstSeats B) : Type 0 where
+  pub record IsMade (tells : Bool) (objects : List (ObjectOf B)) (times : TimesView) (turns : TurnsView) (locks : Locks B) (first : FirstSeats B) : Type 0 where
     pub queues : AreOpened objects locks.queues.items first.seats.queues.items
     pub number : first.seats.by ≡ 0
     pub step : first.seats.last.step ≡ 0
@@ -154,9 +155,13 @@ module _ {B : Type 0} where
     pub own_times : times.table ≡ locks.times
     pub turns_is : first.seats.turns ≡ turns
     pub took : first.took.items ≡ []
-    pub tells : tells_of locks ≡ true
+    pub pass : first.seats.pass ≡ Some first.seats.arrivals
+    pub intake : OpensIntake tells locks.intake first.seats.intake
 
-  module _ (buffers : TableId) (objects : List (ObjectOf B)) (times : TimesView) (turns : TurnsView) (locks : Locks B) (first : FirstSeats B) (alone : IsAlone times.knows) (own : turns.table ≡ buffers) (is_first : turns.is_first ≡ true) (none_out : turns.out ≡ 0) (m : IsMade objects times turns locks first) where
+  module _ (buffers : TableId) (tells : Bool) (objects : List (ObjectOf B)) (times : TimesView) (turns : TurnsView) (locks : Locks B) (first : FirstSeats B) (alone : IsAlone times.knows) (own : turns.table ≡ buffers) (is_first : turns.is_first ≡ true) (none_out : turns.out ≡ 0) (m : IsMade tells objects times turns locks first) where
+    opens : OpensAt tells locks first.seats.intake
+    opens = opens_at tells locks first.seats.intake m.intake
+
     arrived : first.seats.arrivals.seen ≡ []
     arrived = ap (λ (p : ArrivalsPass). p.seen) m.arrivals
 
@@ -164,10 +169,12 @@ module _ {B : Type 0} where
     gave_none = ap (λ (p : ArrivalsPass). p.gave) m.arrivals
 
     nothing : KnowsNothing first.seats
-    nothing = record { queues = opened_nothing objects locks.queues.items first.seats.queues.items m.queues; arrivals = arrived }
+    nothing = record { queues = opened_nothing objects locks.queues.items first.seats.queues.items m.queues; arrivals = arrived; posts = opens.posts }
 
     moments : moments_of first.seats ≡ []
-    moments = ap₂ (λ (xs ys : List (ℕ × ℕ)). xs ++ ys) (no_moments first.seats.by first.seats.queues.items nothing.queues) (ap (λ calls. sent_in (calls_by first.seats.by calls)) arrived)
+    moments =
+        ap₂ (λ (xs ys : List (ℕ × ℕ)). xs ++ ys) (no_moments first.seats.by first.seats.queues.items nothing.queues)
+        (ap₂ (λ calls posts. sent_in (calls_by first.seats.by calls) ++ map post_moment posts) arrived opens.posts)
 
     own_seats : AreSeats buffers locks first.seats
     own_seats = record {
@@ -179,7 +186,8 @@ module _ {B : Type 0} where
       own_turns = ap (λ (v : TurnsView). v.table) m.turns_is ∙ own;
       in_order = subst (λ (xs : List (ℕ × ℕ)). IsInOrder first.seats.last xs) (sym moments) (none_in_order first.seats.last);
       takes = λ other. absurd (other m.number);
-      tells = m.tells;
+      pass = m.pass ∙ sym (opens.same_pass first.seats.arrivals);
+      way = opens.way first.seats.by first.seats.arrivals.gave first.seats.last;
     }
 
     pub first_made : IsFirst buffers locks first
@@ -199,13 +207,14 @@ module _ {B : Type 0} where
           took = λ seats there. absurd (let low = (subst (λ (ts : List (Seats B)). Contains ts seats) (ap (λ ts. map (λ s. s.value) ts) m.took) there).1 in omega (arith, low));
         }
 
-    pub opens_made : Opens objects times turns locks first
+    pub opens_made : Opens tells objects times turns locks first
     opens_made = record {
       marks = opened_marks objects locks.queues.items first.seats.queues.items m.queues;
+      tells_is = opens.tells_is;
       number = m.number;
       step = m.step;
       calls = λ queue. no_calls first.seats.queues.items queue nothing.queues;
-      arrivals = ap (λ calls. sent (unstamped calls)) arrived;
+      arrivals = opens.known_is first.seats.arrivals.seen ∙ ap (λ calls. sent (unstamped calls)) arrived;
       nothing = nothing;
       times_is = m.times_is;
       turns_is = m.turns_is;

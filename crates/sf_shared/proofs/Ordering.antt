@@ -12,7 +12,7 @@ contains_cons x xs m (zero, low, is) = inl (sym is)
 contains_cons x xs m (suc k, low, is) = inr (k, omega (arith, low), is)
 
 -- these are those with at most one more
-abbrev AddsOne : ℕ × ℕ → List (ℕ × ℕ) → List (ℕ × ℕ) → Type 0
+abbrev pub AddsOne : ℕ × ℕ → List (ℕ × ℕ) → List (ℕ × ℕ) → Type 0
 AddsOne one old new = (m : ℕ × ℕ) → Contains new m → Contains old m ⊎ (m ≡ one)
 
 adds_cons : (one : ℕ × ℕ) (old new : List (ℕ × ℕ)) → new ≡ one ∷ old → AddsOne one old new
@@ -30,7 +30,7 @@ adds_left one old new rest adds m there = elim (Contains-append_cases new rest m
   | inr later ↦ inl (Contains-append_right old rest m later)
 ]
 
-adds_right : (one : ℕ × ℕ) (rest old new : List (ℕ × ℕ)) → AddsOne one old new → AddsOne one (rest ++ old) (rest ++ new)
+pub adds_right : (one : ℕ × ℕ) (rest old new : List (ℕ × ℕ)) → AddsOne one old new → AddsOne one (rest ++ old) (rest ++ new)
 adds_right one rest old new adds m there = elim (Contains-append_cases rest new m there) [
   | inl first ↦ inl (Contains-append_left rest old m first)
   | inr here ↦ (elim (adds m here) [
@@ -52,7 +52,7 @@ module _ {B : Type 0} where
   same_at by (p ∷ passes) zero was next low is = ap (λ (xs : List (ℕ × ℕ)). xs ++ calls_made by passes) is
   same_at by (p ∷ passes) (suc place) was next low is = ap (λ (xs : List (ℕ × ℕ)). map moment (calls_by by p.seen) ++ xs) (same_at by passes place was next (omega (arith, low)) is)
 
-order_made : (before after : Clock) (old new : List (ℕ × ℕ)) → IsInOrder before old → before.step ≤ after.step → before.stamp < after.stamp → AddsOne (after.step, after.stamp) old new → IsInOrder after new
+pub order_made : (before after : Clock) (old new : List (ℕ × ℕ)) → IsInOrder before old → before.step ≤ after.step → before.stamp < after.stamp → AddsOne (after.step, after.stamp) old new → IsInOrder after new
 order_made before after old new order step stamp adds = record {
   step = λ m there. elim (adds m there) [
     | inl was ↦ (let a = order.step m was in omega (arith, a, step))
@@ -78,7 +78,7 @@ order_made before after old new order step stamp adds = record {
 abbrev Later : ℕ → List (ℕ × ℕ) → List (ℕ × ℕ) → Type 0
 Later stamp old new = (m : ℕ × ℕ) → Contains new m → Contains old m ⊎ (stamp < m.1)
 
-later_made : (before after : Clock) (old new : List (ℕ × ℕ)) → before.stamp < after.stamp → AddsOne (after.step, after.stamp) old new → Later before.stamp old new
+pub later_made : (before after : Clock) (old new : List (ℕ × ℕ)) → before.stamp < after.stamp → AddsOne (after.step, after.stamp) old new → Later before.stamp old new
 later_made before after old new stamp adds m there = elim (adds m there) [
   | inl was ↦ inl was
   | inr one ↦ inr (let a = ap (λ (p : ℕ × ℕ). p.1) one in omega (arith, a, stamp))
@@ -87,7 +87,7 @@ later_made before after old new stamp adds m there = elim (adds m there) [
 pub later_same : (stamp : ℕ) (old new : List (ℕ × ℕ)) → new ≡ old → Later stamp old new
 later_same stamp old new is m there = inl (subst (λ (xs : List (ℕ × ℕ)). Contains xs m) is there)
 
-order_same : (before after : Clock) (old new : List (ℕ × ℕ)) → IsInOrder before old → after ≡ before → new ≡ old → IsInOrder after new
+pub order_same : (before after : Clock) (old new : List (ℕ × ℕ)) → IsInOrder before old → after ≡ before → new ≡ old → IsInOrder after new
 order_same before after old new order last is =
     subst (λ (c : Clock). IsInOrder c new) (sym last) (subst (λ (xs : List (ℕ × ℕ)). IsInOrder before xs) (sym is) order)
 
@@ -139,3 +139,17 @@ module _ {B : Type 0} where
       by_case (inr none) =
           order_same before after (calls_made by passes ++ sends) (calls_made by (set passes place next) ++ sends) order none.last
           (ap (λ (xs : List (ℕ × ℕ)). xs ++ sends) (same_at by passes place one next low (none.moments ∙ was)))
+
+-- with the same that was done besides
+pub ticks_with : (before after : Clock) (old new rest : List (ℕ × ℕ)) → Ticks before after old new → Ticks before after (old ++ rest) (new ++ rest)
+ticks_with before after old new rest (inl made) = inl (record { step = made.step; stamp = made.stamp; moments = ap (λ (xs : List (ℕ × ℕ)). xs ++ rest) made.moments })
+ticks_with before after old new rest (inr none) = inr (record { last = none.last; moments = ap (λ (xs : List (ℕ × ℕ)). xs ++ rest) none.moments })
+
+pub adds_last : (one : ℕ × ℕ) (old new : List (ℕ × ℕ)) → new ≡ old ++ one ∷ [] → AddsOne one old new
+adds_last one old new is m there = elim (Contains-append_cases old (one ∷ []) m (subst (λ (xs : List (ℕ × ℕ)). Contains xs m) is there)) [
+  | inl before ↦ inl before
+  | inr last ↦ (elim (contains_cons one [] m last) [
+    | inl same ↦ inr same
+    | inr none ↦ absurd (let low = none.1 in omega (arith, low))
+  ])
+]

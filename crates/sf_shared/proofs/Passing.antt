@@ -29,13 +29,13 @@ use Rattle.sf_shared.specs.Moves.{MovesPass}
 use Rattle.sf_shared.specs.Seats.{IsPassOf, QueuePass, calls_known, is_at, is_lock, lock_mark, mark_in, turns_had}
 
 -- what the first place is where a test passes
-place_is : {X : Type 0} (test : X → Bool) (xs : List X) (place : ℕ) → position test xs ≡ Some place → (position_or_len test xs ≡ place) × (place < length xs)
+pub place_is : {X : Type 0} (test : X → Bool) (xs : List X) (place : ℕ) → position test xs ≡ Some place → (position_or_len test xs ≡ place) × (place < length xs)
 place_is test xs place e =
     let known = cond_some (nat_lt (position_or_len test xs) (length xs)) (position_or_len test xs) place e in
     let below : position_or_len test xs < length xs = ltb-true (position_or_len test xs) (length xs) known.0 in
     (known.1, subst (λ (n : ℕ). n < length xs) known.1 below)
 
-no_place : {X : Type 0} (test : X → Bool) (xs : List X) → position test xs ≡ None → length xs ≤ position_or_len test xs
+pub no_place : {X : Type 0} (test : X → Bool) (xs : List X) → position test xs ≡ None → length xs ≤ position_or_len test xs
 no_place test xs e = elim (cases_Bool (nat_lt (position_or_len test xs) (length xs))) [
   | inl met ↦ let f : Some (position_or_len test xs) ≡ None = rw met at e in cc
   | inr unmet ↦ grind (arith, nat_tests, unmet)

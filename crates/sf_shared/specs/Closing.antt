@@ -1,5 +1,5 @@
 -- What is shared as it is opened, and what is left of it when it is closed.
-use Rattle.std.specs.Prelude.{◌≡◌, ℕ, true, false, Some, List, [], ◌∷◌, map, Contains}
+use Rattle.std.specs.Prelude.{◌≡◌, ℕ, Bool, true, false, Option, Some, None, List, [], ◌∷◌, map, Contains}
 use Rattle.std.specs.List.{AllByRecursion, AllZip, list_any}
 use Rattle.sf_calls.specs.Histories.{GoesOnWithout, calls_by}
 use Rattle.sf_calls.specs.Passes.{TookAll, first_pass}
@@ -10,10 +10,15 @@ use Rattle.sf_turns.specs.Views.{SeatView}
 use Rattle.sf_actor.specs.Desks.{DeskView}
 use Rattle.sf_actor.specs.Known.{is_sent_by}
 use Rattle.sf_actor.specs.Plain.{PlainOf, view_of as plain_view}
+use Rattle.sf_intake.specs.Views.{first_taker}
+use Rattle.sf_shared.specs.declared.at_intake.AtIntake.{AtIntake}
+use Rattle.sf_shared.specs.declared.at_intake.AtIntake.TheVariants as at
 use Rattle.sf_shared.specs.declared.first.FirstSeats.{FirstSeats}
+use Rattle.sf_shared.specs.declared.inbox.Inbox.{Inbox}
 use Rattle.sf_shared.specs.declared.locks.Locks.{Locks}
 use Rattle.sf_shared.specs.declared.locks.QueueLock.{QueueLock}
 use Rattle.sf_shared.specs.declared.seats.Seats.{Seats}
+use Rattle.sf_shared.specs.Inboxes.{IsEmpty}
 use Rattle.sf_shared.specs.First.{KnowsNothing, gave_of, took_of}
 use Rattle.sf_shared.specs.Seats.{QueuePass, QueueEntry, lock_mark, marks_of, tells_of, view_of}
 
@@ -33,9 +38,23 @@ module _ {B : Type 0} where
   AreOpened (object ∷ objects) (lock ∷ locks) (pass ∷ passes) = IsOpened object lock pass × AreOpened objects locks passes
   AreOpened objects locks passes = ⊥
 
+  -- the first caller has an inbox at this intake, where nothing was sent and no sender was made
+  pub record OpensInbox (intake : Option (ℕ × ℕ)) (first : AtIntake B) : Type 0 where
+    pub inbox : Inbox B
+    pub takes : first ≡ at.Takes inbox
+    pub intake_is : intake ≡ Some inbox.taker.intake
+    pub taker : inbox.taker ≡ first_taker inbox.taker.intake
+    pub empty : IsEmpty inbox
+
+  -- where places are told there is no intake
+  abbrev pub OpensIntake : Bool → Option (ℕ × ℕ) → AtIntake B → Type 0
+  OpensIntake true intake first = (intake ≡ None) × (first ≡ at.Nothing)
+  OpensIntake false intake first = OpensInbox intake first
+
   -- what is shared, and the first caller's seats, before anything was called
-  pub record Opens (objects : List (ObjectOf B)) (times : TimesView) (turns : SeatView) (locks : Locks B) (first : FirstSeats B) : Type 0 where
+  pub record Opens (tells : Bool) (objects : List (ObjectOf B)) (times : TimesView) (turns : SeatView) (locks : Locks B) (first : FirstSeats B) : Type 0 where
     pub marks : marks_of locks ≡ map mark_of objects
+    pub tells_is : tells_of locks ≡ tells
     pub number : first.seats.by ≡ 0
     pub step : first.seats.last.step ≡ 0
     pub calls : (queue : ℕ) → (view_of first.seats).calls queue ≡ []

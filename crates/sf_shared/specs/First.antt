@@ -1,5 +1,5 @@
 -- The first caller's seats, which give seats to other callers and take them in.
-use Rattle.std.specs.Prelude.{◌≡◌, ℕ, ◌+◌, true, false, List, [], ◌∷◌, ◌++◌, length, map, Contains}
+use Rattle.std.specs.Prelude.{◌≡◌, ℕ, ◌+◌, true, false, Option, Some, None, List, [], ◌∷◌, ◌++◌, length, map, Contains}
 use Rattle.std.specs.List.{AllByRecursion, AllZip}
 use Rattle.std.specs.declared.snapshot.Snapshot.{Snapshot}
 use Rattle.atomic_table.specs.Seated.{TableId}
@@ -7,11 +7,17 @@ use Rattle.sf_calls.specs.Histories.{GoesOnWithout}
 use Rattle.sf_times.specs.Seats.{joined as joined_times, lending, split_off}
 use Rattle.sf_turns.specs.Views.{joined as joined_turns}
 use Rattle.sf_actor.specs.Known.{AreAmong, CountsRise}
+use Rattle.sf_intake.specs.Views.{new_sender}
+use Rattle.sf_shared.specs.declared.at_intake.AtIntake.{AtIntake}
+use Rattle.sf_shared.specs.declared.at_intake.AtIntake.TheVariants as at
 use Rattle.sf_shared.specs.declared.first.FirstSeats.{FirstSeats}
+use Rattle.sf_shared.specs.declared.inbox.Inbox.{Inbox}
 use Rattle.sf_shared.specs.declared.locks.Locks.{Locks}
 use Rattle.sf_shared.specs.declared.seats.Seats.{Seats}
+use Rattle.sf_shared.specs.Arriving.{ArrivalsPass}
+use Rattle.sf_shared.specs.Inboxes.{Admits}
 use Rattle.sf_shared.specs.Passes.{KeepsOwn}
-use Rattle.sf_shared.specs.Seats.{AreSeats, QueuePass, view_of}
+use Rattle.sf_shared.specs.Seats.{AreSeats, AreWhole, QueuePass, posts_of, view_of}
 
 module _ {B : Type 0} where
   abbrev pub gave_of : FirstSeats B → List ℕ
@@ -33,7 +39,7 @@ module _ {B : Type 0} where
 
   -- what these seats knew was taken in
   pub record IsTaken (first : Seats B) (buffers : TableId) (locks : Locks B) (seats : Seats B) : Type 0 where
-    pub own : AreSeats buffers locks seats
+    pub own : AreWhole buffers locks seats
     pub queues : AllZip (TookPass seats.by) first.queues.items seats.queues.items
     pub arrivals : Contains first.arrivals.took (seats.by, seats.arrivals.seen)
     pub known : AreAmong seats.times.knows.known first.times.knows.known
@@ -60,10 +66,11 @@ module _ {B : Type 0} where
     pub all : (by : ℕ) → Contains (gave_of first) by → Contains (map (λ (seats : Seats B). seats.by) (took_of first)) by
     pub many : length first.took.items ≡ length (gave_of first)
 
-  -- no call on anything is known
+  -- no call on anything is known, and nothing was sent through a sender
   pub record KnowsNothing (seats : Seats B) : Type 0 where
     pub queues : AllByRecursion (λ (pass : QueuePass B). pass.seen ≡ []) seats.queues.items
     pub arrivals : seats.arrivals.seen ≡ []
+    pub posts : posts_of seats.intake ≡ []
 
   -- seats know the same calls and arrivals
   pub record KnowsSame (old new : Seats B) : Type 0 where
@@ -99,3 +106,23 @@ module _ {B : Type 0} where
     pub queues : AllZip KeepsOwn old.seats.queues.items new.seats.queues.items
     pub calls : (queue : ℕ) → GoesOnWithout old.seats.by ((view_of old.seats).calls queue) ((view_of new.seats).calls queue)
     pub arrivals : GoesOnWithout old.seats.by old.seats.arrivals.seen new.seats.arrivals.seen
+
+  -- a caller may have a sender: none was made for it yet
+  abbrev pub MayHandOut : Locks B → ℕ → AtIntake B → Type 0
+  MayHandOut locks by at.Nothing = Unit {0}
+  MayHandOut locks by (at.Sends outbox) = Unit {0}
+  MayHandOut locks by (at.Takes inbox) = (locks.intake ≡ Some inbox.taker.intake) × (Contains inbox.taker.made by → ⊥) × (inbox.senders ≡ length inbox.taker.made)
+
+  -- a sender was made for a caller, whose pass went to the inbox
+  pub record GivesSender (by : ℕ) (pass : ArrivalsPass) (inbox : Inbox B) (new : AtIntake B) (given_pass : Option ArrivalsPass) (given : AtIntake B) : Type 0 where
+    pub after : Inbox B
+    pub takes : new ≡ at.Takes after
+    pub admits : Admits by pass inbox after
+    pub none : given_pass ≡ None
+    pub sends : given ≡ at.Sends (record { sender = new_sender inbox.taker.intake (record { 0 = by }); count = 0 })
+
+  -- what a caller is given at the arrivals: its pass, or a sender from an inbox
+  abbrev pub HandsOut : ℕ → ArrivalsPass → AtIntake B → AtIntake B → Option ArrivalsPass → AtIntake B → Type 0
+  HandsOut by pass at.Nothing new given_pass given = (given_pass ≡ Some pass) × (given ≡ at.Nothing) × (new ≡ at.Nothing)
+  HandsOut by pass (at.Sends outbox) new given_pass given = (given_pass ≡ Some pass) × (given ≡ at.Nothing) × (new ≡ at.Sends outbox)
+  HandsOut by pass (at.Takes inbox) new given_pass given = GivesSender by pass inbox new given_pass given

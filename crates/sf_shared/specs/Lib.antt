@@ -3,8 +3,12 @@ pub mod Calls
 pub mod Closing
 pub mod Eyes
 pub mod First
+pub mod Inboxes
 pub mod Moves
+pub mod Outboxes
 pub mod Passes
 pub mod Queues
+pub mod Reuniting
 pub mod Seats
+pub mod Sent
 pub mod Shared

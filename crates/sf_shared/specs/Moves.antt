@@ -7,8 +7,10 @@ use Rattle.sf_surface.specs.Tokens.{ReadLeaseOf}
 use Rattle.sf_token.specs.Pending.{Arrival}
 use Rattle.sf_actor.specs.Known.{AreAmong, ArriveWithout, CountsRise}
 use Rattle.sf_shared.specs.declared.seats.Seats.{Seats}
+use Rattle.sf_shared.specs.Arriving.{ArrivalEntry}
 use Rattle.sf_shared.specs.Calls.{TookOne}
-use Rattle.sf_shared.specs.Seats.{QueuePass, moments_of, view_of}
+use Rattle.sf_shared.specs.Inboxes.{IsLater}
+use Rattle.sf_shared.specs.Seats.{QueuePass, arrivals_known, moments_of, posts_of, view_of}
 
 module _ {B : Type 0} where
   -- what a pass knows, which goes on, and how many turns it had
@@ -27,9 +29,10 @@ module _ {B : Type 0} where
     pub last : old.last.stamp ≤ new.last.stamp
     pub later : MadeLater old new
 
-  -- a call on the arrivals: it changes what the pass there knows, how many turns it had, and which call is the last
+  -- a call on the arrivals, or through an intake: it changes what the pass there knows, how many turns it had, what was sent or taken
+  -- through the intake, and which call is the last
   pub record ChangesArrivals (old new : Seats B) : Type 0 where
-    pub same : new ≡ record old { arrivals = new.arrivals; last = new.last }
+    pub same : new ≡ record old { arrivals = new.arrivals; pass = new.pass; intake = new.intake; last = new.last }
     pub pass : new.arrivals ≡ record old.arrivals { seen = new.arrivals.seen; turns = new.arrivals.turns }
     pub begins : Begins old.arrivals.seen new.arrivals.seen
     pub last : old.last.stamp ≤ new.last.stamp
@@ -57,3 +60,10 @@ module _ {B : Type 0} where
     pub turns : (new.turns.is_first ≡ old.turns.is_first) × (new.turns.out ≡ old.turns.out)
     pub leaves : AreAmong old.turns.leaves new.turns.leaves
     pub seen : CountsRise old.turns.seen new.turns.seen
+
+  -- what was sent through the intake was put among the arrivals: it changes the first caller's inbox, and the stamp of its last call
+  pub record BringsIn (old new : Seats B) : Type 0 where
+    pub same : new ≡ record old { intake = new.intake; last = new.last }
+    pub last : IsLater old.last new.last
+    pub posts : posts_of new.intake ≡ posts_of old.intake
+    pub known : (seen : List ArrivalEntry) → arrivals_known new.intake seen ≡ arrivals_known old.intake seen

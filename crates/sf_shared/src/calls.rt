@@ -2,7 +2,7 @@ ghost use Rattle.std.specs.Prelude.{◌≡◌, ◌≤◌, Some, IfErr, IfOk, map
 ghost use Rattle.sf_calls.specs.Calling.{IfFaultNoMemory, IfFaultNotYet};
 ghost use Rattle.sf_calls.specs.Histories.{Begins, calls_by};
 ghost use Rattle.sf_surface.specs.Marks.{PermitFits, SpareFits};
-ghost use Rattle.sf_shared.specs.Calls.{MadeOne, SentOne, Ticks, WaitsOne};
+ghost use Rattle.sf_shared.specs.Calls.{IsMade, MadeOne, SentOne, Ticks, WaitsOne};
 ghost use Rattle.sf_shared.specs.Seats.{IsPassOf, lock_mark, moment, sent_in, takes_in};
 
 use crate::arrivals::StampedArrivals;
@@ -69,6 +69,8 @@ pub(crate) fn send_one<R: Wait, B: TableName>(
     ensures begins { Begins pass.old.seen pass.new.seen }
     ensures ticks { Ticks last.old last.new (sent_in (calls_by pass.old.by pass.old.seen)) (sent_in (calls_by pass.old.by pass.new.seen)) }
     ensures takes { takes_in (calls_by pass.old.by pass.new.seen) ≡ takes_in (calls_by pass.old.by pass.old.seen) }
+    ensures step { IfOk result (λ _. last.new.step ≡ step) }
+    ensures made { IfOk result (λ _. IsMade last.old last.new (sent_in (calls_by pass.old.by pass.old.seen)) (sent_in (calls_by pass.old.by pass.new.seen))) }
     ensures sent { IfOk result (SentOne pass.old pass.new step txn) }
     ensures back { IfErr result (λ back. (back.1 ≡ txn) × (pass.new ≡ pass.old)) }
 {

@@ -13,9 +13,11 @@ ghost use Rattle.sf_shared.specs.Eyes.{SeatGoesOn};
 ghost use Rattle.sf_shared.specs.Seats.{sent_in};
 
 use crate::arrivals::StampedArrivals;
+use crate::at_intake::AtIntake;
 use crate::clock::Clock;
 use crate::locks::Locks;
 use crate::seats::Seats;
+use crate::shown::Shown;
 use sf_base::{NoMemory, Seen};
 use sf_calls::{CallFault, CallLock, Pass};
 use sf_commit::{Contents, Handler, Vsync};
@@ -100,7 +102,7 @@ impl<B: TableName> Seats<B> {
     ghost use Rattle.sf_shared.specs.Eyes.{SeatGoesOn};
     ghost use Rattle.sf_actor.specs.Desks.{IsAsBefore};
     ghost use Rattle.sf_actor.specs.Tries.{Sees};
-    ghost use Rattle.sf_shared.specs.Moves.{ChangesArrivals, Stays, Takes};
+    ghost use Rattle.sf_shared.specs.Moves.{BringsIn, ChangesArrivals, Stays, Takes};
     ghost use Rattle.sf_shared.specs.Seats.{AreSeats, home_of, view_of};
 
     /// Looks at all timelines.
@@ -114,8 +116,46 @@ impl<B: TableName> Seats<B> {
         self.times.see_all(&locks.times)
     }
 
+    /// Puts what was sent through the intake among the arrivals, where this caller takes it.
+    fn bring_in<R: Wait>(&mut self, locks: &Locks<B>, rt: &R) -> Result<(), NoMemory>
+        requires own { AreSeats B.table locks.now self.old }
+        ensures own { AreSeats B.table locks.now self.new }
+        ensures brings { BringsIn self.old self.new }
+    {
+        let AtIntake::Takes(inbox) = &mut self.intake else {
+            return Ok(());
+        };
+        let Some(intake) = &locks.intake else {
+            unreachable!()
+        };
+        inbox.bring(rt, intake, &locks.arrivals, &mut self.last)?;
+        Ok(())
+    }
+
+    /// Takes what waits among the arrivals.
+    fn take_waiting<R: Wait>(
+        &mut self,
+        locks: &Locks<B>,
+        rt: &R,
+    ) -> Result<Vec<Arrived<ReadLease<B>>>, NoMemory>
+        requires own { AreSeats B.table locks.now self.old }
+        requires first { self.old.by ≡ 0 }
+        ensures own { AreSeats B.table locks.now self.new }
+        ensures changes { ChangesArrivals self.old self.new }
+        ensures took { IfOk result (λ list. Takes self.old self.new list.items) }
+        ensures stays { IfErr result (λ _. IsAsBefore (view_of self.old) (view_of self.new)) }
+    {
+        let Some(pass) = &mut self.pass else {
+            unreachable!()
+        };
+        let taken = take_one(rt, &locks.arrivals, pass, &mut self.last);
+        self.arrivals = Shown::of(pass);
+        taken
+    }
+
     /// Takes the transactions that arrived, and waits for its turn under the lock: the first caller's
-    /// right, whose number is 0. Want of memory leaves them.
+    /// right, whose number is 0. What was sent through the intake arrives first. Want of memory leaves
+    /// them.
     pub fn take<R: Wait>(
         &mut self,
         locks: &Locks<B>,
@@ -128,7 +168,8 @@ impl<B: TableName> Seats<B> {
         ensures took { IfOk result (λ list. Takes self.old self.new list.items) }
         ensures stays { IfErr result (λ _. IsAsBefore (view_of self.old) (view_of self.new)) }
     {
-        take_one(rt, &locks.arrivals, &mut self.arrivals, &mut self.last)
+        self.bring_in(locks, rt)?;
+        self.take_waiting(locks, rt)
     }
 
     /// A handler's vsync with the seat at the turns as its eye.

@@ -6,21 +6,29 @@
 #![tactic(auto)]
 
 mod arrivals;
+mod at_intake;
 mod calls;
 mod clock;
 mod compositing;
 mod first;
+mod inbox;
 mod laws;
 mod locks;
+mod outbox;
 mod queue_seat;
 mod seats;
 mod shared;
+mod shown;
 
 pub use arrivals::StampedArrivals;
+pub use at_intake::AtIntake;
 pub use clock::Clock;
 pub use first::FirstSeats;
+pub use inbox::{Courier, Inbox};
 pub use laws::first_seats_stay_first;
 pub use locks::{Locks, QueueLock};
+pub use outbox::Outbox;
 pub use queue_seat::QueueSeat;
 pub use seats::Seats;
 pub use shared::SharedDesk;
+pub use shown::Shown;

@@ -5,15 +5,18 @@ ghost use Rattle.sf_actor.specs.Desks.{has_queue, known_of};
 ghost use Rattle.sf_actor.specs.Known.{GoesOn};
 ghost use Rattle.sf_actor.specs.Plain.{home_of as plain_home, view_of as plain_view};
 ghost use Rattle.sf_shared.specs.declared.seats.Seats.{Seats};
-ghost use Rattle.sf_shared.specs.Closing.{AreClosed, AreOpened, Closes, HasNoCalls, HasNoEntry, IsClosed, IsLast, IsOpened, IsOrdered, Opens};
+ghost use Rattle.sf_shared.specs.Closing.{AreClosed, AreOpened, Closes, HasNoCalls, HasNoEntry, IsClosed, IsLast, IsOpened, IsOrdered, Opens, OpensIntake};
 ghost use Rattle.sf_shared.specs.First.{HasAll, IsFirst, gave_of, took_of};
 ghost use Rattle.sf_shared.specs.Seats.{AreSeats, home_of, is_lock, view_of};
 
 use crate::arrivals::StampedArrivals;
+use crate::at_intake::AtIntake;
 use crate::clock::Clock;
 use crate::first::FirstSeats;
+use crate::inbox::Inbox;
 use crate::queue_seat::QueueSeat;
 use crate::seats::{Seats, SeatsParts};
+use crate::shown::Shown;
 use sf_actor::PlainDesk;
 use sf_base::{NoMemory, QueueId};
 use sf_calls::CallLock;
@@ -110,6 +113,20 @@ fn close_queues<B: TableName>(
     Ok(objects)
 }
 
+/// An intake, where no places are told, and what the first caller has there.
+fn open_intake<B: TableName>(
+    alloc: Global,
+    tells: bool,
+) -> Result<(Option<Intake<ReadLease<B>, Brand>>, AtIntake<B>), NoMemory>
+    ensures { IfOk result (λ opened. OpensIntake tells opened.0 opened.1) }
+{
+    if tells {
+        return Ok((None, AtIntake::Nothing));
+    }
+    let (intake, taker) = Intake::open(alloc)?;
+    Ok((Some(intake), AtIntake::Takes(Inbox::of(alloc, taker))))
+}
+
 /// Whether one of these locks has a queue of this number.
 fn is_there<B: TableName>(locks: &[QueueLock<B>], queue: QueueId) -> bool
     ensures { result ≡ list_any (is_lock queue.0) locks.now }
@@ -133,7 +150,8 @@ impl<B: TableName> Locks<B> {
     }
 
     /// What threads are to share, and the first caller's seats, with the number 0. Nothing was called
-    /// yet. Only want of memory refuses it.
+    /// yet. Where a sender is to be told no place, transactions come through an intake. Only want of
+    /// memory refuses it.
     pub fn open(
         alloc: Global,
         queues: Vec<QueueObject<B>>,
@@ -141,6 +159,7 @@ impl<B: TableName> Locks<B> {
         table: Timelines,
         times: TimeSeat,
         turns: TurnSeat<Painted>,
+        tells: bool,
     ) -> Result<(Locks<B>, FirstSeats<B>), NoMemory>
         requires no_calls { AllByRecursion HasNoCalls queues.items }
         requires none_arrived { arrivals ≡ [] }
@@ -149,24 +168,27 @@ impl<B: TableName> Locks<B> {
         requires own_turns { turns.table ≡ B.table }
         requires first { (turns.is_first ≡ true) × (turns.out ≡ 0) }
         ensures first { IfOk result (λ opened. IsFirst B.table opened.0 opened.1) }
-        ensures opened { IfOk result (λ opened. Opens queues.items times turns opened.0 opened.1) }
+        ensures opened { IfOk result (λ opened. Opens tells queues.items times turns opened.0 opened.1) }
     {
         let (queues, passes) = open_queues(alloc, queues)?;
         let Ok((lock, pass)) = CallLock::open(alloc, StampedArrivals::new(alloc, arrivals), 0)
         else {
             return Err(NoMemory);
         };
+        let (intake, at_intake) = open_intake(alloc, tells)?;
         let locks = Locks {
             queues,
             arrivals: lock,
             times: table,
-            intake: None,
+            intake,
         };
         let seats = Seats {
             by: 0,
             last: Clock { step: 0, stamp: 0 },
             queues: passes,
-            arrivals: pass,
+            arrivals: Shown::of(&pass),
+            pass: Some(pass),
+            intake: at_intake,
             times,
             turns,
         };
@@ -196,10 +218,13 @@ impl<B: TableName> Locks<B> {
             by: _,
             last: _,
             queues: passes,
-            arrivals: pass,
+            arrivals: _,
+            pass,
+            intake: _,
             times,
             turns,
         } = seats.into_parts();
+        let Some(pass) = pass else { unreachable!() };
         let queues = close_queues(alloc, queues, passes)?;
         let Ok(arrivals) = arrivals.close(pass) else {
             unreachable!()

@@ -1,15 +1,19 @@
 use crate::arrivals::StampedArrivals;
+use crate::at_intake::AtIntake;
 use crate::calls::{call_one, send_one};
 use crate::clock::Clock;
 use crate::locks::Locks;
 use crate::queue_seat::QueueSeat;
+use crate::shown::Shown;
 use sf_base::{NoMemory, QueueId};
 use sf_calls::{CallFault, Pass};
+use sf_intake::Intake;
 use sf_picture::Painted;
 use sf_surface::{QCall, QReply, ReadLease};
 use sf_times::TimeSeat;
 use sf_turns::{TableName, TurnSeat};
 use sf_txn::Transaction;
+use std::marker::Brand;
 use std::sync::Wait;
 
 /// What one caller brings to what is shared: its passes, one for each lock, and its seats.
@@ -19,7 +23,10 @@ pub struct Seats<B: TableName> {
     pub(crate) last: Clock,
     // In the order of the locks.
     pub(crate) queues: Vec<QueueSeat<B>>,
-    pub(crate) arrivals: Pass<StampedArrivals<B>>,
+    pub(crate) arrivals: Shown<B>,
+    // The pass at the arrivals, but where the first caller has it.
+    pub(crate) pass: Option<Pass<StampedArrivals<B>>>,
+    pub(crate) intake: AtIntake<B>,
     pub(crate) times: TimeSeat,
     pub(crate) turns: TurnSeat<Painted>,
 }
@@ -29,13 +36,16 @@ pub(crate) struct SeatsParts<B: TableName> {
     pub(crate) by: u32,
     pub(crate) last: Clock,
     pub(crate) queues: Vec<QueueSeat<B>>,
-    pub(crate) arrivals: Pass<StampedArrivals<B>>,
+    pub(crate) arrivals: Shown<B>,
+    // The pass at the arrivals, but where the first caller has it.
+    pub(crate) pass: Option<Pass<StampedArrivals<B>>>,
+    pub(crate) intake: AtIntake<B>,
     pub(crate) times: TimeSeat,
     pub(crate) turns: TurnSeat<Painted>,
 }
 
 impl<B: TableName> Seats<B> {
-    ghost use Rattle.std.specs.Prelude.{◌≡◌, true, IfErr, IfOk};
+    ghost use Rattle.std.specs.Prelude.{◌≡◌, true, None, Some, IfErr, IfOk};
     ghost use Rattle.sf_calls.specs.Calling.{IfFaultNoMemory, IfFaultNotYet};
     ghost use Rattle.sf_surface.specs.Marks.{PermitFits, SpareFits};
     ghost use Rattle.sf_actor.specs.Desks.{IsAsBefore, MadeCall, MadeSend, WaitsForCall, has_queue};
@@ -49,6 +59,8 @@ impl<B: TableName> Seats<B> {
           last = result.last;
           queues = result.queues;
           arrivals = result.arrivals;
+          pass = result.pass;
+          intake = result.intake;
           times = result.times;
           turns = result.turns;
         } }
@@ -58,6 +70,8 @@ impl<B: TableName> Seats<B> {
             last,
             queues,
             arrivals,
+            pass,
+            intake,
             times,
             turns,
         } = self;
@@ -66,6 +80,8 @@ impl<B: TableName> Seats<B> {
             last,
             queues,
             arrivals,
+            pass,
+            intake,
             times,
             turns,
         }
@@ -105,7 +121,55 @@ impl<B: TableName> Seats<B> {
         )
     }
 
-    /// Sends a transaction, for a step of the caller, and waits for its turn under the lock.
+    /// Sends a transaction through the pass, and waits for its turn under the lock.
+    fn send_locked<R: Wait>(
+        &mut self,
+        locks: &Locks<B>,
+        rt: &R,
+        step: u32,
+        txn: Transaction<ReadLease<B>>,
+    ) -> Result<u32, (NoMemory, Transaction<ReadLease<B>>)>
+        requires own { AreSeats B.table locks.now self.old }
+        requires none { locks.now.intake ≡ None }
+        ensures own { AreSeats B.table locks.now self.new }
+        ensures changes { ChangesArrivals self.old self.new }
+        ensures sent { IfOk result (MadeSend (home_of locks.now self.old) (view_of self.old) (view_of self.new) self.old.by step txn) }
+        ensures back { IfErr result (λ back. (back.1 ≡ txn) × IsAsBefore (view_of self.old) (view_of self.new)) }
+    {
+        let Some(pass) = &mut self.pass else {
+            unreachable!()
+        };
+        let sent = send_one(rt, &locks.arrivals, pass, &mut self.last, step, txn);
+        self.arrivals = Shown::of(pass);
+        sent
+    }
+
+    /// Sends a transaction through the sender, and waits for nobody.
+    fn send_through<R: Wait>(
+        &mut self,
+        locks: &Locks<B>,
+        intake: &Intake<ReadLease<B>, Brand>,
+        rt: &R,
+        step: u32,
+        txn: Transaction<ReadLease<B>>,
+    ) -> Result<u32, (NoMemory, Transaction<ReadLease<B>>)>
+        requires own { AreSeats B.table locks.now self.old }
+        requires through { locks.now.intake ≡ Some intake.now }
+        ensures own { AreSeats B.table locks.now self.new }
+        ensures changes { ChangesArrivals self.old self.new }
+        ensures sent { IfOk result (MadeSend (home_of locks.now self.old) (view_of self.old) (view_of self.new) self.old.by step txn) }
+        ensures back { IfErr result (λ back. (back.1 ≡ txn) × IsAsBefore (view_of self.old) (view_of self.new)) }
+    {
+        let _ = locks;
+        match &mut self.intake {
+            AtIntake::Sends(outbox) => outbox.send(intake, rt, &mut self.last, step, txn),
+            AtIntake::Nothing | AtIntake::Takes(_) => Err((NoMemory, txn)),
+        }
+    }
+
+    /// Sends a transaction, for a step of the caller: through its sender at the intake, where there is one,
+    /// else through its pass. Where there is an intake, a caller without a sender is refused as for want of
+    /// memory.
     pub fn send<R: Wait>(
         &mut self,
         locks: &Locks<B>,
@@ -119,14 +183,10 @@ impl<B: TableName> Seats<B> {
         ensures sent { IfOk result (MadeSend (home_of locks.now self.old) (view_of self.old) (view_of self.new) self.old.by step txn) }
         ensures back { IfErr result (λ back. (back.1 ≡ txn) × IsAsBefore (view_of self.old) (view_of self.new)) }
     {
-        send_one(
-            rt,
-            &locks.arrivals,
-            &mut self.arrivals,
-            &mut self.last,
-            step,
-            txn,
-        )
+        match &locks.intake {
+            Some(intake) => self.send_through(locks, intake, rt, step, txn),
+            None => self.send_locked(locks, rt, step, txn),
+        }
     }
 }
 
@@ -137,6 +197,8 @@ impl<B: TableName> Drop for Seats<B> {
             last: _,
             queues: _,
             arrivals: _,
+            pass: _,
+            intake: _,
             times: _,
             turns: _,
         } = self;

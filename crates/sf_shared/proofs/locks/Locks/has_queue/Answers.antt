@@ -1,6 +1,5 @@
 use Rattle.std.proofs.Common.{◌∙◌, ap, sym}
 use Rattle.std.specs.List.{list_any}
-use Rattle.sf_shared.specs.declared.locks.QueueLock.{QueueLock}
 use Rattle.sf_shared.specs.Seats.{is_lock}
 use Rattle.sf_shared.proofs.Passing.{has_as}
 use Rattle.sf_shared.proofs.locks.Locks.has_queue.Goals as goal

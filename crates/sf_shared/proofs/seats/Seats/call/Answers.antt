@@ -1,8 +1,8 @@
-use Rattle.std.proofs.Common.{◌∙◌, sym, refl, arith}
-use Rattle.sf_token.specs.Arrivals.{sent}
+use Rattle.std.proofs.Common.{◌++◌, ◌∙◌, sym, refl, arith}
+use Rattle.std.specs.Prelude.{map}
 use Rattle.sf_calls.specs.Histories.{calls_by}
-use Rattle.sf_stamped.specs.Stamps.{unstamped}
-use Rattle.sf_shared.specs.Seats.{home_of, sent_in}
+use Rattle.sf_shared.specs.Seats.{arrivals_known, home_of, post_moment, posts_of, sent_in}
+use Rattle.sf_shared.proofs.Handing.{way_later}
 use Rattle.sf_shared.proofs.Ordering.{later_called, order_called, stamp_rises}
 use Rattle.sf_shared.proofs.Passing.{IsAfter, if_made, if_waits, low_place, moves, no_queue, of_own, own_after, to_own, was_at}
 use Rattle.sf_shared.proofs.seats.Seats.call.Goals as goal
@@ -51,11 +51,14 @@ returns-clause-own g c =
       own_times = c.requires.own.own_times;
       own_turns = c.requires.own.own_turns;
       in_order =
-          order_called seats.last c.call_one.new.last seats.by seats.queues.items c.in-Some.place one next (sent_in (calls_by seats.by seats.arrivals.seen)) c.requires.own.in_order
+          order_called seats.last c.call_one.new.last seats.by seats.queues.items c.in-Some.place one next (sent_in (calls_by seats.by seats.arrivals.seen) ++ map post_moment (posts_of seats.intake)) c.requires.own.in_order
           c.index_mut.ensures.value was.number
           (low_place seats.by c.args.queue.0 c.in-Some.place locks seats.queues.items c.requires.own.queues first) c.call_one.ensures.ticks;
       takes = c.requires.own.takes;
-      tells = c.requires.own.tells;
+      pass = c.requires.own.pass;
+      way =
+          way_later c.args.locks.now seats.by seats.arrivals.gave seats.last c.call_one.new.last seats.intake (stamp_rises seats.last c.call_one.new.last _ _ c.call_one.ensures.ticks)
+          c.requires.own.way;
     }
 
 pub returns-clause-changes : goal.returns-clause-changes
@@ -80,7 +83,7 @@ returns-clause-changes g c =
       passes = moves seats.by locks seats.queues.items c.args.queue.0 c.in-Some.place lock one next after (record { same = c.call_one.ensures.same; begins = c.call_one.ensures.begins });
       last = stamp_rises seats.last c.call_one.new.last _ _ c.call_one.ensures.ticks;
       later =
-          later_called seats.last c.call_one.new.last seats.by seats.queues.items c.in-Some.place one next (sent_in (calls_by seats.by seats.arrivals.seen))
+          later_called seats.last c.call_one.new.last seats.by seats.queues.items c.in-Some.place one next (sent_in (calls_by seats.by seats.arrivals.seen) ++ map post_moment (posts_of seats.intake))
           c.index_mut.ensures.value was.number
           (low_place seats.by c.args.queue.0 c.in-Some.place locks seats.queues.items c.requires.own.queues first) c.call_one.ensures.ticks;
     }
@@ -103,7 +106,7 @@ returns-clause-made g c =
       turns = c.call_one.ensures.turns;
     } in
     if_made seats.by locks seats.queues.items c.args.queue.0 c.in-Some.place lock one next after (home_of c.args.locks.now seats) refl refl
-    (sent (unstamped seats.arrivals.seen)) seats.times.knows seats.turns seats.arrivals.turns (c.args.step, c.args.call) c.call_one.result c.call_one.ensures.made
+    (arrivals_known seats.intake seats.arrivals.seen) seats.times.knows seats.turns seats.arrivals.turns (c.args.step, c.args.call) c.call_one.result c.call_one.ensures.made
 
 pub returns-clause-not_yet : goal.returns-clause-not_yet
 returns-clause-not_yet g c =
@@ -123,4 +126,4 @@ returns-clause-not_yet g c =
       turns = c.call_one.ensures.turns;
     } in
     if_waits seats.by locks seats.queues.items c.args.queue.0 c.in-Some.place lock one next after (home_of c.args.locks.now seats) refl refl
-    (sent (unstamped seats.arrivals.seen)) seats.times.knows seats.turns seats.arrivals.turns (c.args.step, c.args.call) c.call_one.result c.call_one.ensures.not_yet
+    (arrivals_known seats.intake seats.arrivals.seen) seats.times.knows seats.turns seats.arrivals.turns (c.args.step, c.args.call) c.call_one.result c.call_one.ensures.not_yet

@@ -1,0 +1,19 @@
+use Rattle.std.proofs.Common.{List, ap, ◌∙◌, sym, subst}
+use Rattle.std.specs.List.{AllByRecursion}
+use Rattle.sf_shared.specs.declared.seats.Seats.{Seats}
+use Rattle.sf_shared.specs.Seats.{IsHeard}
+use Rattle.sf_shared.proofs.Forwarding.{hears_inbox}
+use Rattle.sf_shared.proofs.Reuniting.{all_heard}
+use Rattle.sf_shared.proofs.inbox.Inbox.finish.Goals as goal
+
+pub drain-requires : goal.drain-requires
+drain-requires g c = record {
+  own = hears_inbox c.args.locks.now.arrivals c.args.self.now c.hear_each.new.self c.requires.own c.hear_each.ensures.hears;
+  intake = ap (λ t. t.intake) c.hear_each.ensures.hears.taker ∙ c.requires.same;
+}
+
+pub reunite_each-requires-clause-heard : goal.reunite_each-requires-clause-heard
+reunite_each-requires-clause-heard g c =
+    all_heard c.hear_each.new.self.taker c.drain.new.self.taker c.hear_each.new.ends c.drain.ensures.same.heard
+    (subst (λ (ends : List (Seats g.row.B.Denot)). AllByRecursion (λ (s : Seats g.row.B.Denot). IsHeard c.hear_each.new.self.taker s.intake) ends) (sym c.hear_each.ensures.same)
+    c.hear_each.ensures.heard)

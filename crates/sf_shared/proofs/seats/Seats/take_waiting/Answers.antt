@@ -1,0 +1,51 @@
+use Rattle.std.proofs.Common.{◌≡◌, ◌∙◌, subst, sym}
+use Rattle.std.specs.Prelude.{IfErr, IfOk}
+use Rattle.sf_shared.specs.Arriving.{ArrivalsPass}
+use Rattle.sf_shared.specs.Calls.{TookOne}
+use Rattle.sf_shared.proofs.Reuniting.{some_same}
+use Rattle.sf_shared.proofs.Taking.{PassTakes, if_both, if_not, there_first, waiting_changes, waiting_own, waiting_stays, waiting_took}
+use Rattle.sf_shared.proofs.seats.Seats.take_waiting.Goals as goal
+
+pub returns-clause-own : goal.returns-clause-own
+returns-clause-own g c =
+    let seats = c.args.self.now in
+    let is : c.in-Some.pass ≡ seats.arrivals = some_same (sym c.in-Some.is ∙ there_first g.B.TableName.table c.args.locks.now seats c.requires.own c.requires.first) in
+    let made = c.take_one-taken.ensures in
+    let takes : PassTakes c.in-Some.pass c.take_one-taken.new.pass seats.last c.take_one-taken.new.last =
+    record { same = made.same; turns = made.turns; begins = made.begins; step = made.step; stamp = made.stamp; sends = made.sends } in
+    let here = subst (λ (p : ArrivalsPass). PassTakes p c.take_one-taken.new.pass seats.last c.take_one-taken.new.last) is takes in
+    waiting_own g.B.TableName.table c.args.locks.now seats c.take_one-taken.new.pass c.of.result c.take_one-taken.new.last c.requires.own c.requires.first here c.of.ensures
+
+pub returns-clause-changes : goal.returns-clause-changes
+returns-clause-changes g c =
+    let seats = c.args.self.now in
+    let is : c.in-Some.pass ≡ seats.arrivals = some_same (sym c.in-Some.is ∙ there_first g.B.TableName.table c.args.locks.now seats c.requires.own c.requires.first) in
+    let made = c.take_one-taken.ensures in
+    let takes : PassTakes c.in-Some.pass c.take_one-taken.new.pass seats.last c.take_one-taken.new.last =
+    record { same = made.same; turns = made.turns; begins = made.begins; step = made.step; stamp = made.stamp; sends = made.sends } in
+    let here = subst (λ (p : ArrivalsPass). PassTakes p c.take_one-taken.new.pass seats.last c.take_one-taken.new.last) is takes in
+    waiting_changes g.B.TableName.table c.args.locks.now seats c.take_one-taken.new.pass c.of.result c.take_one-taken.new.last c.requires.own c.requires.first here c.of.ensures
+
+pub returns-clause-took : goal.returns-clause-took
+returns-clause-took g c =
+    let seats = c.args.self.now in
+    let is : c.in-Some.pass ≡ seats.arrivals = some_same (sym c.in-Some.is ∙ there_first g.B.TableName.table c.args.locks.now seats c.requires.own c.requires.first) in
+    let made = c.take_one-taken.ensures in
+    let takes : PassTakes c.in-Some.pass c.take_one-taken.new.pass seats.last c.take_one-taken.new.last =
+    record { same = made.same; turns = made.turns; begins = made.begins; step = made.step; stamp = made.stamp; sends = made.sends } in
+    let here = subst (λ (p : ArrivalsPass). PassTakes p c.take_one-taken.new.pass seats.last c.take_one-taken.new.last) is takes in
+    if_both _ _ _ c.take_one-taken.result
+    (λ list took newest. waiting_took g.B.TableName.table c.args.locks.now seats c.take_one-taken.new.pass c.of.result c.take_one-taken.new.last c.requires.own c.requires.first here c.of.ensures list.items took newest)
+    (subst (λ (p : ArrivalsPass). IfOk c.take_one-taken.result (λ list. TookOne p c.take_one-taken.new.pass list.items)) is made.took) made.newest
+
+pub returns-clause-stays : goal.returns-clause-stays
+returns-clause-stays g c =
+    let seats = c.args.self.now in
+    let is : c.in-Some.pass ≡ seats.arrivals = some_same (sym c.in-Some.is ∙ there_first g.B.TableName.table c.args.locks.now seats c.requires.own c.requires.first) in
+    let made = c.take_one-taken.ensures in
+    let takes : PassTakes c.in-Some.pass c.take_one-taken.new.pass seats.last c.take_one-taken.new.last =
+    record { same = made.same; turns = made.turns; begins = made.begins; step = made.step; stamp = made.stamp; sends = made.sends } in
+    let here = subst (λ (p : ArrivalsPass). PassTakes p c.take_one-taken.new.pass seats.last c.take_one-taken.new.last) is takes in
+    if_not _ _ c.take_one-taken.result
+    (λ fault stays. waiting_stays g.B.TableName.table c.args.locks.now seats c.take_one-taken.new.pass c.of.result c.take_one-taken.new.last c.requires.own c.requires.first here c.of.ensures stays)
+    (subst (λ (p : ArrivalsPass). IfErr c.take_one-taken.result (λ fault. c.take_one-taken.new.pass ≡ p)) is made.stays)
