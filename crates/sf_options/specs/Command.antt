@@ -18,7 +18,8 @@ bare = let named = new_app (codes "sf_main") in record named { top = record name
 
 abbrev pub sf_command : App
 sf_command =
-    with_rule (with_rule (with_rule (with_rule bare (valued (codes "run"))) (valued (codes "workers"))) (valued (codes "number"))) (flag (codes "summary"))
+    let counted = with_rule (with_rule (with_rule bare (valued (codes "run"))) (valued (codes "workers"))) (valued (codes "number")) in
+    with_rule (with_rule counted (flag (codes "summary"))) (valued (codes "intake"))
 
 -- the command's definition gives matches for the words
 abbrev pub HasMatches : List Text → Type 0

@@ -8,4 +8,4 @@ mod options;
 
 pub use about::About;
 pub use laws::no_words_play;
-pub use options::{Options, OptionsFault, Run};
+pub use options::{Intake, Options, OptionsFault, Run};

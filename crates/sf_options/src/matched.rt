@@ -45,6 +45,7 @@ fn command<'a>(alloc: Global) -> Result<Command<'a>, AllocError>
     let command = with(command, valued(alloc, "workers"))?;
     let command = with(command, valued(alloc, "number"))?;
     let command = with(command, flag(alloc, "summary"))?;
+    let command = with(command, valued(alloc, "intake"))?;
     Ok(command)
 }
 

@@ -1,7 +1,7 @@
 ghost use Rattle.std.specs.Prelude.{◌≡◌, ◌≤◌, codes, map, option_map, IfSome, IfOk};
 ghost use Rattle.std.specs.String.{string_bytes};
 ghost use Rattle.clap.specs.Words.{found_of, rows_of};
-ghost use Rattle.sf_options.specs.Options.{GivesOptions, is_set, number_of, options_from, options_in, options_of, run_named, run_of};
+ghost use Rattle.sf_options.specs.Options.{GivesOptions, do_conflict, intake_named, intake_of, is_live, is_queue, is_set, number_of, options_from, options_in, options_of, run_named, run_of};
 
 use crate::matched::{matched, text_of};
 use clap::ArgMatches;
@@ -19,6 +19,15 @@ pub enum Run {
     Gen,
 }
 
+/// How transactions arrive in a live run.
+#[derive(Clone, Copy)]
+pub enum Intake {
+    /// In calls under one lock; a sender is told its place.
+    Lock,
+    /// Through a queue that takes them without a lock; a sender is told no place.
+    Queue,
+}
+
 /// What the words ask for.
 #[derive(Clone, Copy)]
 pub struct Options {
@@ -29,6 +38,8 @@ pub struct Options {
     pub number: u64,
     /// Whether one record is written that sums up the others.
     pub summary: bool,
+    /// How transactions arrive.
+    pub intake: Intake,
 }
 
 /// Why there are no options.
@@ -82,20 +93,53 @@ fn flag_given(given: Option<&str>) -> bool
     }
 }
 
-// The options, where each is right and there is no summary of a live run.
+#[tactic(auto, unfolding(crate::specs::Options::intake_named))]
+fn intake_named(word: &str) -> Option<Intake>
+    ensures { result ≡ intake_named word.now }
+{
+    match word {
+        "lock" => Some(Intake::Lock),
+        "queue" => Some(Intake::Queue),
+        _ => None,
+    }
+}
+
+#[tactic(auto, unfolding(crate::specs::Options::intake_of))]
+fn intake_given(given: Option<&str>) -> Option<Intake>
+    ensures { result ≡ intake_of (option_map (λ word. word.now) given.entry) }
+{
+    match given {
+        Some(word) => intake_named(word),
+        None => Some(Intake::Lock),
+    }
+}
+
+// Whether these do not go together: a live run is not summed up, and in no other do transactions
+// arrive through a queue.
+fn do_conflict(run: Run, summary: bool, intake: Intake) -> bool
+    ensures { result ≡ do_conflict (is_live run) summary (is_queue intake) }
+{
+    match run {
+        Run::Live => summary,
+        Run::Play | Run::Gen => matches!(intake, Intake::Queue),
+    }
+}
+
+// The options, where each is right and they do not conflict.
 #[tactic(auto, unfolding(crate::specs::Options::options_from))]
 fn options_from(
     run: Option<Run>,
     workers: Option<u64>,
     number: Option<u64>,
     summary: bool,
+    intake: Option<Intake>,
 ) -> Option<Options>
     requires range { IfSome workers (λ n. (1 ≤ n) × (n ≤ 16)) }
-    ensures given { result ≡ options_from run workers number summary }
+    ensures given { result ≡ options_from run workers number summary intake }
     ensures workers { IfSome result (λ o. (1 ≤ o.workers) × (o.workers ≤ 16)) }
 {
-    let (run, workers, number) = (run?, workers?, number?);
-    if run == Run::Live && summary {
+    let (run, workers, number, intake) = (run?, workers?, number?, intake?);
+    if do_conflict(run, summary, intake) {
         return None;
     }
     Some(Options {
@@ -103,6 +147,7 @@ fn options_from(
         workers: workers as u32,
         number,
         summary,
+        intake,
     })
 }
 
@@ -116,13 +161,15 @@ fn options_in(matches: &ArgMatches<'_>) -> Option<Options>
     let workers = number_given(text_of(matches, "workers"), 1, 16);
     let number = number_given(text_of(matches, "number"), 0, u64::MAX);
     let summary = flag_given(text_of(matches, "summary"));
-    options_from(run, workers, number, summary)
+    let intake = intake_given(text_of(matches, "intake"));
+    options_from(run, workers, number, summary, intake)
 }
 
 impl Options {
     /// What the words ask for, which come without the program's name: `--run V` with `play`, `live`
     /// or `gen` (`play` if absent), `--workers N` from 1 to 16 and `--number N` of 64 bits (1 if
-    /// absent), and `--summary`, which no live run has. N is 1 to 20 decimal digits.
+    /// absent), `--summary`, which no live run has, and `--intake V` with `lock` or `queue` (`lock`
+    /// if absent), of which only a live run has a queue. N is 1 to 20 decimal digits.
     pub fn read(alloc: Global, words: &[String]) -> Result<Options, OptionsFault>
         ensures given { GivesOptions result (options_of (map string_bytes words.now)) }
         ensures workers { IfOk result (λ o. (1 ≤ o.workers) × (o.workers ≤ 16)) }
