@@ -11,7 +11,7 @@ use Rattle.sf_record.specs.declared.encode.RunFault.{RunFault}
 use Rattle.sf_record.specs.declared.record.Record.{Record}
 use Rattle.sf_record.specs.declared.record.Record.TheVariants as rec
 use Rattle.sf_record.specs.declared.record.Summary.{Summary}
-use Rattle.sf_run.specs.Played.{Played}
+use Rattle.sf_run.specs.Played.{PlayedWhere}
 use Rattle.sf_show.specs.Runs.{CutRun, WroteRun}
 use Rattle.sf_show.specs.Writing.{Writes, WritesPart}
 use Rattle.sf_tally.specs.Summaries.{summary_of, wrapped}
@@ -64,14 +64,20 @@ shown_bytes : (summary : Bool) (records : List Record) (a b : Option (List ℕ))
 shown_bytes true records a b h = subst (Appends a b) (sym (one_record (rec.Summ (wrapped (summary_of records))))) h.bytes
 shown_bytes false records a b h = h.bytes
 
--- what was shown of a run shows records that mean what a played run means
-pub record ShowsMeaning (summary : Bool) (scene : SceneValue) (a b : Option (List ℕ)) : Type 0 where
+-- what was shown of a run shows records that mean what a played run means, in which a sender is told its place or not
+pub record ShowsMeaning (summary tells : Bool) (scene : SceneValue) (a b : Option (List ℕ)) : Type 0 where
   pub records : List Record
-  pub played : Played scene records
+  pub played : PlayedWhere tells scene records
   pub written : Appends a b (bytes_shown summary records)
 
-pub run_means : (r : Run) (summary : Bool) (scene : SceneValue) (a b : Option (List ℕ)) → (is_live r ≡ true → summary ≡ false) → ShowsRun r summary scene a b → ShowsMeaning summary scene a b
-run_means run.Play summary scene a b unsummed h = record { records = h.records; played = h.means; written = shown_bytes summary h.records a b h.written }
-run_means run.Gen summary scene a b unsummed h = record { records = h.records; played = h.means; written = shown_bytes summary h.records a b h.written }
-run_means run.Live summary scene a b unsummed h =
+played_told : (tells : Bool) (scene : SceneValue) (records : List Record) → tells ≡ true → PlayedWhere true scene records → PlayedWhere tells scene records
+played_told tells scene records told played = subst (λ (t : Bool). PlayedWhere t scene records) (sym told) played
+
+pub run_means : (r : Run) (summary tells : Bool) (scene : SceneValue) (a b : Option (List ℕ)) → (is_live r ≡ true → summary ≡ false) → (is_live r ≡ false → tells ≡ true) → ShowsRun r summary tells scene a b
+    → ShowsMeaning summary tells scene a b
+run_means run.Play summary tells scene a b unsummed told h =
+    record { records = h.records; played = played_told tells scene h.records (told refl) h.means; written = shown_bytes summary h.records a b h.written }
+run_means run.Gen summary tells scene a b unsummed told h =
+    record { records = h.records; played = played_told tells scene h.records (told refl) h.means; written = shown_bytes summary h.records a b h.written }
+run_means run.Live summary tells scene a b unsummed told h =
     record { records = h.records; played = h.means.played; written = subst (λ (s : Bool). Appends a b (bytes_shown s h.records)) (sym (unsummed refl)) h.written.bytes }

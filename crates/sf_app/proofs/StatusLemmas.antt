@@ -27,7 +27,7 @@ use Rattle.sf_show.specs.Writing.{CutSome}
 use Rattle.sf_app.proofs.HeaderLemmas.{IsPeriod, parsed_timed}
 use Rattle.sf_app.specs.Shown.{ShowsPart, ShowsPlay, ShowsRun, ShowsRunPart, records_shown}
 use Rattle.sf_app.specs.Statuses.{NoScene, PlayedScript, PrefixOf, RefusedScript, RunEnded, ScriptEnded, WritesPrefix, at_no_place, fault_bytes, misspelled, too_long}
-use Rattle.sf_app.specs.Words.{IsScript, IsScriptBy, IsTold, IsToldBy, generated, is_gen}
+use Rattle.sf_app.specs.Words.{IsScript, IsScriptBy, IsTold, IsToldBy, generated, is_gen, tells_place}
 
 pub nothing_took : (a : Option (List ℕ)) (bs : List ℕ) → TookPrefix a a bs
 nothing_took a bs = (0, omega arith, Appends-nil a)
@@ -37,13 +37,13 @@ part_whole : (summary : Bool) (scene : SceneValue) (a b : Option (List ℕ)) →
 part_whole summary scene a b h = record { records = h.records; is_play = h.is_play; written = all_as_part a b (records_shown summary h.records) h.written }
 
 -- the records of a run in threads are whole records
-live_whole : (scene : SceneValue) (a b : Option (List ℕ)) → WroteLive true scene a b → CutSome a b
-live_whole scene a b h = cut_part a b h.records (all_as_part a b h.records h.written)
+live_whole : (tells : Bool) (scene : SceneValue) (a b : Option (List ℕ)) → WroteLive tells scene a b → CutSome a b
+live_whole tells scene a b h = cut_part a b h.records (all_as_part a b h.records h.written)
 
-pub run_part_whole : (r : Run) (summary : Bool) (scene : SceneValue) (a b : Option (List ℕ)) → ShowsRun r summary scene a b → ShowsRunPart r summary scene a b
-run_part_whole run.Live summary scene a b h = live_whole scene a b h
-run_part_whole run.Play summary scene a b h = part_whole summary scene a b h
-run_part_whole run.Gen summary scene a b h = part_whole summary scene a b h
+pub run_part_whole : (r : Run) (summary tells : Bool) (scene : SceneValue) (a b : Option (List ℕ)) → ShowsRun r summary tells scene a b → ShowsRunPart r summary scene a b
+run_part_whole run.Live summary tells scene a b h = live_whole tells scene a b h
+run_part_whole run.Play summary tells scene a b h = part_whole summary scene a b h
+run_part_whole run.Gen summary tells scene a b h = part_whole summary scene a b h
 
 -- nothing was written, which is a prefix too
 pub cut_nothing : (a : Option (List ℕ)) → CutSome a a
@@ -144,7 +144,7 @@ refused_script options left rest a b script s r = refused_by (is_gen options.run
 
 -- a script that was played
 pub played_script : (options : Options) (left rest a b : Option (List ℕ)) (script : List ℕ) → IsScript options left rest script →
-    (scene : SceneValue) × (parsed_of script ≡ Ok scene) × ShowsRun options.run options.summary scene a b → PlayedScript (Some options) left rest a b
+    (scene : SceneValue) × (parsed_of script ≡ Ok scene) × ShowsRun options.run options.summary (tells_place options) scene a b → PlayedScript (Some options) left rest a b
 played_script options left rest a b script s p = record { options = options; right = refl; bytes = script; script = s; scene = p.0; spelled = p.1; run = p.2 }
 
 some_same : (asked : Option Options) (x y : Options) → asked ≡ Some x → asked ≡ Some y → x ≡ y
@@ -209,9 +209,9 @@ fault_prefix : (bs : List ℕ) (a b : Option (List ℕ)) → Appends a b bs → 
 fault_prefix bs a b h = (length bs, omega arith, subst (Appends a b) (sym (take_all (length bs) bs (omega arith))) h)
 
 -- what shows the run of a scene was written
-pub scene_shown : (options : Options) (scene : SceneValue) (a b : Option (List ℕ)) (f g : ℕ) → ShowsRun options.run options.summary scene a b → ScriptEnded options (Ok scene) 0 a b f g
+pub scene_shown : (options : Options) (scene : SceneValue) (a b : Option (List ℕ)) (f g : ℕ) → ShowsRun options.run options.summary (tells_place options) scene a b → ScriptEnded options (Ok scene) 0 a b f g
 scene_shown options scene a b f g h =
-    let part = run_part_whole options.run options.summary scene a b h in
+    let part = run_part_whole options.run options.summary (tells_place options) scene a b h in
     record {
       played = λ _. (scene, refl, h);
       refused = λ e. absurd (omega (arith, e));

@@ -35,10 +35,10 @@ pub record ShowsPart (summary : Bool) (scene : SceneValue) (old new : Option (Li
   pub is_play : ArePlayRecords scene records
   pub written : WritesPart old new (records_shown summary records)
 
--- a scene's run was shown whole: the records of a run in threads, or what shows the scene's play
-abbrev pub ShowsRun : Run → Bool → SceneValue → Option (List ℕ) → Option (List ℕ) → Type 0
-ShowsRun run.Live summary scene old new = WroteLive true scene old new
-ShowsRun _ summary scene old new = ShowsPlay summary scene old new
+-- a scene's run was shown whole: the records of a run in threads, in which a sender is told its place or not, or what shows the scene's play
+abbrev pub ShowsRun : Run → Bool → Bool → SceneValue → Option (List ℕ) → Option (List ℕ) → Type 0
+ShowsRun run.Live summary tells scene old new = WroteLive tells scene old new
+ShowsRun _ summary tells scene old new = ShowsPlay summary scene old new
 
 -- a prefix was written: of a run in threads whole records, and then at most one that is cut, or of what shows the scene's play
 abbrev pub ShowsRunPart : Run → Bool → SceneValue → Option (List ℕ) → Option (List ℕ) → Type 0

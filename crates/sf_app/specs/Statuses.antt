@@ -10,10 +10,10 @@ use Rattle.sf_script.specs.declared.fault.ScriptFault.{ScriptFault}
 use Rattle.sf_record.specs.declared.record.Record.TheVariants as rec
 use Rattle.sf_record.specs.declared.record.Record.{Record}
 use Rattle.sf_record.specs.Records.{record_bytes}
-use Rattle.sf_run.specs.Played.{Played}
+use Rattle.sf_run.specs.Played.{PlayedWhere}
 use Rattle.sf_show.specs.Writing.{CutSome}
 use Rattle.sf_app.specs.Shown.{ShowsRun, ShowsRunPart, bytes_shown}
-use Rattle.sf_app.specs.Words.{IsScript, IsTold, is_gen}
+use Rattle.sf_app.specs.Words.{IsScript, IsTold, is_gen, tells_place}
 
 -- status 0: the words ask for a run, its script spells a scene, and the run of the scene was shown: its records, or a play's summary
 pub record PlayedScript (asked : Option Options) (left rest taken now : Option (List ℕ)) : Type 0 where
@@ -23,9 +23,10 @@ pub record PlayedScript (asked : Option Options) (left rest taken now : Option (
   pub script : IsScript options left rest bytes
   pub scene : SceneValue
   pub spelled : parsed_of bytes ≡ Ok scene
-  pub run : ShowsRun options.run options.summary scene taken now
+  pub run : ShowsRun options.run options.summary (tells_place options) scene taken now
 
--- what status 0 means: what was written shows records that stand to the scene as those of a played run do
+-- what status 0 means: what was written shows records that stand to the scene as those of a played run do, in which a sender is told
+-- its place, unless the words ask for a queue of arrivals
 pub record MeansScript (asked : Option Options) (left rest taken now : Option (List ℕ)) : Type 0 where
   pub options : Options
   pub right : asked ≡ Some options
@@ -34,7 +35,7 @@ pub record MeansScript (asked : Option Options) (left rest taken now : Option (L
   pub scene : SceneValue
   pub spelled : parsed_of bytes ≡ Ok scene
   pub records : List Record
-  pub played : Played scene records
+  pub played : PlayedWhere (tells_place options) scene records
   pub written : Appends taken now (bytes_shown options.summary records)
 
 -- a fault of this cause, which has no place
@@ -72,7 +73,7 @@ WritesPrefix (Some options) left old new = (bytes : List ℕ) → IsTold options
 -- how a script that spells this was played: what the status says, and what was written whatever it is; the counts are those
 -- of the sink's faults
 pub record ScriptEnded (options : Options) (spelled : Result SceneValue ScriptFault) (status : ℕ) (taken now : Option (List ℕ)) (before after : ℕ) : Type 0 where
-  pub played : status ≡ 0 → (scene : SceneValue) × (spelled ≡ Ok scene) × ShowsRun options.run options.summary scene taken now
+  pub played : status ≡ 0 → (scene : SceneValue) × (spelled ≡ Ok scene) × ShowsRun options.run options.summary (tells_place options) scene taken now
   pub refused : status ≡ 2 → (fault : ScriptFault) × (spelled ≡ Err fault) × Appends taken now (fault_bytes fault)
   pub write_failed : status ≡ 4 → Rose before after
   pub range : status ≤ 5

@@ -1,8 +1,9 @@
 -- What the words of a run ask for.
-use Rattle.std.specs.Prelude.{◌≡◌, ℕ, Bool, true, false, List, Option, Some}
+use Rattle.std.specs.Prelude.{◌≡◌, ℕ, Bool, true, false, not, List, Option, Some}
 use Rattle.std.specs.Io.KnownBytes.{Consumes, IsAtEnd}
 use Rattle.std.specs.List.{concat}
 use Rattle.sf_generate.specs.Generator.{lines_of}
+use Rattle.sf_options.specs.Options.{is_queue}
 use Rattle.sf_options.specs.declared.options.Options.{Options}
 use Rattle.sf_options.specs.declared.options.Run.{Run}
 use Rattle.sf_options.specs.declared.options.Run.TheVariants as run
@@ -12,6 +13,10 @@ use Rattle.sf_words.specs.Text.{Text}
 abbrev pub is_gen : Run → Bool
 is_gen run.Gen = true
 is_gen _ = false
+
+-- a sender is told the place of its transaction, unless these arrive through a queue
+abbrev pub tells_place : Options → Bool
+tells_place options = not (is_queue options.intake)
 
 -- the text of the scene that a number generates
 abbrev pub generated : ℕ → Text

@@ -1,10 +1,12 @@
-ghost use Rattle.std.specs.Prelude.{◌≡◌, ◌≤◌, true};
+ghost use Rattle.std.specs.Prelude.{◌≡◌, ◌≤◌, not};
 ghost use Rattle.sf_actor_set.specs.Scripts.{permits_of};
 ghost use Rattle.sf_live.specs.Runs.{LiveEnded};
+ghost use Rattle.sf_options.specs.Options.{is_queue};
 
 use sf_actor_set::permits_for;
 use sf_base::NoMemory;
 use sf_io::{Gate, Sink};
+use sf_options::Intake;
 use sf_picture::Painted;
 use sf_record::RunFault;
 use sf_scene::Scene;
@@ -22,23 +24,30 @@ fn live_with<R: Threads + Wait + Sync, K: Sink, G: Gate + Sync>(
     sink: &mut K,
     gate: &G,
     scene: Scene,
+    intake: Intake,
     permits: u32,
 ) -> Result<(), RunFault>
     requires some { 1 ≤ workers }
     requires few { workers ≤ 16 }
     requires counted { permits ≡ permits_of scene.actors }
-    ensures { LiveEnded true scene result (K.taken sink.old) (K.taken sink.new) (K.faults sink.old) (K.faults sink.new) }
+    ensures { LiveEnded (not (is_queue intake)) scene result (K.taken sink.old) (K.taken sink.new) (K.faults sink.old) (K.faults sink.new) }
 {
     match open_turns::<Painted>(alloc, permits) {
-        Ok((seat, stock)) => {
-            sf_live::live::<R, K, G, Brand>(rt, alloc, workers, sink, gate, scene, seat, stock)
-        }
+        Ok((seat, stock)) => match intake {
+            Intake::Lock => {
+                sf_live::live::<R, K, G, Brand>(rt, alloc, workers, sink, gate, scene, seat, stock)
+            }
+            Intake::Queue => sf_live::live_queue::<R, K, G, Brand>(
+                rt, alloc, workers, sink, gate, scene, seat, stock,
+            ),
+        },
         Err(NoMemory) => Err(RunFault::NoMemory),
     }
 }
 
 /// Plays a scene live, each actor in a thread of its own with its gate before each step, and writes
-/// the records of that run. At most so many workers compose its frames. It may wait for the actors' threads.
+/// the records of that run; transactions arrive under a lock or through a queue. At most so many workers
+/// compose its frames. It may wait for the actors' threads.
 pub fn live<R: Threads + Wait + Sync, K: Sink, G: Gate + Sync>(
     rt: &R,
     alloc: Global,
@@ -46,13 +55,14 @@ pub fn live<R: Threads + Wait + Sync, K: Sink, G: Gate + Sync>(
     sink: &mut K,
     gate: &G,
     scene: Scene,
+    intake: Intake,
 ) -> Result<(), RunFault>
     requires some { 1 ≤ workers }
     requires few { workers ≤ 16 }
-    ensures { LiveEnded true scene result (K.taken sink.old) (K.taken sink.new) (K.faults sink.old) (K.faults sink.new) }
+    ensures { LiveEnded (not (is_queue intake)) scene result (K.taken sink.old) (K.taken sink.new) (K.faults sink.old) (K.faults sink.new) }
 {
     match permits_for(scene.actors.as_slice()) {
-        Some(permits) => live_with(rt, alloc, workers, sink, gate, scene, permits),
+        Some(permits) => live_with(rt, alloc, workers, sink, gate, scene, intake, permits),
         // No scene comes to it: 64 actors have at most 4,096 steps each.
         None => Err(RunFault::NoMemory),
     }

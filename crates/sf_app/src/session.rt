@@ -9,7 +9,7 @@ ghost use Rattle.sf_script.specs.Parse.{parsed_of};
 ghost use Rattle.sf_script.specs.declared.fault.ScriptFault.{ScriptFault};
 ghost use Rattle.sf_app.specs.Shown.{ShowsRun, ShowsRunPart};
 ghost use Rattle.sf_app.specs.Statuses.{MeansScript, RunEnded, ScriptEnded, at_no_place};
-ghost use Rattle.sf_app.specs.Words.{IsTold};
+ghost use Rattle.sf_app.specs.Words.{IsTold, tells_place};
 
 use crate::live::live;
 use crate::summary::show;
@@ -76,13 +76,21 @@ fn show_run<R: Threads + Wait + Sync, K: Sink, G: Gate + Sync>(
 ) -> Result<(), RunFault>
     requires some { 1 ≤ options.workers }
     requires few { options.workers ≤ 16 }
-    ensures ok { OnOk result (ShowsRun options.run options.summary scene (K.taken sink.old) (K.taken sink.new)) }
+    ensures ok { OnOk result (ShowsRun options.run options.summary (tells_place options) scene (K.taken sink.old) (K.taken sink.new)) }
     ensures err { OnErr result (ShowsRunPart options.run options.summary scene (K.taken sink.old) (K.taken sink.new)) }
     ensures later { K.faults sink.old ≤ K.faults sink.new }
     ensures failed { IsErrOf result WriteFault → Rose (K.faults sink.old) (K.faults sink.new) }
 {
     match options.run {
-        Run::Live => live(rt, alloc, options.workers, sink, gate, scene),
+        Run::Live => live(
+            rt,
+            alloc,
+            options.workers,
+            sink,
+            gate,
+            scene,
+            options.intake,
+        ),
         Run::Play | Run::Gen => { show(rt, alloc, options.workers, options.summary, sink, scene) }
     }
 }
@@ -192,7 +200,8 @@ pub fn run<R: Threads + Wait + Sync, S: Source, K: Sink, G: Gate + Sync>(
     sink: &mut K,
     gate: &G,
 ) -> u8
-    // What is written shows records that stand to the script's scene as those of a played run do.
+    // What is written shows records that stand to the script's scene as those of a played run do; with a
+    // queue of arrivals a sender is not told its place.
     ensures means { let asked = options_of (map string_bytes words.now) in
         result ≡ 0 → MeansScript asked (S.left source.old) (S.left source.new) (K.taken sink.old) (K.taken sink.new) }
 

@@ -100,7 +100,8 @@ module _ {B : Type 0} (lease : Ghosts ReadLeaseOf SeatView ReadLeaseOf Issued) (
         own_turns = ap (λ (m : EyeMark). m.table) goes.mark ∙ made.own.own_turns;
         in_order = made.own.in_order;
         takes = made.own.takes;
-        tells = made.own.tells;
+        pass = made.own.pass;
+        way = made.own.way;
       };
       caller = made.caller;
       unlent = lent.all.unlent;

@@ -17,13 +17,16 @@ use sf_turns::TableName;
 use sf_txn::Lease;
 use std::sync::Wait;
 
+/// How many transactions a take gives at most where they arrive through a queue.
+const MOST_TAKEN: usize = 4_096;
+
 /// What came of a vsync.
 #[derive(Drop)]
 pub(crate) struct Made {
     /// What it did.
     pub(crate) report: VsyncReport,
-    /// Whether another one may do more with nothing else done: it committed something, or something
-    /// waits for its time.
+    /// Whether another one may do more with nothing else done: it committed something, something waits
+    /// for its time, or as much was taken as a take gives, so that more may wait.
     pub(crate) goes_on: bool,
     /// Whether frames went, so that reads of them may end once the pixels are given back.
     pub(crate) releases: bool,
@@ -67,6 +70,7 @@ fn make_vsync<R: Wait, B: TableName>(
     let expected = u64::from(number) * period;
     let seen = seats.see(locks);
     let arrived = seats.take(locks, rt)?;
+    let is_full = arrived.len() >= MOST_TAKEN;
     let Vsync {
         commits,
         view,
@@ -74,7 +78,7 @@ fn make_vsync<R: Wait, B: TableName>(
         releases,
         held,
     } = seats.vsync(handler, arrived, &seen, expected)?;
-    let goes_on = !commits.as_slice().is_empty() || held.as_slice().iter().any(is_time);
+    let goes_on = is_full || !commits.as_slice().is_empty() || held.as_slice().iter().any(is_time);
     let has_released = !releases.as_slice().is_empty();
     release_all(rt, locks, seats, number, releases.into_vec())?;
     let report = VsyncReport {

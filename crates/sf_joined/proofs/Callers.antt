@@ -28,8 +28,9 @@ use Rattle.sf_shared.specs.declared.locks.Locks.{Locks}
 use Rattle.sf_shared.specs.declared.seats.Seats.{Seats}
 use Rattle.sf_shared.specs.Arriving.{ArrivalCalls, ArrivalEntry, Arrived, Arriving}
 use Rattle.sf_shared.specs.Closing.{HasNoEntry, IsOrdered}
-use Rattle.sf_shared.specs.First.{IsFirst, took_of}
+use Rattle.sf_shared.specs.First.{IsFirst, KnowsNothing, took_of}
 use Rattle.sf_shared.specs.Seats.{takes_in, view_of}
+use Rattle.sf_shared.proofs.Handing.{first_known, none_arrived}
 use Rattle.sf_play.proofs.Seeing.{any_has}
 use Rattle.sf_joined.specs.Calls.{AreReleasesOn}
 use Rattle.sf_joined.specs.Logs.{OnlyFirstTakes}
@@ -111,16 +112,22 @@ module _ {B : Type 0} (ofs : List (ActorOf B)) (view : DeskView B) where
   ])
 
 module _ {B : Type 0} (lease : Ghosts ReadLeaseOf SeatView ReadLeaseOf Issued) (table : TableId) (locks : Locks B) (period : ℕ) where
-  -- the compositor sends nothing
-  pub log_sends : (start last : Sitting B) → Vsyncs lease table locks period start last → start.seats.arrivals.seen ≡ [] → last.seats.by ≡ 0 → list_any (is_sent_by 0) (view_of last.seats).arrivals ≡ false
-  log_sends start last Begin nothing first = ap (λ list. list_any (is_sent_by 0) (sent (unstamped list))) nothing
+  -- the compositor knows of the arrivals what its pass has seen
+  pub log_known : (start last : Sitting B) → Vsyncs lease table locks period start last → KnowsNothing start.seats → last.seats.by ≡ 0 → (view_of last.seats).arrivals ≡ sent (unstamped last.seats.arrivals.seen)
+  log_known start last Begin nothing first = none_arrived start.seats nothing ∙ sym (ap (λ list. sent (unstamped list)) nothing.arrivals)
+  log_known start last (More {before} {after} log v) nothing first =
+      first_known locks after.seats.by after.seats.arrivals.gave after.seats.last after.seats.intake after.seats.arrivals.seen first v.own.way
+
+  -- it sends nothing
+  pub log_sends : (start last : Sitting B) → Vsyncs lease table locks period start last → KnowsNothing start.seats → last.seats.by ≡ 0 → list_any (is_sent_by 0) (view_of last.seats).arrivals ≡ false
+  log_sends start last Begin nothing first = ap (list_any (is_sent_by 0)) (none_arrived start.seats nothing)
   log_sends start last (More {before} {after} log v) nothing first =
       let first_then = sym v.caller ∙ first in
       let was = log_sends start before log nothing first_then in
       let goes : ArriveWithout 0 (view_of before.seats).arrivals (view_of v.took).arrivals =
       subst (λ (n : ℕ). ArriveWithout n (view_of before.seats).arrivals (view_of v.took).arrivals) (ap (λ (s : Seats B). s.by) v.look ∙ first_then)
       (subst (λ (s : Seats B). ArriveWithout v.looked.by (view_of s).arrivals (view_of v.took).arrivals) v.look v.takes.goes_on) in
-      ap (λ (pass : _). list_any (is_sent_by 0) (sent (unstamped pass.seen))) v.arrivals
+      ap (λ (w : DeskView B). list_any (is_sent_by 0) w.arrivals) (gives_same _ after.number v.told.releases (view_of (record v.took { turns = v.turns })) (view_of after.seats) v.gives)
       ∙ ap (list_any (is_sent_by 0)) goes.joined ∙ list_any-append (is_sent_by 0) (view_of before.seats).arrivals goes.later ∙ (rw (was, goes.none) refl)
 
   -- it signals nothing

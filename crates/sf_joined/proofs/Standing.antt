@@ -63,6 +63,7 @@ use Rattle.sf_shared.specs.declared.locks.Locks.{Locks}
 use Rattle.sf_shared.specs.declared.seats.Seats.{Seats}
 use Rattle.sf_shared.specs.Arriving.{ArrivalCalls}
 use Rattle.sf_shared.specs.First.{gave_of, took_of}
+use Rattle.sf_shared.specs.Reuniting.{Reunites}
 use Rattle.sf_shared.specs.Seats.{QueuePass, calls_known, home_of, is_at, view_of}
 use Rattle.sf_shared.proofs.Going.{goes_unstamped, sent_goes}
 use Rattle.sf_threads.specs.Walks.{Moment}
@@ -81,7 +82,7 @@ use Rattle.sf_drawn.specs.Standing.{RightsStand}
 use Rattle.sf_drawn.proofs.Ending.{draws_stand}
 use Rattle.sf_joined.specs.Joined.{IsJoined, player_joined, so_joined}
 use Rattle.sf_joined.specs.Logs.{HasPlayedSo, HasSeenSo, HasTaken, HoldsLent, IsKnown, KnowsSteps, KnowsWritten, OnlyFirstTakes, reports_of, taken_of, told_in}
-use Rattle.sf_joined.proofs.Callers.{NoStrangers, are_callers, are_senders, log_sends, log_signals, only_first}
+use Rattle.sf_joined.proofs.Callers.{NoStrangers, are_callers, are_senders, log_known, log_sends, log_signals, only_first}
 use Rattle.sf_joined.proofs.Ends.{HasNoTrace, IsBack, all_as, all_back, all_play, are_actors, no_traces}
 use Rattle.sf_joined.proofs.Gives.{given_on}
 use Rattle.sf_joined.proofs.Lends.{front_all, log_lent}
@@ -91,7 +92,7 @@ use Rattle.sf_joined.proofs.Replies.{tell_replies, vsyncs_are}
 use Rattle.sf_joined.proofs.Sights.{log_sees}
 use Rattle.sf_joined.proofs.Takes.{joins_taken, log_takes, taken_low}
 use Rattle.sf_joined.proofs.Writing.{KnowsByCounts, knows_written}
-use Rattle.sf_replay.specs.Joining.{Joins, Reunites, actor_at, of_at, seats_at}
+use Rattle.sf_replay.specs.Joining.{Joins, actor_at, of_at, seats_at}
 use Rattle.sf_replay.specs.Members.{number_at}
 use Rattle.sf_replay.proofs.Reuniting.{reunited_at, reunited_numbers, share_goes_on}
 use Rattle.sf_compositor.specs.Vsyncs.{Begin, More, Sitting, Vsyncs}
@@ -316,9 +317,10 @@ module _ {B : Type 0} (lease : Ghosts ReadLeaseOf SeatView ReadLeaseOf Issued) (
   pub senders : AreArrivals ofs joined
   senders =
       let goes = sent_goes 0 (unstamped last.seats.arrivals.seen) desk.arrivals arrivals_go in
-      let none = log_sends lease table locks period j.begins last j.log j.nothing.arrivals first_by in
+      let known = log_known lease table locks period j.begins last j.log j.nothing first_by in
+      let none = log_sends lease table locks period j.begins last j.log j.nothing first_by in
       are_senders ofs joined no_strangers
-      (ap (list_any (is_sent_by 0)) goes.joined ∙ list_any-append (is_sent_by 0) (view_of last.seats).arrivals goes.later ∙ (rw (none, goes.none) refl))
+      (ap (list_any (is_sent_by 0)) (goes.joined ∙ ap (λ (list : List (Arrival ReadLeaseOf)). list ++ goes.later) (sym known)) ∙ list_any-append (is_sent_by 0) (view_of last.seats).arrivals goes.later ∙ (rw (none, goes.none) refl))
 
   -- what was signalled
   by_end : (end : Moment B) → Contains ends end → (p : ℕ × ℕ) → Contains end.seats.times.knows.signals p → Contains made p

@@ -1,5 +1,5 @@
 -- What the compositor knew, with stamps, is how the histories began; so a player stands at the join.
-use Rattle.std.proofs.Common.{◌≡◌, ℕ, ◌≤◌, List, map, subst}
+use Rattle.std.proofs.Common.{ℕ, ◌≤◌, List, map, subst}
 use Rattle.atomic_table.specs.Seated.{TableId}
 use Rattle.sf_calls.specs.Histories.{IsLegal}
 use Rattle.sf_surface.specs.declared.mark.QueueMark.{QueueMark}

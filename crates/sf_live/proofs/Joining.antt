@@ -16,15 +16,16 @@ use Rattle.sf_shared.specs.declared.first.FirstSeats.{FirstSeats}
 use Rattle.sf_shared.specs.declared.locks.Locks.{Locks}
 use Rattle.sf_shared.specs.declared.seats.Seats.{Seats}
 use Rattle.sf_shared.specs.First.{HasAll, IsFirst, KnowsNothing, took_of}
+use Rattle.sf_shared.specs.Reuniting.{Reunites}
 use Rattle.sf_threads.specs.declared.all_returned.AllReturned.{AllReturned}
 use Rattle.sf_threads.specs.declared.seated_actor.SeatedActor.{SeatedActor}
 use Rattle.sf_threads.specs.Seating.{GetsSeats, GivesEach}
 use Rattle.sf_threads.specs.SeatedActors.{Came}
 use Rattle.sf_threads.specs.Meeting.{as_returned}
 use Rattle.sf_threads.specs.Returns.{Returns}
+use Rattle.sf_threads.proofs.MeetLemmas.{finished_took}
 use Rattle.sf_compositor.specs.Sitting.{Sits}
-use Rattle.sf_replay.specs.Joining.{Joins, MeetsAll, seats_at}
-use Rattle.sf_replay.proofs.Reuniting.{all_reunite}
+use Rattle.sf_replay.specs.Joining.{Joins}
 use Rattle.sf_joined.specs.SeatedActors.{IsUnused, WalkedBack, actor_of_seated}
 use Rattle.sf_joined.proofs.WalkingBack.{all_walked}
 use Rattle.sf_live.specs.declared.opening.Opened.{Opened}
@@ -102,13 +103,13 @@ module _ {B V : Type 0} (lease : Ghosts ReadLeaseOf SeatView ReadLeaseOf Issued)
     no_leaves = sits.fresh.no_leaves;
     no_signals = sits.fresh.no_signals;
     log = sits.log;
-    attended = returns.attended;
-    at_last = at_last;
-    none_taken = returns.attends.given.took ∙ given.took ∙ opens.none_taken;
+    attended = returns.met.finished;
+    at_last = returns.met.finishes.same ∙ ap (λ (seats : Seats B). record seats { intake = returns.met.finished.seats.intake; last = returns.met.finished.seats.last }) at_last;
+    none_taken = finished_took returns.attended returns.met.finished returns.met.finishes ∙ returns.attends.given.took ∙ given.took ∙ opens.none_taken;
     first = all_returned.first;
-    reunited = map seats_at walked.ends;
-    reunites = all_reunite table opened.locks run.scene opens.limits opens.declared opens.sorted opens.stock walked.starts walked.ends walked.new walked.new_seats walked.came;
-    met = subst (λ (seats : List (Seats B)). MeetsAll returns.attended seats all_returned.first) (sym walked.seats) returns.met;
+    reunited = returns.met.reunited;
+    reunites = subst (λ (seats : List (Seats B)). AllZip (Reunites opened.locks) seats returns.met.reunited) (sym walked.seats) returns.met.reunites;
+    met = returns.met.met;
     is_first = first;
     has_all = all;
     closes = closed.closes;

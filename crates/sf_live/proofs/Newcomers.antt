@@ -15,7 +15,6 @@ use Rattle.sf_surface.specs.Histories.{Made}
 use Rattle.sf_surface.specs.Tokens.{ReadLeaseOf}
 use Rattle.sf_surface.specs.Objects.{ObjectOf}
 use Rattle.sf_surface.specs.declared.mark.QueueMark.{QueueMark}
-use Rattle.sf_token.specs.Arrivals.{sent}
 use Rattle.sf_actor.specs.Desks.{DeskHome, DeskView, mark_among}
 use Rattle.sf_actor.specs.Known.{arrivals_told, is_sent_by, own_calls}
 use Rattle.sf_scene.specs.Named.{queue_named}
@@ -26,8 +25,9 @@ use Rattle.sf_steps.specs.Playable.{IsPlayable, MayPlay}
 use Rattle.sf_steps.specs.declared.actor.Actor.{Actor}
 use Rattle.sf_actor_set.specs.ActorSets.{KeepAs, KeepsAs, scripts_of}
 use Rattle.sf_actor_set.specs.Opening.{OpensQueues, new_actors, new_queue}
+use Rattle.sf_token.specs.Pending.{Arrival}
 use Rattle.sf_stamped.specs.Stamps.{unstamped}
-use Rattle.sf_shared.specs.Arriving.{ArrivalEntry}
+use Rattle.sf_shared.proofs.Handing.{none_arrived}
 use Rattle.sf_shared.specs.Closing.{HasNoCalls}
 use Rattle.sf_shared.specs.First.{KnowsNothing}
 use Rattle.sf_shared.specs.Seats.{QueuePass, calls_known, is_at, marks_of, tells_of}
@@ -86,7 +86,7 @@ module _ {B : Type 0} where
     is = subst (λ (s : ActorScript). IsActor table actor (new_actor s share)) keep.is.script keep.is;
     new = record {
       no_calls = λ queue. ap (λ (calls : List (Made B)). own_calls actor.script.number (mark_among (marks_of locks) queue) calls) (none_known known.queues.items queue nothing.queues);
-      no_arrivals = ap (λ (calls : List ArrivalEntry). arrivals_told (tells_of locks) (filter (is_sent_by actor.script.number) (sent (unstamped calls)))) nothing.arrivals ∙ none_told (tells_of locks);
+      no_arrivals = ap (λ (arrivals : List (Arrival ReadLeaseOf)). arrivals_told (tells_of locks) (filter (is_sent_by actor.script.number) arrivals)) (none_arrived known nothing) ∙ none_told (tells_of locks);
       once = keep.keeps.kept.permits.once;
       enough = subst (λ (s : ActorScript). dequeues_in s.steps ≤ length share) keep.is.script keep.keeps.kept.permits.enough;
     };

@@ -10,4 +10,4 @@ mod scene;
 mod threads;
 
 pub use opening::{Opened, open};
-pub use scene::live;
+pub use scene::{live, live_queue};

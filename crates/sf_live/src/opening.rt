@@ -28,15 +28,17 @@ pub struct Opened<B: TableName> {
     pub first: FirstSeats<B>,
 }
 
-/// A desk's queues, arrivals and timelines under locks, with the first seats at them.
+/// A desk's queues, arrivals and timelines under locks, with the first seats at them. Senders are told
+/// their places, or send through an intake.
 fn share<B: TableName>(
     alloc: Global,
     desk: PlainDesk<B>,
+    tells: bool,
 ) -> Result<(Locks<B>, FirstSeats<B>), NoMemory>
     requires no_calls { AllByRecursion HasNoCalls desk.queues }
     requires none_arrived { desk.arrivals ≡ [] }
     ensures first { IfOk result (λ opened. IsFirst B.table opened.0 opened.1) }
-    ensures opened { IfOk result (λ opened. Opens desk.queues desk.times desk.turns opened.0 opened.1) }
+    ensures opened { IfOk result (λ opened. Opens tells desk.queues desk.times desk.turns opened.0 opened.1) }
 {
     let PlainDesk {
         queues,
@@ -46,11 +48,11 @@ fn share<B: TableName>(
         turns,
         tells: _,
     } = desk;
-    Locks::open(alloc, queues, arrivals, table, times, turns)
+    Locks::open(alloc, queues, arrivals, table, times, turns, tells)
 }
 
 /// Opens a scene's actors and queues. It takes the seat and the whole stock of the turns, with a
-/// permit for each dequeue.
+/// permit for each dequeue. Senders are told their places, or send through an intake.
 pub fn open<B: TableName>(
     alloc: Global,
     queues: &[QueueDecl],
@@ -58,6 +60,7 @@ pub fn open<B: TableName>(
     scripts: Items<ActorScript>,
     seat: TurnSeat<Painted>,
     stock: Stock<Painted>,
+    tells: bool,
 ) -> Result<Opened<B>, NoMemory>
     requires scene { AreOfScene queues.now pictures scripts }
     requires numbers { All (λ (script : ScriptValue). script.number ≤ 64) scripts }
@@ -66,11 +69,11 @@ pub fn open<B: TableName>(
     requires whole { stock.buffers ≡ range 0 (permits_of scripts) }
     ensures opens { (of : AreOfScene queues.now pictures scripts) → seat.leaves ≡ [] → permits_of scripts ≤ B.table.slots → IfOk result (IsOpen of.scene B.table) }
     ensures may { IfOk result (MayStart B.table) }
-    ensures told { IfOk result (λ opened. tells_of opened.locks ≡ true) }
+    ensures told { IfOk result (λ opened. tells_of opened.locks ≡ tells) }
 {
     let actor_set = ActorSet::new(alloc, queues, pictures, scripts, seat, stock)?;
     let (pictures, actors, desk) = actor_set.into_parts();
-    let (locks, first) = share(alloc, desk)?;
+    let (locks, first) = share(alloc, desk, tells)?;
     Ok(Opened {
         pictures,
         actors,

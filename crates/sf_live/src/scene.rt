@@ -1,4 +1,4 @@
-ghost use Rattle.std.specs.Prelude.{◌≡◌, ◌≤◌, ℕ, List, [], ◌∷◌, true, Option};
+ghost use Rattle.std.specs.Prelude.{◌≡◌, ◌≤◌, ℕ, List, [], ◌∷◌, true, false, Option};
 ghost use Rattle.sf_actor_set.specs.Scripts.{permits_of};
 ghost use Rattle.sf_run.specs.Played.{opening};
 ghost use Rattle.sf_run.specs.Vsyncs.{rising_timelines};
@@ -148,6 +148,7 @@ fn run_scene<R: Threads + Wait + Sync, K: Sink, G: Gate + Sync, B: TableName + S
     scene: Scene,
     seat: TurnSeat<Painted>,
     stock: Stock<Painted>,
+    tells: bool,
 ) -> Result<(), RunFault>
     requires some { 1 ≤ workers }
     requires few { workers ≤ 16 }
@@ -159,7 +160,7 @@ fn run_scene<R: Threads + Wait + Sync, K: Sink, G: Gate + Sync, B: TableName + S
     requires whole { stock.buffers ≡ range 0 (permits_of scene.actors) }
     requires sized { permits_of scene.actors ≤ B.table.slots }
     ensures { (start : Option (List ℕ)) → Writes start (K.taken sink.old) (opening scene ∷ [])
-        → LiveEnded true scene result start (K.taken sink.new) (K.faults sink.old) (K.faults sink.new) }
+        → LiveEnded tells scene result start (K.taken sink.new) (K.faults sink.old) (K.faults sink.new) }
 {
     let Ok(plan) = plan_of(alloc, &scene) else {
         return Err(RunFault::NoMemory);
@@ -175,7 +176,15 @@ fn run_scene<R: Threads + Wait + Sync, K: Sink, G: Gate + Sync, B: TableName + S
         order,
         ..
     } = scene;
-    let Ok(opened) = open::<B>(alloc, queues.as_slice(), pictures, actors, seat, stock) else {
+    let Ok(opened) = open::<B>(
+        alloc,
+        queues.as_slice(),
+        pictures,
+        actors,
+        seat,
+        stock,
+        tells,
+    ) else {
         return Err(RunFault::NoMemory);
     };
     let Ok(handler) = Handler::<ReadLease<B>>::with_limit(
@@ -188,6 +197,39 @@ fn run_scene<R: Threads + Wait + Sync, K: Sink, G: Gate + Sync, B: TableName + S
     };
     run_opened(
         rt, alloc, workers, sink, gate, timelines, plan, period, order, handler, opened,
+    )
+}
+
+/// Runs a scene live, where senders are told their places, or send through an intake.
+fn live_by<R: Threads + Wait + Sync, K: Sink, G: Gate + Sync, B: TableName + Send + Sync>(
+    rt: &R,
+    alloc: Global,
+    workers: u32,
+    sink: &mut K,
+    gate: &G,
+    scene: Scene,
+    seat: TurnSeat<Painted>,
+    stock: Stock<Painted>,
+    tells: bool,
+) -> Result<(), RunFault>
+    requires some { 1 ≤ workers }
+    requires few { workers ≤ 16 }
+    requires own { (seat.table ≡ B.table) × (stock.table ≡ B.table) }
+    requires first { (seat.is_first ≡ true) × (seat.out ≡ 0) }
+    requires fresh { seat.leaves ≡ [] }
+    requires whole { stock.buffers ≡ range 0 (permits_of scene.actors) }
+    requires sized { permits_of scene.actors ≤ B.table.slots }
+    ensures { LiveEnded tells scene result (K.taken sink.old) (K.taken sink.new) (K.faults sink.old) (K.faults sink.new) }
+{
+    let Ok(timelines) = rising_timelines(alloc, scene.timelines.as_slice()) else {
+        return Err(RunFault::NoMemory);
+    };
+    match write_made(alloc, sink, Ok(opening(&scene))) {
+        Ok(()) => {}
+        Err(fault) => return Err(fault),
+    }
+    run_scene::<R, K, G, B>(
+        rt, alloc, workers, sink, gate, timelines, scene, seat, stock, tells,
     )
 }
 
@@ -216,14 +258,29 @@ pub fn live<R: Threads + Wait + Sync, K: Sink, G: Gate + Sync, B: TableName + Se
     requires sized { permits_of scene.actors ≤ B.table.slots }
     ensures { LiveEnded true scene result (K.taken sink.old) (K.taken sink.new) (K.faults sink.old) (K.faults sink.new) }
 {
-    let Ok(timelines) = rising_timelines(alloc, scene.timelines.as_slice()) else {
-        return Err(RunFault::NoMemory);
-    };
-    match write_made(alloc, sink, Ok(opening(&scene))) {
-        Ok(()) => {}
-        Err(fault) => return Err(fault),
-    }
-    run_scene::<R, K, G, B>(
-        rt, alloc, workers, sink, gate, timelines, scene, seat, stock,
-    )
+    live_by::<R, K, G, B>(rt, alloc, workers, sink, gate, scene, seat, stock, true)
+}
+
+/// The same, where transactions arrive through a queue that takes them without a lock: their sender is
+/// not told their place, and the reply to each `apply` that sends one has the value 0.
+pub fn live_queue<R: Threads + Wait + Sync, K: Sink, G: Gate + Sync, B: TableName + Send + Sync>(
+    rt: &R,
+    alloc: Global,
+    workers: u32,
+    sink: &mut K,
+    gate: &G,
+    scene: Scene,
+    seat: TurnSeat<Painted>,
+    stock: Stock<Painted>,
+) -> Result<(), RunFault>
+    requires some { 1 ≤ workers }
+    requires few { workers ≤ 16 }
+    requires own { (seat.table ≡ B.table) × (stock.table ≡ B.table) }
+    requires first { (seat.is_first ≡ true) × (seat.out ≡ 0) }
+    requires fresh { seat.leaves ≡ [] }
+    requires whole { stock.buffers ≡ range 0 (permits_of scene.actors) }
+    requires sized { permits_of scene.actors ≤ B.table.slots }
+    ensures { LiveEnded false scene result (K.taken sink.old) (K.taken sink.new) (K.faults sink.old) (K.faults sink.new) }
+{
+    live_by::<R, K, G, B>(rt, alloc, workers, sink, gate, scene, seat, stock, false)
 }

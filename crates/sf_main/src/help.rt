@@ -5,7 +5,8 @@ const HELP: &str = "\
 sf_main plays a script of a compositor: an actor draws buffers and sends transactions, and each
 vsync commits them, each whole or not at all, and shows a frame.
 
-usage: sf_main [--run play|live|gen] [--workers N] [--number N] [--summary] < SCRIPT > RECORDS
+usage: sf_main [--run play|live|gen] [--workers N] [--number N] [--summary] [--intake lock|queue]
+               < SCRIPT > RECORDS
 
 It reads the script from standard input, and writes what comes of it to standard output as binary
 records: each reply, each commit, each frame as raw RGBA, the history of each queue, what waits and
@@ -20,6 +21,10 @@ who is stuck.
   --summary    writes, in place of the records, the one record SUMM of what they come to: how many
                replies, vsyncs, commits, rejected commits and frames, the sum of all bytes of
                pixels, and how many wait and are stuck. Not with live
+  --intake V   lock, if absent: under live transactions arrive in calls under one lock, and the reply
+               to an apply tells the place of its transaction among the arrivals
+               queue: they arrive through a queue that takes them without a lock, and the reply to an
+               apply has the value 0. Only with live
 
 N is 1 to 20 decimal digits. An option is given once; its value is the next word, or follows `=`.
 

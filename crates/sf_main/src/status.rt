@@ -12,7 +12,9 @@ pub const NO_MEMORY: u8 = 5;
 /// The line on standard error for a status other than 0.
 fn message(status: u8) -> &'static str {
     match status {
-        1 => "usage: sf_main [--run play|live|gen] [--workers N] [--number N] [--summary]",
+        1 => {
+            "usage: sf_main [--run play|live|gen] [--workers N] [--number N] [--summary] [--intake lock|queue]"
+        }
         2 => "script fault",
         3 => "read failed",
         4 => "write failed",

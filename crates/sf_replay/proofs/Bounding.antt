@@ -1,5 +1,5 @@
 -- The calls of vsyncs have stamps between bounds, where what the compositor's seats knew, with stamps, is how the histories began.
-use Rattle.std.proofs.Common.{◌≡◌, ℕ, suc, ◌<◌, ◌≤◌, true, false, List, [], ◌∷◌, ◌++◌, arith, ap, ◌∙◌, sym, refl, inl, inr, subst, length}
+use Rattle.std.proofs.Common.{◌≡◌, ℕ, suc, ◌<◌, ◌≤◌, true, false, List, [], ◌∷◌, ◌++◌, arith, ap, ◌∙◌, sym, refl, inl, inr, subst, length, map}
 use Rattle.std.specs.Prelude.{Contains, if◌then◌else◌, nat_le}
 use Rattle.std.specs.List.{AllZip}
 use Rattle.std.proofs.lemmas.Bool.{cases_lt}
@@ -20,7 +20,7 @@ use Rattle.sf_rights.specs.Standing.{GiveAll}
 use Rattle.sf_shared.specs.declared.first.FirstSeats.{FirstSeats}
 use Rattle.sf_shared.specs.declared.locks.Locks.{Locks}
 use Rattle.sf_shared.specs.declared.seats.Seats.{Seats}
-use Rattle.sf_shared.specs.Seats.{QueuePass, calls_made, home_of, moment, moments_of, sent_in, view_of}
+use Rattle.sf_shared.specs.Seats.{QueuePass, calls_made, home_of, moment, moments_of, post_moment, posts_of, sent_in, view_of}
 use Rattle.sf_replay.specs.Members.{AreBetween, AreTimed, IsTimed, back_spots, seen_at, stamp_in, stamps}
 use Rattle.sf_replay.specs.Stamped.{AreStamped, IsStamped}
 use Rattle.sf_compositor.specs.Vsyncs.{IsVsync, Sitting, Vsyncs}
@@ -135,7 +135,7 @@ module _ {B : Type 0} (lease : Ghosts ReadLeaseOf SeatView ReadLeaseOf Issued) (
             ∙ stamp_there ((stamped.queues queue).0 ++ found.more) found.e found.before
 
         there : Contains (moments_of after.seats) (moment found.e)
-        there = Contains-append_left (calls_made after.seats.by after.seats.queues.items) (sent_in (calls_by after.seats.by after.seats.arrivals.seen)) (moment found.e)
+        there = Contains-append_left (calls_made after.seats.by after.seats.queues.items) (sent_in (calls_by after.seats.by after.seats.arrivals.seen) ++ map post_moment (posts_of after.seats.intake)) (moment found.e)
             (made_there queue after.seats.by after.seats.by locks.queues.items after.seats.queues.items after.seats.queues.items vsync.own.queues vsync.own.queues (same_goes after.seats.by after.seats.queues.items)
             found.more found.e found.before found.is (ap (λ (m : Made B). m.by) found.without ∙ own ∙ sym by_it))
 

@@ -1,11 +1,8 @@
 -- Seats with which actors came back, and these as they are taken in.
 use Rattle.std.proofs.Common.{◌≡◌, ℕ, Bool, true, false, List, [], ◌∷◌, ◌++◌, arith, ap, ◌∙◌, sym, refl, inl, inr, subst, map, filter}
 use Rattle.std.specs.Prelude.{Contains}
-use Rattle.std.specs.List.{All, AllZip, flat_map}
-use Rattle.std.proofs.lemmas.List.Elements.{All-head, All-tail, Contains-append_right}
-use Rattle.atomic_table.specs.Seated.{TableId}
-use Rattle.sf_calls.specs.Histories.{GoesOnWithout, calls_by}
-use Rattle.sf_stamped.specs.Stamps.{stamp_of}
+use Rattle.std.specs.List.{AllZip, flat_map}
+use Rattle.sf_calls.specs.Histories.{GoesOnWithout}
 use Rattle.sf_surface.specs.Tokens.{ReadLeaseOf}
 use Rattle.sf_token.specs.declared.arrivals.ArriveCall.TheVariants as arrive
 use Rattle.sf_token.specs.Pending.{Arrival}
@@ -14,27 +11,20 @@ use Rattle.sf_actor.specs.Desks.{known_of}
 use Rattle.sf_actor.specs.Known.{GoesOn, Known, ShareGoesOn, arrivals_told, is_sent_by, share_of}
 use Rattle.sf_actor.specs.Plain.{PlainOf, home_of as plain_home, view_of as plain_view}
 use Rattle.sf_actor.specs.Rights.{Turn}
-use Rattle.sf_actor.specs.Scripts.{picture_at}
 use Rattle.sf_actor.proofs.GoingOn.{share_on}
-use Rattle.sf_actor_set.specs.Opening.{IsSortedFrom, new_actors}
-use Rattle.sf_scene.specs.Limits.{IsWithinLimits}
-use Rattle.sf_scene.specs.Scene.{SceneValue}
-use Rattle.sf_scene.specs.declared.step.ActorScript.{ActorScript}
 use Rattle.sf_shared.specs.Arriving.{ArrivalEntry, Arriving}
 use Rattle.sf_shared.specs.declared.first.FirstSeats.{FirstSeats}
 use Rattle.sf_shared.specs.declared.locks.Locks.{Locks}
 use Rattle.sf_shared.specs.declared.seats.Seats.{Seats}
 use Rattle.sf_shared.specs.Closing.{GoesOnIn, IsOrdered}
 use Rattle.sf_shared.specs.First.{took_of}
-use Rattle.sf_shared.specs.Seats.{AreSeats, calls_made, home_of, sent_in, takes_in, view_of}
+use Rattle.sf_shared.specs.Reuniting.{Reunites, sent_of}
+use Rattle.sf_shared.specs.Seats.{home_of, takes_in, view_of}
 use Rattle.sf_threads.specs.Walks.{Moment}
 use Rattle.sf_run.proofs.Members.{has_cases, has_here, has_later}
-use Rattle.sf_replay.specs.Joining.{CameBack, HasNewSeats, Reunites, of_at, seats_at, sent_of}
+use Rattle.sf_replay.specs.Joining.{seats_at}
 use Rattle.sf_replay.specs.Members.{number_at}
 use Rattle.sf_replay.proofs.Arrivals.{own_without, sent_own}
-use Rattle.sf_replay.proofs.Declared.{starts_numbered}
-use Rattle.sf_replay.proofs.Stamping.{cons_not, sent_there}
-use Rattle.sf_replay.proofs.Walked.{walk_by}
 
 -- calls that all send take nothing
 pub all_send : (calls : List ArrivalEntry) → ((e : ArrivalEntry) → Contains calls e → (step : ℕ) × (txn : Contents ReadLeaseOf) × (e.call.1 ≡ arrive.Send step txn)) → takes_in calls ≡ []
@@ -44,55 +34,6 @@ all_send (e ∷ calls) all = one (all e (has_here e calls)) (all_send calls (λ 
     one : ((step : ℕ) × (txn : Contents ReadLeaseOf) × (e.call.1 ≡ arrive.Send step txn)) → takes_in calls ≡ [] → takes_in (e ∷ calls) ≡ []
     one sends rest =
         subst (λ (asked : Arriving). takes_in (record { by = e.by; call = (e.call.0, asked); reply = e.reply } ∷ calls) ≡ []) (sym sends.2) rest
-
--- where nothing is taken, each call sends
-none_takes : (calls : List ArrivalEntry) → takes_in calls ≡ [] → (e : ArrivalEntry) → Contains calls e → (step : ℕ) × (txn : Contents ReadLeaseOf) × (e.call.1 ≡ arrive.Send step txn)
-none_takes [] none e there = absurd (omega (arith, there.1))
-none_takes (c ∷ calls) none e there = by_asked c.call.1 refl (none_takes calls)
-  where
-    by_asked : (asked : Arriving) → c.call.1 ≡ asked → (takes_in calls ≡ [] → (e : ArrivalEntry) → Contains calls e → (step : ℕ) × (txn : Contents ReadLeaseOf) × (e.call.1 ≡ arrive.Send step txn))
-        → (step : ℕ) × (txn : Contents ReadLeaseOf) × (e.call.1 ≡ arrive.Send step txn)
-    by_asked (arrive.Send step txn) is further = elim (has_cases c e calls there) [
-      | inl same ↦ (step, txn, ap (λ (x : ArrivalEntry). x.call.1) (sym same) ∙ is)
-      | inr later ↦ further (subst (λ (asked : Arriving). takes_in (record { by = c.by; call = (c.call.0, asked); reply = c.reply } ∷ calls) ≡ []) is none) e later
-    ]
-    by_asked arrive.Take is further =
-        absurd (cons_not (stamp_of c) (takes_in calls) (subst (λ (asked : Arriving). takes_in (record { by = c.by; call = (c.call.0, asked); reply = c.reply } ∷ calls) ≡ []) is none))
-
-module _ {B : Type 0} (table : TableId) (locks : Locks B) where
-  -- seats that keep their pass at the arrivals sent in order
-  pub reunites_own : (seats : Seats B) → AreSeats table locks seats → (seats.by ≡ 0 → ⊥) → Reunites locks seats seats
-  reunites_own seats own apart = record {
-    same = refl;
-    sent = refl;
-    sends = λ e there.
-        let sends = none_takes (calls_by seats.by seats.arrivals.seen) (own.takes apart) e there in
-        record {
-          step = sends.0;
-          txn = sends.1;
-          sends = sends.2;
-          above = λ m at less. own.in_order.rise m (sends.0, stamp_of e) at
-              (Contains-append_right (calls_made seats.by seats.queues.items) (sent_in (calls_by seats.by seats.arrivals.seen)) (sends.0, stamp_of e)
-              (sent_there (calls_by seats.by seats.arrivals.seen) e sends.0 sends.1 there sends.2)) less;
-        };
-  }
-
-  -- so did all actors that came back with theirs
-  own_reunite : (scene : SceneValue) (starts ends : List (Moment B)) → AllZip (CameBack scene table locks) starts ends → All (HasNewSeats scene table locks) starts
-      → ((moment : Moment B) → Contains starts moment → moment.of.script.number ≡ 0 → ⊥) → AllZip (Reunites locks) (map seats_at ends) (map seats_at ends)
-  own_reunite scene [] [] came new_seats numbered = tt
-  own_reunite scene [] (end ∷ ends) came new_seats numbered = absurd came
-  own_reunite scene (start ∷ starts) [] came new_seats numbered = absurd came
-  own_reunite scene (start ∷ starts) (end ∷ ends) came new_seats numbered = (
-    reunites_own end.seats came.0.own
-        (λ first. numbered start (has_here start starts) (sym (walk_by table (picture_at scene.pictures) locks came.0.walk ∙ (All-head (HasNewSeats scene table locks) start starts new_seats).served) ∙ first)),
-    own_reunite scene starts ends came.1 (All-tail (HasNewSeats scene table locks) start starts new_seats) (λ moment there. numbered moment (has_later start moment starts there)),
-  )
-
-  pub all_reunite : (scene : SceneValue) → IsWithinLimits scene → (declared : List ActorScript) → IsSortedFrom (λ (script : ActorScript). script.number) scene.actors declared
-      → (stock : List ℕ) (starts ends : List (Moment B)) → map of_at starts ≡ new_actors declared stock → All (HasNewSeats scene table locks) starts → AllZip (CameBack scene table locks) starts ends
-      → AllZip (Reunites locks) (map seats_at ends) (map seats_at ends)
-  all_reunite scene limits declared sorted stock starts ends new new_seats came = own_reunite scene starts ends came new_seats (starts_numbered scene limits declared sorted stock starts new)
 
 -- what an actor came back with, as it was taken in
 pub record TakenIn {B : Type 0} (locks : Locks B) (all : List (Seats B)) (seats : Seats B) : Type 0 where
@@ -113,6 +54,7 @@ module _ {B : Type 0} (locks : Locks B) where
   -- what is known at the join of seats with which an actor came back
   pub record AtJoin (first : FirstSeats B) (desk : PlainOf B) (seats : Seats B) : Type 0 where
     pub reunited : Seats B
+    pub other : seats.by ≡ 0 → ⊥
     pub reunites : Reunites locks seats reunited
     pub queues_on : AllZip (GoesOnIn seats.by) first.seats.queues.items seats.queues.items
     pub arrivals_on : GoesOnWithout seats.by reunited.arrivals.seen first.seats.arrivals.seen
@@ -126,9 +68,10 @@ module _ {B : Type 0} (locks : Locks B) where
 
   pub at_join : (first : FirstSeats B) (desk : PlainOf B) → IsOrdered first
       → ((seats : Seats B) → Contains (took_of first) seats → GoesOn seats.by (known_of (home_of locks seats) (view_of seats)) (known_of (plain_home desk) (plain_view desk)))
-      → (seats : Seats B) → TakenIn locks (took_of first) seats → AtJoin first desk seats
-  at_join first desk ordered goes_on seats taken = record {
+      → (seats : Seats B) → (seats.by ≡ 0 → ⊥) → TakenIn locks (took_of first) seats → AtJoin first desk seats
+  at_join first desk ordered goes_on seats other taken = record {
     reunited = taken.reunited;
+    other = other;
     reunites = taken.reunites;
     queues_on = subst (λ (s : Seats B). AllZip (GoesOnIn s.by) first.seats.queues.items s.queues.items) taken.reunites.same (ordered.queues_on taken.reunited taken.there);
     arrivals_on = subst (λ (n : ℕ). GoesOnWithout n taken.reunited.arrivals.seen first.seats.arrivals.seen) by_same (ordered.arrivals_on taken.reunited taken.there);

@@ -25,8 +25,8 @@ use Rattle.sf_replay.proofs.Apart.{rising_marks}
 use Rattle.sf_replay.proofs.Giving.{makes_none}
 use Rattle.sf_shared.specs.First.{gave_of, took_of}
 use Rattle.sf_shared.specs.declared.seats.Seats.{Seats}
-use Rattle.sf_run.proofs.Members.{has_cases, has_first, has_later, map_has}
-use Rattle.sf_replay.proofs.Declared.{declared_once, each_once, left_all, moment_number, numbers_are, script_number, took_all}
+use Rattle.sf_run.proofs.Members.{has_cases, has_first, has_later, has_map, map_has}
+use Rattle.sf_replay.proofs.Declared.{declared_once, each_once, left_all, moment_number, numbers_are, script_number, starts_numbered, took_all}
 use Rattle.sf_threads.specs.Walks.{Moment}
 use Rattle.sf_scene.specs.declared.step.ActorScript.{ActorScript}
 use Rattle.sf_surface.specs.Histories.{Made, Answers}
@@ -88,12 +88,6 @@ module _ {B : Type 0} (lease : Ghosts ReadLeaseOf SeatView ReadLeaseOf Issued) (
   took_is : took_of joins.first ≡ joins.reunited
   took_is = took_all joins.attended joins.reunited joins.first joins.met ∙ ap (λ (xs : List (Seats B)). xs ++ joins.reunited) joins.none_taken
 
-  at_end : (moment : Moment B) → Contains ends moment → AtJoin locks joins.first desk moment.seats
-  at_end moment there =
-      let taken = reunited_at locks ends joins.reunited joins.reunites moment there in
-      at_join locks joins.first desk joins.ordered joins.goes_on moment.seats
-      (record { reunited = taken.reunited; there = subst (λ (xs : List (Seats B)). Contains xs taken.reunited) (sym took_is) taken.there; reunites = taken.reunites })
-
   leaves : last.seats.turns.leaves ++ flat_map (λ (moment : Moment B). (view_of moment.seats).turns.leaves) ends ≡ (plain_view desk).turns.leaves
   leaves =
       ap (λ (xs : List Turn). last.seats.turns.leaves ++ xs) (sym (reunited_leaves locks ends joins.reunited joins.reunites))
@@ -114,6 +108,19 @@ module _ {B : Type 0} (lease : Ghosts ReadLeaseOf SeatView ReadLeaseOf Issued) (
 
   numbers : map number_at ends ≡ map script_number joins.declared
   numbers = ends_are joins.starts ends joins.came joins.new_seats ∙ declared_are
+
+  -- no actor's number is that of the first caller
+  others : (moment : Moment B) → Contains ends moment → moment.seats.by ≡ 0 → ⊥
+  others moment there first =
+      let named = map_has moment_number joins.starts moment.seats.by
+      (subst (λ (ns : List ℕ). Contains ns moment.seats.by) (ends_are joins.starts ends joins.came joins.new_seats) (has_map number_at ends moment there)) in
+      starts_numbered scene joins.limits joins.declared joins.sorted joins.stock joins.starts joins.new named.0 named.1 (named.2 ∙ first)
+
+  at_end : (moment : Moment B) → Contains ends moment → AtJoin locks joins.first desk moment.seats
+  at_end moment there =
+      let taken = reunited_at locks ends joins.reunited joins.reunites moment there in
+      at_join locks joins.first desk joins.ordered joins.goes_on moment.seats (others moment there)
+      (record { reunited = taken.reunited; there = subst (λ (xs : List (Seats B)). Contains xs taken.reunited) (sym took_is) taken.there; reunites = taken.reunites })
 
   by_place : (by : ℕ) → (joins.first.seats.by ≡ by) ⊎ Contains (gave_of joins.first) by → Contains (0 ∷ map number_at ends) by
   by_place by (inl same) = has_first 0 by (map number_at ends) (sym joins.is_first.number ∙ same)

@@ -1,5 +1,5 @@
 -- An actor that came back, as a caller of the whole run, tied to it by the stamps of its calls.
-use Rattle.std.proofs.Common.{◌≡◌, ℕ, zero, suc, ◌<◌, ◌≤◌, ◌==◌, false, List, [], ◌∷◌, ◌++◌, arith, ap, ◌∙◌, sym, refl, inl, inr, subst, length}
+use Rattle.std.proofs.Common.{◌≡◌, ℕ, zero, suc, ◌<◌, ◌≤◌, ◌==◌, false, List, [], ◌∷◌, ◌++◌, arith, ap, ◌∙◌, sym, refl, inl, inr, subst, length, map}
 use Rattle.std.specs.Prelude.{Contains}
 use Rattle.std.specs.List.{AllByRecursion, list_any}
 use Rattle.std.proofs.lemmas.Bool.{cases_Bool}
@@ -15,7 +15,6 @@ use Rattle.sf_stamped.specs.Stamps.{stamp_of, unstamped}
 use Rattle.sf_surface.specs.declared.mark.QueueMark.{QueueMark}
 use Rattle.sf_surface.specs.Histories.{Answers, Made}
 use Rattle.sf_surface.specs.Tokens.{ReadLeaseOf}
-use Rattle.sf_token.specs.Arrivals.{sent}
 use Rattle.sf_token.specs.declared.arrivals.ArriveCall.TheVariants as arrive
 use Rattle.sf_token.specs.Pending.{Arrival}
 use Rattle.sf_txn.specs.Transactions.{Contents}
@@ -30,11 +29,12 @@ use Rattle.sf_shared.specs.declared.seats.Seats.{Seats}
 use Rattle.sf_shared.specs.Arriving.{ArrivalCalls, ArrivalEntry, Arrived, Arriving}
 use Rattle.sf_shared.specs.Closing.{Closes, IsOrdered}
 use Rattle.sf_shared.specs.First.{KnowsNothing}
-use Rattle.sf_shared.specs.Seats.{AreSeats, QueuePass, calls_known, calls_made, is_at, marks_of, moment, moments_of, sent_in, takes_in, view_of}
+use Rattle.sf_shared.specs.Reuniting.{SendsAfter}
+use Rattle.sf_shared.proofs.Handing.{none_arrived}
+use Rattle.sf_shared.specs.Seats.{AreSeats, QueuePass, calls_known, calls_made, is_at, marks_of, moment, moments_of, post_moment, posts_of, sent_in, takes_in, view_of}
 use Rattle.sf_threads.specs.Walks.{IsSound, Moment, Walk}
 use Rattle.sf_rights.specs.States.{AreApart, State}
 use Rattle.sf_replay.specs.Cuts.{HasLedger, MakesAt, many_of}
-use Rattle.sf_replay.specs.Joining.{SendsAfter}
 use Rattle.sf_replay.specs.Lifts.{Comes, local_of}
 use Rattle.sf_replay.specs.Orders.{Spot}
 use Rattle.sf_replay.specs.Orders as orders
@@ -69,7 +69,7 @@ module _ {B : Type 0} where
   -- nor is any call of the caller
   pub nothing_known : (desk : PlainOf B) (by : ℕ) (seats : Seats B) → KnowsNothing seats → (lock place : ℕ) → known_in (whole_of desk) by (view_of seats) lock place ≡ 0
   nothing_known desk by seats nothing zero place =
-      ap (λ seen. mine by place (firsts by (length (sent_own by (sent (unstamped seen)))) desk.arrivals)) nothing.arrivals
+      ap (λ (arrivals : List (Arrival ReadLeaseOf)). mine by place (firsts by (length (sent_own by arrivals)) desk.arrivals)) (none_arrived seats nothing)
       ∙ ap (λ (calls : ArrivalCalls). mine by place (firsts by 0 calls)) (sym (append-nil desk.arrivals)) ∙ mine_firsts by place desk.arrivals []
   nothing_known desk by seats nothing (suc queue) place = ap (mine by place) (none_known queue seats.queues.items nothing.queues)
 
@@ -99,7 +99,7 @@ module _ {B : Type 0} (table : TableId) (locks : Locks B) (first : FirstSeats B)
     pub told : (queue : ℕ) (made : Made B) (earlier : List (Made B)) → IsAt ((plain_view desk).calls queue) (length earlier) made earlier → made.by ≡ seats.by → MadeAt (suc queue, length earlier) made.call.0
     told queue made earlier at by_it =
         subst (λ (m : ℕ × ℕ). Contains (moments_of seats) m) same
-        (Contains-append_left (calls_made seats.by seats.queues.items) (sent_in (calls_by seats.by seats.arrivals.seen)) (moment found.e)
+        (Contains-append_left (calls_made seats.by seats.queues.items) (sent_in (calls_by seats.by seats.arrivals.seen) ++ map post_moment (posts_of seats.intake)) (moment found.e)
         (made_there queue seats.by first.seats.by locks.queues.items first.seats.queues.items seats.queues.items own_first.queues own.queues join.queues_on found.more found.e found.before found.is (ap (λ (m : Made B). m.by) found.without ∙ by_it)))
       where
         found : IsStampedAt (seen_at queue first.seats.queues.items) made earlier
@@ -127,7 +127,7 @@ module _ {B : Type 0} (table : TableId) (locks : Locks B) (first : FirstSeats B)
             (subst (λ (es : List ArrivalEntry). Contains (calls_by seats.by es) found.e) (sym found.is) (by_there seats.by found.more found.e found.before (ap (λ e. e.by) found.without ∙ by_it)))
 
         after : SendsAfter seats found.e
-        after = join.reunites.sends found.e there
+        after = join.reunites.sends join.other found.e there
 
         same_step : step ≡ after.step
         same_step = one_step e.call step after.step txn after.txn sends (sym (ap (λ e. e.call) found.without) ∙ after.sends)
@@ -139,7 +139,7 @@ module _ {B : Type 0} (table : TableId) (locks : Locks B) (first : FirstSeats B)
     pub none_taken : NoTakes seats.by desk.arrivals
     none_taken = subst (NoTakes seats.by) (sym closes.arrived)
         (no_takes seats.by first.seats.arrivals.seen (ap (λ (es : List ArrivalEntry). takes_in es) join.arrivals_on.calls
-        ∙ all_send (calls_by seats.by join.reunited.arrivals.seen) (λ e there. let after = join.reunites.sends e there in (after.step, after.txn, after.sends))))
+        ∙ all_send (calls_by seats.by join.reunited.arrivals.seen) (λ e there. let after = join.reunites.sends join.other e there in (after.step, after.txn, after.sends))))
 
     -- what it sent is put among the arrivals by its calls there
     pub arrive_all : (Holds : State B → Type 0) → RestsKept (whole_of desk) Holds → SendsArrive (whole_of desk) Holds seats.by stamps_here MadeAt

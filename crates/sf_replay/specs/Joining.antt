@@ -2,20 +2,15 @@
 use Rattle.std.specs.Prelude.{◌≡◌, ℕ, ◌<◌, ◌≤◌, List, [], ◌∷◌, map, Contains}
 use Rattle.std.specs.List.{All, AllZip, FoldsTo}
 use Rattle.atomic_table.specs.Seated.{TableId}
-use Rattle.sf_calls.specs.Histories.{calls_by}
-use Rattle.sf_stamped.specs.Stamps.{stamp_of}
 use Rattle.sf_surface.specs.Tokens.{Issued, ReadLeaseOf}
-use Rattle.sf_token.specs.declared.arrivals.ArriveCall.TheVariants as arrive
-use Rattle.sf_token.specs.Pending.{Arrival}
 use Rattle.sf_turns.specs.Counts.{stock_at}
 use Rattle.sf_turns.specs.Views.{SeatView}
 use Rattle.sf_txn.specs.declared.lease.Lease.{Ghosts}
-use Rattle.sf_txn.specs.Transactions.{Contents}
 use Rattle.sf_commit.specs.Handlers.{new_handler}
 use Rattle.sf_scene.specs.Limits.{IsWithinLimits}
 use Rattle.sf_scene.specs.Scene.{SceneValue}
 use Rattle.sf_scene.specs.declared.step.ActorScript.{ActorScript}
-use Rattle.sf_actor.specs.Known.{GoesOn, share_of}
+use Rattle.sf_actor.specs.Known.{GoesOn}
 use Rattle.sf_actor.specs.Desks.{known_of}
 use Rattle.sf_actor.specs.Plain.{PlainOf, home_of as plain_home, view_of as plain_view}
 use Rattle.sf_actor.specs.Scripts.{picture_at}
@@ -28,10 +23,10 @@ use Rattle.sf_run.specs.Histories.{rising_queues}
 use Rattle.sf_shared.specs.declared.first.FirstSeats.{FirstSeats}
 use Rattle.sf_shared.specs.declared.locks.Locks.{Locks}
 use Rattle.sf_shared.specs.declared.seats.Seats.{Seats}
-use Rattle.sf_shared.specs.Arriving.{ArrivalEntry}
 use Rattle.sf_shared.specs.Closing.{Closes, HasNoEntry, IsOrdered}
 use Rattle.sf_shared.specs.First.{HasAll, IsFirst, KnowsNothing, Meets, gave_of, took_of}
-use Rattle.sf_shared.specs.Seats.{AreSeats, home_of, marks_of, moments_of, view_of}
+use Rattle.sf_shared.specs.Reuniting.{Reunites}
+use Rattle.sf_shared.specs.Seats.{AreSeats, home_of, marks_of, view_of}
 use Rattle.sf_threads.specs.Walks.{IsSound, Moment, Walk}
 use Rattle.sf_compositor.specs.Vsyncs.{Sitting, Vsyncs}
 
@@ -48,24 +43,6 @@ module _ {B : Type 0} where
   -- the first seats took these in, one after the other
   abbrev pub MeetsAll : FirstSeats B → List (Seats B) → FirstSeats B → Type 0
   MeetsAll start met new = FoldsTo (λ (old : FirstSeats B) (seats : Seats B) (new : FirstSeats B). Meets seats old new) start met new
-
-  -- a call on the arrivals that sends, with a stamp above those of all that its caller did in steps before
-  pub record SendsAfter (seats : Seats B) (e : ArrivalEntry) : Type 0 where
-    pub step : ℕ
-    pub txn : Contents ReadLeaseOf
-    pub sends : e.call.1 ≡ arrive.Send step txn
-    pub above : (m : ℕ × ℕ) → Contains (moments_of seats) m → m.0 < step → m.1 < stamp_of e
-
-  -- what the caller of these seats sent, as far as they know, with the numbers that it was told
-  abbrev pub sent_of : Locks B → Seats B → List (Arrival ReadLeaseOf)
-  sent_of locks seats = (share_of seats.by (known_of (home_of locks seats) (view_of seats))).arrivals
-
-  -- Seats with which an actor came back, as they are taken in, maybe with another pass at the arrivals: by its calls there all that the
-  -- actor sent was put among the arrivals, in order.
-  pub record Reunites (locks : Locks B) (seats reunited : Seats B) : Type 0 where
-    pub same : reunited ≡ record seats { arrivals = reunited.arrivals }
-    pub sent : sent_of locks reunited ≡ sent_of locks seats
-    pub sends : (e : ArrivalEntry) → Contains (calls_by seats.by reunited.arrivals.seen) e → SendsAfter seats e
 
   module _ (scene : SceneValue) (table : TableId) (locks : Locks B) where
     -- an actor that has done nothing, with seats of its own, which know nothing, signalled nothing and left no turn
@@ -109,9 +86,9 @@ module _ {B : Type 0} where
     pub no_leaves : begins.seats.turns.leaves ≡ []
     pub no_signals : begins.seats.times.knows.signals ≡ []
     pub log : Vsyncs lease table locks period begins last
-    -- the first seats took all in
+    -- the first seats took all in, once what was left of what was sent was taken
     pub attended : FirstSeats B
-    pub at_last : attended.seats ≡ last.seats
+    pub at_last : attended.seats ≡ record last.seats { intake = attended.seats.intake; last = attended.seats.last }
     pub none_taken : took_of attended ≡ []
     pub first : FirstSeats B
     pub reunited : List (Seats B)

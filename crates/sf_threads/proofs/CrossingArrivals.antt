@@ -1,10 +1,12 @@
--- The arrivals may cross to a thread, and threads may share the intake.
+-- The arrivals may cross to a thread, and what callers have at the intake, which threads may share.
 use denote.RattleType.{RattleType}
 use denote.Builtin.{unit}
 use denote.Param.Send.{IsSend, IsSync}
 use denote.Param.SendFields.{declared_send}
 use Rattle.std.specs.contracts.marker.Brand as brand
 use Rattle.sf_intake.specs.contracts.intake.Intake as intake
+use Rattle.sf_intake.specs.contracts.sender.Sender as sender
+use Rattle.sf_intake.specs.contracts.taker.Taker as taker
 use Rattle.sf_picture.specs.contracts.painted.Painted as painted
 use Rattle.sf_picture.specs.contracts.picture.Picture as picture
 use Rattle.sf_shared.specs.contracts.arrivals.StampedArrivals as arrived
@@ -16,13 +18,15 @@ use Rattle.sf_token.specs.contracts.arrivals.Arrivals as arrivals
 use Rattle.sf_token.specs.contracts.arrivals.ArrivalsObject.TheImpl as arriving
 use Rattle.sf_token.specs.contracts.arrivals.ArriveCall as call
 use Rattle.sf_token.specs.contracts.arrivals.ArriveReply as reply
+use Rattle.sf_token.specs.contracts.arrived.Arrived as one
 use Rattle.sf_token.specs.contracts.home.BrandLeaseHome.TheImpl as homed
 use Rattle.sf_turns.specs.contracts.painted.PaintedStamped.TheImpl.{ghosts}
 use Rattle.sf_turns.specs.contracts.seat.TurnSeat as seat
 use Rattle.sf_turns.specs.declared.naming.TableName as naming
-use Rattle.sf_threads.proofs.CrossingIntake.{intake_sync}
+use Rattle.sf_txn.specs.contracts.transaction.Transaction as transaction
+use Rattle.sf_threads.proofs.CrossingIntake.{intake_sync, sender_send, taker_send}
 use Rattle.sf_threads.proofs.CrossingObjects.{arrivals_send, stamped_send}
-use Rattle.sf_threads.proofs.CrossingTokens.{read_send, transaction_send}
+use Rattle.sf_threads.proofs.CrossingTokens.{arrived_send as one_send, read_send, transaction_send}
 
 module _ (B : RattleType) (T : naming.Ghosts B.Denot) where
   abbrev Eye : RattleType
@@ -53,3 +57,19 @@ module _ (B : RattleType) (T : naming.Ghosts B.Denot) where
   intake_shared =
       intake_sync (read.the_row B T) brand.the_row Eye (reading.the_row B T) (closing.the_row B T) (leased.ghosts B T leased.no_dict) (homed.ghosts (read.the_row B T))
       (transaction_send (read.the_row B T) Eye (reading.the_row B T) (closing.the_row B T) (leased.ghosts B T leased.no_dict) (read_send B T))
+
+  txn_send : IsSend (transaction.the_row (read.the_row B T) Eye (reading.the_row B T) (closing.the_row B T) (leased.ghosts B T leased.no_dict))
+  txn_send = transaction_send (read.the_row B T) Eye (reading.the_row B T) (closing.the_row B T) (leased.ghosts B T leased.no_dict) (read_send B T)
+
+  -- a transaction that was taken
+  abbrev pub One : RattleType
+  One = one.the_row (read.the_row B T) Eye (reading.the_row B T) (closing.the_row B T) (leased.ghosts B T leased.no_dict)
+
+  pub taken_send : IsSend One
+  taken_send = one_send (read.the_row B T) Eye (reading.the_row B T) (closing.the_row B T) (leased.ghosts B T leased.no_dict) (read_send B T)
+
+  pub sends_send : IsSend (sender.the_row (read.the_row B T) Eye (reading.the_row B T) (closing.the_row B T) (leased.ghosts B T leased.no_dict))
+  sends_send = sender_send (read.the_row B T) brand.the_row Eye (reading.the_row B T) (closing.the_row B T) (leased.ghosts B T leased.no_dict) (homed.ghosts (read.the_row B T)) txn_send
+
+  pub takes_send : IsSend (taker.the_row (read.the_row B T) brand.the_row Eye (reading.the_row B T) (closing.the_row B T) (leased.ghosts B T leased.no_dict) (homed.ghosts (read.the_row B T)))
+  takes_send = taker_send (read.the_row B T) brand.the_row Eye (reading.the_row B T) (closing.the_row B T) (leased.ghosts B T leased.no_dict) (homed.ghosts (read.the_row B T)) txn_send taken_send

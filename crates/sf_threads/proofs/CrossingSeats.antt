@@ -4,17 +4,23 @@ use denote.RattleType.{RattleType}
 use denote.Builtin.{u32, u64, unit}
 use denote.Struct.Tuple.{Tuple}
 use denote.Param.Send.{IsSend, IsSync, sendable, view_send}
-use denote.Param.SendFields.{declared_send, declared_sync, variants_sync}
+use denote.Param.SendFields.{declared_send, declared_sync, variants_send, variants_sync}
 use Rattle.std.proofs.Crossing.{Vec-send, Vec-sync, crosses}
 use Rattle.sf_calls.specs.contracts.pass.Pass as pass
 use Rattle.sf_shared.proofs.clock.Clock.TheSendSync as clock_shown
 use Rattle.sf_shared.specs.contracts.arrivals.StampedArrivals as arrived
 use Rattle.sf_shared.specs.contracts.arrivals.StampedArrivalsObject.TheImpl as arriving
+use Rattle.sf_shared.specs.contracts.at_intake.AtIntake as at_intake
+use Rattle.sf_shared.specs.contracts.inbox.Courier as courier
+use Rattle.sf_shared.specs.contracts.inbox.Inbox as inbox
 use Rattle.sf_shared.specs.contracts.locks.Locks as locks
 use Rattle.sf_shared.specs.contracts.locks.QueueLock as queue_lock
+use Rattle.sf_shared.specs.contracts.outbox.Outbox as outbox
 use Rattle.sf_shared.specs.contracts.queue_seat.QueueSeat as queue_seat
 use Rattle.sf_shared.specs.contracts.queue_seat.QueueSeat.TheInside as queue_seat_inside
 use Rattle.sf_shared.specs.contracts.seats.Seats as seats
+use Rattle.sf_shared.specs.contracts.shown.Shown as shown
+use Rattle.sf_shared.specs.contracts.shown.Shown.TheInside as shown_inside
 use Rattle.sf_stamped.specs.contracts.stamped.Stamped as stamped
 use Rattle.sf_stamped.specs.contracts.stamped.StampedObject.TheImpl as stamping
 use Rattle.sf_surface.specs.contracts.call.QCall as call
@@ -25,7 +31,7 @@ use Rattle.sf_surface.specs.contracts.object.QueueObjectObject.TheImpl as queued
 use Rattle.sf_times.proofs.seat.TimeSeat.TheSendSync as time_seat_shown
 use Rattle.sf_times.proofs.timelines.Timelines.TheSendSync as timelines_shown
 use Rattle.sf_turns.specs.declared.naming.TableName as naming
-use Rattle.sf_threads.proofs.CrossingArrivals.{Call, Reply, arrived_send, intake_shared}
+use Rattle.sf_threads.proofs.CrossingArrivals.{Call, Reply, arrived_send, intake_shared, sends_send, taken_send, takes_send}
 use Rattle.sf_threads.proofs.CrossingObjects.{lock_sync, pass_send, stamped_send}
 use Rattle.sf_threads.proofs.CrossingTokens.{queue_send}
 use Rattle.sf_threads.proofs.CrossingTurns.{seat_send}
@@ -65,6 +71,37 @@ module _ (B : RattleType) (T : naming.Ghosts B.Denot) where
   abbrev ArriveReply : RattleType
   ArriveReply = Tuple (u64 ∷ Reply B T ∷ [])
 
+  abbrev ArrivalsPass : RattleType
+  ArrivalsPass = pass.the_row (arrived.the_row B T) ArriveCall ArriveReply ArriveCall ArriveReply unit (arriving.ghosts B T arriving.no_dict)
+
+  arrivals_pass_send : IsSend ArrivalsPass
+  arrivals_pass_send = pass_send (arrived.the_row B T) ArriveCall ArriveReply ArriveCall ArriveReply unit (arriving.ghosts B T arriving.no_dict) (arrived_send B T)
+
+  -- what a caller has at the intake
+  outbox_send : IsSend (outbox.the_row B T)
+  outbox_send = declared_send (outbox.the_type B T) (sends_send B T, (search crosses, tt))
+
+  courier_send : IsSend (courier.the_row B T)
+  courier_send = declared_send (courier.the_type B T) (search crosses, (arrivals_pass_send, tt))
+
+  inbox_send : IsSend (inbox.the_row B T)
+  inbox_send = declared_send (inbox.the_type B T) (
+    takes_send B T,
+    (
+      search crosses,
+      (
+        Vec-send (courier.the_row B T) courier_send,
+        (search (sendable, crosses, variants_send, taken_send) depth 20, (search (sendable, crosses, taken_send) depth 20, tt)),
+      ),
+    ),
+  )
+
+  at_intake_send : IsSend (at_intake.the_row B T)
+  at_intake_send = search (sendable, crosses, variants_send, outbox_send, inbox_send) depth 20
+
+  shown_send : IsSend (shown.the_row B T)
+  shown_send = view_send _ _ _ _ _ (declared_send (shown_inside.the_type B T) (search (sendable, crosses) depth 20, tt))
+
   pub seats_send : IsSend (seats.the_row B T)
   seats_send = declared_send (seats.the_type B T) (
     search (sendable, crosses) depth 20,
@@ -73,8 +110,11 @@ module _ (B : RattleType) (T : naming.Ghosts B.Denot) where
       (
         Vec-send (queue_seat.the_row B T) queue_seat_send,
         (
-          pass_send (arrived.the_row B T) ArriveCall ArriveReply ArriveCall ArriveReply unit (arriving.ghosts B T arriving.no_dict) (arrived_send B T),
-          (time_seat_shown.the_send, (seat_send, tt)),
+          shown_send,
+          (
+            search (sendable, crosses, variants_send, arrivals_pass_send) depth 20,
+            (at_intake_send, (time_seat_shown.the_send, (seat_send, tt))),
+          ),
         ),
       ),
     ),

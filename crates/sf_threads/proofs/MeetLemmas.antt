@@ -12,18 +12,20 @@ use Rattle.sf_shared.specs.declared.first.FirstSeats.{FirstSeats}
 use Rattle.sf_shared.specs.declared.locks.Locks.{Locks}
 use Rattle.sf_shared.specs.declared.seats.Seats.{Seats}
 use Rattle.sf_shared.specs.First.{HasAll, IsFirst, Meets, gave_of, took_of}
+use Rattle.sf_shared.specs.Reuniting.{Finishes, Reunites}
 use Rattle.sf_shared.specs.Seats.{AreSeats}
-use Rattle.sf_threads.specs.declared.all_returned.ReturnedActor.{ReturnedActor}
 use Rattle.sf_threads.specs.declared.seated_actor.SeatedActor.{SeatedActor}
 use Rattle.sf_threads.specs.Seating.{GetsSeats, GivesEach, number_of}
 use Rattle.sf_threads.specs.Backs.{AllCame}
-use Rattle.sf_threads.specs.Meeting.{MeetsEach, as_returned, seats_of}
+use Rattle.sf_threads.specs.Meeting.{MeetsEach, caller_of, seats_of}
 use Rattle.sf_threads.specs.Visits.{LeavesGiven}
+use Rattle.sf_threads.proofs.Zips.{zip_long}
+
+-- a list of what is made of others grows with them
+pub map_more : {X Y : Type 0} (f : X → Y) (xs : List X) (x : X) (ys more : List Y) → ys ≡ map f xs → more ≡ ys ++ f x ∷ [] → more ≡ map f (xs ++ x ∷ [])
+map_more f xs x ys more are pushed = pushed ∙ (λ i. are i ++ f x ∷ []) ∙ sym (map-append f xs (x ∷ []))
 
 module _ {B : Type 0} where
-  abbrev caller_of : Seats B → ℕ
-  caller_of seats = seats.by
-
   took_long : (first : FirstSeats B) → length (took_of first) ≡ length first.took.items
   took_long first = length-map first.took.items (λ (seats : Snapshot (Seats B)). seats.value)
 
@@ -57,41 +59,56 @@ module _ {B : Type 0} where
   meets_gave start [] new meets = ap (λ (f : FirstSeats B). gave_of f) (sym meets)
   meets_gave start (seats ∷ met) new meets = meets_gave meets.0 met new meets.2 ∙ meets.1.gave
 
-  -- What is known while the seats of actors are taken in.
-  pub record Gathering (table : TableId) (locks : Locks B) (start : FirstSeats B) (seated_actors : List (SeatedActor B)) (first : FirstSeats B) (returned : List (ReturnedActor B)) : Type 0 where
+  -- What is known while seats are taken in.
+  pub record Gathering (table : TableId) (locks : Locks B) (start : FirstSeats B) (seats : List (Seats B)) (first : FirstSeats B) : Type 0 where
     pub is : IsFirst table locks first
-    pub met : MeetsEach start (map seats_of seated_actors) first
-    pub returned_are : returned ≡ map as_returned seated_actors
+    pub met : MeetsEach start seats first
 
-  pub gathering_none : (table : TableId) (locks : Locks B) (start : FirstSeats B) (returned : List (ReturnedActor B)) → returned ≡ [] → IsFirst table locks start → Gathering table locks start [] start returned
-  gathering_none table locks start returned none is = record { is = is; met = refl; returned_are = none }
+  pub gathering_none : (table : TableId) (locks : Locks B) (start : FirstSeats B) → IsFirst table locks start → Gathering table locks start [] start
+  gathering_none table locks start is = record { is = is; met = refl }
 
-  pub gathering_more : (table : TableId) (locks : Locks B) (start old new : FirstSeats B) (seated_actors : List (SeatedActor B)) (seated_actor : SeatedActor B) (returned more : List (ReturnedActor B)) (one : ReturnedActor B)
-      → Gathering table locks start seated_actors old returned → IsFirst table locks new → Meets seated_actor.seats old new → one ≡ as_returned seated_actor → more ≡ returned ++ one ∷ []
-      → Gathering table locks start (seated_actors ++ seated_actor ∷ []) new more
-  gathering_more table locks start old new seated_actors seated_actor returned more one g is meets same pushed = record {
-    is = is;
-    met = subst (λ (l : List (Seats B)). MeetsEach start l new) (sym (map-append seats_of seated_actors (seated_actor ∷ [])))
-        (FoldsTo-push (λ (o : FirstSeats B) (seats : Seats B) (n : FirstSeats B). Meets seats o n) start (map seats_of seated_actors) old seated_actor.seats new g.met meets);
-    returned_are = pushed ∙ ((λ i. g.returned_are i ++ same i ∷ []) ∙ sym (map-append as_returned seated_actors (seated_actor ∷ [])));
-  }
-
-  pub gathered : (table : TableId) (locks : Locks B) (start first : FirstSeats B) (all seated_actors : List (SeatedActor B)) (returned : List (ReturnedActor B)) → seated_actors ≡ all → Gathering table locks start seated_actors first returned
-      → MeetsEach start (map seats_of all) first × (returned ≡ map as_returned all)
-  gathered table locks start first all seated_actors returned all_of g = (
-    subst (λ (l : List (SeatedActor B)). MeetsEach start (map seats_of l) first) all_of g.met,
-    g.returned_are ∙ ap (λ (l : List (SeatedActor B)). map as_returned l) all_of,
-  )
+  pub gathering_more : (table : TableId) (locks : Locks B) (start old new : FirstSeats B) (before : List (Seats B)) (seats : Seats B) → Gathering table locks start before old → IsFirst table locks new → Meets seats old new
+      → Gathering table locks start (before ++ seats ∷ []) new
+  gathering_more table locks start old new before seats g is meets =
+      record { is = is; met = FoldsTo-push (λ (o : FirstSeats B) (seats : Seats B) (n : FirstSeats B). Meets seats o n) start before old seats new g.met meets }
 
   -- one is still out
-  pub still_out : (table : TableId) (locks : Locks B) (start first : FirstSeats B) (all seated_actors : List (SeatedActor B)) (returned : List (ReturnedActor B))
-      → length start.took.items + length all ≤ length (gave_of start) → length seated_actors < length all → Gathering table locks start seated_actors first returned → length first.took.items < length (gave_of first)
-  still_out table locks start first all seated_actors returned out low g =
-      let took = ap length (meets_took start (map seats_of seated_actors) first g.met) in
-      let both = length-append (took_of start) (map seats_of seated_actors) in
-      let many = length-map seated_actors seats_of in
+  pub still_out : (table : TableId) (locks : Locks B) (start first : FirstSeats B) (all before : List (Seats B)) → length start.took.items + length all ≤ length (gave_of start) → length before < length all
+      → Gathering table locks start before first → length first.took.items < length (gave_of first)
+  still_out table locks start first all before out low g =
+      let took = ap length (meets_took start before first g.met) in
+      let both = length-append (took_of start) before in
       let a = took_long start in let b = took_long first in
-      let gave = ap length (meets_gave start (map seats_of seated_actors) first g.met) in
+      let gave = ap length (meets_gave start before first g.met) in
+      omega arith
+
+  -- the callers of seats stay where their passes come back
+  pub same_callers : (locks : Locks B) (ends reunited : List (Seats B)) → AllZip (Reunites locks) ends reunited → map caller_of reunited ≡ map caller_of ends
+  same_callers locks [] [] zip = refl
+  same_callers locks [] (r ∷ reunited) zip = absurd zip
+  same_callers locks (e ∷ ends) [] zip = absurd zip
+  same_callers locks (e ∷ ends) (r ∷ reunited) zip = λ i. (ap caller_of zip.0.same) i ∷ same_callers locks ends reunited zip.1 i
+
+  -- what was left of what was sent changes nothing of what was given and taken in
+  pub finished_took : (old new : FirstSeats B) → Finishes old new → took_of new ≡ took_of old
+  finished_took old new finishes = λ i. map (λ (seats : Snapshot (Seats B)). seats.value) (finishes.took i).items
+
+  pub finished_given : (after_seating attended finished : FirstSeats B) → LeavesGiven after_seating attended → Finishes attended finished → LeavesGiven after_seating finished
+  finished_given after_seating attended finished given finishes =
+      record {
+        gave = ap (λ (seats : Seats B). seats.arrivals.gave) finishes.same ∙ given.gave;
+        took = finished_took attended finished finishes ∙ given.took;
+        caller = ap caller_of finishes.same ∙ given.caller;
+      }
+
+  -- then those that are still out are as many as before
+  pub still_room : (locks : Locks B) (start finished : FirstSeats B) (ends reunited : List (Seats B)) → Finishes start finished → AllZip (Reunites locks) ends reunited
+      → length start.took.items + length ends ≤ length (gave_of start) → length finished.took.items + length reunited ≤ length (gave_of finished)
+  still_room locks start finished ends reunited finishes reunites room =
+      let many = zip_long (Reunites locks) ends reunited reunites in
+      let took = ap length (finished_took start finished finishes) in
+      let a = took_long start in let b = took_long finished in
+      let gave = ap (λ (seats : Seats B). length seats.arrivals.gave) finishes.same in
       omega arith
 
   -- where no seats were given before, those of all who got some were taken in

@@ -10,11 +10,11 @@ use Rattle.sf_threads.specs.declared.all_returned.AllReturned.{AllReturned}
 use Rattle.sf_threads.specs.declared.seated_actor.SeatedActor.{SeatedActor}
 use Rattle.sf_threads.specs.Seating.{GetsSeats, GivesEach, number_of}
 use Rattle.sf_threads.specs.Backs.{AllCame}
-use Rattle.sf_threads.specs.Meeting.{MeetsEach, as_returned, seats_of}
+use Rattle.sf_threads.specs.Meeting.{MeetsReunited, as_returned, seats_of}
 use Rattle.sf_threads.specs.Visits.{Attends}
 
 -- Each actor was given seats of its own, and came back by tries of its steps alone. Meanwhile the visitor was with the
--- first seats; and these then took in the seats of all, as they came back.
+-- first seats; and these then took in the seats of all, as they came back, once all that was sent was taken.
 pub record Returns {B V : Type 0} (keeps : V → Locks B → FirstSeats B → Type 0) (table : TableId) (locks : Locks B) (pictures : List Picture) (first : FirstSeats B)
     (actors : List (Actor B)) (visitor : V) (all_returned : AllReturned B) : Type 0 where
   pub after_seating : FirstSeats B
@@ -25,5 +25,5 @@ pub record Returns {B V : Type 0} (keeps : V → Locks B → FirstSeats B → Ty
   pub came : AllCame table locks pictures sent back
   pub attended : FirstSeats B
   pub attends : Attends keeps table locks after_seating attended visitor
-  pub met : MeetsEach attended (map seats_of back) all_returned.first
+  pub met : MeetsReunited locks attended (map seats_of back) all_returned.first
   pub returned : all_returned.returned.items ≡ map as_returned back

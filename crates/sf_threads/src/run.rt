@@ -8,7 +8,7 @@ ghost use Rattle.sf_threads.specs.Seating.{GivesEach, IsNewcomer, number_of};
 ghost use Rattle.sf_threads.specs.SeatedActors.{MayTryNext};
 ghost use Rattle.sf_threads.specs.Backs.{AllCame};
 ghost use Rattle.sf_threads.specs.Tasks.{AreTasks, GivesWhole, IsFitTask, Stays};
-ghost use Rattle.sf_threads.specs.Meeting.{MeetsEach, as_returned, seats_of};
+ghost use Rattle.sf_threads.specs.Meeting.{MeetsReunited, as_returned, seats_of};
 ghost use Rattle.sf_threads.specs.Returns.{Returns};
 ghost use Rattle.sf_threads.specs.Visits.{Attends, HasLeft, HasLeftOrIs};
 ghost use Rattle.sf_threads.specs.declared.run.Stopped.TheVariants as stopped;
@@ -217,7 +217,8 @@ fn crowd<
 }
 
 /// Takes in the seats of all that came back.
-fn take_in<B: TableName>(
+fn take_in<R: Wait, B: TableName>(
+    rt: &R,
     alloc: Global,
     locks: &Locks<B>,
     attended: FirstSeats<B>,
@@ -227,11 +228,11 @@ fn take_in<B: TableName>(
     requires theirs { AllByRecursion (AreSeats B.table locks.now) (map seats_of back.items) }
     requires out { length attended.took.items + length back.items ≤ length (gave_of attended) }
     ensures first { IfOk result (λ all_returned. IsFirst B.table locks.now all_returned.first) }
-    ensures met { IfOk result (λ all_returned. MeetsEach attended (map seats_of back.items) all_returned.first) }
+    ensures met { IfOk result (λ all_returned. MeetsReunited locks.now attended (map seats_of back.items) all_returned.first) }
     ensures returned { IfOk result (λ all_returned. all_returned.returned.items ≡ map as_returned back.items) }
     ensures no_memory { IfErr result (λ why. why ≡ stopped.NoMemory) }
 {
-    let (first, returned) = gather(alloc, locks, attended, back)?;
+    let (first, returned) = gather(rt, alloc, locks, attended, back)?;
     Ok(AllReturned { first, returned })
 }
 
@@ -284,7 +285,7 @@ pub fn run_actors<
         seated_actors,
     );
     match rest {
-        Ok((attended, back)) => (visitor, take_in(alloc, locks, attended, back)),
+        Ok((attended, back)) => (visitor, take_in(rt, alloc, locks, attended, back)),
         Err(why) => (visitor, Err(why)),
     }
 }

@@ -2,3 +2,6 @@ use Rattle.sf_app.proofs.live.live_with.Given as goal
 
 abbrev pub ghosts-live : goal.ghosts-live
 ghosts-live g a = record { table = a.seat.table }
+
+abbrev pub ghosts-live_queue : goal.ghosts-live_queue
+ghosts-live_queue g a = record { table = a.seat.table }

@@ -1,7 +1,8 @@
 use Rattle.std.proofs.Common.{map}
 use Rattle.std.specs.String.{string_bytes}
 use Rattle.sf_app.proofs.ShownLemmas.{run_means}
-use Rattle.sf_app.proofs.WordLemmas.{live_has_no_summary}
+use Rattle.sf_app.specs.Words.{tells_place}
+use Rattle.sf_app.proofs.WordLemmas.{live_has_no_summary, others_have_no_queue}
 use Rattle.sf_app.proofs.StatusLemmas.{first_or_last, no_play, no_refusal, right_words, two_or_last}
 use Rattle.sf_app.proofs.session.run.Goals as goal
 
@@ -26,7 +27,8 @@ returns-clause-complete_refusal g c = λ options bytes fault right told wrong ca
 pub returns-clause-means : goal.returns-clause-means
 returns-clause-means g c = λ done.
     let p = c.follow.ensures.played done in
-    let shown = run_means p.options.run p.options.summary p.scene _ _ (live_has_no_summary (map string_bytes c.args.words.now) p.options p.right) p.run in
+    let words = map string_bytes c.args.words.now in
+    let shown = run_means p.options.run p.options.summary (tells_place p.options) p.scene _ _ (live_has_no_summary words p.options p.right) (others_have_no_queue words p.options p.right) p.run in
     record {
       options = p.options;
       right = p.right;

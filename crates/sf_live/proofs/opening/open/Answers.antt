@@ -57,7 +57,7 @@ returns-clause-may g c =
     }
 
 pub returns-clause-told : goal.returns-clause-told
-returns-clause-told g c = c.in_ok-locks.ensures.first.own.tells
+returns-clause-told g c = c.in_ok-locks.ensures.opened.tells_is
 
 pub returns-clause-opens : goal.returns-clause-opens
 returns-clause-opens g c = λ of fresh sized.

@@ -1,4 +1,4 @@
-use Rattle.std.proofs.Common.{◌≤◌, Bool, true, arith, sym, subst}
+use Rattle.std.proofs.Common.{◌≤◌, Bool, arith, sym, subst}
 use Rattle.sf_run.proofs.LimitLemmas.{few_layers}
 use Rattle.sf_scene.specs.Scene.{SceneValue}
 use Rattle.sf_actor_set.specs.Scripts.{permits_of}
@@ -33,10 +33,10 @@ returns g c = λ start begun.
     c.in-Ok-with_limit.ensures c.most_layers.ensures c.in-Ok.ensures.value c.requires.rising begun))
 
 pub returns-in_default : goal.returns-in_default
-returns-in_default g c = λ start begun. ended_early true c.args.scene start _ _ begun
+returns-in_default g c = λ start begun. ended_early c.args.tells c.args.scene start _ _ begun
 
 pub returns-in_default-open : goal.returns-in_default-open
-returns-in_default-open g c = λ start begun. ended_early true c.args.scene start _ _ begun
+returns-in_default-open g c = λ start begun. ended_early c.args.tells c.args.scene start _ _ begun
 
 pub returns-in_default-with_limit : goal.returns-in_default-with_limit
-returns-in_default-with_limit g c = λ start begun. ended_early true c.args.scene start _ _ begun
+returns-in_default-with_limit g c = λ start begun. ended_early c.args.tells c.args.scene start _ _ begun

@@ -1,43 +1,46 @@
-use Rattle.std.proofs.Common.{◌≡◌, ◌++◌, ◌∷◌, [], refl, rules}
-use Rattle.std.proofs.lemmas.Iterator.Adapters.{YieldsList-from_vec}
-use Rattle.std.proofs.lemmas.Iterator.Consumers.{YieldsList-end, YieldsList-turn}
-use Rattle.sf_shared.specs.Seats.{AreSeats}
-use Rattle.sf_threads.specs.Meeting.{as_returned, seats_of}
-use Rattle.sf_threads.proofs.MeetLemmas.{gathered, gathering_more, gathering_none, still_out}
-use Rattle.sf_threads.proofs.Zips.{map_next, whole}
+use Rattle.std.proofs.Common.{◌≡◌, ◌+◌, ◌≤◌, ◌∙◌, List, ap, arith, length, subst, sym}
+use Rattle.std.specs.List.{AllByRecursion, AllZip}
+use Rattle.std.specs.Vec.{with_items}
+use Rattle.std.proofs.lemmas.List.{length-map, with_items_is}
+use Rattle.sf_shared.specs.declared.seats.Seats.{Seats}
+use Rattle.sf_shared.specs.First.{gave_of}
+use Rattle.sf_shared.specs.Reuniting.{Reunites}
+use Rattle.sf_shared.specs.Seats.{AreSeats, AreWhole}
+use Rattle.sf_threads.specs.Meeting.{MeetsEach, seats_of}
+use Rattle.sf_threads.proofs.MeetLemmas.{still_room}
+use Rattle.sf_threads.proofs.Zips.{zip_long}
 use Rattle.sf_threads.proofs.all_returned.gather.Goals as goal
 
-pub loop-seated_actor-init : goal.loop-seated_actor-init
-loop-seated_actor-init g c = record {
-  can_next = search rules;
-  is_finite = search rules;
-  gathering = gathering_none _ _ c.args.first c.new-returned.result.items c.new-returned.ensures.items c.requires.first;
-}
+pub finish-requires-clause-theirs : goal.finish-requires-clause-theirs
+finish-requires-clause-theirs g c =
+    subst (λ (ends : List (Seats g.row.B.Denot)). AllByRecursion (AreSeats g.B.TableName.table c.args.locks.now) ends) (sym (c.deref_mut.ensures.value ∙ c.in_ok-returned.ensures.ends)) c.requires.theirs
 
-pub meet-requires-clause-theirs : goal.meet-requires-clause-theirs
-meet-requires-clause-theirs g c =
-    let t = YieldsList-turn (YieldsList-from_vec c.args.seated_actors.items (search rules) (search rules)) c.loop-seated_actor.yielded _ c.loop-seated_actor.yielded_by c.next.result c.next.new.self c.in-Some.seated_actor c.in-Some.is c.next.ensures.steps in
-    map_next (AreSeats g.B.TableName.table c.args.locks.now) seats_of c.args.seated_actors.items _ c.in-Some.seated_actor c.requires.theirs t
+pub meet_each-requires-clause-theirs : goal.meet_each-requires-clause-theirs
+meet_each-requires-clause-theirs g c =
+    let long = zip_long (Reunites c.args.locks.now) c.deref_mut.result.now c.finish.new.ends c.in_ok-finish.ensures.reunites in
+    let same = ap (λ (ends : List (Seats g.row.B.Denot)). length ends) c.deref_mut.ensures.value in
+    let whole = with_items_is c.in_ok-returned.ends c.finish.new.ends (let many = c.in_ok-returned.ends.ok.0 in omega (arith, many, long, same)) in
+    subst (λ (ends : List (Seats g.row.B.Denot)). AllByRecursion (AreWhole g.B.TableName.table c.args.locks.now) ends) (sym whole) c.in_ok-finish.ensures.whole
 
-pub meet-requires-clause-out : goal.meet-requires-clause-out
-meet-requires-clause-out g c =
-    let t = YieldsList-turn (YieldsList-from_vec c.args.seated_actors.items (search rules) (search rules)) c.loop-seated_actor.yielded _ c.loop-seated_actor.yielded_by c.next.result c.next.new.self c.in-Some.seated_actor c.in-Some.is c.next.ensures.steps in
-    still_out _ _ c.args.first c.loop-seated_actor.first c.args.seated_actors.items c.loop-seated_actor.yielded c.loop-seated_actor.returned.items c.requires.out t.0 c.loop-seated_actor.invariant.gathering
+pub meet_each-requires-clause-out : goal.meet_each-requires-clause-out
+meet_each-requires-clause-out g c =
+    let long = zip_long (Reunites c.args.locks.now) c.deref_mut.result.now c.finish.new.ends c.in_ok-finish.ensures.reunites in
+    let same = ap (λ (ends : List (Seats g.row.B.Denot)). length ends) c.deref_mut.ensures.value in
+    let whole = with_items_is c.in_ok-returned.ends c.finish.new.ends (let many = c.in_ok-returned.ends.ok.0 in omega (arith, many, long, same)) in
+    let all = ap (λ (ends : List (Seats g.row.B.Denot)). length ends) c.in_ok-returned.ensures.ends in
+    let each = length-map c.args.seated_actors.items seats_of in
+    subst (λ (ends : List (Seats g.row.B.Denot)). length c.finish.new.self.took.items + length ends ≤ length (gave_of c.finish.new.self)) (sym whole)
+    (still_room c.args.locks.now c.args.first c.finish.new.self c.deref_mut.result.now c.finish.new.ends c.in_ok-finish.ensures.finishes c.in_ok-finish.ensures.reunites (omega (arith, same, all, each, c.requires.out)))
 
-pub loop-seated_actor-preserved : goal.loop-seated_actor-preserved
-loop-seated_actor-preserved g c =
-    let pushed : c.push.new.self.items ≡ c.loop-seated_actor.returned.items ++ as_returned c.in-Some.seated_actor ∷ [] = search rules in record {
-      can_next = search rules;
-      is_finite = search rules;
-      gathering = gathering_more _ _ c.args.first c.loop-seated_actor.first c.meet.new.self c.loop-seated_actor.yielded c.in-Some.seated_actor c.loop-seated_actor.returned.items c.push.new.self.items (as_returned c.in-Some.seated_actor)
-          c.loop-seated_actor.invariant.gathering c.in_ok-meet.ensures.first c.in_ok-meet.ensures.meets refl pushed;
-    }
-
-pub returns : goal.returns
-returns g c =
-    let all = YieldsList-end (YieldsList-from_vec c.args.seated_actors.items (search rules) (search rules)) c.loop-seated_actor.yielded _ c.loop-seated_actor.yielded_by c.next.result c.next.new.self c.in-None.is c.next.ensures.steps in
-    let k = gathered _ _ c.args.first c.loop-seated_actor.first c.args.seated_actors.items c.loop-seated_actor.yielded c.loop-seated_actor.returned.items (whole c.loop-seated_actor.yielded c.args.seated_actors.items all.0) c.loop-seated_actor.invariant.gathering in record {
-      first = c.loop-seated_actor.invariant.gathering.is;
-      met = k.0;
-      returned = k.1;
+pub returns-clause-met : goal.returns-clause-met
+returns-clause-met g c =
+    let long = zip_long (Reunites c.args.locks.now) c.deref_mut.result.now c.finish.new.ends c.in_ok-finish.ensures.reunites in
+    let same = ap (λ (ends : List (Seats g.row.B.Denot)). length ends) c.deref_mut.ensures.value in
+    let whole = with_items_is c.in_ok-returned.ends c.finish.new.ends (let many = c.in_ok-returned.ends.ok.0 in omega (arith, many, long, same)) in
+    record {
+      finished = c.finish.new.self;
+      finishes = c.in_ok-finish.ensures.finishes;
+      reunited = c.finish.new.ends;
+      reunites = subst (λ (ends : List (Seats g.row.B.Denot)). AllZip (Reunites c.args.locks.now) ends c.finish.new.ends) (c.deref_mut.ensures.value ∙ c.in_ok-returned.ensures.ends) c.in_ok-finish.ensures.reunites;
+      met = subst (λ (ends : List (Seats g.row.B.Denot)). MeetsEach c.finish.new.self ends c.in_ok-first.first) whole c.in_ok-first.ensures.met;
     }

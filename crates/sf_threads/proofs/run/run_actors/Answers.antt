@@ -7,7 +7,7 @@ use Rattle.sf_threads.specs.Meeting.{seats_of}
 use Rattle.sf_threads.specs.Visits.{Attends}
 use Rattle.sf_threads.proofs.AttendLemmas.{left_returned, of_ok, ok_both}
 use Rattle.sf_threads.proofs.SeatingLemmas.{newcomer_may_try_next}
-use Rattle.sf_threads.proofs.MeetLemmas.{all_back, callers_back, came_own, room_for_all}
+use Rattle.sf_threads.proofs.MeetLemmas.{all_back, callers_back, came_own, finished_given, room_for_all, same_callers}
 use Rattle.sf_threads.proofs.Zips.{zip_each, zip_long}
 use Rattle.sf_threads.proofs.run.run_actors.Goals as goal
 
@@ -43,9 +43,10 @@ returns-in-Ok-rest-clause-all g c =
     let e = c.in-Ok.ensures in
     let came = of_ok (λ rest. AllCame g.B.TableName.table c.args.locks.now c.args.pictures.now c.in-Ok.after_seating.1.items rest.1.items) c.crowd-visitor.result.1 _ c.in-Ok-rest.is c.crowd-visitor.ensures.came in
     let attends = of_ok (λ rest. Attends (g.V.Visit.keeps c.args.visitor) g.B.TableName.table c.args.locks.now c.in-Ok.after_seating.0 rest.0 c.crowd-visitor.result.0) c.crowd-visitor.result.1 _ c.in-Ok-rest.is (c.crowd-visitor.ensures.attended c.args.visitor (c.requires.kept c.in-Ok.after_seating.0 c.in-Ok.ensures.first c.in-Ok.ensures.gives)) in
-    ok_both _ _ _ (λ all_returned met returned. all_back g.B.TableName.table c.args.locks.now c.args.first c.in-Ok.after_seating.0 c.in-Ok-rest.attended all_returned.first (map number_of c.args.actors.items)
-    (map seats_of c.in-Ok-rest.back.items) c.requires.first c.requires.none e.gives attends.given met
-    (callers_back g.B.TableName.table c.args.locks.now c.args.pictures.now c.args.first.seats c.args.actors.items c.in-Ok.after_seating.1.items c.in-Ok-rest.back.items e.seated_actors came))
+    ok_both _ _ _ (λ all_returned met returned. all_back g.B.TableName.table c.args.locks.now c.args.first c.in-Ok.after_seating.0 met.finished all_returned.first (map number_of c.args.actors.items)
+    met.reunited c.requires.first c.requires.none e.gives (finished_given c.in-Ok.after_seating.0 c.in-Ok-rest.attended met.finished attends.given met.finishes) met.met
+    (same_callers c.args.locks.now (map seats_of c.in-Ok-rest.back.items) met.reunited met.reunites
+    ∙ callers_back g.B.TableName.table c.args.locks.now c.args.pictures.now c.args.first.seats c.args.actors.items c.in-Ok.after_seating.1.items c.in-Ok-rest.back.items e.seated_actors came))
     c.take_in.result c.take_in.ensures.met c.take_in.ensures.returned
 
 pub returns-in-Ok-rest-clause-returns : goal.returns-in-Ok-rest-clause-returns

@@ -6,7 +6,7 @@ use Rattle.sf_scene.specs.Scene.{SceneValue}
 use Rattle.sf_actor_set.specs.Opening.{IsSortedFrom}
 use Rattle.sf_show.proofs.TurnLemmas.{timelines_are}
 use Rattle.sf_show.proofs.WritingLemmas.{cut_part}
-use Rattle.sf_live.proofs.scene.live.Goals as goal
+use Rattle.sf_live.proofs.scene.live_by.Goals as goal
 
 pub returns-in-Err : goal.returns-in-Err
 returns-in-Err g c = record {
