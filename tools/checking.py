@@ -23,8 +23,9 @@ class NoRun(Exception):
     """A stream that has no records of a run; it says why in a sentence."""
 
 
-def arrivals_of(traces, record):
-    """The transactions that arrived, each with its token, by their numbers from 1."""
+def arrivals_of(traces, record, is_queue):
+    """The transactions that arrived, each with its token, by their numbers from 1. Its sender was told its number, or 0 where
+    transactions arrive through a queue."""
     due, arrivals = {actor: list(reversed(sent)) for actor, sent in traces.sent.items()}, []
     for number, (actor, step, token) in enumerate(record.fields["arrivals"], 1):
         where = f"{record.text()}, arrival {number}"
@@ -33,9 +34,9 @@ def arrivals_of(traces, record):
         sent = due[actor].pop()
         if (sent.step, sent.token) != (step, token):
             raise Refused("arrive", where, f"it is of step {step} with token {token}, and actor {actor} sent the next with step {sent.step} and token {sent.token}")
-        told = sent.reply.fields["values"][0][0]
-        if told != number:
-            raise Refused("arrive", where, f"its step was told that it is arrival {told}, in record {sent.reply.place}")
+        told, due_told = sent.reply.fields["values"][0][0], 0 if is_queue else number
+        if told != due_told:
+            raise Refused("arrive", where, f"its step was told {told}, in record {sent.reply.place}, where {due_told} is due")
         arrivals.append((token, sent.txn))
     for actor, left in due.items():
         if left:
@@ -128,11 +129,11 @@ def check_stuck(traces, desk, record):
             raise Refused("ends", record.text(), f"actor {actor.number} is stuck at step {place} (line {step.line}: {step.verb}), which has not to wait")
 
 
-def check_meaning(scene, shown):
+def check_meaning(scene, shown, is_queue):
     """All parts of the meaning, one after another; the first that does not hold is raised as Refused."""
     check_histories_are_due(scene, shown.histories)
     traces = traces_of(scene, shown)
-    arrivals = arrivals_of(traces, shown.arrivals)
+    arrivals = arrivals_of(traces, shown.arrivals, is_queue)
     released = released_by(scene, arrivals, shown.vsyncs)
     histories = {record.fields["queue"]: History(traces, record, released.get(record.fields["queue"], [])) for record in shown.histories}
     for history in histories.values():
@@ -169,15 +170,16 @@ def counts(shown):
             yield outputs[tag], things
 
 
-def checked(script, records, is_play, is_live):
-    """What the records come to whose meaning is the scene's. Raises NoScene, NoRun or Refused."""
+def checked(script, records, is_play, is_live, is_queue=False):
+    """What the records come to whose meaning is the scene's, where transactions arrive through a queue or not. Raises NoScene,
+    NoRun or Refused."""
     scene = read_scene(script)
     if not records:
         raise NoRun("the stream is empty")
     if records[0].tag == "SUMM":
         raise NoRun("the stream is the summary of a run, and has no records of it")
     shown = Ordered(records).shown(scene)
-    check_meaning(scene, shown)
+    check_meaning(scene, shown, is_queue)
     early = early_reply(shown) if is_live else None
     if early:
         raise Refused("live", early.text(), "replies of a live run stand behind the last vsync, by actor and step")

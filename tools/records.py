@@ -22,11 +22,12 @@
     records.py explain SCRIPT [FILE]
                                     the fault of a script that is no scene: its line, the word, the cause,
                                     and what would be right there; or that it has none
-    records.py check --script SCRIPT [--play] [--live] [FILE]
+    records.py check --script SCRIPT [--play] [--live] [--queue] [FILE]
                                     whether the records mean what the scene of the script allows
                                     (docs/MEANING.md), by these two alone; else the first part that does not
                                     hold, the record, and why. --play asks besides for the records of the
-                                    play, --live for the replies of a live run behind its last vsync
+                                    play, --live for the replies of a live run behind its last vsync;
+                                    --queue is for a run whose transactions arrive through a queue
     records.py --help               this page
 
 FILE is standard input if it is not given. The layout of records is in docs/RECORDS.md. Only Python's
@@ -191,7 +192,7 @@ def check_arguments(words):
     if len(words) < 2 or words[0] != "--script":
         return None
     script, names, asked = words[1], words[2:], []
-    while names and names[0] in ("--play", "--live"):
+    while names and names[0] in ("--play", "--live", "--queue"):
         asked.append(names.pop(0))
     if len(set(asked)) < len(asked) or len(names) > 1:
         return None
@@ -201,7 +202,7 @@ def check_arguments(words):
 def check(script, asked, name):
     """Says whether records mean what the scene of a script allows."""
     try:
-        found = checked(contents(script), read(contents(name))[0], "--play" in asked, "--live" in asked)
+        found = checked(contents(script), read(contents(name))[0], *(word in asked for word in ("--play", "--live", "--queue")))
     except (NoScene, NoRun) as fault:
         complain(fault)
         return NOT_CHECKED

@@ -30,10 +30,10 @@ def played(script):
     return [record(*told) for told in Play(read_scene(script)).records()]
 
 
-def verdict(script, told, is_play=False, is_live=False):
+def verdict(script, told, is_play=False, is_live=False, is_queue=False):
     """The part for which records are refused, or None."""
     try:
-        checked(script, told, is_play, is_live)
+        checked(script, told, is_play, is_live, is_queue)
     except Refused as refused:
         return refused.part
     return None
@@ -362,6 +362,17 @@ class Parts(unittest.TestCase):
         self.assertEqual(verdict(BUSY, told, is_live=True), "live")
         self.assertIsNone(verdict(BUSY, rest[:place] + replies + rest[place:], is_live=True))
         self.assertEqual(verdict(BUSY, rest[:place] + replies[::-1] + rest[place:], is_live=True), "replies")
+
+    def test_senders_through_a_queue_are_told_no_place(self):
+        told = played(BUSY)
+        sent = {(actor, step) for actor, step, _ in told[found(told, "ARRV")].fields["arrivals"]}
+        places = [at for at, one in enumerate(told) if one.tag == "REPL" and (one.fields["actor"], one.fields["step"]) in sent]
+        self.assertGreater(len(places), 1)
+        for place in places:
+            self.assertEqual(verdict(BUSY, told, is_queue=True), "arrive", place)
+            told[place].fields["values"] = [(0,)]
+            self.assertEqual(verdict(BUSY, told), "arrive", place)
+        self.assertIsNone(verdict(BUSY, told, is_queue=True))
 
     def test_a_stream_that_ends_too_early(self):
         for count in (1, 5, 20):

@@ -73,7 +73,7 @@ class Stored(unittest.TestCase):
                 continue
             with self.subTest(title=title):
                 told = [record_of(line) for line in lines]
-                self.assertIsNone(verdict(script_of(title), told, is_play=b"live" not in words, is_live=b"live" in words))
+                self.assertIsNone(verdict(script_of(title), told, is_play=b"live" not in words, is_live=b"live" in words, is_queue=b"queue" in words))
                 count += 1
         self.assertGreater(count, 100)
 
@@ -87,7 +87,7 @@ class Program(unittest.TestCase):
     def check(self, script, is_live, *words):
         told, _ = read(bytes_of(script, *words))
         try:
-            checked(script, told, not is_live, is_live)
+            checked(script, told, not is_live, is_live, "queue" in words)
         except Refused as refused:
             self.fail(str(refused))
 
@@ -99,7 +99,8 @@ class Program(unittest.TestCase):
             with self.subTest(name=os.path.basename(path)):
                 self.check(script, False, "--workers", str(number % 3 + 1))
                 for again in range(3):
-                    self.check(script, True, "--run", "live", "--workers", str((number + again) % 4 + 1))
+                    for intake in ("lock", "queue"):
+                        self.check(script, True, "--run", "live", "--intake", intake, "--workers", str((number + again) % 4 + 1))
 
 
 if __name__ == "__main__":

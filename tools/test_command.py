@@ -14,7 +14,7 @@ PROGRAM = run.built(run.TOP)
 NO_RECORDS = (b"sf_main: records are binary and are not written to a terminal; "
               b"write them to a file (> RECORDS) or through a pipe, or ask for --help\n")
 WAITS = b"sf_main: waits for a script on standard input, from the terminal; Ctrl-D ends it\n"
-USAGE = b"usage: sf_main [--run play|live|gen] [--workers N] [--number N] [--summary]\n"
+USAGE = b"usage: sf_main [--run play|live|gen] [--workers N] [--number N] [--summary] [--intake lock|queue]\n"
 
 
 def called(*words, script=b"", **streams):
@@ -81,7 +81,7 @@ class Command(unittest.TestCase):
     def test_the_page_of_help_names_every_option_and_status(self):
         status, page, err = called("--help")
         self.assertEqual((status, err), (0, b""))
-        for word in (b"--run V", b"--workers N", b"--number N", b"--summary", b"--help, -h", b"--version", b"docs/SCRIPT.md", b"docs/RECORDS.md"):
+        for word in (b"--run V", b"--workers N", b"--number N", b"--summary", b"--intake V", b"--help, -h", b"--version", b"docs/SCRIPT.md", b"docs/RECORDS.md"):
             self.assertIn(word, page)
         for number in range(6):
             self.assertIn(b"\n        %d   " % number if number else b"status: 0   ", page)
@@ -92,7 +92,8 @@ class Command(unittest.TestCase):
 
     def test_wrong_words_are_told_and_nothing_is_played(self):
         for words in (("--fast",), ("scene.sf",), ("--run",), ("--run", "sideways"), ("--workers", "0"), ("--workers", "17"), ("--number", "-1"),
-                      ("--summary", "--summary"), ("--run", "live", "--summary"), ("--help", "--version"), ("--run", "--help")):
+                      ("--summary", "--summary"), ("--run", "live", "--summary"), ("--intake", "queue"), ("--run", "gen", "--intake", "queue"),
+                      ("--run", "live", "--intake", "rope"), ("--run", "live", "--intake"), ("--help", "--version"), ("--run", "--help")):
             with self.subTest(words=words):
                 self.assertEqual(called(*words, script=scene("red.sf")), (1, b"", USAGE))
 
@@ -108,7 +109,7 @@ class Command(unittest.TestCase):
 
     @unittest.skipUnless(os.path.exists("/dev/full"), "there is no /dev/full")
     def test_standard_output_that_cannot_be_written(self):
-        for words in ((), ("--run", "live"), ("--run", "gen"), ("--summary",), ("--help",)):
+        for words in ((), ("--run", "live"), ("--run", "live", "--intake", "queue"), ("--run", "gen"), ("--summary",), ("--help",)):
             with self.subTest(words=words), open("/dev/full", "wb") as full:
                 status, _, err = called(*words, script=scene("red.sf"), stdout=full)
                 self.assertEqual((status, err), (4, b"write failed\n"))
@@ -123,13 +124,14 @@ class Command(unittest.TestCase):
     def test_a_live_run_with_little_memory(self):
         with open(os.path.join(run.TOP, "crates", "worked_runs", "data", "phone.sf"), "rb") as file:
             script = file.read()
-        ended = [with_memory(size << 20, "--run", "live", script=script) for size in (*range(4, 36, 2), 48, 64, 128, 1024)]
-        began = [one for one in ended if one]
-        for status, records, err in began:
-            self.assertIn((status, err), [(0, b""), (5, b"out of memory\n")])
-            self.assertTrue(is_cut_once(records))
-            self.assertEqual(records.endswith(b"DONE" + bytes(4)), status == 0)
-        self.assertEqual((began[0][0], began[-1][0]), (5, 0), "with the least and the most memory")
+        for words in (), ("--intake", "queue"):
+            ended = [with_memory(size << 20, "--run", "live", *words, script=script) for size in (*range(4, 36, 2), 48, 64, 128, 1024)]
+            began = [one for one in ended if one]
+            for status, records, err in began:
+                self.assertIn((status, err), [(0, b""), (5, b"out of memory\n")])
+                self.assertTrue(is_cut_once(records))
+                self.assertEqual(records.endswith(b"DONE" + bytes(4)), status == 0)
+            self.assertEqual((began[0][0], began[-1][0]), (5, 0), "with the least and the most memory")
 
     def test_records_are_not_written_to_a_terminal(self):
         for words in ((), ("--run", "live"), ("--run", "gen"), ("--summary",)):

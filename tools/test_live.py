@@ -47,9 +47,10 @@ def shown_with(shown, commit):
     return {**shown, commit["token"]: pictures[-1] if pictures else shown.get(commit["token"])}
 
 
-def replies_owed(live, play):
-    """The replies of the play by their steps, but to each step that sent a transaction off its place among the arrivals of the run, from 1."""
-    places = {(actor, step): (0, (place,)) for place, (actor, step, _) in enumerate(live.arrivals, 1)}
+def replies_owed(live, play, is_queue=False):
+    """The replies of the play by their steps, but to each step that sent a transaction off its place among the arrivals of the run, from 1,
+    or 0 where transactions arrive through a queue."""
+    places = {(actor, step): (0, (0 if is_queue else place,)) for place, (actor, step, _) in enumerate(live.arrivals, 1)}
     return {**play.by_step, **places}
 
 
@@ -110,22 +111,22 @@ def told_by(name, *words):
 
 @unittest.skipUnless(PROGRAM, "sf_main is not built")
 class Live(unittest.TestCase):
-    def run_beside_play(self, name):
+    def run_beside_play(self, name, is_queue=False):
         """A live run and the play of a script, after all was judged that holds of both of them whatever the schedule is."""
         status, err, play = told_by(name)
         self.assertEqual((status, err, play.faults), (0, b"", []))
-        status, err, live = told_by(name, "--run", "live")
+        status, err, live = told_by(name, "--run", "live", *(("--intake", "queue") if is_queue else ()))
         self.assertEqual((status, err, live.faults), (0, b"", []))
         self.assertEqual([step for step, _, _ in live.replies], sorted(play.by_step), "replies by actor and step")
         self.assertEqual(sorted(live.arrivals), sorted(play.arrivals))
-        self.assertEqual(live.by_step, replies_owed(live, play))
+        self.assertEqual(live.by_step, replies_owed(live, play, is_queue))
         self.assertEqual((live.held, live.stuck), (play.held, play.stuck))
         self.assertEqual(list(untold_calls(live)), [])
         return live, play
 
-    def judge_frames(self, name, replies, arrivals):
+    def judge_frames(self, name, replies, arrivals, is_queue=False):
         """A run in which each transaction is committed, and each buffer was acquired for it."""
-        live, play = self.run_beside_play(name)
+        live, play = self.run_beside_play(name, is_queue)
         self.assertEqual((len(live.replies), len(live.arrivals), live.held, live.stuck), (replies, arrivals, [], []))
         self.assertEqual(sorted(commit["arrival"] for commit in live.commits), list(range(1, arrivals + 1)), "each is committed once")
         self.assertEqual({commit["result"] for commit in live.commits}, {0})
@@ -138,8 +139,9 @@ class Live(unittest.TestCase):
         return live, play
 
     def test_a_phones_screen(self):
-        for _ in range(3):
-            self.judge_frames("phone", 983, 123)
+        for is_queue in (False, True, True, False, True):
+            with self.subTest(is_queue=is_queue):
+                self.judge_frames("phone", 983, 123, is_queue)
 
     def test_two_producers_that_wait_for_the_compositor(self):
         for _ in range(5):
@@ -149,7 +151,7 @@ class Live(unittest.TestCase):
     def test_actors_that_wait_for_one_another(self):
         for name in ("sixteen-actors-in-a-ring", "a-signal-that-is-held-back", "a-wait-that-never-ends"):
             with self.subTest(name=name):
-                live, play = self.run_beside_play(name)
+                live, play = self.run_beside_play(name, name.startswith("sixteen"))
                 self.assertEqual({status for _, status, _ in live.replies} or {0}, {0})
                 self.assertEqual(live.frames, play.frames)
 
@@ -193,6 +195,8 @@ class Judging(unittest.TestCase):
             one, two, three = places
             owed = {(1, 4): (0, (one,)), (1, 5): (0, ()), (2, 4): (0, (two,)), (1, 8): (0, (three,))}
             self.assertEqual(replies_owed(self.told(arrivals=arrivals), play), owed)
+            unplaced = {step: (0, (0,) * len(values)) for step, (_, values) in owed.items()}
+            self.assertEqual(replies_owed(self.told(arrivals=arrivals), play, True), unplaced)
 
     def test_calls_are_answered_as_their_steps(self):
         for call, count in (((1, 5, 5, 0, 0, 0), 0), ((0, 1, 14, 0, 0, 1), 0), ((1, 5, 5, 13, 0, 0), 1), ((0, 1, 14, 1, 0, 1), 1)):

@@ -1,10 +1,10 @@
-ghost use Rattle.std.specs.Prelude.{◌≡◌, ◌≤◌, [], true, OnOk};
+ghost use Rattle.std.specs.Prelude.{◌≡◌, ◌≤◌, [], true, false, OnOk};
 ghost use Rattle.sf_actor_set.specs.Scripts.{permits_of};
 ghost use Rattle.sf_live.specs.Runs.{WroteLive};
 ghost use Rattle.sf_turns.specs.Counts.{range};
 
 use sf_io::{Gate, Sink};
-use sf_live::live;
+use sf_live::{live, live_queue};
 use sf_picture::Painted;
 use sf_record::RunFault;
 use sf_scene::Scene;
@@ -34,4 +34,32 @@ pub fn live_means<R: Threads + Wait + Sync, K: Sink, G: Gate + Sync, B: TableNam
     ensures ok { OnOk result (WroteLive true scene (K.taken sink.old) (K.taken sink.new)) }
 {
     live::<R, K, G, B>(rt, alloc, workers, sink, gate, scene, seat, stock)
+}
+
+/// So has one whose transactions arrive through a queue, where no sender is told its place.
+pub fn live_queue_means<
+    R: Threads + Wait + Sync,
+    K: Sink,
+    G: Gate + Sync,
+    B: TableName + Send + Sync,
+>(
+    rt: &R,
+    alloc: Global,
+    workers: u32,
+    sink: &mut K,
+    gate: &G,
+    scene: Scene,
+    seat: TurnSeat<Painted>,
+    stock: Stock<Painted>,
+) -> Result<(), RunFault>
+    requires some { 1 ≤ workers }
+    requires few { workers ≤ 16 }
+    requires own { (seat.table ≡ B.table) × (stock.table ≡ B.table) }
+    requires first { (seat.is_first ≡ true) × (seat.out ≡ 0) }
+    requires fresh { seat.leaves ≡ [] }
+    requires whole { stock.buffers ≡ range 0 (permits_of scene.actors) }
+    requires sized { permits_of scene.actors ≤ B.table.slots }
+    ensures ok { OnOk result (WroteLive false scene (K.taken sink.old) (K.taken sink.new)) }
+{
+    live_queue::<R, K, G, B>(rt, alloc, workers, sink, gate, scene, seat, stock)
 }

@@ -1,6 +1,6 @@
 use crate::scripts::push_line;
 use sf_base::NoMemory;
-use sf_options::{About, Options, OptionsFault, Run};
+use sf_options::{About, Intake, Options, OptionsFault, Run};
 use sf_words::next_line;
 use std::alloc::Global;
 use std::str;
@@ -26,7 +26,13 @@ fn push_options(told: &mut Vec<u8>, alloc: Global, options: Options) -> Result<(
     };
     let (workers, number) = (options.workers, options.number);
     let summary = options.summary;
-    let line = format!(in alloc; "run {run} workers {workers} number {number} summary {summary}")?;
+    let intake = match options.intake {
+        Intake::Lock => "lock",
+        Intake::Queue => "queue",
+    };
+    let line = format!(in alloc;
+        "run {run} workers {workers} number {number} summary {summary} intake {intake}"
+    )?;
     push_line(told, line.as_bytes())
 }
 

@@ -11,18 +11,27 @@ use std::{fs, io};
 /// How many of the writes of a run fail in turn: those of the first record, of vsyncs and of replies.
 const FAILING_WRITES: u64 = 24;
 
-// Runs the script of this name with a word and a gate, into a sink of which some writes fail: the
+/// The words of a play, of a live run, and of one whose transactions arrive through a queue.
+const PLAY: &[&str] = &["--run=play"];
+
+const LIVE: &[&str] = &["--run=live"];
+
+const LIVE_QUEUE: &[&str] = &["--run=live", "--intake=queue"];
+
+// Runs the script of this name with words and a gate, into a sink of which some writes fail: the
 // status, and the sink with what was written.
 fn run_with<R: Files + AllocGlobal + Threads + Wait + Sync, G: Gate + Sync>(
     rt: &R,
     name: &str,
-    word: &str,
+    asked: &[&str],
     failing_writes: Vec<u64>,
     gate: &G,
 ) -> io::Result<(u8, MemSink)> {
     let alloc = rt.alloc();
     let mut words = Vec::new(alloc);
-    words.push(String::from_str(alloc, word)?)?;
+    for word in asked {
+        words.push(String::from_str(alloc, word)?)?;
+    }
     let path = format!(in alloc; "{name}.sf")?;
     let mut source = MemSource::new(fs::read(rt, path.as_str())?, Vec::new(alloc));
     let mut sink = MemSink::new(alloc, failing_writes);
@@ -37,7 +46,7 @@ fn run_live<R: Files + AllocGlobal + Threads + Wait + Sync, G: Gate + Sync>(
     failing_writes: Vec<u64>,
     gate: &G,
 ) -> io::Result<(u8, MemSink)> {
-    run_with(rt, name, "--run=live", failing_writes, gate)
+    run_with(rt, name, LIVE, failing_writes, gate)
 }
 
 // The steps that have replies, and then those at which actors are stuck.
@@ -171,7 +180,7 @@ fn are_among(frames: &[&[u8]], all: &[&[u8]]) -> bool {
 fn show_frames<R: Files + AllocGlobal + Print + Threads + Wait + Sync>(rt: &R) -> io::Result<()> {
     let name = "two-large-buffers";
     let alloc = rt.alloc();
-    let (_, played) = run_with(rt, name, "--run=play", Vec::new(alloc), &OpenGate)?;
+    let (_, played) = run_with(rt, name, PLAY, Vec::new(alloc), &OpenGate)?;
     let (status, sink) = run_live(rt, name, Vec::new(alloc), &OpenGate)?;
     println!(rt; "== {name} live status {status}")?;
     println!(rt; "steps: {}", steps_in(alloc, sink.bytes())?.len())?;
@@ -181,6 +190,65 @@ fn show_frames<R: Files + AllocGlobal + Print + Threads + Wait + Sync>(rt: &R) -
         rt,
         "each frame is one of the play",
         are_among(&frames, &all),
+    )
+}
+
+// The steps whose transactions arrived.
+fn arrived_in(alloc: Global, records: &[u8]) -> io::Result<Vec<StepOf>> {
+    let mut steps = Vec::new(alloc);
+    for (tag, body) in (Records { rest: records }) {
+        if tag == "ARRV" {
+            let mut body = Body { rest: body };
+            for _ in 0..body.number(4)? {
+                let actor = body.number(4)?;
+                let step = body.number(4)?;
+                body.number(4)?;
+                steps.push((actor, step))?;
+            }
+        }
+    }
+    Ok(steps)
+}
+
+// The steps that were done and answered with one value, which is 0.
+fn answered_0(alloc: Global, records: &[u8]) -> io::Result<Vec<StepOf>> {
+    let mut steps = Vec::new(alloc);
+    for (tag, body) in (Records { rest: records }) {
+        if tag == "REPL" {
+            let mut body = Body { rest: body };
+            let actor = body.number(4)?;
+            let step = body.number(4)?;
+            let status = body.number(4)?;
+            let count = body.number(4)?;
+            if status == 0 && count == 1 && body.number(8)? == 0 {
+                steps.push((actor, step))?;
+            }
+        }
+    }
+    Ok(steps)
+}
+
+// Runs a script live at whose gate actors meet, where transactions arrive through a queue, and prints
+// what came of it: each step that sent one has the one value 0.
+fn show_queue<R: Files + AllocGlobal + Print + Threads + Wait + Sync>(
+    rt: &R,
+    name: &str,
+) -> io::Result<()> {
+    let alloc = rt.alloc();
+    let gate = MeetingGate::new(alloc, 1, 10, 0);
+    let (status, sink) = run_with(rt, name, LIVE_QUEUE, Vec::new(alloc), &gate)?;
+    println!(rt; "== {name} live through a queue status {status}")?;
+    say(rt, "an actor waited in vain", gate.gave_up())?;
+    println!(rt; "steps: {}", steps_in(alloc, sink.bytes())?.len())?;
+    let mut arrived = arrived_in(alloc, sink.bytes())?;
+    println!(rt; "arrivals: {}", arrived.len())?;
+    arrived.sort()?;
+    let mut answered = answered_0(alloc, sink.bytes())?;
+    answered.sort()?;
+    say(
+        rt,
+        "each was answered with 0, and no other step was",
+        arrived == answered,
     )
 }
 
@@ -198,6 +266,8 @@ pub fn show<R: Files + AllocGlobal + Print + Threads + Wait + Sync>(rt: &R) -> i
         let gate = MeetingGate::new(rt.alloc(), one, meetings, ahead);
         show_meeting(rt, name, gate, is_fixed)?;
     }
+    show_queue(rt, "phone")?;
+    show_queue(rt, "producers-with-two-buffers")?;
     show_frames(rt)?;
     show_unseen(rt)?;
     show_failing(rt)

@@ -22,6 +22,8 @@
 //! - A signal that is held back until the actor that waits for it has come to its next step: it is held
 //!   back in vain, since that step may not be begun before the wait is done.
 //! - Sixteen actors that wait for one another's signals in a ring.
+//! - The phone's screen and the two producers with transactions that arrive through a queue: each step
+//!   that sent one is answered with 0.
 //! - A producer with two buffers and a large display, whose images are composed in a thread beside the
 //!   next vsync: each frame of the run is one of the play, though a buffer is given back while its pixels
 //!   are still read.
