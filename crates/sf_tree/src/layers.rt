@@ -1,4 +1,4 @@
-ghost use Rattle.std.specs.Prelude.{◌≡◌, ◌<◌, ◌-◌, ◌++◌, ◌∷◌, [], None, Some, List, length, map, take, IfOk, OnOk, OnErr, slice_get, slice_set, slice_index_or};
+ghost use Rattle.std.specs.Prelude.{◌≡◌, ◌<◌, ◌-◌, ◌++◌, ◌∷◌, [], List, length, map, take, IfOk, OnOk, OnErr, slice_get, slice_set, slice_index_or};
 ghost use Rattle.sf_tree.specs.Layers.{index_of, has_layer, has_parent};
 ghost use Rattle.sf_tree.specs.Changes.{without, without_steps_to};
 ghost use Rattle.sf_tree.specs.Index.{IsIndexed, StandsUpTo};
