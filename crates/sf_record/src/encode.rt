@@ -294,13 +294,16 @@ fn push_summary(out: &mut Vec<u8>, summary: &Summary) -> Result<(), NoMemory>
     push_u64(out, summary.stuck)
 }
 
+// So many bytes a body has room for at first: most records, a reply above all, have no more.
+const FIRST_ROOM: usize = 64;
+
 // The body of a record.
 #[tactic(auto, unfolding(crate::specs::Records::body_of))]
 fn body(alloc: Global, shown: &Record) -> Result<Vec<u8>, NoMemory>
     ensures ok { IfOk result (λ v. v.items ≡ body_of shown.now) }
     ensures fits { OnOk result (FieldsFit shown.now) }
 {
-    let mut out = Vec::new(alloc);
+    let mut out = Vec::with_capacity(alloc, FIRST_ROOM)?;
     match shown {
         Record::Scen(scene) => push_scene(&mut out, scene)?,
         Record::Repl(reply) => push_reply(&mut out, reply)?,
