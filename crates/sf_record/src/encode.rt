@@ -20,14 +20,21 @@ use sf_output::Output;
 use sf_script::ScriptFault;
 use std::alloc::Global;
 
+// The four bytes of a number.
 #[tactic(auto, unfolding(crate::specs::Records::u32_bytes))]
+fn four_bytes(n: u32) -> [u8; 4]
+    ensures { result ≡ u32_bytes n }
+{
+    let mut buf = [0u8; 4];
+    BigEndian::write_u32(&mut buf, n);
+    buf
+}
+
 fn push_u32(out: &mut Vec<u8>, n: u32) -> Result<(), NoMemory>
     ensures ok { OnOk result (out.new.items ≡ out.old.items ++ u32_bytes n) }
     ensures fits { OnOk result (Fits32 n) }
 {
-    let mut buf = [0u8; 4];
-    BigEndian::write_u32(&mut buf, n);
-    out.extend_from_slice(&buf)?;
+    out.extend_from_slice(&four_bytes(n))?;
     Ok(())
 }
 
@@ -205,14 +212,35 @@ fn push_scene(out: &mut Vec<u8>, scene: &SceneHeader) -> Result<(), NoMemory>
     push_u64(out, scene.period)
 }
 
+// Four numbers of four bytes at once, as a reply begins with.
+#[tactic(auto, unfolding(crate::specs::Records::u32_bytes))]
+fn push_four(out: &mut Vec<u8>, a: u32, b: u32, c: u32, d: u32) -> Result<(), NoMemory>
+    ensures ok { OnOk result (out.new.items ≡ out.old.items ++ (u32_bytes a ++ u32_bytes b ++ u32_bytes c ++ u32_bytes d)) }
+    ensures fits { OnOk result ((Fits32 a × Fits32 b) × (Fits32 c × Fits32 d)) }
+{
+    let [a0, a1, a2, a3] = four_bytes(a);
+    let [b0, b1, b2, b3] = four_bytes(b);
+    let [c0, c1, c2, c3] = four_bytes(c);
+    let [d0, d1, d2, d3] = four_bytes(d);
+    let bytes = [
+        a0, a1, a2, a3, b0, b1, b2, b3, c0, c1, c2, c3, d0, d1, d2, d3,
+    ];
+    out.extend_from_slice(&bytes)?;
+    Ok(())
+}
+
+#[tactic(auto, unfolding(crate::specs::Records::list_bytes))]
 fn push_reply(out: &mut Vec<u8>, reply: &Reply) -> Result<(), NoMemory>
     ensures ok { OnOk result (out.new.items ≡ out.old.items ++ reply_bytes reply.now) }
     ensures fits { OnOk result (ReplyFits reply.now) }
 {
-    push_u32(out, reply.actor)?;
-    push_u32(out, reply.step)?;
-    push_u32(out, reply.status)?;
-    push_list(out, reply.values.as_slice())
+    match u32::try_from(reply.values.len()) {
+        Ok(count) => {
+            push_four(out, reply.actor, reply.step, reply.status, count)?;
+            push_all(out, reply.values.as_slice())
+        }
+        Err(_) => Err(NoMemory),
+    }
 }
 
 fn push_vsync(out: &mut Vec<u8>, vsync: &VsyncHeader) -> Result<(), NoMemory>
