@@ -4,7 +4,7 @@ use crate::area::Area;
 
 // So many bytes of a frame are composed at a time, all layers one after another: they stay in a
 // processor's cache until the last layer is painted.
-const SLICE_BYTES: usize = 65_536;
+const SLICE_BYTES: usize = 262_144;
 
 // How many rows of an area are composed at a time.
 pub fn rows_at_once(area: Area) -> u32
