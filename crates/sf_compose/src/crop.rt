@@ -51,32 +51,7 @@ fn pixels_from(bytes: &[u8], from: usize, count: usize) -> &[u8]
     &bytes[4 * from..4 * (from + count)]
 }
 
-// The pixels of a crop at the points of a row from one on and before another, where the first of them
-// has this number in the picture.
-pub fn crop_row_from(
-    picture: &Painted,
-    crop: Crop,
-    y: u32,
-    left: u32,
-    right: u32,
-    from: usize,
-) -> &[u8]
-    requires crop { LiesWithin crop.rect picture.now.width picture.now.height }
-    requires ordered { left < right }
-    requires first { is_within crop.place.0 crop.rect.width (pos left) ≡ true }
-    requires last { is_within crop.place.0 crop.rect.width (pos (right - 1)) ≡ true }
-    requires down { is_within crop.place.1 crop.rect.height (pos y) ≡ true }
-    requires from { from ≡ unsigned ((pos y +ℤ neg_ℤ crop.place.1) +ℤ crop.rect.y) * picture.now.width
-        + unsigned ((pos left +ℤ neg_ℤ crop.place.0) +ℤ crop.rect.x) }
-    ensures size { length result.now ≡ 4 * (right - left) }
-    ensures pixels { (k : ℕ) → k < right - left → pixel_in result.now k ≡ pixel_at picture.now
-        (unsigned ((pos (left + k) +ℤ neg_ℤ crop.place.0) +ℤ crop.rect.x))
-        (unsigned ((pos y +ℤ neg_ℤ crop.place.1) +ℤ crop.rect.y)) }
-{
-    pixels_from(picture.bytes(), from, (right - left) as usize)
-}
-
-// The same pixels, where the number of the first is looked for.
+// The pixels of a crop at the points of a row from one on and before another.
 pub fn crop_row(picture: &Painted, crop: Crop, y: u32, left: u32, right: u32) -> &[u8]
     requires crop { LiesWithin crop.rect picture.now.width picture.now.height }
     requires ordered { left < right }
@@ -89,7 +64,7 @@ pub fn crop_row(picture: &Painted, crop: Crop, y: u32, left: u32, right: u32) ->
         (unsigned ((pos y +ℤ neg_ℤ crop.place.1) +ℤ crop.rect.y)) }
 {
     let from = crop_start(picture, crop, y, left, right);
-    crop_row_from(picture, crop, y, left, right, from)
+    pixels_from(picture.bytes(), from, (right - left) as usize)
 }
 
 // The pixels of a crop that is as wide as its picture and starts at column 0, at the points of the rows

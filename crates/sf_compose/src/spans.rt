@@ -1,4 +1,4 @@
-ghost use Rattle.std.specs.Prelude.{◌≡◌, ℕ, ◌-◌, ◌*◌, ◌≤◌, length, true, IsTrue};
+ghost use Rattle.std.specs.Prelude.{◌≡◌, ℕ, ◌+◌, ◌-◌, ◌*◌, ◌≤◌, length, true, IsTrue};
 ghost use Rattle.sf_base.specs.Paint.{painted};
 ghost use Rattle.sf_compose.specs.Painting.{PaintsSpan};
 ghost use Rattle.sf_base.specs.Bytes.{pixel_in};
@@ -61,6 +61,15 @@ pub fn move_pixels(frame: &mut [u8], start: usize, end: usize, row: &[u8])
     ensures { PaintsSpan frame.old frame.new start end (λ i under. pixel_in row.now (i - start)) }
 {
     frame[4 * start..4 * end].copy_from_slice(row);
+}
+
+// Moves so many pixels of others, from one number on, over those from a number on.
+pub fn move_part(frame: &mut [u8], to: usize, pixels: &[u8], from: usize, count: usize)
+    requires room { 4 * (to + count) ≤ length frame.old }
+    requires within { 4 * (from + count) ≤ length pixels.now }
+    ensures { PaintsSpan frame.old frame.new to (to + count) (λ i under. pixel_in pixels.now (from + (i - to))) }
+{
+    frame[4 * to..4 * (to + count)].copy_from_slice(&pixels[4 * from..4 * (from + count)]);
 }
 
 // Copies pixels over those from one number on and before another, and tells whether all of them hide
