@@ -1,13 +1,13 @@
--- Rectangles that don't meet share no point.
+-- Rectangles that don't meet share no point, and one that has another has its points.
 use Rattle.std.proofs.Common.{◌≡◌, ℕ, ℤ, Bool, true, false, not, ◌&&◌, ◌||◌, List, [], ◌∷◌, refl, ap, sym, ◌∙◌, arith, inl, inr}
-use Rattle.std.specs.List.{filter, list_any}
+use Rattle.std.specs.List.{filter, list_all, list_any}
 use Rattle.std.proofs.lemmas.Bool.{and_from, and_parts, both_ways, false≢true, or_cases, or_left, or_right}
 use Rattle.std.proofs.lemmas.Bool.Decides.{nat_tests}
 use Rattle.std.proofs.lemmas.Int.{ints}
 use Rattle.sf_base.specs.Geometry.{covers, is_within}
 use Rattle.sf_base.specs.declared.geometry.Rect.{Rect}
 use Rattle.sf_region.specs.Points.{has}
-use Rattle.sf_damage.specs.Meeting.{meets, spans_meet}
+use Rattle.sf_damage.specs.Meeting.{meets, rect_has, span_has, spans_meet}
 
 span_point : (start other at : ℤ) (extent many : ℕ) → is_within start extent at ≡ true → is_within other many at ≡ true → spans_meet start extent other many ≡ true
 span_point start other at extent many a b = grind (arith, ints, nat_tests)
@@ -52,3 +52,40 @@ by_points false false apart = (refl, refl, refl)
 -- a rectangle that a region does not meet has none of its points
 pub apart_points : (rs : List Rect) (q : Rect) (b : Bool) → b ≡ list_any (λ part. meets part q) rs → b ≡ false → (x y : ℤ) → (false ≡ (has rs x y && covers q x y)) × (has rs x y ≡ (has rs x y && not (covers q x y))) × (covers q x y ≡ (covers q x y && not (has rs x y)))
 apart_points rs q b is lacks x y = by_points (has rs x y) (covers q x y) (λ h c. both_ways b lacks (is ∙ region_point rs q x y h c))
+
+span_more : (start other at : ℤ) (extent many : ℕ) → span_has start extent other many ≡ true → is_within other many at ≡ true → is_within start extent at ≡ true
+span_more start other at extent many a b = grind (arith, ints, nat_tests)
+
+-- a rectangle that has all of another has each of its points
+rect_more : (r q : Rect) (x y : ℤ) → rect_has r q ≡ true → covers q x y ≡ true → covers r x y ≡ true
+unfolding covers
+rect_more r q x y a b =
+    let whole = and_parts (span_has r.x r.width q.x q.width) _ a in
+    let point = and_parts (is_within q.x q.width x) _ b in
+    and_from (is_within r.x r.width x) _ (span_more r.x q.x x r.width q.width whole.0 point.0) (span_more r.y q.y y r.height q.height whole.1 point.1)
+
+all_more : (q : Rect) (rs : List Rect) (x y : ℤ) → list_all (λ part. rect_has q part) rs ≡ true → has rs x y ≡ true → covers q x y ≡ true
+all_more q [] x y a b = absurd (false≢true b)
+all_more q (r ∷ rs) x y a b =
+    let parts = and_parts (rect_has q r) _ a in
+    elim (or_cases (covers r x y) (has rs x y) b) [
+      | inl here ↦ rect_more q r x y parts.0 here
+      | inr later ↦ all_more q rs x y parts.1 later
+    ]
+
+by_whole : (h c : Bool) → (h ≡ true → c ≡ true) → (h ≡ (h && c)) × (false ≡ (h && not c))
+by_whole true true within = (refl, refl)
+by_whole true false within = absurd (false≢true (within refl))
+by_whole false c within = (refl, refl)
+
+-- a rectangle that has all rectangles of a region leaves nothing of it
+pub whole_points : (rs : List Rect) (q : Rect) (b : Bool) → b ≡ list_all (λ part. rect_has q part) rs → b ≡ true → (x y : ℤ) → (has rs x y ≡ (has rs x y && covers q x y)) × (false ≡ (has rs x y && not (covers q x y)))
+whole_points rs q b is whole x y = by_whole (has rs x y) (covers q x y) (λ h. all_more q rs x y (sym is ∙ whole) h)
+
+-- rectangles of which one has all of a window have each of its points
+pub one_more : (rs : List Rect) (w : Rect) (x y : ℤ) → list_any (λ r. rect_has r w) rs ≡ true → covers w x y ≡ true → has rs x y ≡ true
+one_more [] w x y a b = absurd (false≢true a)
+one_more (r ∷ rs) w x y a b = elim (or_cases (rect_has r w) (list_any (λ s. rect_has s w) rs) a) [
+  | inl here ↦ or_left (covers r x y) (has rs x y) (rect_more r w x y here b)
+  | inr later ↦ or_right (covers r x y) (has rs x y) (one_more rs w x y later b)
+]

@@ -1,8 +1,8 @@
 ghost use Rattle.std.specs.Prelude.{◌≡◌, ◌↔◌, ℕ, ℤ, pos, ◌+ℤ◌, int_lt, ◌&&◌, ◌||◌, not, IfOk, IsTrue, []};
-ghost use Rattle.std.specs.List.{list_any};
+ghost use Rattle.std.specs.List.{list_all, list_any};
 ghost use Rattle.sf_base.specs.Geometry.{covers};
 ghost use Rattle.sf_region.specs.Points.{has, IsInBounds};
-ghost use Rattle.sf_damage.specs.Meeting.{meets, spans_meet};
+ghost use Rattle.sf_damage.specs.Meeting.{meets, rect_has, span_has, spans_meet};
 
 use sf_base::{NoMemory, Rect};
 use sf_region::Region;
@@ -30,11 +30,40 @@ pub fn meets(one: &Rect, other: &Rect) -> bool
         && spans_meet(one.y, one.height, other.y, other.height)
 }
 
+// Where a span ends.
+fn end_of(start: i32, extent: u32) -> i64
+    ensures { result ≡ (start +ℤ pos extent) }
+{
+    i64::from(start) + i64::from(extent)
+}
+
+// Whether a span has all coordinates of another.
+fn span_has(start: i32, extent: u32, other: i32, many: u32) -> bool
+    ensures { result ≡ span_has start extent other many }
+{
+    start <= other && end_of(other, many) <= end_of(start, extent)
+}
+
+// Whether a rectangle has all points of another.
+pub fn rect_has(one: &Rect, other: &Rect) -> bool
+    ensures { result ≡ rect_has one.now other.now }
+{
+    span_has(one.x, one.width, other.x, other.width)
+        && span_has(one.y, one.height, other.y, other.height)
+}
+
 // Whether a region may have a point of a rectangle.
 fn touches(region: &Region, rect: &Rect) -> bool
     ensures { result ≡ list_any (λ part. meets part rect.now) region.now }
 {
     region.rects().iter().any(|part| meets(part, rect))
+}
+
+// Whether a rectangle has all points of a region.
+fn has_all(rect: &Rect, region: &Region) -> bool
+    ensures { result ≡ list_all (λ part. rect_has rect.now part) region.now }
+{
+    region.rects().iter().all(|part| rect_has(rect, part))
 }
 
 // Whether a region has no point.
@@ -51,7 +80,8 @@ pub struct Halves {
     pub outside: Region,
 }
 
-// Splits a region at a rectangle. Where they don't meet, it takes no memory.
+// Splits a region at a rectangle. Where they don't meet, or the rectangle has all of the region, it
+// takes no memory.
 pub fn split(alloc: Global, region: Region, rect: Rect) -> Result<Halves, NoMemory>
     requires { IsInBounds rect }
     ensures inside { IfOk result (λ parts. (x y : ℤ) → has parts.inside x y ≡ (has region x y && covers rect x y)) }
@@ -61,6 +91,12 @@ pub fn split(alloc: Global, region: Region, rect: Rect) -> Result<Halves, NoMemo
         return Ok(Halves {
             inside: Region::empty(alloc),
             outside: region,
+        });
+    }
+    if has_all(&rect, &region) {
+        return Ok(Halves {
+            inside: region,
+            outside: Region::empty(alloc),
         });
     }
     let cover = Region::rect(alloc, rect)?;

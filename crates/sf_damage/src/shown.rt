@@ -3,12 +3,12 @@ ghost use Rattle.std.specs.List.{All, filter, list_any};
 ghost use Rattle.sf_base.specs.Geometry.{covers};
 ghost use Rattle.sf_region.specs.Points.{IsInBounds, has};
 ghost use Rattle.sf_damage.specs.Damage.{AreNear};
-ghost use Rattle.sf_damage.specs.Meeting.{meets};
+ghost use Rattle.sf_damage.specs.Meeting.{meets, rect_has};
 ghost use Rattle.sf_damage.specs.Visible.{AreVisibleAt, AreVisibleIn, hides_all, hides_at};
 
 use crate::bounds::bounds;
 use crate::gathered::region_of;
-use crate::parts::{is_empty, meets};
+use crate::parts::{is_empty, meets, rect_has};
 use sf_base::{NoMemory, Rect};
 use sf_region::Region;
 use sf_view::{Drawn, View};
@@ -34,6 +34,13 @@ fn those_met(alloc: Global, rects: &[Rect], rect: &Rect) -> Result<Vec<Rect>, No
     Ok(met)
 }
 
+// Whether one of these rectangles has all points of this one.
+fn one_has(rects: &[Rect], rect: &Rect) -> bool
+    ensures { result ≡ list_any (λ other. rect_has other rect.now) rects.now }
+{
+    rects.iter().any(|other| rect_has(other, rect))
+}
+
 // Of the points of a window, those of a rectangle that none of these others has. Only those that it
 // meets are gone over, and none of them where it doesn't meet the window.
 fn left(alloc: Global, rect: Rect, window: &Rect, hidden: &[Rect]) -> Result<Region, NoMemory>
@@ -46,6 +53,9 @@ fn left(alloc: Global, rect: Rect, window: &Rect, hidden: &[Rect]) -> Result<Reg
         return Ok(Region::empty(alloc));
     }
     let met = those_met(alloc, hidden, &rect)?;
+    if one_has(&met, window) {
+        return Ok(Region::empty(alloc));
+    }
     let cover = Region::rect(alloc, rect)?;
     let over = region_of(alloc, &met)?;
     if is_empty(&over) {
