@@ -92,12 +92,16 @@ fn left_over(alloc: Global, olds: &[Drawn], news: &[Drawn]) -> Result<Vec<Rect>,
     Ok(clips)
 }
 
-// A region beside which two lists of drawn layers have the same stacks.
+// A region beside which two lists of drawn layers have the same stacks. Where one layer stands for one,
+// no layer is looked for.
 pub fn changes(alloc: Global, olds: &[Drawn], news: &[Drawn]) -> Result<Region, NoMemory>
     requires olds { AreNear olds.now }
     requires news { AreNear news.now }
     ensures { IfOk result (IsSameBeside olds.now news.now) }
 {
+    if olds.len() == 1 && news.len() == 1 {
+        return region_of(alloc, &[olds[0].clip, news[0].clip]);
+    }
     let clips = left_over(alloc, olds, news)?;
     region_of(alloc, &clips)
 }
