@@ -13,34 +13,6 @@ const NOWHERE: Rect = Rect {
     height: 0,
 };
 
-// The lesser of two coordinates within the bounds of regions.
-fn lesser(one: i32, other: i32) -> i32
-    requires one { neg_far ≤ℤ one }
-    requires other { neg_far ≤ℤ other }
-    ensures near { neg_far ≤ℤ result }
-    ensures one { result ≤ℤ one }
-    ensures other { result ≤ℤ other }
-{
-    if one < other {
-        return one;
-    }
-    other
-}
-
-// The greater of two.
-fn greater(one: i32, other: i32) -> i32
-    requires one { one ≤ℤ far }
-    requires other { other ≤ℤ far }
-    ensures near { result ≤ℤ far }
-    ensures one { one ≤ℤ result }
-    ensures other { other ≤ℤ result }
-{
-    if one < other {
-        return other;
-    }
-    one
-}
-
 // How many coordinates there are from one on and before another.
 fn count_from(first: i32, end: i32) -> u32
     requires from { neg_far ≤ℤ first }
@@ -62,8 +34,8 @@ fn span_of_both(start: i32, extent: u32, other: i32, many: u32) -> (i32, u32)
     ensures one { (at : ℤ) → is_within start extent at ≡ true → is_within result.0 result.1 at ≡ true }
     ensures other { (at : ℤ) → is_within other many at ≡ true → is_within result.0 result.1 at ≡ true }
 {
-    let first = lesser(start, other);
-    let end = greater(start + extent as i32, other + many as i32);
+    let first = start.min(other);
+    let end = (start + extent as i32).max(other + many as i32);
     (first, count_from(first, end))
 }
 
