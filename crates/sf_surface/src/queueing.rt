@@ -18,6 +18,25 @@ use sf_turns::{TableName, Turn};
 use std::alloc::Global;
 use std::marker::PhantomData;
 
+/// The call with what it brought, for a reply or an error that hands it back.
+fn queue_call<B: TableName>(
+    lease: WriteLease<B>,
+    picture: Picture,
+    time: Option<u64>,
+    crop: Rect,
+    fence: Fence,
+) -> QCall<B>
+    ensures { result ≡ call.Queue lease picture time crop fence }
+{
+    QCall::Queue {
+        lease,
+        picture,
+        time,
+        crop,
+        fence,
+    }
+}
+
 /// Queues a lent buffer as a frame that shows the picture.
 pub(crate) fn queue<B: TableName>(
     slots: &mut Slots<Turn<Painted>>,
@@ -41,35 +60,17 @@ pub(crate) fn queue<B: TableName>(
     let said = queued_said(queue, &lease, &picture);
     if !has_buffer(slots, said.slot, said.held) {
         let cause = unlent_refusal(slots, by);
-        let call = QCall::Queue {
-            lease,
-            picture,
-            time,
-            crop,
-            fence,
-        };
+        let call = queue_call(lease, picture, time, crop, fence);
         return Ok(refused(cause, call, room));
     }
     let (number, width, height) = (picture.number, picture.width, picture.height);
     let refusal = queue_refusal(slots, by, said.slot, said.held.number, width, height, crop);
     if let Some(cause) = refusal {
-        let call = QCall::Queue {
-            lease,
-            picture,
-            time,
-            crop,
-            fence,
-        };
+        let call = queue_call(lease, picture, time, crop, fence);
         return Ok(refused(cause, call, room));
     }
     let Ok(kept) = fence.copy(alloc) else {
-        let call = QCall::Queue {
-            lease,
-            picture,
-            time,
-            crop,
-            fence,
-        };
+        let call = queue_call(lease, picture, time, crop, fence);
         return Err((NoMemory, call));
     };
     let WriteLease {
@@ -93,13 +94,7 @@ pub(crate) fn queue<B: TableName>(
                 work,
                 of,
             };
-            let call = QCall::Queue {
-                lease,
-                picture,
-                time,
-                crop,
-                fence,
-            };
+            let call = queue_call(lease, picture, time, crop, fence);
             return Err((no_memory, call));
         }
     };
