@@ -1,33 +1,43 @@
 ghost use Rattle.std.specs.Option.{option_map_or};
-ghost use Rattle.std.specs.Prelude.{◌≡◌, IfOk, map};
-ghost use Rattle.sf_display.specs.Index.{declared_for};
+ghost use Rattle.std.specs.Prelude.{◌≡◌, ℕ, List, IfOk, map};
+ghost use Rattle.sf_display.specs.Index.{by_layer, declared_for};
 ghost use Rattle.sf_shown.specs.Above.{found_above};
 ghost use Rattle.sf_shown.specs.Displays.{order_on, stack_on};
 ghost use Rattle.sf_shown.specs.declared.above.Wanted.TheVariants as wanted;
 ghost use Rattle.sf_view.specs.Views.{IsDisplay, ViewsInOrder};
 
-use crate::declared::Declared;
 use sf_base::{LayerId, NoMemory};
-use sf_shown::{Wanted, found_above};
+use sf_shown::{ByLayer, Wanted, found_above};
 use sf_tree::Tree;
 use sf_view::{View, view_in_order};
 use std::alloc::Global;
 
+/// The declared stacks by the layers that they are declared for.
+fn declared(alloc: Global, stacks: &[(u32, u32)]) -> Result<ByLayer<u32>, NoMemory>
+    ensures { IfOk result (λ declared. declared ≡ map by_layer stacks.now) }
+{
+    let mut notes = Vec::new(alloc);
+    for (number, stack) in stacks {
+        notes.push((LayerId(*number), *stack))?;
+    }
+    ByLayer::new(alloc, notes)
+}
+
 /// The stack that is declared for a layer, if there is one, 0 where none is.
-fn stack_of(declared: &Declared, layer: Option<LayerId>) -> u32
+fn stack_of(declared: &ByLayer<u32>, layer: Option<LayerId>) -> u32
     ensures { result ≡ option_map_or (declared_for declared.now) layer 0 }
 {
     match layer {
-        Some(id) => declared.of(id),
+        Some(id) => declared.of(id).unwrap_or(0),
         None => 0,
     }
 }
 
 /// The stack that the layer of this number is on, 0 where there is no such layer. Of each layer of the
 /// tree it is known which one above it hangs from the root.
-fn stack_on(tree: &Tree, tops: &[Option<LayerId>], declared: &Declared, id: LayerId) -> u32
+fn stack_on(tree: &Tree, tops: &[Option<LayerId>], declared: &ByLayer<u32>, id: LayerId) -> u32
     requires { tops.now ≡ map (found_above wanted.Top tree.now.layers) tree.now.layers }
-    ensures { result ≡ stack_on tree.now.layers declared.now id }
+    ensures { (stacks : List (ℕ × ℕ)) → declared.now ≡ map by_layer stacks → result ≡ stack_on tree.now.layers stacks id }
 {
     match tree.index_of(id) {
         Some(index) => stack_of(declared, tops[index]),
@@ -45,7 +55,7 @@ fn order_on(
     ensures { IfOk result (λ order. order.items ≡ order_on tree.now.layers stacks.now stack) }
 {
     let tops = found_above(alloc, tree, Wanted::Top)?;
-    let declared = Declared::new(alloc, stacks)?;
+    let declared = declared(alloc, stacks)?;
     let all = tree.draw_order()?;
     let mut order = Vec::new(alloc);
     for id in &all {

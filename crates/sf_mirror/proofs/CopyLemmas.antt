@@ -9,16 +9,17 @@ use Rattle.sf_base.specs.declared.ids.LayerId.{LayerId}
 use Rattle.sf_layer.specs.declared.layer.Layer.{Layer}
 use Rattle.sf_tree.specs.Kept.{IsLayerInRange, IsOfKind, IsTree}
 use Rattle.sf_tree.specs.Layers.{is_numbered}
-use Rattle.sf_shown.specs.Copies.{copied, copy_of, is_name_of}
+use Rattle.sf_shown.specs.ByLayer.{is_for}
+use Rattle.sf_shown.specs.Copies.{copied, copy_of}
 use Rattle.sf_shown.specs.Cuts.{is_under, under}
 use Rattle.sf_shown.specs.Making.{CanBeMade}
 use Rattle.sf_shown.proofs.KeepingLemmas.{either, origin, under-few}
 
 pub positive_copy : (names : List (LayerId × LayerId)) (id : LayerId) → All (λ (name : LayerId × LayerId). 0 < name.1.0) names → IfSome (copy_of names id) (λ copy. 0 < copy.0)
 positive_copy [] id all = tt
-positive_copy (name ∷ names) id all = by_test (is_name_of id name) (positive_copy names id (All-tail (λ (n : LayerId × LayerId). 0 < n.1.0) name names all))
+positive_copy (name ∷ names) id all = by_test (is_for id name) (positive_copy names id (All-tail (λ (n : LayerId × LayerId). 0 < n.1.0) name names all))
   where
-    by_test : (b : Bool) → IfSome (copy_of names id) (λ copy. 0 < copy.0) → IfSome (option_map (λ (n : LayerId × LayerId). n.1) (cond b (Some name) (find (is_name_of id) names))) (λ copy. 0 < copy.0)
+    by_test : (b : Bool) → IfSome (copy_of names id) (λ copy. 0 < copy.0) → IfSome (option_map (λ (n : LayerId × LayerId). n.1) (cond b (Some name) (find (is_for id) names))) (λ copy. 0 < copy.0)
     by_test true ih = All-head (λ (n : LayerId × LayerId). 0 < n.1.0) name names all
     by_test false ih = ih
 

@@ -2,11 +2,11 @@ ghost use Rattle.std.specs.Prelude.{◌≡◌, ◌≤◌, ◌+◌, IfOk, OnOk, l
 ghost use Rattle.sf_shown.specs.Copies.{mirrors, number_of, with_copies, written};
 ghost use Rattle.sf_shown.specs.Making.{CanBeMade};
 
-use crate::copies::{Copies, copy_all};
+use crate::copies::copy_all;
 use crate::naming::name_all;
 use sf_base::{LayerId, NoMemory};
 use sf_layer::{Kind, Layer};
-use sf_shown::{tree_of, under};
+use sf_shown::{ByLayer, tree_of, under};
 use sf_tree::Tree;
 use std::alloc::Global;
 
@@ -53,7 +53,7 @@ fn push_copies(
     let id = LayerId(pair.1);
     let originals = under(alloc, tree, id)?;
     let mut taken = numbers(alloc, layers)?;
-    let names = Copies::new(alloc, name_all(alloc, &mut taken, &originals)?)?;
+    let names = ByLayer::new(alloc, name_all(alloc, &mut taken, &originals)?)?;
     let mut copies = copy_all(alloc, LayerId(pair.0), id, &names, &originals)?;
     layers.append(&mut copies)?;
     Ok(())

@@ -2,3 +2,4 @@ pub mod StackLemmas
 pub mod HitLemmas
 pub mod KeepingLemmas
 pub mod AboveLemmas
+pub mod ByLayerLemmas

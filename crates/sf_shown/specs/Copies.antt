@@ -1,9 +1,9 @@
 -- A tree with its mirrors written out: behind its layers stand, for each mirror, copies of what it mirrors. A mirror is a pair:
 -- the number of the layer that shows the copies, and the number of the layer that it shows with all below it.
 use Rattle.std.specs.Prelude.{◌≡◌, ℕ, zero, suc, ◌+◌, ◌<◌, ◌≤◌, ◌==◌, not, Bool, true, false, ◌&&◌, if◌then◌else◌}
-use Rattle.std.specs.Prelude.{List, [], ◌∷◌, ◌++◌, length, map, find, Option, Some, None, pos}
+use Rattle.std.specs.Prelude.{List, [], ◌∷◌, ◌++◌, length, map, Option, Some, None, pos}
 use Rattle.std.specs.List.{list_any}
-use Rattle.std.specs.Option.{option_map, unwrap_or}
+use Rattle.std.specs.Option.{unwrap_or}
 use Rattle.sf_base.specs.declared.ids.LayerId.{LayerId}
 use Rattle.sf_layer.specs.declared.kind.Kind.{Kind}
 use Rattle.sf_layer.specs.declared.kind.Kind.TheVariants as kind
@@ -11,6 +11,7 @@ use Rattle.sf_layer.specs.declared.layer.Layer.{Layer}
 use Rattle.sf_layer.specs.declared.parent.Parent.{Parent}
 use Rattle.sf_layer.specs.declared.parent.Parent.TheVariants as parent
 use Rattle.sf_tree.specs.Layers.{has_layer, is_numbered, layer_of}
+use Rattle.sf_shown.specs.ByLayer.{first_for}
 use Rattle.sf_shown.specs.Cuts.{under}
 
 abbrev pub is_taken_by : ℕ → LayerId → Bool
@@ -43,12 +44,9 @@ named taken (layer ∷ layers) =
     let copy : LayerId = record { 0 = least_free taken } in
     (layer.number, copy) ∷ named (taken ++ copy ∷ []) layers
 
-abbrev pub is_name_of : LayerId → LayerId × LayerId → Bool
-is_name_of id name = name.0.0 == id.0
-
 -- the number of a layer's copy, if it has one
 abbrev pub copy_of : List (LayerId × LayerId) → LayerId → Option LayerId
-copy_of names id = option_map (λ (name : LayerId × LayerId). name.1) (find (is_name_of id) names)
+copy_of names id = first_for names id
 
 -- what a copy is relative to: the copy of what its layer is relative to, if that was copied too
 abbrev pub relative_of : List (LayerId × LayerId) → Option LayerId → Option LayerId

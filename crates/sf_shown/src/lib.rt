@@ -7,10 +7,12 @@
 
 mod above;
 mod below;
+mod by_layer;
 mod laws;
 mod making;
 
 pub use above::{Wanted, found_above};
 pub use below::under;
+pub use by_layer::ByLayer;
 pub use laws::{a_hit_is_in_front, stacks_may_be_left_out};
 pub use making::tree_of;

@@ -16,11 +16,11 @@ bounds-tops-index c =
     omega (arith, long, index_of_inside tree c.args.id c.in-Some.index (sym c.in-Some.ensures.value))
 
 pub returns-in-Some : goal.returns-in-Some
-returns-in-Some c =
+returns-in-Some c = λ stacks is.
     let tree = c.args.tree.now.layers in
     let at = at_found tree c.args.id c.in-Some.index c.in-Some.ensures.value in
-    c.stack_of.ensures ∙ stack-found tree c.args.declared.now c.args.tops.now c.args.id c.in-Some.index _ at.0 c.requires at.1 at.2
+    (rw is at c.stack_of.ensures) ∙ stack-found tree stacks c.args.tops.now c.args.id c.in-Some.index _ at.0 c.requires at.1 at.2
 
 pub returns-in-None : goal.returns-in-None
 unfolding stack_on
-returns-in-None c = ap (stack_by c.args.tree.now.layers c.args.declared.now) (sym (layer_of-none c.args.tree.now.layers c.args.id (sym c.in-None.ensures.value)))
+returns-in-None c = λ stacks is. ap (stack_by c.args.tree.now.layers stacks) (sym (layer_of-none c.args.tree.now.layers c.args.id (sym c.in-None.ensures.value)))
