@@ -15,33 +15,17 @@ pub struct Busy<P: Stamped> {
 }
 
 impl<P: Stamped> Model for Busy<P> {
-    ghost use Rattle.std.specs.Arc.{arc_value};
-    ghost use Rattle.std.specs.Prelude.{◌≡◌, ◌<◌, false, [], ◌∷◌, Some, unwrap_or};
+    ghost use Rattle.std.specs.Prelude.{[], ◌∷◌};
     ghost use Rattle.sf_turns.specs.declared.protocol.Home.TheVariants.{Vacant};
     ghost use Rattle.sf_turns.specs.declared.protocol.Stage.TheVariants as stage;
-    ghost use Rattle.sf_turns.specs.Rule.{IsAside};
+    ghost use Rattle.sf_turns.specs.Tokens.{HasIssued, issued_turn};
     ghost use Rattle.sf_turns.specs.Views.{IssuedView};
 
     ghost Value = { IssuedView P.Stamp };
 
-    ghost view = { λ s. record {
-      table = s.seat.table_id;
-      buffer = s.parts.value.buffer;
-      number = s.parts.value.number;
-      expects = s.parts.value.expects;
-      promises = unwrap_or s.parts.value.promises s.parts.value.expects;
-    } };
+    ghost view = { λ s. issued_turn s.seat.table_id s.parts.value };
 
-    ghost invariant = { λ s. (arc_value s.parts.value.table ≡ s.seat.table_id) × IsAside s.seat.me
-        × (s.seat.me.0.token ≡ Some record {
-          buffer = s.parts.value.buffer;
-          number = s.parts.value.number;
-          stage = stage.Inside;
-          expects = s.parts.value.expects;
-          promise = s.parts.value.promises;
-        }) × (s.seat.me.0.opens ≡ false)
-        × (s.seat.me.0.stock ≡ []) × (s.seat.me.1 ≡ (s.parts.value.buffer, Vacant) ∷ []) × (s.parts.value.buffer < s.seat.table_id.slots)
-        × (s.parts.value.promises ≡ Some (unwrap_or s.parts.value.promises s.parts.value.expects)) };
+    ghost invariant = { λ s. HasIssued s.parts.value s.seat stage.Inside ((s.parts.value.buffer, Vacant) ∷ []) };
 }
 
 impl<P: Stamped> Busy<P> {

@@ -16,32 +16,16 @@ pub struct Owed<P: Stamped> {
 }
 
 impl<P: Stamped> Model for Owed<P> {
-    ghost use Rattle.std.specs.Arc.{arc_value};
-    ghost use Rattle.std.specs.Prelude.{◌≡◌, ◌<◌, false, [], Some, unwrap_or};
-    ghost use Rattle.sf_turns.specs.declared.protocol.Stage.TheVariants as stage;
-    ghost use Rattle.sf_turns.specs.Rule.{IsAside};
+    ghost use Rattle.std.specs.Prelude.{[]};
+    ghost use Rattle.sf_turns.specs.declared.protocol.Stage.TheVariants.{Away};
+    ghost use Rattle.sf_turns.specs.Tokens.{HasIssued, issued_turn};
     ghost use Rattle.sf_turns.specs.Views.{IssuedView};
 
     ghost Value = { IssuedView P.Stamp };
 
-    ghost view = { λ s. record {
-      table = s.seat.table_id;
-      buffer = s.parts.value.buffer;
-      number = s.parts.value.number;
-      expects = s.parts.value.expects;
-      promises = unwrap_or s.parts.value.promises s.parts.value.expects;
-    } };
+    ghost view = { λ s. issued_turn s.seat.table_id s.parts.value };
 
-    ghost invariant = { λ s. (arc_value s.parts.value.table ≡ s.seat.table_id) × IsAside s.seat.me
-        × (s.seat.me.0.token ≡ Some record {
-          buffer = s.parts.value.buffer;
-          number = s.parts.value.number;
-          stage = stage.Away;
-          expects = s.parts.value.expects;
-          promise = s.parts.value.promises;
-        }) × (s.seat.me.0.opens ≡ false)
-        × (s.seat.me.0.stock ≡ []) × (s.seat.me.1 ≡ []) × (s.parts.value.buffer < s.seat.table_id.slots)
-        × (s.parts.value.promises ≡ Some (unwrap_or s.parts.value.promises s.parts.value.expects)) };
+    ghost invariant = { λ s. HasIssued s.parts.value s.seat Away [] };
 }
 
 impl<P: Stamped> Owed<P> {

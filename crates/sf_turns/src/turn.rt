@@ -22,32 +22,16 @@ pub struct Turn<P: Stamped> {
 }
 
 impl<P: Stamped> Model for Turn<P> {
-    ghost use Rattle.std.specs.Arc.{arc_value};
-    ghost use Rattle.std.specs.Prelude.{◌≡◌, ◌<◌, false, [], Some, None};
+    ghost use Rattle.std.specs.Prelude.{[], None};
     ghost use Rattle.sf_turns.specs.declared.protocol.Stage.TheVariants.{Away};
-    ghost use Rattle.sf_turns.specs.Rule.{IsAside};
+    ghost use Rattle.sf_turns.specs.Tokens.{HasToken, last_turn};
     ghost use Rattle.sf_turns.specs.Views.{TurnView};
 
     ghost Value = { TurnView P.Stamp };
 
-    ghost view = { λ s. record {
-      table = s.seat.table_id;
-      buffer = s.parts.value.buffer;
-      number = s.parts.value.number;
-      expects = s.parts.value.expects;
-      loads = s.parts.value.loads;
-      shown = s.parts.value.shown;
-    } };
+    ghost view = { λ s. last_turn s.seat.table_id s.parts.value };
 
-    ghost invariant = { λ s. (arc_value s.parts.value.table ≡ s.seat.table_id) × IsAside s.seat.me
-        × (s.seat.me.0.token ≡ Some record {
-          buffer = s.parts.value.buffer;
-          number = s.parts.value.number;
-          stage = Away;
-          expects = s.parts.value.expects;
-          promise = None;
-        }) × (s.seat.me.0.opens ≡ false) × (s.seat.me.0.stock ≡ [])
-        × (s.seat.me.1 ≡ []) × (s.parts.value.buffer < s.seat.table_id.slots) };
+    ghost invariant = { λ s. HasToken s.parts.value s.seat Away None [] };
 }
 
 impl<P: Stamped> Turn<P> {
