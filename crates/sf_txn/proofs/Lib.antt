@@ -6,3 +6,4 @@ pub mod Looking
 pub mod Places
 pub mod Merging
 pub mod Fronts
+pub mod Distinct

@@ -2,13 +2,14 @@
 use Rattle.std.specs.BTreeMap.{BTreeMap, get, is_at}
 use Rattle.std.specs.List.{AllPairs, position_from}
 use Rattle.std.specs.Ordering.{nat_cmp}
-use Rattle.std.specs.Prelude.{◌≡◌, ⊤, ℕ, zero, suc, ◌+◌, ◌*◌, ◌<◌, ◌==◌, ◌&&◌, if◌then◌else◌, Bool, not}
+use Rattle.std.specs.Prelude.{◌≡◌, ⊤, ℕ, zero, suc, ◌+◌, ◌*◌, ◌<◌, ◌==◌, ◌&&◌, if◌then◌else◌, Bool, false, not}
 use Rattle.std.specs.Prelude.{List, [], ◌∷◌, ◌++◌, filter, Box, Option, None, Some, IfSome}
 use Rattle.sf_base.specs.declared.ids.LayerId.{LayerId}
 use Rattle.sf_layer.specs.Kinds.{kind_of}
 use Rattle.sf_layer.specs.declared.op.Op.{Op}
 use Rattle.sf_layer.specs.declared.op.Op.TheVariants as op
-use Rattle.sf_txn.specs.Transactions.{Stays, is_cumulative, replaces, with_ops}
+use Rattle.sf_txn.specs.Buffers.{Buffer}
+use Rattle.sf_txn.specs.Transactions.{Stays, is_cumulative, is_for, replaces, with_ops}
 use Rattle.sf_txn.specs.declared.index.Index.{Index}
 
 -- what stands where an operation was taken out: no layer has number 0
@@ -75,3 +76,7 @@ pub record Listed : Type 0 where
   pub list : List (LayerId × Op)
   pub room : ℕ
   pub front : ℕ
+
+-- two buffers are for different layers
+abbrev pub AreApart : {L : Type 0} → Buffer L → Buffer L → Type 0
+AreApart earlier later = is_for later.layer earlier ≡ false

@@ -1,6 +1,7 @@
-ghost use Rattle.std.specs.List.{position};
+ghost use Rattle.std.specs.List.{AllPairs, position};
 ghost use Rattle.std.specs.Prelude.{◌≡◌, ◌+◌, ◌++◌, ◌<◌, ◌≤◌, IfSome, OnOk, Bool, find, length};
 ghost use Rattle.std.specs.Vec.{vec_capacity, vec_len};
+ghost use Rattle.sf_txn.specs.Places.{AreApart};
 ghost use Rattle.sf_txn.specs.Transactions.{all_replaced, is_cumulative, is_for, replaced_by, replaces, with_buffer, with_buffers, with_op, with_ops, without_first};
 
 use crate::buffer::BufferOp;
@@ -83,7 +84,7 @@ pub fn put_buffer<L: Lease + Drop>(
 
 /// Puts buffers, for which there is room, one after another, and appends those whose places they
 /// take to a list with room for as many.
-pub fn put_buffers<L: Lease + Drop>(
+fn put_buffers<L: Lease + Drop>(
     buffers: &mut Vec<BufferOp<L>>,
     more: Vec<BufferOp<L>>,
     replaced: &mut Vec<BufferOp<L>>,
@@ -99,4 +100,24 @@ pub fn put_buffers<L: Lease + Drop>(
             let _ = replaced.push(old);
         }
     }
+}
+
+/// Puts buffers of different layers, for which there is room, behind others, and appends those whose
+/// places they take to a list with room for as many. Where there are no others, none is put anew.
+pub fn merge_buffers<L: Lease + Drop>(
+    buffers: &mut Vec<BufferOp<L>>,
+    more: Vec<BufferOp<L>>,
+    replaced: &mut Vec<BufferOp<L>>,
+)
+    requires apart { AllPairs AreApart more.items }
+    requires room { vec_len buffers.old + vec_len more ≤ vec_capacity buffers.old }
+    requires room_for_replaced { vec_len replaced.old + vec_len more ≤ vec_capacity replaced.old }
+    ensures buffers { buffers.new.items ≡ with_buffers buffers.old.items more.items }
+    ensures replaced { replaced.new.items ≡ replaced.old.items ++ all_replaced buffers.old.items more.items }
+{
+    if buffers.is_empty() {
+        *buffers = more;
+        return;
+    }
+    put_buffers(buffers, more, replaced);
 }

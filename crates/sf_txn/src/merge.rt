@@ -3,7 +3,7 @@ ghost use Rattle.sf_txn.specs.Transactions.{all_replaced, later_time, merged};
 
 use crate::buffer::BufferOp;
 use crate::lease::Lease;
-use crate::lists::put_buffers;
+use crate::lists::merge_buffers;
 use crate::ops::Ops;
 use crate::transaction::Transaction;
 use sf_base::NoMemory;
@@ -46,7 +46,7 @@ impl<L: Lease + Drop> Transaction<L> {
         let ops = std::mem::replace(&mut other.ops, Ops::new(self.alloc));
         let buffers = std::mem::replace(&mut other.buffers, Vec::new(self.alloc));
         self.ops.merge(ops, before);
-        put_buffers(&mut self.buffers, buffers, &mut replaced);
+        merge_buffers(&mut self.buffers, buffers, &mut replaced);
         Ok((self, replaced))
     }
 }
