@@ -1,5 +1,5 @@
 //! Calls on the slots of a queue whose rights are numbers.
-ghost use Rattle.std.specs.Prelude.{◌≡◌, IfOk, is_some};
+ghost use Rattle.std.specs.Prelude.{◌≡◌, ◌<◌, ◌-◌, ◌^◌, IfOk, is_some};
 ghost use Rattle.sf_queue.specs.Lending.{takes_fresh};
 ghost use Rattle.sf_slots.specs.Queue.{told_of};
 
@@ -7,7 +7,7 @@ use crate::call::{Call, Rights, Said, read};
 use crate::reply::{acquired, done, handed_back, known, lent, refused, seated, taken_in};
 use crate::state;
 use case_words::{BufferSize, is_buffer_size};
-use sf_base::{NoMemory, QueueId};
+use sf_base::{ActorId, NoMemory, QueueId};
 use sf_queue::QueueOrder;
 use sf_slots::Slots;
 use std::alloc::Global;
@@ -54,28 +54,16 @@ fn order(alloc: Global, said: Said) -> Result<QueueOrder<u64>, NoMemory>
     })
 }
 
-fn queue(rt: &impl Print, alloc: Global, q: &mut Slots<u64>, said: Said) -> io::Result<()> {
-    if q.settings().frames == u64::MAX {
-        return println!(rt; "not made");
-    }
-    let by = said.by;
-    let Ok(order) = order(alloc, said) else {
-        return println!(rt; "out of memory");
-    };
-    match sf_queue::queue(q, by, order) {
-        Ok(frame) => println!(rt; "frame {frame}"),
-        Err((cause, order)) => handed_back(rt, cause, order.right),
-    }
-}
-
-fn queue_allowed(rt: &impl Print, alloc: Global, q: &mut Slots<u64>, said: Said) -> io::Result<()> {
-    if q.settings().frames == u64::MAX {
-        return println!(rt; "not made");
-    }
-    let by = said.by;
-    let Ok(order) = order(alloc, said) else {
-        return println!(rt; "out of memory");
-    };
+/// Queues a frame where a test finds no refusal, by the call that tests nothing.
+fn queue_tested(
+    rt: &impl Print,
+    q: &mut Slots<u64>,
+    by: ActorId,
+    order: QueueOrder<u64>,
+) -> io::Result<()>
+    requires numbered { q.old.settings.frames < 2 ^ 64 - 1 }
+    requires kept { order.kept ≡ order.fence }
+{
     let refusal = sf_queue::queue_refusal(
         q,
         by,
@@ -88,6 +76,30 @@ fn queue_allowed(rt: &impl Print, alloc: Global, q: &mut Slots<u64>, said: Said)
     match refusal {
         Some(cause) => refused(rt, cause),
         None => println!(rt; "frame {}", sf_queue::queue_allowed(q, by, order)),
+    }
+}
+
+/// Queues a frame, by the call that tests it or after a test of its own.
+fn queue(
+    rt: &impl Print,
+    alloc: Global,
+    q: &mut Slots<u64>,
+    call: Call,
+    said: Said,
+) -> io::Result<()> {
+    if q.settings().frames == u64::MAX {
+        return println!(rt; "not made");
+    }
+    let by = said.by;
+    let Ok(order) = order(alloc, said) else {
+        return println!(rt; "out of memory");
+    };
+    if matches!(call, Call::QueueAllowed) {
+        return queue_tested(rt, q, by, order);
+    }
+    match sf_queue::queue(q, by, order) {
+        Ok(frame) => println!(rt; "frame {frame}"),
+        Err((cause, order)) => handed_back(rt, cause, order.right),
     }
 }
 
@@ -138,8 +150,7 @@ fn produce(
         Call::Async => done(rt, sf_queue::set_async(q, said.count == 1)),
         Call::Dequeue => dequeue(rt, q, &said),
         Call::Request => known(rt, sf_queue::request(q, said.by, said.slot, said.number)),
-        Call::Queue => queue(rt, alloc, q, said),
-        Call::QueueAllowed => queue_allowed(rt, alloc, q, said),
+        Call::Queue | Call::QueueAllowed => queue(rt, alloc, q, call, said),
         Call::Cancel => taken_in(
             rt,
             sf_queue::cancel(q, said.by, said.slot, said.number, said.right, said.fence),
