@@ -47,14 +47,10 @@ fn send_three<R: Wait>(
     ensures { IfSome result (λ back. (back.intake ≡ intake.now) × (back.by ≡ sender.by)) }
 {
     let mut sender = sender;
-    if !send_at(rt, alloc, intake, &mut sender, 1) {
-        return None;
-    }
-    if !send_at(rt, alloc, intake, &mut sender, 2) {
-        return None;
-    }
-    if !send_at(rt, alloc, intake, &mut sender, 3) {
-        return None;
+    for step in 1..4 {
+        if !send_at(rt, alloc, intake, &mut sender, step) {
+            return None;
+        }
     }
     Some(sender)
 }
