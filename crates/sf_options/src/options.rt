@@ -1,7 +1,8 @@
 ghost use Rattle.std.specs.Prelude.{◌≡◌, ◌≤◌, codes, map, option_map, IfSome, IfOk};
 ghost use Rattle.std.specs.String.{string_bytes};
 ghost use Rattle.clap.specs.Words.{found_of, rows_of};
-ghost use Rattle.sf_options.specs.Options.{GivesOptions, do_conflict, intake_named, intake_of, is_live, is_queue, is_set, number_of, options_from, options_in, options_of, run_named, run_of};
+ghost use Rattle.sf_options.specs.Options.{GivesOptions, do_conflict, intake_named, intake_of, is_live, is_queue, is_set};
+ghost use Rattle.sf_options.specs.Options.{number_of, options_from, options_in, options_of, run_named, run_of};
 
 use crate::matched::{matched, text_of};
 use clap::ArgMatches;
