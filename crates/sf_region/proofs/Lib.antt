@@ -1,4 +1,5 @@
 pub mod BandLemmas
+pub mod HoleLemmas
 pub mod MovedLemmas
 pub mod PointLemmas
 pub mod RowLemmas

@@ -1,11 +1,22 @@
 -- How the bands of two regions are combined, from top to bottom.
-use Rattle.std.specs.Prelude.{ℕ, ◌<◌, ◌≤◌, ◌≡◌, ◌≢◌, ◌⊎◌, List, [], ◌∷◌, ◌++◌}
+use Rattle.std.specs.Prelude.{ℕ, ◌<◌, ◌≤◌, ◌≡◌, ◌≢◌, ◌⊎◌, nat_lt, if◌then◌else◌, List, [], ◌∷◌, ◌++◌}
 use Rattle.sf_base.specs.declared.geometry.Rect.{Rect}
 use Rattle.sf_region.specs.Canonical.{IsBanded}
-use Rattle.sf_region.specs.Edges.{top, bottom, first_place, past_all}
+use Rattle.sf_region.specs.Edges.{left, right, top, bottom, first_place, past_all}
 use Rattle.sf_region.specs.Spans.{on, keeps, row, rects_of, IsSpread, AllEndBelow, AllEndBy}
 use Rattle.sf_region.specs.declared.spans.Span.{Span}
 use Rattle.sf_region.specs.declared.combine.Combine.{Combine}
+
+-- two rectangles share a point
+pub record AreMet (r h : Rect) : Type 0 where
+  pub before : left r < right h
+  pub after : left h < right r
+  pub above : top r < bottom h
+  pub below : top h < bottom r
+
+-- the rectangles of a row from one height down to another, if there is a row between them
+abbrev pub band_between : List Span → ℕ → ℕ → List Rect
+band_between ss from to = if nat_lt from to then rects_of ss from to else []
 
 -- bands that all end below a height
 pub record IsAheadRows (rects : List Rect) (y : ℕ) : Type 0 where

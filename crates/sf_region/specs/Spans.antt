@@ -18,6 +18,10 @@ abbrev pub on : List Span → ℕ → Bool
 on [] x = false
 on (s ∷ ss) x = (nat_le s.start x && nat_lt x s.end) || on ss x
 
+-- a span from one place up to another, if there is a place between them
+abbrev pub span_between : ℕ → ℕ → List Span
+span_between from to = if nat_lt from to then record { start = from; end = to } ∷ [] else []
+
 -- a span with a place in it, within the bounds of places
 pub record IsProper (s : Span) : Type 0 where
   pub from : first_place ≤ s.start

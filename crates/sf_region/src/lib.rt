@@ -10,6 +10,7 @@
 mod bands;
 mod combine;
 mod edges;
+mod hole;
 mod region;
 mod rows;
 mod spans;

@@ -6,8 +6,8 @@ ghost use Rattle.sf_region.specs.Points.{has, moved, IsInBounds, StaysInBounds};
 ghost use Rattle.sf_region.specs.Spans.{keeps};
 ghost use Rattle.sf_base.specs.declared.geometry.Rect.{Rect};
 
-use crate::bands::combine_rects;
 use crate::combine::Combine;
+use crate::hole::combine_bands;
 use sf_base::{NoMemory, Rect};
 use std::alloc::Global;
 use std::marker::Model;
@@ -83,7 +83,7 @@ impl Region {
         ensures { IfOk result (λ region. (x y : ℤ)
             → has region x y ≡ keeps how (has self.now x y) (has other.now x y)) }
     {
-        let rects = combine_rects(self.alloc, &self.rects, &other.rects, how)?;
+        let rects = combine_bands(self.alloc, &self.rects, &other.rects, how)?;
         Ok(Region {
             alloc: self.alloc,
             rects,
