@@ -63,13 +63,27 @@ pub fn move_pixels(frame: &mut [u8], start: usize, end: usize, row: &[u8])
     frame[4 * start..4 * end].copy_from_slice(row);
 }
 
+// Moves pixels over others. It is not inlined: a loop over rows that calls it keeps what it needs in
+// registers, and the copy looks at both rows itself.
+#[inline(never)]
+fn move_row(row: &mut [u8], pixels: &[u8])
+    requires { length row.old ≡ length pixels.now }
+    ensures len { length row.new ≡ length row.old }
+    ensures after { row.new ≡ pixels.now }
+{
+    row.copy_from_slice(pixels);
+}
+
 // Moves so many pixels of others, from one number on, over those from a number on.
 pub fn move_part(frame: &mut [u8], to: usize, pixels: &[u8], from: usize, count: usize)
     requires room { 4 * (to + count) ≤ length frame.old }
     requires within { 4 * (from + count) ≤ length pixels.now }
     ensures { PaintsSpan frame.old frame.new to (to + count) (λ i under. pixel_in pixels.now (from + (i - to))) }
 {
-    frame[4 * to..4 * (to + count)].copy_from_slice(&pixels[4 * from..4 * (from + count)]);
+    move_row(
+        &mut frame[4 * to..4 * (to + count)],
+        &pixels[4 * from..4 * (from + count)],
+    );
 }
 
 // Copies pixels over those from one number on and before another, and tells whether all of them hide
