@@ -24,6 +24,7 @@ mod share;
 mod slices;
 mod solid;
 mod spans;
+mod steps;
 mod turned;
 mod whole;
 

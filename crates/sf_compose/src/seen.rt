@@ -1,4 +1,4 @@
-ghost use Rattle.std.specs.Prelude.{◌≡◌, ◌*◌, ◌&&◌, length, map, OnErr, OnOk, pos};
+ghost use Rattle.std.specs.Prelude.{◌≡◌, ◌*◌, ◌&&◌, ◌⊎◌, length, map, OnErr, OnOk, pos};
 ghost use Rattle.sf_base.specs.Geometry.{covers};
 ghost use Rattle.sf_compose.specs.Bands.{HasRows, IsInBand};
 ghost use Rattle.sf_compose.specs.Frames.{KeepsRest, Repaints, ShowsPart};
@@ -16,6 +16,7 @@ use crate::begin::begin;
 use crate::layer::paint_layer;
 use crate::pixels::Pixels;
 use crate::slices::{rows_at_once, slice_from};
+use crate::steps::is_faster_whole;
 use sf_base::{NoMemory, Rect};
 use sf_region::Region;
 use sf_view::{Drawn, View};
@@ -45,7 +46,36 @@ fn paint_parts<C: Pixels>(
     }
 }
 
-// Composes an area, layer after layer, of each only what shows.
+// Paints a drawn layer over the points of an area that lie in parts of its clip, no two of which share a
+// point, or over all points of the area where that takes fewer steps.
+fn paint_shown<C: Pixels>(
+    drawn: &Drawn,
+    contents: &[C],
+    source: u32,
+    parts: &[Rect],
+    frame: &mut [u8],
+    band: Band,
+    area: Area,
+)
+    requires readable { IsReadable (map C.picture contents.now) drawn.now.content source }
+    requires paintable { IsPaintable drawn.now }
+    requires disjoint { IsDisjoint parts.now }
+    requires within { IsInBand band area }
+    requires room { HasRows band frame.old }
+    ensures { Paints band.width band.top (is_in_area area) (λ x y under.
+        under_one (map C.picture contents.now) (pos x) (pos y) under drawn.now source) frame.old frame.new
+        ⊎ Paints band.width band.top (λ x y. is_in_area area x y && has parts.now (pos x) (pos y)) (λ x y under.
+        under_one (map C.picture contents.now) (pos x) (pos y) under drawn.now source) frame.old frame.new }
+{
+    if is_faster_whole(drawn, contents, source, parts, band, area) {
+        paint_layer(drawn, contents, source, frame, band, area);
+    } else {
+        paint_parts(drawn, contents, source, parts, frame, band, area);
+    }
+}
+
+// Composes an area, layer after layer, of each only what shows, or all of it where that is faster:
+// what does not show is painted over.
 fn compose_slice_seen<C: Pixels>(
     layers: &[Drawn],
     contents: &[C],
@@ -66,7 +96,7 @@ fn compose_slice_seen<C: Pixels>(
     let mut at = begin(layers, contents, sources, band, area, frame);
     while at < layers.len() {
         let parts = shows[at].rects();
-        paint_parts(&layers[at], contents, sources[at], parts, frame, band, area);
+        paint_shown(&layers[at], contents, sources[at], parts, frame, band, area);
         at += 1;
     }
 }
@@ -153,6 +183,8 @@ pub fn compose_band_seen<C: Pixels>(
 /// Composes a view into a part of a frame as `compose_one` does, with the same bytes, and paints of
 /// each layer only what shows of it: `shows` has for each drawn layer, from the back, a region that of
 /// the points of the part has those that no opaque layer above hides, as `sf_damage::visible` gives it.
+/// Where a layer's pixels are moved as they are, and a slice of it is moved faster as a whole than in
+/// many rectangles, all of that slice is painted, and the layers above paint over what does not show.
 /// After want of memory the frame is as it was.
 pub fn compose_seen<C: Pixels>(
     _alloc: Global,

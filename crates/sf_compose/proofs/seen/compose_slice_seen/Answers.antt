@@ -1,12 +1,12 @@
-use Rattle.std.proofs.Common.{◌≡◌, ◌∙◌, ◌&&◌, ◌<◌, List, get_or, length, map, pos, subst, arith}
+use Rattle.std.proofs.Common.{◌≡◌, ◌∙◌, ◌&&◌, ◌⊎◌, ◌<◌, List, get_or, length, map, pos, subst, arith}
 use Rattle.std.proofs.lemmas.Slice.Zip.{AllZip-long}
 use Rattle.sf_base.specs.declared.geometry.Rect.{Rect}
 use Rattle.sf_region.specs.Points.{has}
 use Rattle.sf_compose.specs.Painting.{is_in_area, Paints}
 use Rattle.sf_compose.specs.Readings.{IsReadable, under_one}
-use Rattle.sf_compose.proofs.BegunLemmas.{AreSeenAt-long, Spares-painted, Spares-then}
+use Rattle.sf_compose.proofs.BegunLemmas.{AreSeenAt-long}
 use Rattle.sf_compose.proofs.ReadingLemmas.{readable_at}
-use Rattle.sf_compose.proofs.SeenLemmas.{IsBegun-ended, IsBegun-seen, no_layer, part_beside}
+use Rattle.sf_compose.proofs.SeenLemmas.{IsBegun-ended, IsBegun-shown, no_layer}
 use Rattle.sf_compose.proofs.seen.compose_slice_seen.Goals as goal
 
 pub bounds-shows-at : goal.bounds-shows-at
@@ -19,25 +19,21 @@ bounds-sources-at g c =
     let long = AllZip-long (λ drawn source. IsReadable (map g.C.Pixels.picture c.args.contents.now) drawn.content source) c.args.layers.now c.args.sources.now c.requires.readable.all in
     omega (arith, long, c.loop-at-test.true)
 
-pub paint_parts-requires-clause-readable : goal.paint_parts-requires-clause-readable
-paint_parts-requires-clause-readable g c = readable_at (map g.C.Pixels.picture c.args.contents.now) c.args.layers.now c.args.sources.now c.loop-at.at no_layer 0 c.requires.readable c.loop-at-test.true
+pub paint_shown-requires-clause-readable : goal.paint_shown-requires-clause-readable
+paint_shown-requires-clause-readable g c = readable_at (map g.C.Pixels.picture c.args.contents.now) c.args.layers.now c.args.sources.now c.loop-at.at no_layer 0 c.requires.readable c.loop-at-test.true
 
 pub loop-at-preserved : goal.loop-at-preserved
 loop-at-preserved g c =
     let long = AllZip-long (λ drawn source. IsReadable (map g.C.Pixels.picture c.args.contents.now) drawn.content source) c.args.layers.now c.args.sources.now c.requires.readable.all in
     let within : c.loop-at.at < length c.args.sources.now = omega (arith, long, c.loop-at-test.true) in
     let parts : c.rects-parts.result.now ≡ get_or c.args.shows.now c.loop-at.at c.index-shows-at.result = c.rects-parts.ensures.same ∙ c.index-shows-at.is in
-    let painted : Paints c.args.band.width c.args.band.top (λ x y. is_in_area c.args.area x y && has (get_or c.args.shows.now c.loop-at.at c.index-shows-at.result) (pos x) (pos y))
-    (λ x y under. under_one (map g.C.Pixels.picture c.args.contents.now) (pos x) (pos y) under (get_or c.args.layers.now c.loop-at.at no_layer) (get_or c.args.sources.now c.loop-at.at 0)) c.loop-at.frame c.paint_parts.new.frame
-    = subst (λ (rects : List Rect). Paints c.args.band.width c.args.band.top (λ x y. is_in_area c.args.area x y && has rects (pos x) (pos y))
-    (λ x y under. under_one (map g.C.Pixels.picture c.args.contents.now) (pos x) (pos y) under (get_or c.args.layers.now c.loop-at.at no_layer) (get_or c.args.sources.now c.loop-at.at 0)) c.loop-at.frame c.paint_parts.new.frame) parts c.paint_parts.ensures in (
-      omega (arith, c.loop-at-test.true),
-      Spares-then _ _ (is_in_area c.args.area) c.args.frame.now c.loop-at.frame c.paint_parts.new.frame c.loop-at.invariant.1
-          (Spares-painted _ _ (λ x y. is_in_area c.args.area x y && has (get_or c.args.shows.now c.loop-at.at c.index-shows-at.result) (pos x) (pos y)) (is_in_area c.args.area) _ c.loop-at.frame c.paint_parts.new.frame painted
-          (λ x y t. part_beside c.args.area (get_or c.args.shows.now c.loop-at.at c.index-shows-at.result) x y t)),
-      IsBegun-seen c.args.band.width c.args.band.top c.args.area (map g.C.Pixels.picture c.args.contents.now) c.args.layers.now c.args.sources.now c.args.shows.now c.loop-at.at no_layer 0 c.index-shows-at.result
-          c.loop-at.frame c.paint_parts.new.frame c.loop-at-test.true within c.requires.readable c.requires.visible painted c.loop-at.invariant.2,
-    )
+    let painted = subst (λ (rects : List Rect). Paints c.args.band.width c.args.band.top (is_in_area c.args.area)
+    (λ x y under. under_one (map g.C.Pixels.picture c.args.contents.now) (pos x) (pos y) under (get_or c.args.layers.now c.loop-at.at no_layer) (get_or c.args.sources.now c.loop-at.at 0)) c.loop-at.frame c.paint_shown.new.frame
+    ⊎ Paints c.args.band.width c.args.band.top (λ x y. is_in_area c.args.area x y && has rects (pos x) (pos y))
+    (λ x y under. under_one (map g.C.Pixels.picture c.args.contents.now) (pos x) (pos y) under (get_or c.args.layers.now c.loop-at.at no_layer) (get_or c.args.sources.now c.loop-at.at 0)) c.loop-at.frame c.paint_shown.new.frame) parts c.paint_shown.ensures in
+    let next = IsBegun-shown c.args.band.width c.args.band.top c.args.area (map g.C.Pixels.picture c.args.contents.now) c.args.layers.now c.args.sources.now c.args.shows.now c.loop-at.at no_layer 0 c.index-shows-at.result
+    c.args.frame.now c.loop-at.frame c.paint_shown.new.frame c.loop-at-test.true within c.requires.readable c.requires.visible painted c.loop-at.invariant.1 c.loop-at.invariant.2 in
+    (omega (arith, c.loop-at-test.true), next.0, next.1)
 
 pub returns : goal.returns
 returns g c =
