@@ -43,7 +43,9 @@ fn is_moved<C: Pixels>(drawn: &Drawn, contents: &[C], source: u32) -> bool
     }
 }
 
-// Whether a drawn layer is painted over an area faster as a whole than by parts of its clip.
+// Whether a drawn layer is painted over an area faster as a whole than by parts of its clip. It is not
+// inlined: most layers show in one part, and the loop over all layers is shorter without it.
+#[inline(never)]
 pub fn is_faster_whole<C: Pixels>(
     drawn: &Drawn,
     contents: &[C],
@@ -54,7 +56,6 @@ pub fn is_faster_whole<C: Pixels>(
 ) -> bool
     requires { IsReadable (map C.picture contents.now) drawn.now.content source }
 {
-    parts.len() > 1
-        && is_moved(drawn, contents, source)
+    is_moved(drawn, contents, source)
         && steps_of(cut(area, &drawn.clip), band) < steps_of_parts(parts, band, area)
 }
