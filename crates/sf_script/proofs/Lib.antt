@@ -1,3 +1,2 @@
 pub mod PartLemmas
 pub mod DraftLemmas
-pub mod AsciiLemmas

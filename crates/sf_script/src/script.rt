@@ -1,5 +1,4 @@
-ghost use Rattle.std.specs.Prelude.{◌≡◌, ◌≤◌, ◌<◌, ◌+◌, ◌==◌, [], IfOk, length, nat_lt, true};
-ghost use Rattle.std.specs.List.{list_all};
+ghost use Rattle.std.specs.Prelude.{◌≡◌, ◌≤◌, ◌<◌, ◌+◌, ◌==◌, [], IfOk, length, true};
 ghost use Rattle.std.specs.Str.{is_utf8};
 ghost use Rattle.sf_words.specs.Text.{lines_of, words_of};
 ghost use Rattle.sf_script.specs.Draft.{has_room, is_of, picks_of};
@@ -79,21 +78,10 @@ fn line_words(alloc: Global, draft: &Draft, line: &[u8]) -> Result<Line, LineFau
     form(alloc, draft, keyword, rest)
 }
 
-// Whether a line has no byte above 127.
-fn is_ascii(line: &[u8]) -> bool
-    ensures { result ≡ list_all (λ b. nat_lt b 128) line.now }
-{
-    line.iter().all(|b| *b < 128)
-}
-
-// Whether a line is UTF-8. Most lines are ASCII, which is found soonest.
-#[tactic(auto, using(crate::proofs::AsciiLemmas::ascii_is_utf8))]
+// Whether a line is UTF-8.
 fn is_text(line: &[u8]) -> bool
     ensures { result ≡ is_utf8 line.now }
 {
-    if is_ascii(line) {
-        return true;
-    }
     matches!(std::str::from_utf8(line), Ok(_))
 }
 
