@@ -14,6 +14,7 @@ pub mod NoCycles
 pub mod KeepingMoves
 pub mod KeepingAll
 pub mod ShowLemmas
+pub mod RankingLemmas
 pub mod ZOrder
 pub mod Rising
 pub mod BelowLemmas

@@ -1,9 +1,9 @@
-ghost use Rattle.std.specs.Prelude.{◌≡◌, ℕ, ◌<◌, length, Ok, true, IfOk, IfSome, slice_get, slice_index_or};
+ghost use Rattle.std.specs.Prelude.{◌≡◌, ℕ, ◌+◌, ◌<◌, ◌≤◌, length, Ok, true, false, IfOk, IfSome, slice_get, slice_index_or, slice_set, Some};
 ghost use Rattle.std.specs.List.{All};
 ghost use Rattle.sf_layer.specs.declared.layer.Layer.{Layer as LayerValue};
 ghost use Rattle.sf_tree.specs.Kept.{HasNoCycle, IsDistinct, IsRanked, IsTied};
 ghost use Rattle.sf_tree.specs.Layers.{has_layer};
-ghost use Rattle.sf_tree.specs.Ranking.{rank_by};
+ghost use Rattle.sf_tree.specs.Ranking.{rank_by, HasLower, LeadsLower, AllLeadLower, IsSound, IsFound, IsFoundBelow, KeepsRanks};
 
 use crate::layers::Layers;
 use sf_base::{LayerId, NoMemory};
@@ -27,25 +27,45 @@ pub fn layers_of(alloc: Global, list: &[Layer]) -> Result<Option<Layers>, NoMemo
 
 // The rank of the layer at a place: where no layer reaches itself, it is greater than those of the
 // layers that its steps lead to. A rank that was found is noted, 0 is none. The steps bound how far
-// parents and relative layers are followed.
+// parents and relative layers are followed: more than the layer's rank in any ranking by which all
+// steps lead lower are enough to find one.
 #[cycle(rank)]
-fn rank(layers: &Layers, ranks: &mut [u32], place: usize, steps: usize) -> u32
+fn rank(layers: &Layers, ranks: &mut [usize], place: usize, steps: usize) -> usize
     requires inside { place < length layers.now }
     requires size { length ranks.old ≡ length layers.now }
-    ensures { length ranks.new ≡ length layers.now }
+    ensures size { length ranks.new ≡ length layers.now }
+    ensures kept { KeepsRanks ranks.old ranks.new }
+    ensures at { result ≡ slice_index_or ranks.new place 0 }
+    ensures found { (ranking : ℕ → ℕ) (layer : LayerValue) → IsSound layers.now ranking ranks.old → slice_get layers.now place ≡ Some layer
+        → ranking layer.number.0 < steps → IsFound layers.now ranking ranks.new result }
 {
     if ranks[place] == 0 && steps > 0 {
         let below = rank_below(layers, ranks, &layers.at(place), steps - 1);
-        ranks[place] = below.saturating_add(1);
+        note(ranks, place, below.saturating_add(1));
     }
     ranks[place]
 }
 
+// Notes the rank of the layer at a place, unless it has one: where steps form a cycle, the layer may
+// have been met again meanwhile.
+fn note(ranks: &mut [usize], place: usize, rank: usize)
+    requires { place < length ranks.old }
+    ensures kept { 0 < slice_index_or ranks.old place 0 → ranks.new ≡ ranks.old }
+    ensures noted { slice_index_or ranks.old place 0 ≡ 0 → ranks.new ≡ slice_set ranks.old place rank }
+{
+    if ranks[place] == 0 {
+        ranks[place] = rank;
+    }
+}
+
 // The greatest rank of the layers that the steps of a layer lead to.
 #[cycle(rank)]
-fn rank_below(layers: &Layers, ranks: &mut [u32], layer: &Layer, steps: usize) -> u32
+fn rank_below(layers: &Layers, ranks: &mut [usize], layer: &Layer, steps: usize) -> usize
     requires { length ranks.old ≡ length layers.now }
-    ensures { length ranks.new ≡ length layers.now }
+    ensures size { length ranks.new ≡ length layers.now }
+    ensures kept { KeepsRanks ranks.old ranks.new }
+    ensures found { (ranking : ℕ → ℕ) → IsSound layers.now ranking ranks.old → IsTied layers.now layer.now → IsRanked ranking layer.now
+        → ranking layer.now.number.0 ≤ steps → IsFoundBelow layers.now ranking ranks.new layer.now result }
 {
     let parent = match layer.parent {
         Parent::Layer(id) => rank_of(layers, ranks, id, steps),
@@ -59,9 +79,13 @@ fn rank_below(layers: &Layers, ranks: &mut [u32], layer: &Layer, steps: usize) -
 }
 
 #[cycle(rank)]
-fn rank_of(layers: &Layers, ranks: &mut [u32], id: LayerId, steps: usize) -> u32
+fn rank_of(layers: &Layers, ranks: &mut [usize], id: LayerId, steps: usize) -> usize
     requires { length ranks.old ≡ length layers.now }
-    ensures { length ranks.new ≡ length layers.now }
+    ensures size { length ranks.new ≡ length layers.now }
+    ensures kept { KeepsRanks ranks.old ranks.new }
+    ensures at { result ≡ rank_by layers.now ranks.new id.0 }
+    ensures found { (ranking : ℕ → ℕ) → IsSound layers.now ranking ranks.old → has_layer layers.now id ≡ true
+        → ranking id.0 < steps → IsFound layers.now ranking ranks.new result }
 {
     match layers.index_of(id) {
         Some(place) => rank(layers, ranks, place, steps),
@@ -70,10 +94,11 @@ fn rank_of(layers: &Layers, ranks: &mut [u32], id: LayerId, steps: usize) -> u32
 }
 
 // Whether the layer of a number is there and has a lower rank than this.
-fn is_lower(layers: &Layers, ranks: &[u32], id: LayerId, rank: u32) -> bool
+fn is_lower(layers: &Layers, ranks: &[usize], id: LayerId, rank: usize) -> bool
     requires { length ranks.now ≡ length layers.now }
     ensures there { result ≡ true → has_layer layers.now id ≡ true }
     ensures lower { result ≡ true → rank_by layers.now ranks.now id.0 < rank }
+    ensures yes { HasLower layers.now ranks.now rank id → result ≡ true }
 {
     match layers.index_of(id) {
         Some(place) => ranks[place] < rank,
@@ -82,10 +107,11 @@ fn is_lower(layers: &Layers, ranks: &[u32], id: LayerId, rank: u32) -> bool
 }
 
 // Whether the steps of a layer of this rank lead to layers of lower ranks.
-fn leads_lower(layers: &Layers, ranks: &[u32], layer: &Layer, rank: u32) -> bool
+fn leads_lower(layers: &Layers, ranks: &[usize], layer: &Layer, rank: usize) -> bool
     requires { length ranks.now ≡ length layers.now }
     ensures tied { result ≡ true → IsTied layers.now layer.now }
     ensures ranked { result ≡ true → rank ≡ rank_by layers.now ranks.now layer.now.number.0 → IsRanked (rank_by layers.now ranks.now) layer.now }
+    ensures yes { LeadsLower layers.now ranks.now rank layer.now → result ≡ true }
 {
     let parent = match layer.parent {
         Parent::Layer(id) => is_lower(layers, ranks, id, rank),
@@ -99,11 +125,12 @@ fn leads_lower(layers: &Layers, ranks: &[u32], layer: &Layer, rank: u32) -> bool
 }
 
 // Whether all steps lead to layers of lower ranks, where the layers have these by their places.
-fn all_lead_lower(layers: &Layers, ranks: &[u32]) -> bool
+fn all_lead_lower(layers: &Layers, ranks: &[usize]) -> bool
     requires distinct { IsDistinct layers.now }
     requires size { length ranks.now ≡ length layers.now }
     ensures tied { result ≡ true → All (IsTied layers.now) layers.now }
     ensures ranked { result ≡ true → All (IsRanked (rank_by layers.now ranks.now)) layers.now }
+    ensures yes { AllLeadLower layers.now ranks.now → result ≡ true }
 {
     for place in 0..layers.len() {
         if !leads_lower(layers, ranks, &layers.at(place), ranks[place]) {
@@ -113,14 +140,15 @@ fn all_lead_lower(layers: &Layers, ranks: &[u32]) -> bool
     true
 }
 
-// Whether all steps lead to layers that are there, and none of these reaches itself. Each layer is
-// looked at once.
+// Whether all steps lead to layers that are there, and no layer reaches itself. Each layer is looked
+// at once.
 pub fn steps_end(alloc: Global, layers: &Layers) -> Result<bool, NoMemory>
     requires distinct { IsDistinct layers.now }
     ensures tied { result ≡ Ok true → All (IsTied layers.now) layers.now }
     ensures no_cycle { result ≡ Ok true → HasNoCycle layers.now }
+    ensures no { result ≡ Ok false → All (IsTied layers.now) layers.now → HasNoCycle layers.now → ⊥ }
 {
-    let mut ranks = vec![in alloc; 0u32; layers.len()]?;
+    let mut ranks = vec![in alloc; 0usize; layers.len()]?;
     for place in 0..layers.len() {
         rank(layers, &mut ranks, place, layers.len());
     }
