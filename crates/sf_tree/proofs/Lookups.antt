@@ -57,6 +57,20 @@ numbered_alone xs id p k d distinct e inside other = by_test (is_numbered id (ge
         let found : Some k ≡ Some p = sym (distinct k d inside) ∙ (index_of_same xs (get_or xs k d).number id t ∙ e) in
         let same : k ≡ p = cc in absurd (other same)
 
+-- a list has two layers of one number where the first ones have the number of the next
+pub number_twice : (xs : List Layer) (i : ℕ) (d : Layer) → i < length xs → has_layer (take i xs) (get_or xs i d).number ≡ true → IsDistinct xs → ⊥
+number_twice xs i d inside there distinct = by_place (index_of (take i xs) id) refl
+  where
+    id : LayerId
+    id = (get_or xs i d).number
+
+    by_place : (o : Option ℕ) → index_of (take i xs) id ≡ o → ⊥
+    by_place None e = let clash : true ≡ false = sym there ∙ (has_layer-place (take i xs) id ∙ ap is_some e) in cc
+    by_place (Some k) e =
+        let before : k < i = omega (arith, index_of_inside (take i xs) id k e, length-take i xs) in
+        let same : is_numbered id (get_or xs k d) ≡ true = rw (get_or-take i xs k d before) at ((position-Some (is_numbered id) (take i xs) k d e).1) in
+        let clash : true ≡ false = sym same ∙ numbered_alone xs id i k d distinct (distinct i d inside) (omega arith) (omega arith) in cc
+
 map_none : {X : Type 0} (q : X → Bool) (f : X → X) (xs : List X) → ((k : ℕ) (d : X) → k < length xs → q (get_or xs k d) ≡ false) → map (λ x. if q x then f x else x) xs ≡ xs
 map_none q f [] h = refl
 map_none q f (x ∷ xs) h = rw (h 0 x (omega arith)) (ap (λ ys. x ∷ ys) (map_none q f xs (λ k d i. h (suc k) d (omega arith))))

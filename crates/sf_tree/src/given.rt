@@ -1,4 +1,4 @@
-ghost use Rattle.std.specs.Prelude.{◌≡◌, ℕ, ◌+◌, ◌<◌, ◌≤◌, length, Ok, true, false, IfOk, IfSome, slice_get, slice_index_or, slice_set, Some};
+ghost use Rattle.std.specs.Prelude.{◌≡◌, ℕ, ◌+◌, ◌<◌, ◌≤◌, length, Ok, true, false, IfOk, IfSome, IfNone, slice_get, slice_index_or, slice_set, Some};
 ghost use Rattle.std.specs.List.{All};
 ghost use Rattle.sf_layer.specs.declared.layer.Layer.{Layer as LayerValue};
 ghost use Rattle.sf_tree.specs.Kept.{HasNoCycle, IsDistinct, IsRanked, IsTied};
@@ -10,10 +10,11 @@ use sf_base::{LayerId, NoMemory};
 use sf_layer::{Layer, Parent};
 use std::alloc::Global;
 
-// These layers in their order; none where two of them have one number.
+// These layers in their order; none exactly where two of them have one number.
 #[tactic(auto, using(crate::proofs::Lookups::lookups))]
 pub fn layers_of(alloc: Global, list: &[Layer]) -> Result<Option<Layers>, NoMemory>
-    ensures { IfOk result (λ made. IfSome made (λ layers. layers ≡ list.now)) }
+    ensures made { IfOk result (λ made. IfSome made (λ layers. layers ≡ list.now)) }
+    ensures none { IfOk result (λ made. IfNone made (IsDistinct list.now → ⊥)) }
 {
     let mut layers = Layers::new(alloc);
     for layer in list {
