@@ -1,4 +1,4 @@
-ghost use Rattle.std.specs.Prelude.{◌≡◌, ◌≤◌, ◌<◌, [], length, IfOk, IfErr, IfSome, OnOk, OnErr, option_copied};
+ghost use Rattle.std.specs.Prelude.{◌≡◌, ◌≤◌, ◌<◌, [], length, IfOk, IfErr, IfSome, IfNone, OnOk, OnErr, option_copied};
 ghost use Rattle.std.specs.List.{All};
 ghost use Rattle.sf_layer.specs.Ranges.{IsOperation};
 ghost use Rattle.sf_tree.specs.Answers.{IsRejection};
@@ -61,15 +61,16 @@ impl Tree {
     }
 
     /// A tree of these layers, in this order, for at most so many, which are at most 9,216. None
-    /// where no tree has them: a number stands twice, a parent or a relative layer is not among them,
-    /// or a layer reaches itself.
+    /// exactly where no tree has them: a number stands twice, a parent or a relative layer is not
+    /// among them, or a layer reaches itself.
     pub fn of_layers(alloc: Global, most: u32, list: &[Layer]) -> Result<Option<Tree>, NoMemory>
         requires limit { most ≤ 9216 }
         requires few { length list.now ≤ most }
         requires numbered { All (λ layer. 0 < layer.number.0) list.now }
         requires in_range { All IsLayerInRange list.now }
         requires of_kind { All IsOfKind list.now }
-        ensures { IfOk result (λ made. IfSome made (λ tree. tree ≡ record { layers = list.now; most = most })) }
+        ensures made { IfOk result (λ made. IfSome made (λ tree. tree ≡ record { layers = list.now; most = most })) }
+        ensures none { IfOk result (λ made. IfNone made (IsTree most list.now → ⊥)) }
     {
         let Some(layers) = layers_of(alloc, list)? else {
             return Ok(None);
