@@ -41,8 +41,26 @@ fn one_has(rects: &[Rect], rect: &Rect) -> bool
     rects.iter().any(|other| rect_has(other, rect))
 }
 
-// Of the points of a window, those of a rectangle that none of these others has. Only those that it
-// meets are gone over, and none of them where it doesn't meet the window.
+// Of the points of a window, those of a rectangle that none of these others has.
+fn rest_of(alloc: Global, rect: Rect, window: &Rect, hidden: &[Rect]) -> Result<Region, NoMemory>
+    requires near { IsInBounds rect }
+    requires hidden { All IsInBounds hidden.now }
+    ensures { IfOk result (λ rest. (x y : ℤ) → covers window.now x y ≡ true
+        → has rest x y ≡ (covers rect x y && not (has hidden.now x y))) }
+{
+    if one_has(hidden, window) {
+        return Ok(Region::empty(alloc));
+    }
+    let cover = Region::rect(alloc, rect)?;
+    if hidden.is_empty() {
+        return Ok(cover);
+    }
+    let over = region_of(alloc, hidden)?;
+    Ok(cover.subtract(&over)?)
+}
+
+// The same, and only those of the others that the rectangle meets are gone over, and none of them where
+// it doesn't meet the window.
 fn left(alloc: Global, rect: Rect, window: &Rect, hidden: &[Rect]) -> Result<Region, NoMemory>
     requires near { IsInBounds rect }
     requires hidden { All IsInBounds hidden.now }
@@ -52,16 +70,11 @@ fn left(alloc: Global, rect: Rect, window: &Rect, hidden: &[Rect]) -> Result<Reg
     if !meets(&rect, window) {
         return Ok(Region::empty(alloc));
     }
+    if hidden.iter().all(|other| meets(other, &rect)) {
+        return rest_of(alloc, rect, window, hidden);
+    }
     let met = those_met(alloc, hidden, &rect)?;
-    if one_has(&met, window) {
-        return Ok(Region::empty(alloc));
-    }
-    let cover = Region::rect(alloc, rect)?;
-    let over = region_of(alloc, &met)?;
-    if is_empty(&over) {
-        return Ok(cover);
-    }
-    Ok(cover.subtract(&over)?)
+    rest_of(alloc, rect, window, &met)
 }
 
 // Appends what shows in a window of each of the layers, from the front, and the clips that hide what
