@@ -45,7 +45,7 @@ pub found_itself : (tree : List Layer) → IsDistinct tree → (k : ℕ) (d : La
 found_itself tree distinct k d h = layer_of-place tree (get_or tree k d).number k (distinct k d h) ∙ slice_get-get_or tree k d h
 
 -- what layers are tied to stays where all layers stay
-IsTied-stays : (old new : List Layer) (layer : Layer) → ((id : LayerId) → has_layer old id ≡ true → has_layer new id ≡ true) → IsTied old layer → IsTied new layer
+pub IsTied-stays : (old new : List Layer) (layer : Layer) → ((id : LayerId) → has_layer old id ≡ true → has_layer new id ≡ true) → IsTied old layer → IsTied new layer
 IsTied-stays old new layer stays t = record { parent = by_parent layer.parent t.parent; relative = by_relative layer.relative t.relative }
   where
     by_parent : (p : Parent) → has_parent old p ≡ true → has_parent new p ≡ true
@@ -150,21 +150,29 @@ IsTree-set most xs place layer y t inside at number tied range of_kind no_cycle 
     stays : (id : LayerId) → has_layer xs id ≡ true → has_layer next id ≡ true
     stays id h = has_layer-place next id ∙ (ap is_some (same id) ∙ (sym (has_layer-place xs id) ∙ h))
 
-pairs_from_distinct : (xs : List Layer) → IsDistinct xs → AllPairs (λ a b. (a.number.0 == b.number.0) ≡ false) xs
+-- numbers are apart where no two layers have one, and the other way round
+pub pairs_from_distinct : (xs : List Layer) → IsDistinct xs → AllPairs (λ a b. (a.number.0 == b.number.0) ≡ false) xs
 pairs_from_distinct xs distinct i j d low inside = (position-Some (is_numbered (get_or xs j d).number) xs j d (distinct j d inside)).2 i low
 
 distinct_from_pairs : (xs : List Layer) → AllPairs (λ a b. (a.number.0 == b.number.0) ≡ false) xs → IsDistinct xs
 distinct_from_pairs xs pairs k d h =
     rw (position_or_len_is (is_numbered (get_or xs k d).number) xs k d (omega arith) (λ j low. pairs j k d low h) (λ low. eq-eqb _ _ refl), lt-ltb k (length xs) h) refl
 
-pairs-without : (id : LayerId) (xs : List Layer) → AllPairs (λ a b. (a.number.0 == b.number.0) ≡ false) xs → AllPairs (λ a b. (a.number.0 == b.number.0) ≡ false) (map (without_steps_to id) xs)
-pairs-without id xs pairs i j d low inside =
-    let size : j < length xs = rw (length-map xs (without_steps_to id)) at inside in
-    rw (get_or-map (without_steps_to id) xs i d d (omega arith), get_or-map (without_steps_to id) xs j d d size) (pairs i j d low size)
+-- some of the layers
+pub IsDistinct-filter : (p : Layer → Bool) (xs : List Layer) → IsDistinct xs → IsDistinct (filter p xs)
+IsDistinct-filter p xs distinct = distinct_from_pairs (filter p xs) (AllPairs-filter (λ (a b : Layer). (a.number.0 == b.number.0) ≡ false) p xs (pairs_from_distinct xs distinct))
+
+-- the layers in other states
+pub IsDistinct-map : (f : Layer → Layer) (xs : List Layer) → ((x : Layer) → (f x).number ≡ x.number) → IsDistinct xs → IsDistinct (map f xs)
+IsDistinct-map f xs same distinct = distinct_from_pairs (map f xs) pairs
+  where
+    pairs : AllPairs (λ a b. (a.number.0 == b.number.0) ≡ false) (map f xs)
+    pairs i j d low inside =
+        let size : j < length xs = rw (length-map xs f) at inside in
+        rw (get_or-map f xs i d d (omega arith), get_or-map f xs j d d size, same (get_or xs i d), same (get_or xs j d)) (pairs_from_distinct xs distinct i j d low size)
 
 pub IsDistinct-without : (xs : List Layer) (id : LayerId) → IsDistinct xs → IsDistinct (without id xs)
-IsDistinct-without xs id distinct =
-    distinct_from_pairs (without id xs) (pairs-without id (filter stays xs) (AllPairs-filter (λ (a b : Layer). (a.number.0 == b.number.0) ≡ false) stays xs (pairs_from_distinct xs distinct)))
+IsDistinct-without xs id distinct = IsDistinct-map (without_steps_to id) (filter stays xs) (λ layer. refl) (IsDistinct-filter stays xs distinct)
   where
     stays : Layer → Bool
     stays layer = not (is_numbered id layer)

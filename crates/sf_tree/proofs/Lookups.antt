@@ -1,16 +1,15 @@
 -- A layer of a list, by its number and by its place.
-use Rattle.std.proofs.Common.{◌≡◌, ℕ, zero, suc, ◌<◌, ◌≤◌, ◌≢◌, Bool, true, false, not, cond, List, [], ◌∷◌, length, get_or, take, map, Option, Some, None, is_some, refl, ap, ◌∙◌, sym, arith, length-take}
-use Rattle.std.specs.List.{All, slice_get, slice_set}
+use Rattle.std.proofs.Common.{◌≡◌, ℕ, zero, suc, ◌<◌, ◌≤◌, ◌≢◌, Bool, true, false, cond, List, [], ◌∷◌, length, get_or, take, map, Option, Some, None, is_some, refl, ap, ◌∙◌, sym, arith, length-take}
+use Rattle.std.specs.List.{slice_get, slice_set}
 use Rattle.std.specs.Prelude.{nat_lt, if◌then◌else◌}
 use Rattle.std.proofs.lemmas.List.{get_or-take}
 use Rattle.std.proofs.lemmas.List.Folds.{find_at}
 use Rattle.std.proofs.lemmas.List.Quantifiers.{position-Some}
-use Rattle.std.proofs.lemmas.List.Elements.{All-filter, All-map}
 use Rattle.std.proofs.lemmas.Option.{slice_get_past, get_or_from_slice_get}
 use Rattle.std.proofs.lemmas.Grind.{common_steps}
 use Rattle.sf_base.specs.declared.ids.LayerId.{LayerId}
 use Rattle.sf_layer.specs.declared.layer.Layer.{Layer}
-use Rattle.sf_tree.specs.Changes.{with_layer, without, without_steps_to}
+use Rattle.sf_tree.specs.Changes.{with_layer}
 use Rattle.sf_tree.specs.Kept.{IsDistinct}
 use Rattle.sf_tree.specs.Layers.{is_numbered, layer_of, index_of, has_layer}
 use Rattle.sf_tree.proofs.Places.{index_of_same, index_of_inside}

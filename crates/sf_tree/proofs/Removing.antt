@@ -1,7 +1,7 @@
 -- A layer goes: what is left, and where it is found.
 use Rattle.std.proofs.Common.{◌≡◌, ◌≢◌, ℕ, zero, suc, ◌+◌, ◌<◌, ◌≤◌, Bool, true, false, not, cond, List, [], ◌∷◌, ◌++◌, length, get_or, drop, map, take, Option, Some, None, refl, ap, ◌∙◌, sym, subst, arith}
 use Rattle.std.specs.List.{filter, position_or_len, remove, slice_set}
-use Rattle.std.specs.Prelude.{nat_lt, ◌==◌, eqb}
+use Rattle.std.specs.Prelude.{nat_lt, eqb}
 use Rattle.std.proofs.lemmas.Bool.{eqb-true, eq-eqb}
 use Rattle.std.proofs.lemmas.List.{get_or_default, length-map, take_at}
 use Rattle.std.proofs.lemmas.List.Edits.{map_over_more}
@@ -12,7 +12,7 @@ use Rattle.std.specs.Ordering.{nat_cmp}
 use Rattle.sf_base.specs.declared.ids.LayerId.{LayerId}
 use Rattle.sf_layer.specs.declared.layer.Layer.{Layer}
 use Rattle.sf_tree.specs.Changes.{without, without_steps_to}
-use Rattle.sf_tree.specs.Index.{IsIndexed, IsNoted, StandsUpTo}
+use Rattle.sf_tree.specs.Index.{IsIndexed, IsNoted}
 use Rattle.sf_tree.specs.Kept.{IsDistinct}
 use Rattle.sf_tree.specs.Layers.{is_numbered, index_of}
 use Rattle.sf_tree.proofs.Keeping.{IsDistinct-without}

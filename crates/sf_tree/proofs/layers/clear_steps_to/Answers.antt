@@ -1,4 +1,4 @@
-use Rattle.std.proofs.Common.{◌<◌, length, arith}
+use Rattle.std.proofs.Common.{arith}
 use Rattle.sf_tree.proofs.Removing.{cleared_more}
 use Rattle.sf_tree.proofs.layers.clear_steps_to.Goals as goal
 
