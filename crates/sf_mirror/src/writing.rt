@@ -1,6 +1,6 @@
 ghost use Rattle.std.specs.Prelude.{◌≡◌, ◌≤◌, ◌+◌, IfOk, OnOk, length, map};
 ghost use Rattle.sf_shown.specs.Copies.{mirrors, number_of, with_copies, written};
-ghost use Rattle.sf_shown.specs.Making.{CanBeMade};
+ghost use Rattle.sf_mirror.specs.Extended.{Extends};
 
 use crate::copies::copy_all;
 use crate::naming::name_all;
@@ -42,8 +42,8 @@ fn push_copies(
     pair: &(u32, u32),
 ) -> Result<(), NoMemory>
     requires few { length layers.old.items + length tree.now.layers ≤ 9216 }
-    requires can { CanBeMade layers.old.items }
-    ensures can { OnOk result (CanBeMade layers.new.items) }
+    requires tree { Extends tree.now.layers layers.old.items }
+    ensures tree { OnOk result (Extends tree.now.layers layers.new.items) }
     ensures long { OnOk result (length layers.new.items ≤ length layers.old.items + length tree.now.layers) }
     ensures value { OnOk result (layers.new.items ≡ with_copies tree.now.layers layers.old.items pair.now) }
 {

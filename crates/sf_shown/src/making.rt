@@ -1,5 +1,5 @@
 ghost use Rattle.std.specs.Prelude.{◌≡◌, IfOk};
-ghost use Rattle.sf_shown.specs.Making.{CanBeMade};
+ghost use Rattle.sf_tree.specs.Kept.{IsTree};
 
 use sf_base::NoMemory;
 use sf_layer::Layer;
@@ -9,17 +9,14 @@ use std::alloc::Global;
 /// How many layers a tree of given layers can have: as many as any tree can.
 const MOST: u32 = 9_216;
 
-/// A tree of these layers, in this order, which can have 9,216 layers. There are at most 9,216, their
-/// numbers and all that they have are in their ranges, a colour is on colour layers alone and a buffer
-/// on buffer layers alone. Want of memory refuses it, and so does what no tree can have: a number
-/// twice, a parent or a relative layer that is not among them, a layer that reaches itself. What `cut`
-/// and `written` ask for has none of these.
+/// A tree of these layers, in this order, which can have 9,216 layers. The layers are those of such a
+/// tree, as what `cut` and `written` ask for is, so only want of memory refuses it.
 pub fn tree_of(alloc: Global, layers: &[Layer]) -> Result<Tree, NoMemory>
-    requires { CanBeMade layers.now }
+    requires { IsTree 9216 layers.now }
     ensures { IfOk result (λ tree. tree ≡ record { layers = layers.now; most = 9216 }) }
 {
     match Tree::of_layers(alloc, MOST, layers)? {
         Some(tree) => Ok(tree),
-        None => Err(NoMemory),
+        None => unreachable!(),
     }
 }

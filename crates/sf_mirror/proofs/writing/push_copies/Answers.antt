@@ -2,11 +2,13 @@ use Rattle.std.proofs.Common.{◌≡◌, ◌∙◌, ◌+◌, ◌<◌, ◌≤◌,
 use Rattle.std.specs.List.{All}
 use Rattle.std.proofs.lemmas.List.{length-map}
 use Rattle.sf_layer.specs.declared.layer.Layer.{Layer}
-use Rattle.sf_shown.specs.Copies.{copied, number_of}
+use Rattle.sf_base.specs.declared.ids.LayerId.{LayerId}
+use Rattle.sf_shown.specs.Copies.{copied, named, number_of}
 use Rattle.sf_shown.specs.Cuts.{under}
-use Rattle.sf_shown.specs.Making.{CanBeMade}
 use Rattle.sf_shown.proofs.KeepingLemmas.{under-few}
-use Rattle.sf_mirror.proofs.CopyLemmas.{can_copies, long_copies}
+use Rattle.sf_mirror.specs.Extended.{Extends}
+use Rattle.sf_mirror.proofs.CopyLemmas.{long_copies}
+use Rattle.sf_mirror.proofs.CopyTreeLemmas.{Extends-copies, mirror_there}
 use Rattle.sf_mirror.proofs.writing.push_copies.Goals as goal
 
 pub name_all-requires : goal.name_all-requires
@@ -16,12 +18,21 @@ name_all-requires c =
     let few = c.requires.few in
     record { few = omega (arith, taken, named, under-few c.args.tree.now.layers (record { 0 = c.args.pair.now.1 }), few) }
 
-pub returns-clause-can : goal.returns-clause-can
-returns-clause-can c =
-    let kept = c.deref-3.ensures.value ∙ c.in_ok-originals.ensures.value in
-    let made = c.in_ok-copies.ensures.value ∙ ap (map (copied (record { 0 = c.args.pair.now.0 }) (record { 0 = c.args.pair.now.1 }) c.in_ok-names.names)) kept in
-    subst CanBeMade (sym (c.in_ok-append.ensures.items ∙ ap (λ (l : List Layer). c.args.layers.now.items ++ l) made))
-    (can_copies c.args.tree.now.most c.args.tree.now.layers c.args.layers.now.items (record { 0 = c.args.pair.now.0 }) (record { 0 = c.args.pair.now.1 }) c.in_ok-names.names c.in_ok-originals.ensures.kept c.requires.can c.requires.few
+pub returns-clause-tree : goal.returns-clause-tree
+returns-clause-tree c =
+    let tree = c.args.tree.now.layers in
+    let so_far = c.args.layers.now.items in
+    let mirror : LayerId = record { 0 = c.args.pair.now.0 } in
+    let id : LayerId = record { 0 = c.args.pair.now.1 } in
+    let taken : c.in_ok-taken.taken.items ≡ map number_of so_far = c.in_ok-taken.ensures ∙ ap (map number_of) c.deref.ensures.value in
+    let originals : c.deref-2.result.now ≡ under tree id = c.deref-2.ensures.value ∙ c.in_ok-originals.ensures.value in
+    let names : c.in_ok-names.names ≡ named (map number_of so_far) (under tree id) = (c.in_ok-names.ensures ∙ c.in_ok-name_all.ensures.value) ∙ (λ i. named (taken i) (originals i)) in
+    let made : c.in_ok-copies.copies.items ≡ map (copied mirror id (named (map number_of so_far) (under tree id))) (under tree id) =
+    c.in_ok-copies.ensures.value ∙ (λ i. map (copied mirror id (names i)) ((c.deref-3.ensures.value ∙ c.in_ok-originals.ensures.value) i)) in
+    let positive = subst (λ (l : List (LayerId × LayerId)). All (λ (name : LayerId × LayerId). 0 < name.1.0) l) (sym c.in_ok-names.ensures ∙ names) c.in_ok-name_all.ensures.positive in
+    subst (Extends tree) (sym (c.in_ok-append.ensures.items ∙ ap (λ (l : List Layer). so_far ++ l) made))
+    (Extends-copies c.args.tree.now.most tree so_far mirror id c.in_ok-originals.ensures.kept c.requires.tree positive
+    (mirror_there tree c.args.pair.now (sym c.mirrors.ensures ∙ c.if-not-mirrors.false)) c.requires.few
     (subst (λ (l : List Layer). All (λ (copy : Layer). 0 < copy.number.0) l) made c.in_ok-copies.ensures.numbered))
 
 pub returns-clause-long : goal.returns-clause-long
