@@ -2,5 +2,6 @@ pub mod ByteWords
 pub mod EachLane
 pub mod PickLemmas
 pub mod PixelLemmas
+pub mod QuadWords
 pub mod Rounding
 pub mod RowLemmas

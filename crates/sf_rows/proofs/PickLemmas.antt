@@ -1,9 +1,15 @@
 -- The number of a picked pixel as the machine computes it.
-use Rattle.std.proofs.Common.{arith, ◌≡◌, ℕ, ◌+◌, ◌*◌, ◌%◌, ◌<◌, ◌≤◌, ◌^◌, ◌∙◌, pos, ap, refl, List, length, ◌+ℤ◌, ◌*ℤ◌, ◌≤ℤ◌, ◌<ℤ◌, to_z, of_z, w32, w64, ℤ}
+use Rattle.std.proofs.Common.{arith, ◌≡◌, ℕ, ◌+◌, ◌-◌, ◌*◌, ◌/◌, ◌%◌, ◌<◌, ◌≤◌, ◌^◌, ◌∙◌, pos, neg_ℤ, ap, refl, subst, ⊎_elim, List, length, slice_index, ◌+ℤ◌, ◌*ℤ◌, ◌≤ℤ◌, ◌<ℤ◌, to_z, of_z, w32, w64, ℤ}
 use lib.Dec.{T}
-use lib.IntN.{negsuc, nat_abs}
+use lib.IntN.{negsuc, negsuc-*ℤ-pos, nat_abs}
 use lib.Signed.{non_neg}
-use Rattle.sf_rows.specs.Pixels.{HasPixel, picked}
+use lib.Lanes.{chunk, put_chunk}
+use Rattle.std.specs.List.{between}
+use Rattle.std.proofs.lemmas.List.Edits.{get_or-between}
+use Rattle.std.proofs.lemmas.Bool.{cases_lt}
+use Rattle.std.proofs.lemmas.Simd.{get_or-chunk, get_or-put_chunk_at, get_or-put_chunk_below}
+use Rattle.sf_rows.specs.Pixels.{HasPixel, picked, PickedBelow}
+use Rattle.sf_rows.proofs.PixelLemmas.{pixel_same}
 use Rattle.std.proofs.lemmas.Int.{ints, to_z_pos}
 use mir.Val.{Fits, SFits}
 
@@ -37,3 +43,79 @@ pixel_room row (negsuc m) whole has = absurd (omega (arith, ints, has.low))
 pub number_fits : (row : List ℕ) (z : ℤ) → length row < 2 ^ 63 → HasPixel row z → T (non_neg z) × Fits w64 (nat_abs z)
 number_fits row (pos m) room has = (tt, search (arith, ints, has.high, room))
 number_fits row (negsuc m) room has = absurd (omega (arith, ints, has.low))
+
+-- pixels that follow one another
+
+-- so many of them end before the source does
+pub on_room : (source : List ℕ) (first n : ℕ) → length source % 4 ≡ 0 → n % 4 ≡ 0 → 0 < n → HasPixel source (picked first (pos 1) (n / 4 - 1)) → 4 * first + n ≤ length source
+unfolding picked
+on_room source first n whole pixels some has = omega (arith, ints, whole, pixels, some, has.high)
+
+-- the number of one of them
+pub number_on : (first k j : ℕ) → pos j ≡ picked first (pos 1) k → j ≡ first + k
+unfolding picked
+number_on first k j is = omega (arith, ints, is)
+
+-- all of them
+pub picked_on : (source new : List ℕ) (first n : ℕ) → n % 4 ≡ 0 → new ≡ between (4 * first) (4 * first + n) source → PickedBelow source first (pos 1) (n / 4) new
+picked_on source new first n pixels is = record {
+  each = λ k j h number. pixel_same new source k j (λ c low.
+      let place : 4 * first + (4 * k + c) ≡ 4 * j + c = omega (arith, number_on first k j number) in
+      rw is (get_or-between source (4 * first) (4 * first + n) (4 * k + c) 0 (omega (arith, pixels, h, low)) ∙ ap (slice_index source) place));
+}
+
+-- pixels that stand one before another
+
+minus_one : (k : ℕ) → neg_ℤ (pos 1) *ℤ pos k ≡ neg_ℤ (pos k)
+minus_one k = let one : 1 * k ≡ k = omega arith in negsuc-*ℤ-pos 0 k ∙ ap (λ (n : ℕ). neg_ℤ (pos n)) one
+
+-- the number of one of them
+pub number_back : (first k j : ℕ) → pos j ≡ picked first (neg_ℤ (pos 1)) k → j + k ≡ first
+unfolding picked
+number_back first k j is =
+    let less : pos j ≡ (pos first +ℤ neg_ℤ (pos k)) = is ∙ ap (λ (z : ℤ). pos first +ℤ z) (minus_one k) in
+    omega (arith, ints, less)
+
+-- one that the source has
+has_back : (source : List ℕ) (first k : ℕ) → length source % 4 ≡ 0 → HasPixel source (picked first (neg_ℤ (pos 1)) k) → (k ≤ first) × (4 * (first - k + 1) ≤ length source)
+unfolding picked
+has_back source first k whole has =
+    let is : picked first (neg_ℤ (pos 1)) k ≡ (pos first +ℤ neg_ℤ (pos k)) = ap (λ (z : ℤ). pos first +ℤ z) (minus_one k) in
+    let low : pos 0 ≤ℤ (pos first +ℤ neg_ℤ (pos k)) = subst (λ (z : ℤ). pos 0 ≤ℤ z) is has.low in
+    let high : (pos 4 *ℤ (pos first +ℤ neg_ℤ (pos k))) <ℤ pos (length source) = subst (λ (z : ℤ). (pos 4 *ℤ z) <ℤ pos (length source)) is has.high in
+    (omega (arith, ints, low), omega (arith, ints, low, high, whole))
+
+-- the last of so many pixels from a place on
+pub back_low : (source : List ℕ) (first at n long : ℕ) → length source % 4 ≡ 0 → at % 4 ≡ 0 → 0 < n → at + 4 * n ≤ long → ((k : ℕ) → 4 * k < long → HasPixel source (picked first (neg_ℤ (pos 1)) k))
+    → at + 4 * n ≤ 4 * first + 4
+back_low source first at n long whole pixels some room inside =
+    let has = has_back source first (at / 4 + (n - 1)) whole (inside (at / 4 + (n - 1)) (omega (arith, pixels, some, room))) in
+    omega (arith, has.0, pixels, some)
+
+-- the first of them
+pub back_high : (source : List ℕ) (first at long : ℕ) → length source % 4 ≡ 0 → at % 4 ≡ 0 → at < long → ((k : ℕ) → 4 * k < long → HasPixel source (picked first (neg_ℤ (pos 1)) k))
+    → (at ≤ 4 * first) × (4 * first + 4 ≤ length source + at)
+back_high source first at long whole pixels room inside =
+    let has = has_back source first (at / 4) whole (inside (at / 4) (omega (arith, pixels, room))) in
+    (omega (arith, has.0, pixels), omega (arith, has.0, has.1, pixels))
+
+-- sixteen pixels more
+pub picked_back : (source mid out : List ℕ) (first at from : ℕ) → at % 4 ≡ 0 → at + 64 ≤ length mid → at + (from + 60) ≡ 4 * first → length out ≡ 64
+    → ((k c : ℕ) → k < 16 → c < 4 → slice_index out (4 * k + c) ≡ slice_index (chunk from 64 source) (4 * (15 - k) + c))
+    → PickedBelow source first (neg_ℤ (pos 1)) (at / 4) mid → PickedBelow source first (neg_ℤ (pos 1)) ((at + 64) / 4) (put_chunk at mid out)
+picked_back source mid out first at from pixels room place long is so = record {
+  each = λ k j h number. ⊎_elim
+      (λ (before : k < at / 4). pixel_same (put_chunk at mid out) mid k k (λ c low. get_or-put_chunk_below at mid out (4 * k + c) 0 (omega (arith, pixels, before, low))) ∙ so.each k j before number)
+      (λ (after : at / 4 ≤ k). pixel_same (put_chunk at mid out) source k j (λ c low. here k j c after h low (number_back first k j number)))
+      (cases_lt k (at / 4));
+}
+  where
+    here : (k j c : ℕ) → at / 4 ≤ k → k < (at + 64) / 4 → c < 4 → j + k ≡ first → slice_index (put_chunk at mid out) (4 * k + c) ≡ slice_index source (4 * j + c)
+    here k j c after before low number =
+        let i : ℕ = k - at / 4 in
+        let place_out : at + (4 * i + c) ≡ 4 * k + c = omega (arith, pixels, after) in
+        let place_in : from + (4 * (15 - i) + c) ≡ 4 * j + c = omega (arith, pixels, after, before, place, number) in
+        let put : slice_index (put_chunk at mid out) (at + (4 * i + c)) ≡ slice_index out (4 * i + c) = get_or-put_chunk_at at mid out (4 * i + c) 0 (omega (arith, long, pixels, after, before, low)) (omega (arith, long, room)) in
+        let was : slice_index (chunk from 64 source) (4 * (15 - i) + c) ≡ slice_index source (from + (4 * (15 - i) + c)) = get_or-chunk from 64 source (4 * (15 - i) + c) 0 (omega (arith, low)) in
+        subst (λ (n : ℕ). slice_index (put_chunk at mid out) n ≡ slice_index source (4 * j + c)) place_out
+        (put ∙ (is i c (omega (arith, pixels, after, before)) low ∙ (was ∙ ap (slice_index source) place_in)))

@@ -13,6 +13,14 @@ pixel_by : (new : List ℕ) (k : ℕ) (p : Rgba) → slice_index new (4 * k) ≡
     → slice_index new (4 * k + 2) ≡ p.b → slice_index new (4 * k + 3) ≡ p.a → pixel_in new k ≡ p
 pixel_by new k p r g b a = rw (r, g, b, a) refl
 
+-- pixels of two rows whose channels are the same
+pub pixel_same : (xs ys : List ℕ) (i j : ℕ) → ((c : ℕ) → c < 4 → slice_index xs (4 * i + c) ≡ slice_index ys (4 * j + c)) → pixel_in xs i ≡ pixel_in ys j
+pixel_same xs ys i j same =
+    let here : 4 * i + 0 ≡ 4 * i = omega arith in
+    let there : 4 * j + 0 ≡ 4 * j = omega arith in
+    let first : slice_index xs (4 * i) ≡ slice_index ys (4 * j) = rw (here, there) at (same 0 (omega arith)) in
+    pixel_by xs i (pixel_in ys j) first (same 1 (omega arith)) (same 2 (omega arith)) (same 3 (omega arith))
+
 -- the pixels beyond those that were painted
 pixels_rest : (old new : List ℕ) (channel : ℕ → ℕ) (at : ℕ) → PaintedPixels old channel at new → (k : ℕ) → at / 4 ≤ k → pixel_in new k ≡ pixel_in old k
 pixels_rest old new channel at so k h =

@@ -174,3 +174,12 @@ pub fn four_times(colour: Rgba) -> u8x16
     let Rgba { r, g, b, a } = colour;
     u8x16::from_array([r, g, b, a, r, g, b, a, r, g, b, a, r, g, b, a])
 }
+
+/// Sixteen pixels, the last one first.
+#[inline(always)]
+pub fn sixteen_back(pixels: u8x64) -> u8x64
+    ensures each { (k c : ℕ) → k < 16 → c < 4 → slice_index result (4 * k + c) ≡ slice_index pixels (4 * (15 - k) + c) }
+    ensures len { length result ≡ 64 }
+{
+    u32x16::from_le_bytes(pixels).reverse().to_le_bytes()
+}
