@@ -67,10 +67,12 @@ fn paint_shown<C: Pixels>(
         ⊎ Paints band.width band.top (λ x y. is_in_area area x y && has parts.now (pos x) (pos y)) (λ x y under.
         under_one (map C.picture contents.now) (pos x) (pos y) under drawn.now source) frame.old frame.new }
 {
-    if parts.len() > 1 && is_faster_whole(drawn, contents, source, parts, band, area) {
-        paint_layer(drawn, contents, source, frame, band, area);
-    } else {
-        paint_parts(drawn, contents, source, parts, frame, band, area);
+    match parts {
+        [] => {}
+        [_, _, ..] if is_faster_whole(drawn, contents, source, parts, band, area) => {
+            paint_layer(drawn, contents, source, frame, band, area);
+        }
+        _ => paint_parts(drawn, contents, source, parts, frame, band, area),
     }
 }
 
