@@ -15,6 +15,7 @@ use Rattle.sf_compose.specs.Frames.{is_in_box}
 use Rattle.sf_compose.specs.Painting.{is_in_area, Paints}
 use Rattle.sf_compose.proofs.PaintLemmas.{Paints-then}
 use Rattle.sf_picture.specs.Pixels.{ShowsPicture}
+use Rattle.sf_picture.specs.Solid.{IsSolid}
 use Rattle.sf_picture.specs.declared.picture.Picture.{Picture}
 use Rattle.sf_rows.specs.Pixels.{HasPixel, picked}
 use Rattle.sf_view.specs.Contents.{unsigned}
@@ -305,6 +306,12 @@ turned_pixel picture crop orient place left k y first step bytes new few lies he
     let other : picked first (step_of orient picture.width) k ≡ picked first step k = ap (λ (z : ℤ). picked first z k) (sym is_step) in
     each _ (steps ∙ (one ∙ other))
     ∙ pixel_by picture bytes _ shows (point_in crop orient place (pos (left + k)) (pos y) picture.width picture.height few lies there)
+
+-- each pixel that a turned crop of a solid picture shows is solid
+pub pixel_solid : (picture : Picture) (crop : Rect) (orient : ℕ) (place : ℤ × ℤ) (x y : ℤ) → IsSolid picture → orient ≤ 7 → LiesWithin crop picture.width picture.height → covers (box_of crop orient place) x y ≡ true → (pixel_shown picture crop orient place x y).a ≡ 255
+pixel_solid picture crop orient place x y solid few lies inside =
+    let at = point_in crop orient place x y picture.width picture.height few lies inside in
+    solid.alphas _ _ at.wide at.high
 
 -- columns of an area, some after others
 

@@ -3,7 +3,8 @@
 //! only in the part that is asked for. It is composed in slices of rows, all layers one after another
 //! in each. Each layer goes row by row, one call of a row kernel for each, and a slice begins with the
 //! topmost layer that hides all of it.
-//! Of a buffer that is turned or mirrored, each row is first picked into a row of its own.
+//! Of a buffer that is turned or mirrored, each row is first picked into a row of its own, or, where
+//! its pixels are only moved, straight into the frame.
 #![tactic(auto)]
 
 mod area;
@@ -26,6 +27,7 @@ mod solid;
 mod spans;
 mod steps;
 mod turned;
+mod turned_moving;
 mod whole;
 
 pub use laws::{

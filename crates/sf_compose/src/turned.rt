@@ -14,6 +14,7 @@ ghost use Rattle.sf_view.specs.Contents.{source_of, unsigned};
 use crate::area::Area;
 use crate::band::{Band, row_start};
 use crate::spans::{copy_pixels, paint_pixels};
+use crate::turned_moving::move_turned;
 use sf_base::Rect;
 use sf_picture::{Painted, Picture};
 use sf_rows::pick_row;
@@ -140,7 +141,7 @@ fn shown_number(picture: &Picture, turned: Turned, x: u32, y: u32) -> u32
 }
 
 // Picks the pixels of a turned crop at the points of a row from one on and before another.
-fn pick_turned(picture: &Painted, turned: Turned, y: u32, left: u32, right: u32, row: &mut [u8])
+pub fn pick_turned(picture: &Painted, turned: Turned, y: u32, left: u32, right: u32, row: &mut [u8])
     requires crop { LiesWithin turned.crop picture.now.width picture.now.height }
     requires orient { turned.orient ≤ 7 }
     requires ordered { left < right }
@@ -275,7 +276,7 @@ fn copy_turned_rows(
 }
 
 // How many columns of a crop with an orientation are painted at a time.
-fn columns_at_once(orient: u8) -> u32
+pub fn columns_at_once(orient: u8) -> u32
     ensures some { 1 ≤ result }
     ensures few { result ≤ 512 }
 {
@@ -287,7 +288,7 @@ fn columns_at_once(orient: u8) -> u32
 }
 
 // The columns of an area from one on, at most so many.
-fn columns_from(area: Area, left: u32, columns: u32) -> Area
+pub fn columns_from(area: Area, left: u32, columns: u32) -> Area
     requires some { 1 ≤ columns }
     requires inside { left < area.right }
     ensures left { result.left ≡ left }
@@ -315,6 +316,10 @@ pub fn paint_turned(picture: &Painted, turned: Turned, frame: &mut [u8], band: B
         painted under (source_of turned.opaque (pixel_shown picture.now turned.crop turned.orient turned.place (pos x) (pos y))) turned.alpha) frame.old frame.new }
 {
     if area.left >= area.right || area.top >= area.bottom {
+        return;
+    }
+    if turned.alpha == 255 && picture.is_solid() {
+        move_turned(picture, turned, frame, band, area);
         return;
     }
     let mut row = [0u8; 4 * MOST_COLUMNS as usize];
@@ -347,6 +352,10 @@ pub fn copy_turned(
 {
     if area.left >= area.right || area.top >= area.bottom {
         return false;
+    }
+    if picture.is_solid() {
+        move_turned(picture, turned, frame, band, area);
+        return true;
     }
     let mut row = [0u8; 4 * MOST_COLUMNS as usize];
     let columns = columns_at_once(turned.orient);

@@ -1,4 +1,4 @@
-use Rattle.std.proofs.Common.{arith}
+use Rattle.std.proofs.Common.{arith, false}
 use Rattle.sf_view.specs.Image.{opaque_black}
 use Rattle.sf_compose.specs.Frames.{is_in_box}
 use Rattle.sf_compose.proofs.BegunLemmas.{Spares-painted, Spares-then}
@@ -44,3 +44,10 @@ returns-then-not-copy_turned_rows-clause-spared c =
     (λ a b t. beside_sides c.args.area.left c.args.area.right c.args.area.top c.args.area.bottom c.loop-left.left a b c.loop-left.invariant.1 t))
     (Spares-wider _ _ _ _ _ _ c.copy_turned_rows.ensures.spared
     (λ a b t. beside_block c.args.area c.columns_from-block.result a b (omega (arith, c.columns_from-block.ensures.left, c.loop-left.invariant.0)) c.columns_from-block.ensures.right c.columns_from-block.ensures.top c.columns_from-block.ensures.bottom t))
+
+pub returns-then-is_solid-clause-spared : goal.returns-then-is_solid-clause-spared
+returns-then-is_solid-clause-spared c =
+    Spares-painted _ _ _ _ _ _ _ (c.move_turned.ensures false (λ x y under. opaque_black)) (λ a b t. t)
+
+pub returns-then-is_solid-clause-copied : goal.returns-then-is_solid-clause-copied
+returns-then-is_solid-clause-copied c = λ yes below. c.move_turned.ensures false (λ x y under. below x y)

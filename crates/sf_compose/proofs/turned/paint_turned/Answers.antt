@@ -1,5 +1,8 @@
-use Rattle.std.proofs.Common.{arith}
-use Rattle.sf_compose.proofs.PaintLemmas.{box_without_sides, Paints-none}
+use Rattle.std.proofs.Common.{ℕ, ap, arith, pos, refl, sym}
+use Rattle.sf_base.specs.Paint.{painted}
+use Rattle.sf_view.specs.Contents.{source_of}
+use Rattle.sf_compose.specs.Turns.{pixel_shown}
+use Rattle.sf_compose.proofs.PaintLemmas.{box_without_sides, Paints-none, Paints-same}
 use Rattle.sf_compose.proofs.TurnLemmas.{block_point, Paints-block, Paints-sides}
 use Rattle.sf_compose.proofs.turned.paint_turned.Goals as goal
 
@@ -28,3 +31,7 @@ loop-left-preserved c = (
 
 pub returns : goal.returns
 returns c = Paints-sides _ _ c.args.area.left c.loop-left.left c.args.area.right c.args.area.top c.args.area.bottom _ _ _ c.loop-left.invariant.2 (omega (arith, c.loop-left.invariant.1, c.loop-left-test.false))
+
+pub returns-then-is_solid : goal.returns-then-is_solid
+returns-then-is_solid c = Paints-same _ _ _ _ _ _ _ _ (c.move_turned.ensures c.args.turned.opaque (λ x y under. under)) (λ x y. refl)
+    (λ x y under t. ap (λ (alpha : ℕ). painted under (source_of c.args.turned.opaque (pixel_shown c.args.picture.now c.args.turned.crop c.args.turned.orient c.args.turned.place (pos x) (pos y))) alpha) (sym c.if-turned-eq255.true))
