@@ -194,6 +194,9 @@ has_copy taken (l ∷ ls) (suc k) d inside = by_test (l.number.0 == (get_or ls k
     by_test true ih = (copy, refl)
     by_test false ih = ih
 
+pub all_named : (taken : List LayerId) (ls : List Layer) → All (λ (l : Layer). is_some (copy_of (named taken ls) l.number) ≡ true) ls
+all_named taken ls k d inside = ap is_some (has_copy taken ls k d inside).1
+
 module _ (most : ℕ) (tree so_far : List Layer) (mirror id : LayerId) (t : IsTree most tree) (x : Extends tree so_far)
     (all : All IsPositive (named (map number_of so_far) (under tree id))) (there : has_layer tree mirror ≡ true) where
   abbrev taken : List LayerId

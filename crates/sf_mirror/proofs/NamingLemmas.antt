@@ -1,7 +1,8 @@
 -- The least free numbers, one after another.
 use Rattle.std.proofs.Common.{◌≡◌, ℕ, zero, suc, ◌+◌, ◌-◌, ◌<◌, ◌≤◌, Bool, true, false, not, ◌||◌, List, [], ◌∷◌, ◌++◌, length, refl, ap, ◌∙◌, sym, subst, arith}
 use Rattle.std.specs.List.{list_any}
-use Rattle.std.proofs.lemmas.Bool.{cases_eq, eq-eqb}
+use Rattle.std.specs.Prelude.{◌==◌, if◌then◌else◌}
+use Rattle.std.proofs.lemmas.Bool.{cases_eq, eq-eqb, eqb-true}
 use Rattle.std.proofs.Math.Seq.{drop-cons}
 use Rattle.std.proofs.Common.{drop, get_or, append_assoc, append-nil, inl, inr, replicate}
 use Rattle.std.proofs.lemmas.List.{drop_all, get_or-replicate, length-replicate}
@@ -68,6 +69,43 @@ no_marks = record {
   long = length-replicate 9218 false;
   marked = λ number inside. let long = length-replicate 9218 false in get_or-replicate 9218 number false false (omega (arith, long, inside));
 }
+
+-- without the first that has this number
+without_number : ℕ → List LayerId → List LayerId
+without_number number [] = []
+without_number number (x ∷ xs) = if x.0 == number then xs else x ∷ without_number number xs
+
+one_less : (number : ℕ) (xs : List LayerId) → list_any (is_taken_by number) xs ≡ true → length (without_number number xs) + 1 ≡ length xs
+unfolding without_number
+one_less number [] h = cc
+one_less number (x ∷ xs) h = by_test (x.0 == number) h (one_less number xs)
+  where
+    by_test : (b : Bool) → (b || list_any (is_taken_by number) xs) ≡ true → (list_any (is_taken_by number) xs ≡ true → length (without_number number xs) + 1 ≡ length xs) → length (if b then xs else x ∷ without_number number xs) + 1 ≡ length (x ∷ xs)
+    by_test true h ih = omega arith
+    by_test false h ih = omega (arith, ih h)
+
+others_stay : (number k : ℕ) (xs : List LayerId) → k < number → list_any (is_taken_by k) xs ≡ true → list_any (is_taken_by k) (without_number number xs) ≡ true
+unfolding without_number
+others_stay number k [] low h = h
+others_stay number k (x ∷ xs) low h = by_tests (x.0 == number) (x.0 == k) refl refl h (others_stay number k xs low)
+  where
+    by_tests : (a b : Bool) → (x.0 == number) ≡ a → (x.0 == k) ≡ b → (b || list_any (is_taken_by k) xs) ≡ true → (list_any (is_taken_by k) xs ≡ true → list_any (is_taken_by k) (without_number number xs) ≡ true) → list_any (is_taken_by k) (if a then xs else x ∷ without_number number xs) ≡ true
+    by_tests true true p q h ih =
+        let one : x.0 ≡ number = eqb-true x.0 number p in
+        let two : x.0 ≡ k = eqb-true x.0 k q in
+        absurd (omega arith)
+    by_tests true false p q h ih = h
+    by_tests false true p q h ih = rw q refl
+    by_tests false false p q h ih = rw q (ih h)
+
+-- numbers that are taken are no more than what takes them
+pub few_taken : (number : ℕ) (taken : List LayerId) → ((k : ℕ) → 1 ≤ k → k < number + 1 → is_free taken k ≡ false) → number ≤ length taken
+few_taken zero taken below = omega arith
+few_taken (suc number) taken below =
+    let here : list_any (is_taken_by (suc number)) taken ≡ true = not-false _ (below (suc number) (omega arith) (omega arith)) in
+    let fewer : number ≤ length (without_number (suc number) taken) = few_taken number (without_number (suc number) taken)
+    (λ k low high. ap not (others_stay (suc number) k taken (omega arith) (not-false _ (below k low (omega arith))))) in
+    omega (arith, fewer, one_less (suc number) taken here)
 
 -- a search goes on where a number is taken
 pub one_further : (taken : List LayerId) (number : ℕ) → ((k : ℕ) → 1 ≤ k → k < number → is_free taken k ≡ false) → is_free taken number ≡ false → (k : ℕ) → 1 ≤ k → k < number + 1 → is_free taken k ≡ false

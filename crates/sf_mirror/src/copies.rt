@@ -1,7 +1,7 @@
 ghost use Rattle.std.specs.List.{All};
 ghost use Rattle.sf_base.specs.declared.ids.LayerId.{LayerId as LayerIdValue};
 ghost use Rattle.sf_layer.specs.declared.layer.Layer.{Layer as LayerValue};
-ghost use Rattle.std.specs.Prelude.{◌≡◌, ◌<◌, IfOk, IfSome, map};
+ghost use Rattle.std.specs.Prelude.{◌≡◌, ◌<◌, IfOk, IfSome, is_some, map, true};
 ghost use Rattle.sf_shown.specs.Copies.{copied, copy_of, parent_of, relative_of};
 
 use sf_base::{LayerId, NoMemory};
@@ -40,35 +40,37 @@ fn parent_of(names: &ByLayer<LayerId>, parent: Parent) -> Parent
     }
 }
 
-/// The copy of a layer, if it has a number: of the layer that the mirror shows, or of one below it.
-fn copied(mirror: LayerId, id: LayerId, names: &ByLayer<LayerId>, layer: &Layer) -> Option<Layer>
-    requires { All (λ (name : LayerIdValue × LayerIdValue). 0 < name.1.0) names.now }
-    ensures value { IfSome result (λ copy. copy ≡ copied mirror id names.now layer.now) }
-    ensures numbered { IfSome result (λ copy. 0 < copy.number.0) }
+/// The copy of a layer that has a number for it: of the layer that the mirror shows, or of one below
+/// it.
+fn copied(mirror: LayerId, id: LayerId, names: &ByLayer<LayerId>, layer: &Layer) -> Layer
+    requires positive { All (λ (name : LayerIdValue × LayerIdValue). 0 < name.1.0) names.now }
+    requires named { is_some (copy_of names.now layer.now.number) ≡ true }
+    ensures value { result ≡ copied mirror id names.now layer.now }
+    ensures numbered { 0 < result.number.0 }
 {
     let Some(number) = copy_of(names, layer.number) else {
-        return None;
+        unreachable!();
     };
     if layer.number.0 == id.0 {
-        Some(Layer {
+        Layer {
             number,
             parent: Parent::Layer(mirror),
             position: (0, 0),
             z: 0,
             relative: None,
             ..*layer
-        })
+        }
     } else {
-        Some(Layer {
+        Layer {
             number,
             parent: parent_of(names, layer.parent),
             relative: relative_of(names, layer.relative),
             ..*layer
-        })
+        }
     }
 }
 
-/// The copies of these layers, in their order. Each has a number.
+/// The copies of these layers, in their order. There is a number for each.
 pub fn copy_all(
     alloc: Global,
     mirror: LayerId,
@@ -76,16 +78,14 @@ pub fn copy_all(
     names: &ByLayer<LayerId>,
     layers: &[Layer],
 ) -> Result<Vec<Layer>, NoMemory>
-    requires { All (λ (name : LayerIdValue × LayerIdValue). 0 < name.1.0) names.now }
+    requires positive { All (λ (name : LayerIdValue × LayerIdValue). 0 < name.1.0) names.now }
+    requires named { All (λ (layer : LayerValue). is_some (copy_of names.now layer.number) ≡ true) layers.now }
     ensures value { IfOk result (λ copies. copies.items ≡ map (copied mirror id names.now) layers.now) }
     ensures numbered { IfOk result (λ copies. All (λ (copy : LayerValue). 0 < copy.number.0) copies.items) }
 {
     let mut copies = Vec::new(alloc);
     for layer in layers {
-        let Some(copy) = copied(mirror, id, names, layer) else {
-            return Err(NoMemory);
-        };
-        copies.push(copy)?;
+        copies.push(copied(mirror, id, names, layer))?;
     }
     Ok(copies)
 }

@@ -1,4 +1,4 @@
-ghost use Rattle.std.specs.Prelude.{◌≡◌, ◌≤◌, ◌<◌, ◌+◌, ◌++◌, ◌∷◌, [], ℕ, List, IfOk, IfSome, length, false};
+ghost use Rattle.std.specs.Prelude.{◌≡◌, ◌≤◌, ◌<◌, ◌+◌, ◌++◌, ◌∷◌, [], ℕ, List, IfOk, length, false};
 ghost use Rattle.std.specs.List.{All};
 ghost use Rattle.sf_base.specs.declared.ids.LayerId.{LayerId as LayerIdValue};
 ghost use Rattle.sf_shown.specs.Copies.{IsLeastFree, is_free, named};
@@ -40,23 +40,19 @@ fn is_free(marks: &[bool], number: u32) -> bool
     !marks[number as usize]
 }
 
-/// The least number from 1 that is not taken, where all below this one are. There is always one.
-fn least_free(taken: &[LayerId], marks: &[bool], from: u32) -> Option<u32>
+/// The least number from 1 that is not taken, where all below this one are.
+fn least_free(taken: &[LayerId], marks: &[bool], from: u32) -> u32
     requires low { 1 ≤ from }
     requires few { length taken.now ≤ 9216 }
     requires marks { AreMarks taken.now marks.now }
     requires below { (k : ℕ) → 1 ≤ k → k < from → is_free taken.now k ≡ false }
-    ensures { IfSome result (IsLeastFree taken.now) }
+    ensures { IsLeastFree taken.now result }
 {
-    let end = taken.len() as u32 + 2;
     let mut number = from;
-    while number < end {
-        if is_free(marks, number) {
-            return Some(number);
-        }
+    while !is_free(marks, number) {
         number += 1;
     }
-    None
+    number
 }
 
 /// Each of these layers with the number of its copy, the least that is not taken; it is taken then.
@@ -73,9 +69,7 @@ pub fn name_all(
     let mut marks = marks_of(alloc, taken)?;
     let mut from = 1u32;
     for layer in layers {
-        let Some(number) = least_free(taken, &marks, from) else {
-            return Err(NoMemory);
-        };
+        let number = least_free(taken, &marks, from);
         let copy = LayerId(number);
         names.push((layer.number, copy))?;
         taken.push(copy)?;

@@ -11,9 +11,9 @@ loop-layer-preserved c =
     let i = c.loop-layer.layer-index in
     record {
       value = c.in_ok-push.ensures.items
-          ∙ (ap (λ (made : List Layer). made ++ c.in-Some.copy ∷ []) c.loop-layer.invariant.value
-          ∙ (ap (λ (one : Layer). map f (take i c.args.layers.now) ++ one ∷ []) c.in-Some.ensures.value ∙ sym (map_more f c.args.layers.now i _ c.loop-layer-test.true)));
-      numbered = rw (c.in_ok-push.ensures.items) (All-push (λ (copy : Layer). 0 < copy.number.0) c.loop-layer.copies.items c.in-Some.copy c.loop-layer.invariant.numbered c.in-Some.ensures.numbered);
+          ∙ (ap (λ (made : List Layer). made ++ c.copied.result ∷ []) c.loop-layer.invariant.value
+          ∙ (ap (λ (one : Layer). map f (take i c.args.layers.now) ++ one ∷ []) c.copied.ensures.value ∙ sym (map_more f c.args.layers.now i _ c.loop-layer-test.true)));
+      numbered = rw (c.in_ok-push.ensures.items) (All-push (λ (copy : Layer). 0 < copy.number.0) c.loop-layer.copies.items c.copied.result c.loop-layer.invariant.numbered c.copied.ensures.numbered);
     }
 
 pub returns-clause-value : goal.returns-clause-value

@@ -9,17 +9,17 @@ use Rattle.sf_mirror.proofs.naming.name_all.Goals as goal
 
 pub loop-layer-preserved : goal.loop-layer-preserved
 loop-layer-preserved c =
-    let least : IsLeastFree c.loop-layer.taken.items c.in-Some.number = subst (λ (l : List LayerId). IsLeastFree l c.in-Some.number) c.deref-in-loop-layer.ensures.value c.in-Some.ensures in
+    let least : IsLeastFree c.loop-layer.taken.items c.least_free-number.result = subst (λ (l : List LayerId). IsLeastFree l c.least_free-number.result) c.deref-in-loop-layer.ensures.value c.least_free-number.ensures in
     let grown = ap length c.in_ok-push-2.ensures.items in
     let inside = c.loop-layer-test.true in
     let few = c.loop-layer.invariant.few in
     record {
       low = omega arith;
-      below = λ k low high. subst (λ (l : List LayerId). is_free l k ≡ false) (sym c.in_ok-push-2.ensures.items) (still_taken c.loop-layer.taken.items c.in-Some.number least.below k low high);
+      below = λ k low high. subst (λ (l : List LayerId). is_free l k ≡ false) (sym c.in_ok-push-2.ensures.items) (still_taken c.loop-layer.taken.items c.least_free-number.result least.below k low high);
       marked = subst (λ (l : List LayerId). AreMarks l c.mark.new.marks.items) (sym c.in_ok-push-2.ensures.items) (c.mark.ensures c.loop-layer.taken.items c.loop-layer.invariant.marked);
-      few = omega (arith, grown, length-append c.loop-layer.taken.items (record { 0 = c.in-Some.number } ∷ []), length-drop c.loop-layer.layer-index c.args.layers.now, length-drop (c.loop-layer.layer-index + 1) c.args.layers.now, inside, few);
+      few = omega (arith, grown, length-append c.loop-layer.taken.items (record { 0 = c.least_free-number.result } ∷ []), length-drop c.loop-layer.layer-index c.args.layers.now, length-drop (c.loop-layer.layer-index + 1) c.args.layers.now, inside, few);
       value = rw (c.in_ok-push.ensures.items, c.in_ok-push-2.ensures.items)
-          (named_one c.loop-layer.names.items c.loop-layer.taken.items c.args.layers.now c.loop-layer.layer-index (c.loop-layer.layer-index + 1) c.in-Some.number _ _ (omega arith) inside least c.loop-layer.invariant.value);
+          (named_one c.loop-layer.names.items c.loop-layer.taken.items c.args.layers.now c.loop-layer.layer-index (c.loop-layer.layer-index + 1) c.least_free-number.result _ _ (omega arith) inside least c.loop-layer.invariant.value);
       positive = subst (λ (l : List (LayerId × LayerId)). All (λ (n : LayerId × LayerId). 0 < n.1.0) l) (sym c.in_ok-push.ensures.items)
           (All-push (λ (n : LayerId × LayerId). 0 < n.1.0) c.loop-layer.names.items _ c.loop-layer.invariant.positive least.low);
     }

@@ -1,14 +1,14 @@
-use Rattle.std.proofs.Common.{◌≡◌, ◌∙◌, ◌+◌, ◌<◌, ◌≤◌, ◌++◌, List, ap, arith, length, map, sym, subst}
+use Rattle.std.proofs.Common.{◌≡◌, ◌∙◌, ◌+◌, ◌<◌, ◌≤◌, ◌++◌, List, ap, arith, is_some, length, map, sym, subst, true}
 use Rattle.std.specs.List.{All}
 use Rattle.std.proofs.lemmas.List.{length-map}
 use Rattle.sf_layer.specs.declared.layer.Layer.{Layer}
 use Rattle.sf_base.specs.declared.ids.LayerId.{LayerId}
-use Rattle.sf_shown.specs.Copies.{copied, named, number_of}
+use Rattle.sf_shown.specs.Copies.{copied, copy_of, named, number_of}
 use Rattle.sf_shown.specs.Cuts.{under}
 use Rattle.sf_shown.proofs.KeepingLemmas.{under-few}
 use Rattle.sf_mirror.specs.Extended.{Extends}
 use Rattle.sf_mirror.proofs.CopyLemmas.{long_copies}
-use Rattle.sf_mirror.proofs.CopyTreeLemmas.{Extends-copies, mirror_there}
+use Rattle.sf_mirror.proofs.CopyTreeLemmas.{Extends-copies, all_named, mirror_there}
 use Rattle.sf_mirror.proofs.writing.push_copies.Goals as goal
 
 pub name_all-requires : goal.name_all-requires
@@ -17,6 +17,13 @@ name_all-requires c =
     let named : length c.deref-2.result.now ≡ length (under c.args.tree.now.layers (record { 0 = c.args.pair.now.1 })) = ap length (c.deref-2.ensures.value ∙ c.in_ok-originals.ensures.value) in
     let few = c.requires.few in
     record { few = omega (arith, taken, named, under-few c.args.tree.now.layers (record { 0 = c.args.pair.now.1 }), few) }
+
+pub copy_all-requires-clause-named : goal.copy_all-requires-clause-named
+copy_all-requires-clause-named c =
+    let same : c.deref-2.result.now ≡ c.deref-3.result.now = c.deref-2.ensures.value ∙ sym c.deref-3.ensures.value in
+    let names : c.in_ok-names.names ≡ named c.in_ok-taken.taken.items c.deref-2.result.now = c.in_ok-names.ensures ∙ c.in_ok-name_all.ensures.value in
+    subst (λ (l : List (LayerId × LayerId)). All (λ (layer : Layer). is_some (copy_of l layer.number) ≡ true) c.deref-3.result.now) (sym names)
+    (subst (λ (l : List Layer). All (λ (layer : Layer). is_some (copy_of (named c.in_ok-taken.taken.items c.deref-2.result.now) layer.number) ≡ true) l) same (all_named c.in_ok-taken.taken.items c.deref-2.result.now))
 
 pub returns-clause-tree : goal.returns-clause-tree
 returns-clause-tree c =
