@@ -22,10 +22,10 @@ use Rattle.sf_shared.specs.declared.inbox.Courier.{Courier}
 use Rattle.sf_shared.specs.declared.inbox.Inbox.{Inbox}
 use Rattle.sf_shared.specs.Arriving.{ArrivalsPass}
 use Rattle.sf_shared.specs.Calls.{IsMade, SentOne}
-use Rattle.sf_shared.specs.Inboxes.{AreCouriers, Carries, HasAll, Hears, IsAbleTo, IsBehind, IsCourier, IsInbox, IsLater, IsOneOf, IsSameInbox, is_courier, left_of, number_of, sent_by}
+use Rattle.sf_shared.specs.Inboxes.{AreCouriers, Carries, HasAll, HasCouriers, Hears, IsAbleTo, IsBehind, IsCourier, IsInbox, IsLater, IsOneOf, IsSameInbox, is_courier, left_of, number_of, sent_by}
 use Rattle.sf_shared.specs.Sent.{sent_in, takes_in}
 use Rattle.sf_shared.proofs.Ordering.{contains_cons}
-use Rattle.sf_shared.proofs.Passing.{place_is}
+use Rattle.sf_shared.proofs.Passing.{no_place, place_is}
 
 pub has_here : {X : Type 0} (x : X) (xs : List X) → Contains (x ∷ xs) x
 has_here x xs = (0, omega arith, refl)
@@ -85,6 +85,24 @@ within_newest (p ∷ posts) post there = elim (contains_cons p posts post there)
   | inr later ↦ (let a = within_newest posts post later in let b = le-max_right p.stamp (newest_of posts) in omega (arith, a, b))
 ]
 
+module _ {B : Type 0} where
+  -- a courier that is put in the place of one of the same number
+  same_numbers : (couriers : List (Courier B)) (place : ℕ) (old new : Courier B) → new.by ≡ (get_or couriers place old).by → map number_of (set couriers place new) ≡ map number_of couriers
+  same_numbers [] place old new same = refl
+  same_numbers (c ∷ couriers) zero old new same = ap (λ (n : ℕ). n ∷ map number_of couriers) same
+  same_numbers (c ∷ couriers) (suc place) old new same = ap (λ (ns : List ℕ). c.by ∷ ns) (same_numbers couriers place old new same)
+
+  -- the courier of a number that is there has a place
+  has_place : (couriers : List (Courier B)) (by : ℕ) → Contains (map number_of couriers) by → position_or_len (is_courier by) couriers < length couriers
+  has_place [] by there = absurd (has_none by there)
+  has_place (c ∷ couriers) by there = elim (cases_Bool (is_courier by c)) [
+    | inl met ↦ rw met (omega arith)
+    | inr unmet ↦ (elim (contains_cons c.by (map number_of couriers) by there) [
+      | inl same ↦ absurd (false≢true (sym unmet ∙ eq-eqb c.by by (sym same)))
+      | inr later ↦ rw unmet (let low = has_place couriers by later in omega (arith, low))
+    ])
+  ]
+
 module _ {B : Type 0} (table : TableId) (taken : List (Post ReadLeaseOf)) (forwarded : List (Arrival ReadLeaseOf)) (a : Arrival ReadLeaseOf) where
   -- one more of another sender was forwarded
   other_forwarded : (courier : Courier B) → (a.actor.0 ≡ courier.by → ⊥) → IsCourier table taken forwarded courier → IsCourier table taken (forwarded ++ a ∷ []) courier
@@ -131,11 +149,6 @@ module _ {B : Type 0} (table : TableId) (taken : List (Post ReadLeaseOf)) (forwa
         })
         | inr before ↦ is.behind m before
       ]
-
-  same_numbers : (couriers : List (Courier B)) (place : ℕ) (old new : Courier B) → new.by ≡ (get_or couriers place old).by → map number_of (set couriers place new) ≡ map number_of couriers
-  same_numbers [] place old new same = refl
-  same_numbers (c ∷ couriers) zero old new same = ap (λ (n : ℕ). n ∷ map number_of couriers) same
-  same_numbers (c ∷ couriers) (suc place) old new same = ap (λ (ns : List ℕ). c.by ∷ ns) (same_numbers couriers place old new same)
 
   forwarded_at : (couriers : List (Courier B)) (place : ℕ) (old new : Courier B) (stamp given : ℕ) → position_or_len (is_courier a.actor.0) couriers ≡ place → place < length couriers
       → AreCouriers table taken forwarded couriers → Carries (get_or couriers place old) new stamp given a.step a.txn → IsOneOf taken a → newest_of taken ≤ stamp
@@ -193,7 +206,7 @@ module _ {B : Type 0} where
       let in_given : Contains old.taker.given oldest = subst (λ (list : List (Arrival ReadLeaseOf)). Contains list oldest) (ap (λ (list : List (Arrival ReadLeaseOf)). own.forwarded ++ list) (sym left) ∙ own.whole)
       (Contains-append_right own.forwarded (oldest ∷ left_of new) oldest (has_here oldest (left_of new))) in
       let carries_there = subst (λ (c : Courier B). Carries c next stamp given oldest.step oldest.txn) there carries in
-      let kept = same_numbers table old.taker.taken own.forwarded oldest old.couriers.items place one next carries_there.by in
+      let kept = same_numbers old.couriers.items place one next carries_there.by in
       subst (λ (t : TakerView ReadLeaseOf). IsInbox table (record { taker = t; senders = new.senders; couriers = new.couriers; held = new.held; rest = new.rest })) (sym taker) (record {
         forwarded = own.forwarded ++ oldest ∷ [];
         whole = cut;
@@ -204,6 +217,25 @@ module _ {B : Type 0} where
         made = λ by there. own.made by (subst (λ (ns : List ℕ). Contains ns by) (ap (map number_of) couriers ∙ kept) there);
         count = senders ∙ own.count;
       })
+
+  -- what is left was sent by one whose courier is here
+  pub left_courier : (table : TableId) (inbox : Inbox B) (oldest : Arrival ReadLeaseOf) (more : List (Arrival ReadLeaseOf)) → IsInbox table inbox → HasCouriers inbox → left_of inbox ≡ oldest ∷ more
+      → position (is_courier oldest.actor.0) inbox.couriers.items ≡ None → ⊥
+  left_courier table inbox oldest more own all left none =
+      let given : Contains inbox.taker.given oldest = subst (λ (list : List (Arrival ReadLeaseOf)). Contains list oldest) (ap (λ (list : List (Arrival ReadLeaseOf)). own.forwarded ++ list) (sym left) ∙ own.whole)
+      (Contains-append_right own.forwarded (oldest ∷ more) oldest (has_here oldest more)) in
+      let low = has_place inbox.couriers.items oldest.actor.0 (all oldest.actor.0 (own.theirs oldest given)) in
+      let high = no_place (is_courier oldest.actor.0) inbox.couriers.items none in
+      omega (arith, low, high)
+
+  -- where the same senders were made, and couriers of the same numbers are here
+  pub same_couriers : (old new : Inbox B) → HasCouriers old → new.taker.made ≡ old.taker.made → map number_of new.couriers.items ≡ map number_of old.couriers.items → HasCouriers new
+  same_couriers old new all made numbers = λ by there. subst (λ (ns : List ℕ). Contains ns by) (sym numbers) (all by (subst (λ (ns : List ℕ). Contains ns by) made there))
+
+  -- after a courier carried, or was refused
+  pub put_couriers : (old new : Inbox B) (place : ℕ) (one next : Courier B) → HasCouriers old → one ≡ get_or old.couriers.items place one → next.by ≡ one.by → new.taker ≡ old.taker → new.couriers.items ≡ set old.couriers.items place next → HasCouriers new
+  put_couriers old new place one next all there by taker couriers =
+      same_couriers old new all (ap (λ t. t.made) taker) (ap (map number_of) couriers ∙ same_numbers old.couriers.items place one next (by ∙ ap number_of there))
 
   -- a refusal, and nothing, leaves the inbox as it was
   pub stays_inbox : (table : TableId) (old new : Inbox B) → IsInbox table old → left_of new ≡ left_of old → new.taker ≡ old.taker → new.senders ≡ old.senders → new.couriers.items ≡ old.couriers.items → IsInbox table new

@@ -20,6 +20,7 @@ use Rattle.sf_shared.specs.Arriving.{ArrivalsPass}
 use Rattle.sf_shared.specs.First.{Gives, HandsOut, IsFirst, IsGiven, IsTaken, KnowsNothing, Leads, TookPass, gave_of}
 use Rattle.sf_shared.specs.Passes.{IsAt, MayGive}
 use Rattle.sf_shared.specs.Seats.{AreSeats, IsAtIntake, IsInOrder, IsPassOf, QueuePass, arrivals_known, calls_known, calls_made, moment, moments_of, post_moment, posts_of, sent_in, takes_in}
+use Rattle.sf_shared.proofs.Forwarding.{has_here}
 use Rattle.sf_shared.proofs.Handing.{GivesAt, gives_at}
 
 pub zip_map : {X Y Z : Type 0} (R : X → Y → Type 0) (S : X → Z → Type 0) (f : Y → Z) (xs : List X) (ys : List Y) → ((x : X) (y : Y) → R x y → S x (f y)) → AllZip R xs ys → AllZip S xs (map f ys)
@@ -149,7 +150,7 @@ module _ {B : Type 0} where
           (subst (λ (xs : List (ℕ × ℕ)). IsInOrder old.seats.last xs) (sym same_order) first.own.in_order);
       takes = λ other. absurd (other (s.number ∙ first.number));
       pass = s.pass ∙ sym (hands.same_pass new.seats.arrivals);
-      way = subst (λ (bs : List ℕ). IsAtIntake locks new.seats.by bs new.seats.last new.seats.intake) (sym gave_is) (hands.way new.seats.by new.seats.last);
+      way = subst (λ (bs : List ℕ). IsAtIntake locks new.seats.by bs new.seats.last new.seats.intake) (sym gave_is) (hands.way new.seats.by new.seats.last (s.number ∙ first.number));
     }
 
     leads_all : AllByRecursion (Leads (gave_of new)) new.seats.queues.items
@@ -205,6 +206,7 @@ module _ {B : Type 0} where
         queues = subst (λ (ps : List (QueuePass B)). AllByRecursion (λ (pass : QueuePass B). pass.seen ≡ []) ps) (sym s.queues) (nothing_after (giving by) (λ p. refl));
         arrivals = arrived_same ∙ unused.arrivals;
         posts = hands.posts ∙ unused.posts;
+        unfinished = hands.unfinished;
       };
       times = s.times;
       turns = s.turns;
@@ -218,6 +220,7 @@ module _ {B : Type 0} where
       queues = subst (λ (ps : List (QueuePass B)). AllByRecursion (λ (pass : QueuePass B). pass.seen ≡ []) ps) (sym s.given_queues) (nothing_after (given by) (λ p. refl));
       arrivals = given_arrived;
       posts = hands.given_posts;
+      unfinished = hands.given_unfinished;
     }
 
     given_moments : moments_of seats ≡ []
@@ -245,6 +248,7 @@ module _ {B : Type 0} where
     pub given_is : IsGiven by old.seats seats
     given_is = record {
       number = s.given_number;
+      apart = λ zero. fresh (subst (λ (n : ℕ). Contains (old.seats.by ∷ gave_of old) n) (first.number ∙ sym zero ∙ s.given_number) (has_here old.seats.by (gave_of old)));
       knows = record {
         calls = λ queue. ap (λ (ps : List (QueuePass B)). calls_known ps queue) s.given_queues ∙ same_calls (given by) (λ p. refl) (λ p. refl) old.seats.queues.items queue;
         arrivals =

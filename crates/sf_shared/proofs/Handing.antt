@@ -1,7 +1,7 @@
 -- What callers have at an intake.
 use Rattle.std.proofs.Common.{◌≡◌, ℕ, ◌≤◌, ◌==◌, false, true, List, [], ◌∷◌, ◌++◌, inl, inr, length, None, Some, arith, ap, ap₂, ◌∙◌, sym, refl, subst}
 use Rattle.std.specs.Prelude.{Bool, Option, is_none, map, Contains}
-use Rattle.std.proofs.lemmas.Bool.{cases_Bool, eqb-true}
+use Rattle.std.proofs.lemmas.Bool.{cases_Bool, eqb-true, false≢true}
 use Rattle.std.proofs.lemmas.List.{length-append, map-append}
 use Rattle.std.proofs.lemmas.List.Elements.{Contains-append_cases, Contains-append_left, Contains-append_right}
 use Rattle.atomic_table.specs.Seated.{TableId}
@@ -22,8 +22,8 @@ use Rattle.sf_shared.specs.declared.seats.Seats.{Seats}
 use Rattle.sf_shared.specs.Arriving.{ArrivalEntry, ArrivalsPass}
 use Rattle.sf_shared.specs.Closing.{OpensIntake}
 use Rattle.sf_shared.specs.First.{HandsOut, KnowsNothing, MayHandOut}
-use Rattle.sf_shared.specs.Inboxes.{Admits, AreCouriers, IsCourier, IsEmpty, IsInbox, IsOneOf, left_of, number_of, sent_by}
-use Rattle.sf_shared.specs.Seats.{IsAtIntake, arrivals_known, pass_at, posts_of, tells_of, view_of}
+use Rattle.sf_shared.specs.Inboxes.{Admits, AreCouriers, HasCouriers, IsCourier, IsEmpty, IsInbox, IsOneOf, left_of, number_of, sent_by}
+use Rattle.sf_shared.specs.Seats.{IsAtIntake, arrivals_known, is_finished, pass_at, posts_of, tells_of, view_of}
 use Rattle.sf_shared.specs.Sent.{sent_in, takes_in}
 use Rattle.sf_shared.proofs.Forwarding.{has_here, has_later, has_none}
 use Rattle.sf_shared.proofs.Ordering.{contains_cons}
@@ -39,43 +39,51 @@ sent_by_absent by (a ∷ list) absent = elim (cases_Bool (a.actor.0 == by)) [
 module _ {B : Type 0} where
   -- at locks of the same intake and arrivals
   pub way_there : (was locks : Locks B) (by : ℕ) (gave : List ℕ) (last : Clock) (at_intake : AtIntake B) → was.intake ≡ locks.intake → was.arrivals ≡ locks.arrivals → IsAtIntake was by gave last at_intake → IsAtIntake locks by gave last at_intake
-  way_there was locks by gave last at.Nothing intake table way = tt
+  way_there was locks by gave last at.Nothing intake table way = sym intake ∙ way
   way_there was locks by gave last (at.Sends outbox) intake table way = record { intake = sym intake ∙ way.intake; number = way.number; apart = way.apart; ready = way.ready }
-  way_there was locks by gave last (at.Takes inbox) intake table way = record { intake = sym intake ∙ way.intake; gave = way.gave; own = subst (λ (t : TableId). IsInbox t inbox) table way.own }
+  way_there was locks by gave last (at.Takes inbox) intake table way =
+      record { intake = sym intake ∙ way.intake; number = way.number; gave = way.gave; own = subst (λ (t : TableId). IsInbox t inbox) table way.own; couriers = way.couriers }
+  way_there was locks by gave last at.Finished intake table way = (way.0, sym (ap is_none intake) ∙ way.1)
 
   -- after later calls
   pub way_later : (locks : Locks B) (by : ℕ) (gave : List ℕ) (before after : Clock) (at_intake : AtIntake B) → before.stamp ≤ after.stamp → IsAtIntake locks by gave before at_intake → IsAtIntake locks by gave after at_intake
-  way_later locks by gave before after at.Nothing rose way = tt
+  way_later locks by gave before after at.Nothing rose way = way
   way_later locks by gave before after (at.Sends outbox) rose way =
       record { intake = way.intake; number = way.number; apart = way.apart; ready = record { count = way.ready.count; stamp = (let a = way.ready.stamp in omega (arith, a, rose)) } }
   way_later locks by gave before after (at.Takes inbox) rose way = way
+  way_later locks by gave before after at.Finished rose way = way
 
   -- where there is no intake, nobody has anything there
   pub none_there : (locks : Locks B) (by : ℕ) (gave : List ℕ) (last : Clock) (at_intake : AtIntake B) → locks.intake ≡ None → IsAtIntake locks by gave last at_intake → at_intake ≡ at.Nothing
   none_there locks by gave last at.Nothing none way = refl
   none_there locks by gave last (at.Sends outbox) none way = (let f = sym none ∙ way.intake in cc)
   none_there locks by gave last (at.Takes inbox) none way = (let f = sym none ∙ way.intake in cc)
+  none_there locks by gave last at.Finished none way = absurd (false≢true (sym way.1 ∙ ap is_none none))
 
   -- the first caller has no sender
   pub first_pass_at : (locks : Locks B) (by : ℕ) (gave : List ℕ) (last : Clock) (at_intake : AtIntake B) (pass : ArrivalsPass) → by ≡ 0 → IsAtIntake locks by gave last at_intake → pass_at at_intake pass ≡ Some pass
   first_pass_at locks by gave last at.Nothing pass first way = refl
   first_pass_at locks by gave last (at.Sends outbox) pass first way = absurd (way.apart first)
   first_pass_at locks by gave last (at.Takes inbox) pass first way = refl
+  first_pass_at locks by gave last at.Finished pass first way = refl
 
   pub first_known : (locks : Locks B) (by : ℕ) (gave : List ℕ) (last : Clock) (at_intake : AtIntake B) (seen : List ArrivalEntry) → by ≡ 0 → IsAtIntake locks by gave last at_intake → arrivals_known at_intake seen ≡ sent (unstamped seen)
   first_known locks by gave last at.Nothing seen first way = refl
   first_known locks by gave last (at.Sends outbox) seen first way = absurd (way.apart first)
   first_known locks by gave last (at.Takes inbox) seen first way = refl
+  first_known locks by gave last at.Finished seen first way = refl
 
   pub first_posts : (locks : Locks B) (by : ℕ) (gave : List ℕ) (last : Clock) (at_intake : AtIntake B) → by ≡ 0 → IsAtIntake locks by gave last at_intake → posts_of at_intake ≡ []
   first_posts locks by gave last at.Nothing first way = refl
   first_posts locks by gave last (at.Sends outbox) first way = absurd (way.apart first)
   first_posts locks by gave last (at.Takes inbox) first way = refl
+  first_posts locks by gave last at.Finished first way = refl
 
   known_none : (at_intake : AtIntake B) → posts_of at_intake ≡ [] → arrivals_known at_intake [] ≡ []
   known_none at.Nothing none = refl
   known_none (at.Sends outbox) none = ap (λ posts. arrivals 1 posts) none
   known_none (at.Takes inbox) none = refl
+  known_none at.Finished none = refl
 
   -- where nothing is known, no arrival is
   pub none_arrived : (seats : Seats B) → KnowsNothing seats → (view_of seats).arrivals ≡ []
@@ -130,9 +138,19 @@ module _ {B : Type 0} where
         count = (let a = admits.senders in let b = own.count in let d = ap (λ (ns : List ℕ). length ns) made ∙ length-append old.taker.made (by ∷ []) in omega (arith, a, b, d));
       }
 
+  admitted_couriers : (by : ℕ) (pass : ArrivalsPass) (old new : Inbox B) → HasCouriers old → Admits by pass old new → HasCouriers new
+  admitted_couriers by pass old new all admits = λ n there.
+      let courier : Courier B = record { by = by; pass = pass } in
+      subst (λ (ns : List ℕ). Contains ns n) (sym (ap (map number_of) admits.couriers ∙ map-append number_of old.couriers.items (courier ∷ [])))
+      (elim (Contains-append_cases old.taker.made (by ∷ []) n (subst (λ (ns : List ℕ). Contains ns n) (ap (λ t. t.made) admits.taker) there)) [
+        | inl before ↦ Contains-append_left (map number_of old.couriers.items) (by ∷ []) n (all n before)
+        | inr last ↦ Contains-append_right (map number_of old.couriers.items) (by ∷ []) n last
+      ])
+
   -- what the first caller has there, after it gave a caller something, and what that caller has
   pub record GivesAt (locks : Locks B) (by : ℕ) (pass : ArrivalsPass) (gave : List ℕ) (old new : AtIntake B) (given_pass : Option ArrivalsPass) (given : AtIntake B) : Type 0 where
-    pub way : (n : ℕ) (last : Clock) → IsAtIntake locks n (by ∷ gave) last new
+    pub way : (n : ℕ) (last : Clock) → n ≡ 0 → IsAtIntake locks n (by ∷ gave) last new
+    pub unfinished : is_finished new ≡ false
     pub same_pass : (p : ArrivalsPass) → pass_at new p ≡ Some p
     pub known : (seen : List ArrivalEntry) → arrivals_known new seen ≡ arrivals_known old seen
     pub known_is : (seen : List ArrivalEntry) → arrivals_known old seen ≡ sent (unstamped seen)
@@ -141,28 +159,32 @@ module _ {B : Type 0} where
     pub given_there : given_pass ≡ pass_at given pass
     pub given_known : (seen : List ArrivalEntry) → seen ≡ [] → arrivals_known given seen ≡ []
     pub given_posts : posts_of given ≡ []
+    pub given_unfinished : is_finished given ≡ false
 
   pub gives_at : (locks : Locks B) (number by : ℕ) (pass : ArrivalsPass) (gave : List ℕ) (last : Clock) (old new : AtIntake B) (given_pass : Option ArrivalsPass) (given : AtIntake B) → number ≡ 0 → (Contains (number ∷ gave) by → ⊥)
       → pass.table ≡ locks.arrivals → pass.mark ≡ Some tt → pass.by ≡ by → pass.seen ≡ [] → IsAtIntake locks number gave last old → HandsOut by pass old new given_pass given → GivesAt locks by pass gave old new given_pass given
   gives_at locks number by pass gave last at.Nothing new given_pass given first fresh at_table marked of_by nothing way hands =
       subst (λ (n : AtIntake B). GivesAt locks by pass gave at.Nothing n given_pass given) (sym hands.2)
       (subst (λ (n : AtIntake B). GivesAt locks by pass gave at.Nothing at.Nothing given_pass n) (sym hands.1) (record {
-        way = λ n last. tt;
+        way = λ n after zero. way;
+        unfinished = refl;
         same_pass = λ p. refl;
         known = λ seen. refl;
         known_is = λ seen. refl;
         posts = refl;
-        given_way = λ after given_gave. tt;
+        given_way = λ after given_gave. way;
         given_there = hands.0;
         given_known = λ seen none. ap (λ xs. sent (unstamped xs)) none;
         given_posts = refl;
+        given_unfinished = refl;
       }))
   gives_at locks number by pass gave last (at.Sends outbox) new given_pass given first fresh at_table marked of_by nothing way hands = absurd (way.apart first)
   gives_at locks number by pass gave last (at.Takes inbox) new given_pass given first fresh at_table marked of_by nothing way hands =
       subst (λ (n : AtIntake B). GivesAt locks by pass gave (at.Takes inbox) n given_pass given) (sym hands.takes)
       (subst (λ (n : AtIntake B). GivesAt locks by pass gave (at.Takes inbox) (at.Takes hands.after) given_pass n) (sym hands.sends) (record {
-        way = λ n last. record {
+        way = λ n after zero. record {
           intake = way.intake ∙ ap (λ z. Some z) (sym (ap (λ t. t.intake) hands.admits.taker));
+          number = zero;
           gave = λ b there. (elim (Contains-append_cases inbox.taker.made (by ∷ []) b (subst (λ (ns : List ℕ). Contains ns b) (ap (λ t. t.made) hands.admits.taker) there)) [
             | inl before ↦ has_later by gave b (way.gave b before)
             | inr last ↦ (elim (contains_cons by [] b last) [
@@ -171,7 +193,9 @@ module _ {B : Type 0} where
             ])
           ]);
           own = admitted locks.arrivals by pass inbox hands.after way.own hands.admits (λ there. fresh (has_later number gave by (way.gave by there))) at_table marked of_by nothing;
+          couriers = admitted_couriers by pass inbox hands.after way.couriers hands.admits;
         };
+        unfinished = refl;
         same_pass = λ p. refl;
         known = λ seen. refl;
         known_is = λ seen. refl;
@@ -185,11 +209,14 @@ module _ {B : Type 0} where
         given_there = hands.none;
         given_known = λ seen none. refl;
         given_posts = refl;
+        given_unfinished = refl;
       }))
+  gives_at locks number by pass gave last at.Finished new given_pass given first fresh at_table marked of_by nothing way hands = absurd hands
 
   -- as it is opened
   pub record OpensAt (tells : Bool) (locks : Locks B) (first : AtIntake B) : Type 0 where
-    pub way : (n : ℕ) (gave : List ℕ) (last : Clock) → IsAtIntake locks n gave last first
+    pub way : (n : ℕ) (gave : List ℕ) (last : Clock) → n ≡ 0 → IsAtIntake locks n gave last first
+    pub unfinished : is_finished first ≡ false
     pub same_pass : (p : ArrivalsPass) → pass_at first p ≡ Some p
     pub known_is : (seen : List ArrivalEntry) → arrivals_known first seen ≡ sent (unstamped seen)
     pub posts : posts_of first ≡ []
@@ -209,18 +236,22 @@ module _ {B : Type 0} where
 
   pub opens_at : (tells : Bool) (locks : Locks B) (first : AtIntake B) → OpensIntake tells locks.intake first → OpensAt tells locks first
   opens_at true locks first opens = subst (λ (a : AtIntake B). OpensAt true locks a) (sym opens.1) (record {
-    way = λ n gave last. tt;
+    way = λ n gave last zero. opens.0;
+    unfinished = refl;
     same_pass = λ p. refl;
     known_is = λ seen. refl;
     posts = refl;
     tells_is = ap is_none opens.0;
   })
   opens_at false locks first opens = subst (λ (a : AtIntake B). OpensAt false locks a) (sym opens.takes) (record {
-    way = λ n gave last. record {
+    way = λ n gave last zero. record {
       intake = opens.intake_is;
+      number = zero;
       gave = λ b there. absurd (has_none b (subst (λ (ns : List ℕ). Contains ns b) (ap (λ t. t.made) opens.taker) there));
       own = empty_inbox locks.arrivals opens.inbox.taker.intake opens.inbox opens.taker opens.empty;
+      couriers = λ b there. absurd (has_none b (subst (λ (ns : List ℕ). Contains ns b) (ap (λ t. t.made) opens.taker) there));
     };
+    unfinished = refl;
     same_pass = λ p. refl;
     known_is = λ seen. refl;
     posts = refl;
@@ -228,7 +259,9 @@ module _ {B : Type 0} where
   })
 
 module _ {B : Type 0} where
-  pub may_hand : (locks : Locks B) (number by : ℕ) (gave : List ℕ) (last : Clock) (at_intake : AtIntake B) → (Contains (number ∷ gave) by → ⊥) → IsAtIntake locks number gave last at_intake → MayHandOut locks by at_intake
-  may_hand locks number by gave last at.Nothing fresh way = tt
-  may_hand locks number by gave last (at.Sends outbox) fresh way = tt
-  may_hand locks number by gave last (at.Takes inbox) fresh way = (way.intake, (λ there. fresh (has_later number gave by (way.gave by there))), way.own.count)
+  pub may_hand : (locks : Locks B) (number by : ℕ) (gave : List ℕ) (last : Clock) (at_intake : AtIntake B) → number ≡ 0 → is_finished at_intake ≡ false → (Contains (number ∷ gave) by → ⊥) → IsAtIntake locks number gave last at_intake
+      → MayHandOut locks by at_intake
+  may_hand locks number by gave last at.Nothing first unfinished fresh way = tt
+  may_hand locks number by gave last (at.Sends outbox) first unfinished fresh way = absurd (way.apart first)
+  may_hand locks number by gave last (at.Takes inbox) first unfinished fresh way = (way.intake, (λ there. fresh (has_later number gave by (way.gave by there))), way.own.count)
+  may_hand locks number by gave last at.Finished first unfinished fresh way = absurd (false≢true (sym unfinished))

@@ -169,7 +169,7 @@ module _ {B : Type 0} where
     gave_none = ap (λ (p : ArrivalsPass). p.gave) m.arrivals
 
     nothing : KnowsNothing first.seats
-    nothing = record { queues = opened_nothing objects locks.queues.items first.seats.queues.items m.queues; arrivals = arrived; posts = opens.posts }
+    nothing = record { queues = opened_nothing objects locks.queues.items first.seats.queues.items m.queues; arrivals = arrived; posts = opens.posts; unfinished = opens.unfinished }
 
     moments : moments_of first.seats ≡ []
     moments =
@@ -187,7 +187,7 @@ module _ {B : Type 0} where
       in_order = subst (λ (xs : List (ℕ × ℕ)). IsInOrder first.seats.last xs) (sym moments) (none_in_order first.seats.last);
       takes = λ other. absurd (other m.number);
       pass = m.pass ∙ sym (opens.same_pass first.seats.arrivals);
-      way = opens.way first.seats.by first.seats.arrivals.gave first.seats.last;
+      way = opens.way first.seats.by first.seats.arrivals.gave first.seats.last m.number;
     }
 
     pub first_made : IsFirst buffers locks first

@@ -26,7 +26,7 @@ use Rattle.sf_shared.specs.declared.seats.Seats.{Seats}
 use Rattle.sf_shared.specs.Arriving.{ArrivalEntry, Arriving}
 use Rattle.sf_shared.specs.Inboxes.{AreCouriers, HasAll, IsCourier, IsInbox, is_courier, left_of, number_of, sent_by}
 use Rattle.sf_shared.specs.Reuniting.{Reunites}
-use Rattle.sf_shared.specs.Seats.{AreSeats, AreWhole, HasSender, IsAtIntake, IsHeard, arrivals_known, calls_made, moments_of, pass_at, post_moment, posts_of, sent_in, takes_in}
+use Rattle.sf_shared.specs.Seats.{AreSeats, AreWhole, HasSender, IsAtIntake, IsHeard, MaySend, arrivals_known, calls_made, moments_of, pass_at, post_moment, posts_of, sent_in, takes_in}
 use Rattle.sf_shared.proofs.Forwarding.{able_at, has_here, has_later, has_none}
 use Rattle.sf_shared.proofs.Handing.{none_there}
 use Rattle.sf_shared.proofs.Ordering.{contains_cons}
@@ -279,6 +279,7 @@ module _ {B : Type 0} where
   heard_still old new at.Nothing more is = tt
   heard_still old new (at.Sends outbox) more is = more (outbox.sender.by.0, outbox.sender.sent) is
   heard_still old new (at.Takes inbox) more is = tt
+  heard_still old new at.Finished more is = tt
 
   -- what was heard of those before this place
   abbrev pub AreHeard : TakerView ReadLeaseOf → List (Seats B) → ℕ → Type 0
@@ -329,13 +330,13 @@ module _ {B : Type 0} where
 
 module _ {B : Type 0} (buffers : TableId) (locks : Locks B) (none : locks.intake ≡ None) where
   -- where there is no intake, all have their passes
-  pub whole_locked : (ends : List (Seats B)) → AllByRecursion (AreSeats buffers locks) ends → AllByRecursion (AreWhole buffers locks) ends
-  whole_locked [] own = tt
-  whole_locked (s ∷ ends) own = (whole_own buffers locks s own.0 (none_there locks s.by s.arrivals.gave s.last s.intake none own.0.way), whole_locked ends own.1)
+  pub whole_locked : (ends : List (Seats B)) → AllByRecursion (MaySend buffers locks) ends → AllByRecursion (AreWhole buffers locks) ends
+  whole_locked [] may = tt
+  whole_locked (s ∷ ends) may = (whole_own buffers locks s may.0.own (none_there locks s.by s.arrivals.gave s.last s.intake none may.0.own.way), whole_locked ends may.1)
 
-  pub reunite_locked : (ends : List (Seats B)) → AllByRecursion (AreSeats buffers locks) ends → AllZip (Reunites locks) ends ends
-  reunite_locked [] own = tt
-  reunite_locked (s ∷ ends) own = (reunites_own buffers locks s own.0, reunite_locked ends own.1)
+  pub reunite_locked : (ends : List (Seats B)) → AllByRecursion (MaySend buffers locks) ends → AllZip (Reunites locks) ends ends
+  reunite_locked [] may = tt
+  reunite_locked (s ∷ ends) may = (reunites_own buffers locks s may.0.own, reunite_locked ends may.1)
 
 module _ {B : Type 0} where
   pub all_heard : (old new : TakerView ReadLeaseOf) (ends : List (Seats B)) → new.heard ≡ old.heard → AllByRecursion (λ (s : Seats B). IsHeard old s.intake) ends → AllByRecursion (λ (s : Seats B). IsHeard new s.intake) ends

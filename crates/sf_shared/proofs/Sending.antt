@@ -114,7 +114,7 @@ module _ {B : Type 0} (buffers : TableId) (locks : Locks B) (seats : Seats B) (n
     in_order = order_sent seats.last last calls (sent_in (calls_by seats.by seats.arrivals.seen) ++ posts) (sent_in (calls_by seats.by new.seen) ++ posts) own.in_order ticks;
     takes = λ other. subst (λ (b : ℕ). takes_in (calls_by b new.seen) ≡ takes_in (calls_by b seats.arrivals.seen)) own.number sends.takes ∙ own.takes other;
     pass = sym (ap (λ at_intake. pass_at at_intake new) nothing);
-    way = subst (λ at_intake. IsAtIntake locks seats.by new.gave last at_intake) (sym nothing) tt;
+    way = subst (λ at_intake. IsAtIntake locks seats.by new.gave last at_intake) (sym nothing) none;
   })
 
   pub locked_changes : ChangesArrivals seats (sent_seats shown)

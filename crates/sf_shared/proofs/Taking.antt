@@ -1,6 +1,6 @@
 -- What a compositor takes through one pass.
 use Rattle.std.proofs.Common.{◌≡◌, ℕ, ◌<◌, ◌≤◌, List, [], ◌++◌, inl, inr, Some, ap, ◌∙◌, sym, refl, subst, arith}
-use Rattle.std.specs.Prelude.{Contains, Err, IfErr, IfOk, Ok, OnOk, Result, map}
+use Rattle.std.specs.Prelude.{Contains, Err, IfErr, IfOk, Ok, OnOk, Result, is_none, map}
 use Rattle.std.proofs.Math.Nat.{le-max_left}
 use Rattle.std.proofs.lemmas.List.{append-nil, append_assoc}
 use Rattle.sf_calls.specs.Calling.{Made as Does}
@@ -24,7 +24,7 @@ use Rattle.sf_shared.specs.Moves.{BringsIn, ChangesArrivals, Takes}
 use Rattle.sf_shared.specs.declared.at_intake.AtIntake.TheVariants as at
 use Rattle.sf_shared.specs.declared.inbox.Inbox.{Inbox}
 use Rattle.sf_shared.specs.declared.locks.Locks.{Locks}
-use Rattle.sf_shared.specs.Inboxes.{IsInbox, IsLater}
+use Rattle.sf_shared.specs.Inboxes.{HasCouriers, IsInbox, IsLater}
 use Rattle.sf_shared.specs.Seats.{AreSeats, HasTaker, IsAtIntake, IsInOrder, arrivals_known, calls_made, moments_of, pass_at, post_moment, posts_of, sent_in, view_of}
 use Rattle.sf_shared.proofs.Handing.{first_known, first_pass_at, way_later}
 use Rattle.sf_shared.proofs.Ordering.{later_same}
@@ -216,11 +216,11 @@ module _ {B : Type 0} (buffers : TableId) (locks : Locks B) (seats : Seats B) (o
   abbrev brought_seats : Seats B
   brought_seats = record seats { intake = at.Takes new; last = last }
 
-  pub taker_there : HasTaker locks seats.arrivals.gave old
+  pub taker_there : HasTaker locks seats.by seats.arrivals.gave old
   taker_there = subst (λ at_intake. IsAtIntake locks seats.by seats.arrivals.gave seats.last at_intake) is own.way
 
-  pub brought_own : IsInbox locks.arrivals new → new.taker.intake ≡ old.taker.intake → new.taker.made ≡ old.taker.made → IsLater seats.last last → AreSeats buffers locks brought_seats
-  brought_own inbox intake made later = record {
+  pub brought_own : IsInbox locks.arrivals new → HasCouriers new → new.taker.intake ≡ old.taker.intake → new.taker.made ≡ old.taker.made → IsLater seats.last last → AreSeats buffers locks brought_seats
+  brought_own inbox couriers intake made later = record {
     queues = own.queues;
     own_arrivals = own.own_arrivals;
     marked = own.marked;
@@ -233,13 +233,45 @@ module _ {B : Type 0} (buffers : TableId) (locks : Locks B) (seats : Seats B) (o
     pass = own.pass ∙ ap (λ at_intake. pass_at at_intake seats.arrivals) is;
     way = record {
       intake = taker_there.intake ∙ ap (λ z. Some z) (sym intake);
+      number = taker_there.number;
       gave = λ by there. taker_there.gave by (subst (λ (ns : List ℕ). Contains ns by) made there);
       own = inbox;
+      couriers = couriers;
     };
   }
 
   pub brought : IsLater seats.last last → BringsIn seats brought_seats
   brought later = record {
+    same = refl;
+    last = later;
+    posts = sym (ap posts_of is);
+    known = λ seen. sym (ap (λ at_intake. arrivals_known at_intake seen) is);
+  }
+
+-- all that was sent through the intake is among the arrivals, and nothing is taken from it any more
+module _ {B : Type 0} (buffers : TableId) (locks : Locks B) (seats : Seats B) (old : Inbox B) (last : Clock) (is : seats.intake ≡ at.Takes old) (own : AreSeats buffers locks seats) where
+  abbrev finished_seats : Seats B
+  finished_seats = record seats { intake = at.Finished; last = last }
+
+  pub finished_own : IsLater seats.last last → AreSeats buffers locks finished_seats
+  finished_own later =
+      let taker : HasTaker locks seats.by seats.arrivals.gave old = subst (λ at_intake. IsAtIntake locks seats.by seats.arrivals.gave seats.last at_intake) is own.way in
+      record {
+        queues = own.queues;
+        own_arrivals = own.own_arrivals;
+        marked = own.marked;
+        number = own.number;
+        own_times = own.own_times;
+        own_turns = own.own_turns;
+        in_order = order_later seats.last last (moments_of seats) (moments_of finished_seats) own.in_order later.step later.stamp
+            (sym (ap (λ at_intake. calls_made seats.by seats.queues.items ++ (sent_in (calls_by seats.by seats.arrivals.seen) ++ map post_moment (posts_of at_intake))) is));
+        takes = own.takes;
+        pass = own.pass ∙ ap (λ at_intake. pass_at at_intake seats.arrivals) is;
+        way = (taker.number, ap is_none taker.intake);
+      }
+
+  pub finished : IsLater seats.last last → BringsIn seats finished_seats
+  finished later = record {
     same = refl;
     last = later;
     posts = sym (ap posts_of is);

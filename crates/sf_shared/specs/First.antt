@@ -17,7 +17,7 @@ use Rattle.sf_shared.specs.declared.seats.Seats.{Seats}
 use Rattle.sf_shared.specs.Arriving.{ArrivalsPass}
 use Rattle.sf_shared.specs.Inboxes.{Admits}
 use Rattle.sf_shared.specs.Passes.{KeepsOwn}
-use Rattle.sf_shared.specs.Seats.{AreSeats, AreWhole, QueuePass, posts_of, view_of}
+use Rattle.sf_shared.specs.Seats.{AreSeats, AreWhole, QueuePass, is_finished, posts_of, view_of}
 
 module _ {B : Type 0} where
   abbrev pub gave_of : FirstSeats B → List ℕ
@@ -66,20 +66,22 @@ module _ {B : Type 0} where
     pub all : (by : ℕ) → Contains (gave_of first) by → Contains (map (λ (seats : Seats B). seats.by) (took_of first)) by
     pub many : length first.took.items ≡ length (gave_of first)
 
-  -- no call on anything is known, and nothing was sent through a sender
+  -- no call on anything is known, nothing was sent through a sender, and what is sent is still taken
   pub record KnowsNothing (seats : Seats B) : Type 0 where
     pub queues : AllByRecursion (λ (pass : QueuePass B). pass.seen ≡ []) seats.queues.items
     pub arrivals : seats.arrivals.seen ≡ []
     pub posts : posts_of seats.intake ≡ []
+    pub unfinished : is_finished seats.intake ≡ false
 
   -- seats know the same calls and arrivals
   pub record KnowsSame (old new : Seats B) : Type 0 where
     pub calls : (queue : ℕ) → (view_of new).calls queue ≡ (view_of old).calls queue
     pub arrivals : (view_of new).arrivals ≡ (view_of old).arrivals
 
-  -- seats for a caller, which know what the first ones know, and signalled nothing and left no turn
+  -- seats for a caller, which is not the first, that know what the first ones know, and signalled nothing and left no turn
   pub record IsGiven (by : ℕ) (first seats : Seats B) : Type 0 where
     pub number : seats.by ≡ by
+    pub apart : seats.by ≡ 0 → ⊥
     pub knows : KnowsSame first seats
     pub nothing : KnowsNothing seats
     pub times : seats.times ≡ record first.times { knows = split_off first.times.knows }
@@ -107,11 +109,12 @@ module _ {B : Type 0} where
     pub calls : (queue : ℕ) → GoesOnWithout old.seats.by ((view_of old.seats).calls queue) ((view_of new.seats).calls queue)
     pub arrivals : GoesOnWithout old.seats.by old.seats.arrivals.seen new.seats.arrivals.seen
 
-  -- a caller may have a sender: none was made for it yet
+  -- a caller may be given its pass, or a sender where none was made for it yet
   abbrev pub MayHandOut : Locks B → ℕ → AtIntake B → Type 0
   MayHandOut locks by at.Nothing = Unit {0}
-  MayHandOut locks by (at.Sends outbox) = Unit {0}
+  MayHandOut locks by (at.Sends outbox) = ⊥
   MayHandOut locks by (at.Takes inbox) = (locks.intake ≡ Some inbox.taker.intake) × (Contains inbox.taker.made by → ⊥) × (inbox.senders ≡ length inbox.taker.made)
+  MayHandOut locks by at.Finished = ⊥
 
   -- a sender was made for a caller, whose pass went to the inbox
   pub record GivesSender (by : ℕ) (pass : ArrivalsPass) (inbox : Inbox B) (new : AtIntake B) (given_pass : Option ArrivalsPass) (given : AtIntake B) : Type 0 where
@@ -124,5 +127,6 @@ module _ {B : Type 0} where
   -- what a caller is given at the arrivals: its pass, or a sender from an inbox
   abbrev pub HandsOut : ℕ → ArrivalsPass → AtIntake B → AtIntake B → Option ArrivalsPass → AtIntake B → Type 0
   HandsOut by pass at.Nothing new given_pass given = (given_pass ≡ Some pass) × (given ≡ at.Nothing) × (new ≡ at.Nothing)
-  HandsOut by pass (at.Sends outbox) new given_pass given = (given_pass ≡ Some pass) × (given ≡ at.Nothing) × (new ≡ at.Sends outbox)
+  HandsOut by pass (at.Sends outbox) new given_pass given = ⊥
   HandsOut by pass (at.Takes inbox) new given_pass given = GivesSender by pass inbox new given_pass given
+  HandsOut by pass at.Finished new given_pass given = ⊥

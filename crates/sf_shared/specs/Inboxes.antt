@@ -96,6 +96,10 @@ module _ {B : Type 0} where
     pub made : (by : ℕ) → Contains (map number_of inbox.couriers.items) by → Contains inbox.taker.made by
     pub count : inbox.senders ≡ length inbox.taker.made
 
+  -- each sender that was made has its pass here
+  abbrev pub HasCouriers : Inbox B → Type 0
+  HasCouriers inbox = (by : ℕ) → Contains inbox.taker.made by → Contains (map number_of inbox.couriers.items) by
+
   -- an inbox without senders
   pub record IsEmpty (inbox : Inbox B) : Type 0 where
     pub senders : inbox.senders ≡ 0

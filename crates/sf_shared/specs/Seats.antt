@@ -1,5 +1,5 @@
 -- What one caller brings to what is shared: passes at locks, and seats.
-use Rattle.std.specs.Prelude.{◌≡◌, ℕ, ◌+◌, ◌<◌, ◌≤◌, ◌==◌, Bool, false, if◌then◌else◌}
+use Rattle.std.specs.Prelude.{◌≡◌, ℕ, ◌+◌, ◌<◌, ◌≤◌, ◌==◌, Bool, true, false, if◌then◌else◌}
 use Rattle.std.specs.Prelude.{Option, Some, None, is_none, List, [], ◌∷◌, ◌++◌, map, sum_by, Contains}
 use Rattle.std.specs.List.{AllZip}
 use Rattle.atomic_table.specs.Seated.{TableId}
@@ -24,7 +24,7 @@ use Rattle.sf_shared.specs.declared.at_intake.AtIntake.TheVariants as at
 use Rattle.sf_shared.specs.declared.inbox.Inbox.{Inbox}
 use Rattle.sf_shared.specs.declared.outbox.Outbox.{Outbox}
 use Rattle.sf_shared.specs.Arriving.{ArrivalEntry, ArrivalsPass}
-use Rattle.sf_shared.specs.Inboxes.{IsInbox}
+use Rattle.sf_shared.specs.Inboxes.{HasCouriers, IsInbox}
 use Rattle.sf_shared.specs.Outboxes.{IsReady}
 pub use Rattle.sf_shared.specs.Queues.{QueueEntry, QueuePass}
 pub use Rattle.sf_shared.specs.Sent.{sent_in, takes_in}
@@ -85,12 +85,14 @@ module _ {B : Type 0} where
   posts_of at.Nothing = []
   posts_of (at.Sends outbox) = outbox.sender.sent
   posts_of (at.Takes inbox) = []
+  posts_of at.Finished = []
 
   -- the arrivals that are known: of a caller with a sender those that it sent, else those among these calls
   abbrev pub arrivals_known : AtIntake B → List ArrivalEntry → List (Arrival ReadLeaseOf)
   arrivals_known at.Nothing seen = sent (unstamped seen)
   arrivals_known (at.Sends outbox) seen = arrivals 1 outbox.sender.sent
   arrivals_known (at.Takes inbox) seen = sent (unstamped seen)
+  arrivals_known at.Finished seen = sent (unstamped seen)
 
   -- what the passes and seats know
   abbrev pub view_of : Seats B → DeskView B
@@ -141,28 +143,40 @@ module _ {B : Type 0} where
     pub apart : by ≡ 0 → ⊥
     pub ready : IsReady last outbox
 
-  -- the first caller takes from the intake, and has the passes of senders, to which it gave ones
-  pub record HasTaker (locks : Locks B) (all : List ℕ) (inbox : Inbox B) : Type 0 where
+  -- the first caller takes from the intake, and has the pass of each sender that it made, to whose caller it gave one
+  pub record HasTaker (locks : Locks B) (by : ℕ) (all : List ℕ) (inbox : Inbox B) : Type 0 where
     pub intake : locks.intake ≡ Some inbox.taker.intake
+    pub number : by ≡ 0
     pub gave : (by : ℕ) → Contains inbox.taker.made by → Contains all by
     pub own : IsInbox locks.arrivals inbox
+    pub couriers : HasCouriers inbox
 
   abbrev pub IsAtIntake : Locks B → ℕ → List ℕ → Clock → AtIntake B → Type 0
-  IsAtIntake locks by gave last at.Nothing = Unit {0}
+  IsAtIntake locks by gave last at.Nothing = locks.intake ≡ None
   IsAtIntake locks by gave last (at.Sends outbox) = HasSender locks by last outbox
-  IsAtIntake locks by gave last (at.Takes inbox) = HasTaker locks gave inbox
+  IsAtIntake locks by gave last (at.Takes inbox) = HasTaker locks by gave inbox
+  IsAtIntake locks by gave last at.Finished = (by ≡ 0) × (tells_of locks ≡ false)
+
+  -- nothing is taken from the intake any more
+  abbrev pub is_finished : AtIntake B → Bool
+  is_finished at.Nothing = false
+  is_finished (at.Sends outbox) = false
+  is_finished (at.Takes inbox) = false
+  is_finished at.Finished = true
 
   -- what a caller sent through its sender was heard
   abbrev pub IsHeard : TakerView ReadLeaseOf → AtIntake B → Type 0
   IsHeard taker at.Nothing = Unit {0}
   IsHeard taker (at.Sends outbox) = Contains taker.heard (outbox.sender.by.0, outbox.sender.sent)
   IsHeard taker (at.Takes inbox) = Unit {0}
+  IsHeard taker at.Finished = Unit {0}
 
   -- the pass at the arrivals is there, but for a caller with a sender
   abbrev pub pass_at : AtIntake B → ArrivalsPass → Option ArrivalsPass
   pass_at at.Nothing pass = Some pass
   pass_at (at.Sends outbox) pass = None
   pass_at (at.Takes inbox) pass = Some pass
+  pass_at at.Finished pass = Some pass
 
   -- A caller's passes and seats are ones of these locks and timelines, and of this table of turns; what it did, it did in order; and
   -- none but the first caller, whose number is 0, takes what arrived.
@@ -177,6 +191,11 @@ module _ {B : Type 0} where
     pub takes : (seats.by ≡ 0 → ⊥) → takes_in (calls_by seats.by seats.arrivals.seen) ≡ []
     pub pass : seats.pass ≡ pass_at seats.intake seats.arrivals
     pub way : IsAtIntake locks seats.by seats.arrivals.gave seats.last seats.intake
+
+  -- seats of a caller that may send: it is not the first one, which takes what was sent
+  pub record MaySend (buffers : TableId) (locks : Locks B) (seats : Seats B) : Type 0 where
+    pub own : AreSeats buffers locks seats
+    pub apart : seats.by ≡ 0 → ⊥
 
   -- Seats with all their passes, as the first ones take them in. What a caller sent through a sender was put among the arrivals later
   -- than it was sent, so its calls there need not be in order with its others.

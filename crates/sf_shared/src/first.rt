@@ -67,7 +67,8 @@ fn hand_out<B: TableName>(
             let sender = inbox.admit(intake, by, pass)?;
             Ok((None, AtIntake::Sends(Outbox { sender, count: 0 })))
         }
-        AtIntake::Nothing | AtIntake::Sends(_) => Ok((Some(pass), AtIntake::Nothing)),
+        AtIntake::Nothing => Ok((Some(pass), AtIntake::Nothing)),
+        AtIntake::Sends(_) | AtIntake::Finished => unreachable!(),
     }
 }
 
@@ -97,7 +98,7 @@ impl<B: TableName> FirstSeats<B> {
     ghost use Rattle.std.specs.Prelude.{◌≡◌, ◌<◌, [], ◌∷◌, length, Contains, IfOk};
     ghost use Rattle.sf_shared.specs.First.{Gives, IsFirst, IsGiven, KnowsNothing, Meets, gave_of};
     ghost use Rattle.sf_shared.specs.Reuniting.{Finishes, Reunites};
-    ghost use Rattle.sf_shared.specs.Seats.{AreSeats, AreWhole};
+    ghost use Rattle.sf_shared.specs.Seats.{AreSeats, AreWhole, MaySend};
 
     /// The first caller's seats, which gave none yet.
     pub(crate) fn of(alloc: Global, seats: Seats<B>) -> FirstSeats<B>
@@ -181,7 +182,8 @@ impl<B: TableName> FirstSeats<B> {
 
     /// Puts all that was sent through the intake among the arrivals, once nobody sends any more, and gives
     /// these callers, to each of which it made a sender, their passes back. Nothing is done where there is
-    /// no intake. A sender that is left out leaves its caller without a pass.
+    /// no intake. A sender that is left out leaves its caller without a pass: nothing is taken from the
+    /// intake any more, and a further call is refused as for want of memory.
     pub fn finish<R: Wait>(
         &mut self,
         locks: &Locks<B>,
@@ -189,7 +191,7 @@ impl<B: TableName> FirstSeats<B> {
         ends: &mut [Seats<B>],
     ) -> Result<(), NoMemory>
         requires first { IsFirst B.table locks.now self.old }
-        requires theirs { AllByRecursion (AreSeats B.table locks.now) ends.old }
+        requires theirs { AllByRecursion (MaySend B.table locks.now) ends.old }
         ensures first { IfOk result (λ done. IsFirst B.table locks.now self.new) }
         ensures finishes { IfOk result (λ done. Finishes self.old self.new) }
         ensures whole { IfOk result (λ done. AllByRecursion (AreWhole B.table locks.now) ends.new) }
@@ -202,6 +204,8 @@ impl<B: TableName> FirstSeats<B> {
         let AtIntake::Takes(inbox) = &mut seats.intake else {
             return Err(NoMemory);
         };
-        inbox.finish(rt, locks, intake, &mut seats.last, ends)
+        inbox.finish(rt, locks, intake, &mut seats.last, ends)?;
+        seats.intake = AtIntake::Finished;
+        Ok(())
     }
 }

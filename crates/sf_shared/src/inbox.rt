@@ -2,9 +2,9 @@ ghost use Rattle.std.specs.Prelude.{◌≡◌, ◌++◌, ◌<◌, [], true, fals
 ghost use Rattle.std.specs.List.{AllByRecursion, AllZip, position};
 ghost use Rattle.std.specs.Vec.Iter.{into_iter_items};
 ghost use Rattle.sf_intake.specs.Views.{new_sender};
-ghost use Rattle.sf_shared.specs.Inboxes.{Admits, Carries, HasAll, Hears, IsAbleTo, IsEmpty, IsInbox, IsLater, IsSameInbox, is_courier, left_of};
+ghost use Rattle.sf_shared.specs.Inboxes.{Admits, Carries, HasAll, HasCouriers, Hears, IsAbleTo, IsEmpty, IsInbox, IsLater, IsSameInbox, is_courier, left_of};
 ghost use Rattle.sf_shared.specs.Reuniting.{Reunites};
-ghost use Rattle.sf_shared.specs.Seats.{AreSeats, AreWhole, IsHeard};
+ghost use Rattle.sf_shared.specs.Seats.{AreWhole, IsHeard, MaySend};
 
 use crate::arrivals::StampedArrivals;
 use crate::at_intake::AtIntake;
@@ -142,7 +142,9 @@ impl<B: TableName> Inbox<B> {
         last: &mut Clock,
     ) -> Result<bool, NoMemory>
         requires own { IsInbox lock.now self.old }
+        requires couriers { HasCouriers self.old }
         ensures own { IsInbox lock.now self.new }
+        ensures couriers { HasCouriers self.new }
         ensures taker { self.new.taker ≡ self.old.taker }
         ensures last { IsLater last.old last.new }
         ensures fewer { IfOk result (λ more. more ≡ true → length (left_of self.new) < length (left_of self.old)) }
@@ -158,13 +160,7 @@ impl<B: TableName> Inbox<B> {
             txn,
         } = oldest;
         let Some(place) = place_of(&self.couriers, actor.0) else {
-            self.held = Some(Arrived {
-                number,
-                actor,
-                step,
-                txn,
-            });
-            return Err(NoMemory);
+            unreachable!()
         };
         let stamp = last.stamp.max(self.taker.newest());
         match self.couriers[place].carry(rt, lock, stamp, step, txn) {
@@ -192,7 +188,9 @@ impl<B: TableName> Inbox<B> {
         last: &mut Clock,
     ) -> Result<(), NoMemory>
         requires own { IsInbox lock.now self.old }
+        requires couriers { HasCouriers self.old }
         ensures own { IsInbox lock.now self.new }
+        ensures couriers { HasCouriers self.new }
         ensures taker { self.new.taker ≡ self.old.taker }
         ensures last { IsLater last.old last.new }
         ensures none { OnOk result (left_of self.new ≡ []) }
@@ -211,8 +209,10 @@ impl<B: TableName> Inbox<B> {
         last: &mut Clock,
     ) -> Result<bool, NoMemory>
         requires own { IsInbox lock.now self.old }
+        requires couriers { HasCouriers self.old }
         requires intake { self.old.taker.intake ≡ intake.now }
         ensures own { IsInbox lock.now self.new }
+        ensures couriers { HasCouriers self.new }
         ensures same { IsSameInbox self.old self.new }
         ensures last { IsLater last.old last.new }
         ensures none { OnOk result (left_of self.new ≡ []) }
@@ -235,8 +235,10 @@ impl<B: TableName> Inbox<B> {
         last: &mut Clock,
     ) -> Result<(), NoMemory>
         requires own { IsInbox lock.now self.old }
+        requires couriers { HasCouriers self.old }
         requires intake { self.old.taker.intake ≡ intake.now }
         ensures own { IsInbox lock.now self.new }
+        ensures couriers { HasCouriers self.new }
         ensures same { IsSameInbox self.old self.new }
         ensures last { IsLater last.old last.new }
         ensures none { OnOk result (left_of self.new ≡ []) }
@@ -256,7 +258,7 @@ impl<B: TableName> Inbox<B> {
     fn hear(&mut self, locks: &Locks<B>, intake: &Intake<ReadLease<B>, Brand>, seats: &mut Seats<B>)
         requires own { self.old.taker.intake ≡ intake.now }
         requires intake { locks.now.intake ≡ Some intake.now }
-        requires theirs { AreSeats B.table locks.now seats.old }
+        requires theirs { MaySend B.table locks.now seats.old }
         ensures hears { Hears self.old self.new }
         ensures same { seats.new ≡ seats.old }
         ensures heard { IsHeard self.new.taker seats.old.intake }
@@ -276,7 +278,7 @@ impl<B: TableName> Inbox<B> {
     )
         requires own { self.old.taker.intake ≡ intake.now }
         requires intake { locks.now.intake ≡ Some intake.now }
-        requires theirs { AllByRecursion (AreSeats B.table locks.now) ends.old }
+        requires theirs { AllByRecursion (MaySend B.table locks.now) ends.old }
         ensures hears { Hears self.old self.new }
         ensures same { ends.new ≡ ends.old }
         ensures heard { AllByRecursion (λ seats. IsHeard self.new.taker seats.intake) ends.old }
@@ -297,7 +299,7 @@ impl<B: TableName> Inbox<B> {
         requires own { IsInbox locks.now.arrivals self.old }
         requires same { self.old.taker.intake ≡ intake.now }
         requires intake { locks.now.intake ≡ Some intake.now }
-        requires theirs { AreSeats B.table locks.now seats.old }
+        requires theirs { MaySend B.table locks.now seats.old }
         requires none { left_of self.old ≡ [] }
         requires all { HasAll self.old.taker }
         requires heard { IsHeard self.old.taker seats.old.intake }
@@ -307,10 +309,8 @@ impl<B: TableName> Inbox<B> {
         ensures whole { OnOk result (AreWhole B.table locks.now seats.new) }
         ensures reunites { OnOk result (Reunites locks.now seats.old seats.new) }
     {
-        let outbox = match &mut seats.intake {
-            AtIntake::Nothing => return Ok(()),
-            AtIntake::Takes(_) => return Err(NoMemory),
-            AtIntake::Sends(outbox) => outbox,
+        let AtIntake::Sends(outbox) = &mut seats.intake else {
+            unreachable!()
         };
         self.taker.compare(intake, rt, &mut outbox.sender);
         let Some(place) = place_of(&self.couriers, seats.by) else {
@@ -334,7 +334,7 @@ impl<B: TableName> Inbox<B> {
         requires own { IsInbox locks.now.arrivals self.old }
         requires same { self.old.taker.intake ≡ intake.now }
         requires intake { locks.now.intake ≡ Some intake.now }
-        requires theirs { AllByRecursion (AreSeats B.table locks.now) ends.old }
+        requires theirs { AllByRecursion (MaySend B.table locks.now) ends.old }
         requires none { left_of self.old ≡ [] }
         requires all { HasAll self.old.taker }
         requires heard { AllByRecursion (λ seats. IsHeard self.old.taker seats.intake) ends.old }
@@ -359,9 +359,10 @@ impl<B: TableName> Inbox<B> {
         ends: &mut [Seats<B>],
     ) -> Result<(), NoMemory>
         requires own { IsInbox locks.now.arrivals self.old }
+        requires couriers { HasCouriers self.old }
         requires same { self.old.taker.intake ≡ intake.now }
         requires intake { locks.now.intake ≡ Some intake.now }
-        requires theirs { AllByRecursion (AreSeats B.table locks.now) ends.old }
+        requires theirs { AllByRecursion (MaySend B.table locks.now) ends.old }
         ensures own { IsInbox locks.now.arrivals self.new }
         ensures intake { self.new.taker.intake ≡ self.old.taker.intake }
         ensures made { self.new.taker.made ≡ self.old.taker.made }

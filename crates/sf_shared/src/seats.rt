@@ -7,13 +7,11 @@ use crate::queue_seat::QueueSeat;
 use crate::shown::Shown;
 use sf_base::{NoMemory, QueueId};
 use sf_calls::{CallFault, Pass};
-use sf_intake::Intake;
 use sf_picture::Painted;
 use sf_surface::{QCall, QReply, ReadLease};
 use sf_times::TimeSeat;
 use sf_turns::{TableName, TurnSeat};
 use sf_txn::Transaction;
-use std::marker::Brand;
 use std::sync::Wait;
 
 /// What one caller brings to what is shared: its passes, one for each lock, and its seats.
@@ -50,7 +48,7 @@ impl<B: TableName> Seats<B> {
     ghost use Rattle.sf_surface.specs.Marks.{PermitFits, SpareFits};
     ghost use Rattle.sf_actor.specs.Desks.{IsAsBefore, MadeCall, MadeSend, WaitsForCall, has_queue};
     ghost use Rattle.sf_shared.specs.Moves.{ChangesArrivals, ChangesPasses};
-    ghost use Rattle.sf_shared.specs.Seats.{AreSeats, home_of, view_of};
+    ghost use Rattle.sf_shared.specs.Seats.{AreSeats, MaySend, home_of, view_of};
 
     /// All that the seats are made of.
     pub(crate) fn into_parts(self) -> SeatsParts<B>
@@ -121,55 +119,8 @@ impl<B: TableName> Seats<B> {
         )
     }
 
-    /// Sends a transaction through the pass, and waits for its turn under the lock.
-    fn send_locked<R: Wait>(
-        &mut self,
-        locks: &Locks<B>,
-        rt: &R,
-        step: u32,
-        txn: Transaction<ReadLease<B>>,
-    ) -> Result<u32, (NoMemory, Transaction<ReadLease<B>>)>
-        requires own { AreSeats B.table locks.now self.old }
-        requires none { locks.now.intake ≡ None }
-        ensures own { AreSeats B.table locks.now self.new }
-        ensures changes { ChangesArrivals self.old self.new }
-        ensures sent { IfOk result (MadeSend (home_of locks.now self.old) (view_of self.old) (view_of self.new) self.old.by step txn) }
-        ensures back { IfErr result (λ back. (back.1 ≡ txn) × IsAsBefore (view_of self.old) (view_of self.new)) }
-    {
-        let Some(pass) = &mut self.pass else {
-            unreachable!()
-        };
-        let sent = send_one(rt, &locks.arrivals, pass, &mut self.last, step, txn);
-        self.arrivals = Shown::of(pass);
-        sent
-    }
-
-    /// Sends a transaction through the sender, and waits for nobody.
-    fn send_through<R: Wait>(
-        &mut self,
-        locks: &Locks<B>,
-        intake: &Intake<ReadLease<B>, Brand>,
-        rt: &R,
-        step: u32,
-        txn: Transaction<ReadLease<B>>,
-    ) -> Result<u32, (NoMemory, Transaction<ReadLease<B>>)>
-        requires own { AreSeats B.table locks.now self.old }
-        requires through { locks.now.intake ≡ Some intake.now }
-        ensures own { AreSeats B.table locks.now self.new }
-        ensures changes { ChangesArrivals self.old self.new }
-        ensures sent { IfOk result (MadeSend (home_of locks.now self.old) (view_of self.old) (view_of self.new) self.old.by step txn) }
-        ensures back { IfErr result (λ back. (back.1 ≡ txn) × IsAsBefore (view_of self.old) (view_of self.new)) }
-    {
-        let _ = locks;
-        match &mut self.intake {
-            AtIntake::Sends(outbox) => outbox.send(intake, rt, &mut self.last, step, txn),
-            AtIntake::Nothing | AtIntake::Takes(_) => Err((NoMemory, txn)),
-        }
-    }
-
     /// Sends a transaction, for a step of the caller: through its sender at the intake, where there is one,
-    /// else through its pass. Where there is an intake, a caller without a sender is refused as for want of
-    /// memory.
+    /// else through its pass. The first caller, whose number is 0, takes what others send.
     pub fn send<R: Wait>(
         &mut self,
         locks: &Locks<B>,
@@ -177,15 +128,27 @@ impl<B: TableName> Seats<B> {
         step: u32,
         txn: Transaction<ReadLease<B>>,
     ) -> Result<u32, (NoMemory, Transaction<ReadLease<B>>)>
-        requires own { AreSeats B.table locks.now self.old }
+        requires may { MaySend B.table locks.now self.old }
         ensures own { AreSeats B.table locks.now self.new }
         ensures changes { ChangesArrivals self.old self.new }
         ensures sent { IfOk result (MadeSend (home_of locks.now self.old) (view_of self.old) (view_of self.new) self.old.by step txn) }
         ensures back { IfErr result (λ back. (back.1 ≡ txn) × IsAsBefore (view_of self.old) (view_of self.new)) }
     {
         match &locks.intake {
-            Some(intake) => self.send_through(locks, intake, rt, step, txn),
-            None => self.send_locked(locks, rt, step, txn),
+            Some(intake) => {
+                let AtIntake::Sends(outbox) = &mut self.intake else {
+                    unreachable!()
+                };
+                outbox.send(intake, rt, &mut self.last, step, txn)
+            }
+            None => {
+                let Some(pass) = &mut self.pass else {
+                    unreachable!()
+                };
+                let sent = send_one(rt, &locks.arrivals, pass, &mut self.last, step, txn);
+                self.arrivals = Shown::of(pass);
+                sent
+            }
         }
     }
 }

@@ -11,8 +11,8 @@ use std::alloc::Global;
 use std::marker::Model;
 use std::sync::Wait;
 
-/// One caller's desk among threads: its seats, over locks that all share. A call waits for its turn
-/// under a lock, so what the desk knows is not exact.
+/// The desk of one caller among threads, but not of the first one: its seats, over locks that all share.
+/// A call waits for its turn under a lock, so what the desk knows is not exact.
 #[derive(Drop)]
 pub struct SharedDesk<'a, R, B: TableName> {
     rt: &'a R,
@@ -21,25 +21,25 @@ pub struct SharedDesk<'a, R, B: TableName> {
 }
 
 impl<'a, R, B: TableName> Model for SharedDesk<'a, R, B> {
-    ghost use Rattle.sf_shared.specs.Seats.{AreSeats};
+    ghost use Rattle.sf_shared.specs.Seats.{MaySend};
     ghost use Rattle.sf_shared.specs.Shared.{SharedOf};
 
     ghost Value = { SharedOf B };
 
     ghost view = { λ d. record { locks = d.locks.now; seats = d.seats } };
 
-    ghost invariant = { λ d. AreSeats B.table d.locks.now d.seats };
+    ghost invariant = { λ d. MaySend B.table d.locks.now d.seats };
 }
 
 impl<'a, R, B: TableName> SharedDesk<'a, R, B> {
     ghost use Rattle.std.specs.Prelude.{◌≡◌};
     ghost use Rattle.sf_shared.specs.declared.locks.Locks.{Locks};
-    ghost use Rattle.sf_shared.specs.Seats.{AreSeats};
+    ghost use Rattle.sf_shared.specs.Seats.{AreSeats, MaySend};
     ghost use Rattle.sf_shared.specs.Shared.{IsHome, home_of};
 
     /// A desk of these seats.
     pub fn new(rt: &'a R, locks: &'a Locks<B>, seats: Seats<B>) -> SharedDesk<'a, R, B>
-        requires { AreSeats B.table locks.now seats }
+        requires { MaySend B.table locks.now seats }
         ensures is { result ≡ record { locks = locks.entry.now; seats = seats } }
         ensures home { IsHome locks.entry.now (home_of result) }
     {

@@ -13,7 +13,7 @@ use Rattle.sf_shared.specs.declared.locks.Locks.{Locks}
 use Rattle.sf_shared.specs.declared.seats.Seats.{Seats}
 use Rattle.sf_shared.specs.First.{HasAll, IsFirst, Meets, gave_of, took_of}
 use Rattle.sf_shared.specs.Reuniting.{Finishes, Reunites}
-use Rattle.sf_shared.specs.Seats.{AreSeats}
+use Rattle.sf_shared.specs.Seats.{MaySend}
 use Rattle.sf_threads.specs.declared.seated_actor.SeatedActor.{SeatedActor}
 use Rattle.sf_threads.specs.Seating.{GetsSeats, GivesEach, number_of}
 use Rattle.sf_threads.specs.Backs.{AllCame}
@@ -156,8 +156,8 @@ module _ {B : Type 0} where
   callers_back table locks pictures known (a ∷ actors) (s ∷ sent) (b ∷ back) gets_seats came =
       λ i. (came.0.caller ∙ gets_seats.0.fresh.caller) i ∷ callers_back table locks pictures known actors sent back gets_seats.1 came.1 i
 
-  pub came_own : (table : TableId) (locks : Locks B) (pictures : List Picture) (sent back : List (SeatedActor B)) → AllCame table locks pictures sent back → AllByRecursion (AreSeats table locks) (map seats_of back)
+  pub came_own : (table : TableId) (locks : Locks B) (pictures : List Picture) (sent back : List (SeatedActor B)) → AllCame table locks pictures sent back → AllByRecursion (MaySend table locks) (map seats_of back)
   came_own table locks pictures [] [] came = tt
   came_own table locks pictures [] (b ∷ back) came = absurd came
   came_own table locks pictures (s ∷ sent) [] came = absurd came
-  came_own table locks pictures (s ∷ sent) (b ∷ back) came = (came.0.may_try_next.own, came_own table locks pictures sent back came.1)
+  came_own table locks pictures (s ∷ sent) (b ∷ back) came = (record { own = came.0.may_try_next.own; apart = came.0.may_try_next.apart }, came_own table locks pictures sent back came.1)

@@ -81,6 +81,7 @@ module _ {B : Type 0} where
   fresh_seats : (number : ℕ) (start first : FirstSeats B) (seats : Seats B) → KnowsSame start.seats first.seats → IsGiven number first.seats seats → IsFresh number start.seats seats
   fresh_seats number start first seats same given = record {
     caller = given.number;
+    apart = given.apart;
     knows = same_known start.seats first.seats seats same given.knows;
     nothing = given.nothing;
     no_signals = ap (λ (t : TimesView). t.knows.signals) given.times;
@@ -134,6 +135,7 @@ module _ {B : Type 0} where
       let is : IsActor table seated_actor.actor (new_actor actor.script new.stock) = subst (λ (a : Actor B). IsActor table a (new_actor actor.script new.stock)) (sym gets_seats.actor_is) new.is in
       let replies = is.trace in record {
         own = gets_seats.own;
+        apart = gets_seats.fresh.apart;
         served = gets_seats.fresh.caller ∙ ap (λ (a : Actor B). a.script.number) (sym gets_seats.actor_is);
         plays = subst (λ (z : DeskHome × Actor B). MayPlay z.0 pictures z.1.script) (λ i. (homes i, sym gets_seats.actor_is i)) new.plays;
         kept = record {

@@ -124,6 +124,7 @@ module _ {B : Type 0} (table : TableId) (locks : Locks B) (pictures : List Pictu
       let s = steps k.of k.is k.keeps in record {
         may_try_next = record {
           own = own;
+          apart = λ zero. may_try_next.apart (sym caller ∙ zero);
           served = caller ∙ (may_try_next.served ∙ ap (λ (x : ActorScript). x.number) (sym script));
           plays = subst (λ (z : DeskHome × ActorScript). MayPlay z.0 pictures z.1) (λ i. (homes i, sym script i)) may_try_next.plays;
           kept = record { of = s.new; is = s.is; keeps = subst (λ (h : DeskHome). Keeps (picture_at pictures) h s.new (view_of now.seats)) homes s.keeps };

@@ -19,10 +19,11 @@ module _ {B : Type 0} where
   moment_of seated_actor of = record { actor = seated_actor.actor; of = of; seats = seated_actor.seats }
 
 module _ {B : Type 0} (table : TableId) (locks : Locks B) (pictures : List Picture) where
-  -- An actor may try its next step: its seats are its own, at what is shared; it may play its script there, and keeps what it keeps over what
+  -- An actor may try its next step: its seats are its own, at what is shared, and not the first caller's; it may play its script there, and keeps what it keeps over what
   -- its seats know; and it has passed the gate for each step that it tried, once.
   pub record MayTryNext (seated_actor : SeatedActor B) : Type 0 where
     pub own : AreSeats table locks seated_actor.seats
+    pub apart : seated_actor.seats.by ≡ 0 → ⊥
     pub served : seated_actor.seats.by ≡ seated_actor.actor.script.number
     pub plays : MayPlay (home_of locks seated_actor.seats) pictures seated_actor.actor.script
     pub kept : IsKept table (picture_at pictures) (home_of locks seated_actor.seats) seated_actor.actor (view_of seated_actor.seats)

@@ -30,9 +30,10 @@ module _ {B : Type 0} where
     taken = 0;
   }
 
-  -- seats for a caller, which know what these know, and signalled nothing and left no turn
+  -- seats for a caller, which is not the first, that know what these know, and signalled nothing and left no turn
   pub record IsFresh (number : ℕ) (known seats : Seats B) : Type 0 where
     pub caller : seats.by ≡ number
+    pub apart : seats.by ≡ 0 → ⊥
     pub knows : KnowsSame known seats
     pub nothing : KnowsNothing seats
     pub no_signals : seats.times.knows.signals ≡ []

@@ -1,7 +1,7 @@
 ghost use Rattle.std.specs.Prelude.{◌≡◌, ◌+◌, ◌≤◌, length, map, IfOk};
 ghost use Rattle.std.specs.List.{AllByRecursion};
 ghost use Rattle.sf_shared.specs.First.{IsFirst, gave_of};
-ghost use Rattle.sf_shared.specs.Seats.{AreSeats, AreWhole};
+ghost use Rattle.sf_shared.specs.Seats.{AreWhole, MaySend};
 ghost use Rattle.sf_threads.specs.Meeting.{MeetsEach, MeetsReunited, as_returned, seats_of};
 
 use crate::gates::Gates;
@@ -77,7 +77,7 @@ pub(crate) fn gather<R: Wait, B: TableName>(
     seated_actors: Vec<SeatedActor<B>>,
 ) -> Result<(FirstSeats<B>, Vec<ReturnedActor<B>>), NoMemory>
     requires first { IsFirst B.table locks.now first }
-    requires theirs { AllByRecursion (AreSeats B.table locks.now) (map seats_of seated_actors.items) }
+    requires theirs { AllByRecursion (MaySend B.table locks.now) (map seats_of seated_actors.items) }
     requires out { length first.took.items + length seated_actors.items ≤ length (gave_of first) }
     ensures first { IfOk result (λ gathered. IsFirst B.table locks.now gathered.0) }
     ensures met { IfOk result (λ gathered. MeetsReunited locks.now first (map seats_of seated_actors.items) gathered.0) }

@@ -3,7 +3,7 @@ ghost use Rattle.std.specs.List.{AllByRecursion, AllZip};
 ghost use Rattle.std.specs.List.Sorted.{IsStrictlyIncreasing};
 ghost use Rattle.sf_shared.specs.declared.first.FirstSeats.{FirstSeats as FirstIn};
 ghost use Rattle.sf_shared.specs.First.{HasAll, IsFirst, KnowsNothing, gave_of};
-ghost use Rattle.sf_shared.specs.Seats.{AreSeats};
+ghost use Rattle.sf_shared.specs.Seats.{MaySend};
 ghost use Rattle.sf_threads.specs.Seating.{GivesEach, IsNewcomer, number_of};
 ghost use Rattle.sf_threads.specs.SeatedActors.{MayTryNext};
 ghost use Rattle.sf_threads.specs.Backs.{AllCame};
@@ -225,7 +225,7 @@ fn take_in<R: Wait, B: TableName>(
     back: Vec<SeatedActor<B>>,
 ) -> Result<AllReturned<B>, Stopped>
     requires first { IsFirst B.table locks.now attended }
-    requires theirs { AllByRecursion (AreSeats B.table locks.now) (map seats_of back.items) }
+    requires theirs { AllByRecursion (MaySend B.table locks.now) (map seats_of back.items) }
     requires out { length attended.took.items + length back.items ≤ length (gave_of attended) }
     ensures first { IfOk result (λ all_returned. IsFirst B.table locks.now all_returned.first) }
     ensures met { IfOk result (λ all_returned. MeetsReunited locks.now attended (map seats_of back.items) all_returned.first) }

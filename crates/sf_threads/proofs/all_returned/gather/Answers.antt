@@ -5,7 +5,7 @@ use Rattle.std.proofs.lemmas.List.{length-map, with_items_is}
 use Rattle.sf_shared.specs.declared.seats.Seats.{Seats}
 use Rattle.sf_shared.specs.First.{gave_of}
 use Rattle.sf_shared.specs.Reuniting.{Reunites}
-use Rattle.sf_shared.specs.Seats.{AreSeats, AreWhole}
+use Rattle.sf_shared.specs.Seats.{AreWhole, MaySend}
 use Rattle.sf_threads.specs.Meeting.{MeetsEach, seats_of}
 use Rattle.sf_threads.proofs.MeetLemmas.{still_room}
 use Rattle.sf_threads.proofs.Zips.{zip_long}
@@ -13,7 +13,7 @@ use Rattle.sf_threads.proofs.all_returned.gather.Goals as goal
 
 pub finish-requires-clause-theirs : goal.finish-requires-clause-theirs
 finish-requires-clause-theirs g c =
-    subst (λ (ends : List (Seats g.row.B.Denot)). AllByRecursion (AreSeats g.B.TableName.table c.args.locks.now) ends) (sym (c.deref_mut.ensures.value ∙ c.in_ok-returned.ensures.ends)) c.requires.theirs
+    subst (λ (ends : List (Seats g.row.B.Denot)). AllByRecursion (MaySend g.B.TableName.table c.args.locks.now) ends) (sym (c.deref_mut.ensures.value ∙ c.in_ok-returned.ensures.ends)) c.requires.theirs
 
 pub meet_each-requires-clause-theirs : goal.meet_each-requires-clause-theirs
 meet_each-requires-clause-theirs g c =

@@ -5,7 +5,7 @@ use Rattle.sf_shared.specs.declared.seats.Seats.{Seats}
 use Rattle.sf_shared.proofs.Forwarding.{later_none}
 use Rattle.sf_shared.proofs.Reuniting.{reunite_locked, some_same, whole_locked}
 use Rattle.sf_shared.proofs.Staying.{stays_first, stays_sent}
-use Rattle.sf_shared.proofs.Taking.{brings_change, brought, brought_own, if_always, if_on, taker_there}
+use Rattle.sf_shared.proofs.Taking.{brings_change, finished, finished_own, taker_there}
 use Rattle.sf_shared.proofs.first.FirstSeats.finish.Goals as goal
 
 pub returns-in_default-clause-finishes : goal.returns-in_default-clause-finishes
@@ -20,22 +20,22 @@ returns-in_default-clause-reunites g c = reunite_locked g.B.TableName.table c.ar
 pub finish-requires : goal.finish-requires
 finish-requires g c =
     let taker = taker_there g.B.TableName.table c.args.locks.now c.args.self.now.seats c.in-Takes.inbox c.in-Takes.inbox c.args.self.now.seats.last c.in-Takes.is c.requires.first.own in
-    record { own = taker.own; same = some_same (sym taker.intake ∙ c.in-Some.is); intake = c.in-Some.is; theirs = c.requires.theirs }
+    record { own = taker.own; couriers = taker.couriers; same = some_same (sym taker.intake ∙ c.in-Some.is); intake = c.in-Some.is; theirs = c.requires.theirs }
 
 pub returns-clause-first : goal.returns-clause-first
 returns-clause-first g c =
     let old = c.args.self.now in
-    let own = brought_own g.B.TableName.table c.args.locks.now c.args.self.now.seats c.in-Takes.inbox c.finish.new.self c.finish.new.last c.in-Takes.is c.requires.first.own c.finish.ensures.own c.finish.ensures.intake c.finish.ensures.made c.finish.ensures.last in
-    let seats : Seats g.row.B.Denot = record old.seats { intake = at.Takes c.finish.new.self; last = c.finish.new.last } in
-    let changes = brings_change old.seats seats (brought g.B.TableName.table c.args.locks.now c.args.self.now.seats c.in-Takes.inbox c.finish.new.self c.finish.new.last c.in-Takes.is c.requires.first.own c.finish.ensures.last) in
+    let seats : Seats g.row.B.Denot = record old.seats { intake = at.Finished; last = c.finish.new.last } in
+    let own = finished_own g.B.TableName.table c.args.locks.now old.seats c.in-Takes.inbox c.finish.new.last c.in-Takes.is c.requires.first.own c.finish.ensures.last in
+    let changes = brings_change old.seats seats (finished g.B.TableName.table c.args.locks.now old.seats c.in-Takes.inbox c.finish.new.last c.in-Takes.is c.requires.first.own c.finish.ensures.last) in
     let new : FirstSeats g.row.B.Denot = record { seats = seats; took = old.took } in
-    if_always c.finish.result (stays_first g.B.TableName.table c.args.locks.now old new c.requires.first own (stays_sent old.seats new.seats changes) refl)
+    stays_first g.B.TableName.table c.args.locks.now old new c.requires.first own (stays_sent old.seats new.seats changes) refl
 
 pub returns-clause-finishes : goal.returns-clause-finishes
-returns-clause-finishes g c = if_always c.finish.result (record { same = refl; last = c.finish.ensures.last; took = refl })
+returns-clause-finishes g c = record { same = refl; last = c.finish.ensures.last; took = refl }
 
 pub returns-clause-whole : goal.returns-clause-whole
-returns-clause-whole g c = if_on _ c.finish.result c.finish.ensures.whole
+returns-clause-whole g c = c.in_ok-finish.ensures.whole
 
 pub returns-clause-reunites : goal.returns-clause-reunites
-returns-clause-reunites g c = if_on _ c.finish.result c.finish.ensures.reunites
+returns-clause-reunites g c = c.in_ok-finish.ensures.reunites

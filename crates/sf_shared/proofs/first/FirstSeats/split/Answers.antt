@@ -54,7 +54,7 @@ split-pass-requires g c =
 pub hand_out-requires : goal.hand_out-requires
 hand_out-requires g c =
     let seats = c.args.self.now.seats in
-    record { may = may_hand c.args.locks.now seats.by c.args.by seats.arrivals.gave seats.last seats.intake c.requires.fresh c.requires.first.own.way }
+    record { may = may_hand c.args.locks.now seats.by c.args.by seats.arrivals.gave seats.last seats.intake c.requires.first.number c.requires.unused.unfinished c.requires.fresh c.requires.first.own.way }
 
 pub returns : goal.returns
 returns g c =

@@ -4,7 +4,7 @@ use Rattle.std.specs.Vec.Iter.{into_iter_items}
 use Rattle.std.proofs.lemmas.Bool.Decides.{nat_tests}
 use Rattle.sf_shared.specs.declared.inbox.Inbox.{Inbox}
 use Rattle.sf_shared.specs.Inboxes.{HasAll}
-use Rattle.sf_shared.proofs.Forwarding.{has_all, later_on, left_new, popped_inbox, same_inbox, same_on, same_popped, same_taken, taken_inbox}
+use Rattle.sf_shared.proofs.Forwarding.{has_all, later_on, left_new, popped_inbox, same_couriers, same_inbox, same_on, same_popped, same_taken, taken_inbox}
 use Rattle.sf_shared.proofs.inbox.Inbox.bring.Goals as goal
 
 pub returns-in_err-forward_left-clause-same : goal.returns-in_err-forward_left-clause-same
@@ -27,6 +27,12 @@ returns-in_err-list-clause-same g c =
     let new : Inbox g.row.B.Denot = record { taker = c.take.new.self; senders = mid.senders; couriers = mid.couriers; held = mid.held; rest = mid.rest } in
     same_on old mid new (same_inbox old mid c.forward_left.ensures.taker) (same_popped mid new c.in_err-list.ensures.err)
 
+pub returns-in_err-list-clause-couriers : goal.returns-in_err-list-clause-couriers
+returns-in_err-list-clause-couriers g c =
+    let mid = c.forward_left.new.self in
+    let new : Inbox g.row.B.Denot = record { taker = c.take.new.self; senders = mid.senders; couriers = mid.couriers; held = mid.held; rest = mid.rest } in
+    same_couriers mid new c.forward_left.ensures.couriers c.in_err-list.ensures.err.same.made refl
+
 pub forward_left-requires-2 : goal.forward_left-requires-2
 forward_left-requires-2 g c =
     let old = c.args.self.now in
@@ -35,6 +41,7 @@ forward_left-requires-2 g c =
     record {
       own = taken_inbox c.args.lock.now _ mid new c.in_ok-list.list.items c.forward_left.ensures.own c.in_ok-forward_left.ensures.none c.in_ok-list.ensures.ok
           (ap (λ xs. option_to_list mid.held ++ xs) c.into_iter.ensures.rest ∙ left_new mid.held (into_iter_items mid.rest) c.in_ok-list.list.items c.in_ok-forward_left.ensures.none) refl refl;
+      couriers = same_couriers mid new c.forward_left.ensures.couriers c.in_ok-list.ensures.ok.made refl;
     }
 
 pub returns-in_err-forward_left-2-clause-same : goal.returns-in_err-forward_left-2-clause-same

@@ -3,10 +3,10 @@ use Rattle.sf_shared.proofs.Forwarding.{later_none, later_on, same_inbox, same_o
 use Rattle.sf_shared.proofs.inbox.Inbox.drain.Goals as goal
 
 pub loop-init : goal.loop-init
-loop-init g c = record { steps = (tt, tt); own = c.requires.own; same = same_inbox c.args.self.now c.args.self.now refl; last = later_none c.args.last.now }
+loop-init g c = record { steps = (tt, tt); own = c.requires.own; couriers = c.requires.couriers; same = same_inbox c.args.self.now c.args.self.now refl; last = later_none c.args.last.now }
 
 pub bring-requires : goal.bring-requires
-bring-requires g c = record { own = c.loop.invariant.own; intake = c.loop.invariant.same.intake ∙ c.requires.intake }
+bring-requires g c = record { own = c.loop.invariant.own; couriers = c.loop.invariant.couriers; intake = c.loop.invariant.same.intake ∙ c.requires.intake }
 
 pub returns-in_err-bring-clause-same : goal.returns-in_err-bring-clause-same
 returns-in_err-bring-clause-same g c = same_on c.args.self.now c.loop.self c.bring.new.self c.loop.invariant.same c.bring.ensures.same
@@ -30,6 +30,7 @@ pub loop-preserved : goal.loop-preserved
 loop-preserved g c = record {
   steps = (tt, tt);
   own = c.bring.ensures.own;
+  couriers = c.bring.ensures.couriers;
   same = same_on c.args.self.now c.loop.self c.bring.new.self c.loop.invariant.same c.bring.ensures.same;
   last = later_on c.args.last.now c.loop.last c.bring.new.last c.loop.invariant.last c.bring.ensures.last;
 }

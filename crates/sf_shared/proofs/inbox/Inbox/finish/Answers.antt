@@ -1,14 +1,17 @@
 use Rattle.std.proofs.Common.{List, ap, ◌∙◌, sym, subst}
+use Rattle.std.specs.Prelude.{map}
 use Rattle.std.specs.List.{AllByRecursion}
 use Rattle.sf_shared.specs.declared.seats.Seats.{Seats}
+use Rattle.sf_shared.specs.Inboxes.{number_of}
 use Rattle.sf_shared.specs.Seats.{IsHeard}
-use Rattle.sf_shared.proofs.Forwarding.{hears_inbox}
+use Rattle.sf_shared.proofs.Forwarding.{hears_inbox, same_couriers}
 use Rattle.sf_shared.proofs.Reuniting.{all_heard}
 use Rattle.sf_shared.proofs.inbox.Inbox.finish.Goals as goal
 
 pub drain-requires : goal.drain-requires
 drain-requires g c = record {
   own = hears_inbox c.args.locks.now.arrivals c.args.self.now c.hear_each.new.self c.requires.own c.hear_each.ensures.hears;
+  couriers = same_couriers c.args.self.now c.hear_each.new.self c.requires.couriers (ap (λ t. t.made) c.hear_each.ensures.hears.taker) (ap (λ cs. map number_of cs.items) c.hear_each.ensures.hears.couriers);
   intake = ap (λ t. t.intake) c.hear_each.ensures.hears.taker ∙ c.requires.same;
 }
 

@@ -11,7 +11,7 @@ use Rattle.sf_token.specs.Pending.{Arrival}
 use Rattle.sf_shared.specs.declared.inbox.Courier.{Courier}
 use Rattle.sf_shared.specs.declared.inbox.Inbox.{Inbox}
 use Rattle.sf_shared.specs.Inboxes.{IsAbleTo, is_courier, left_of}
-use Rattle.sf_shared.proofs.Forwarding.{courier_able, courier_low, forwards, left_gone, left_one, stays_inbox}
+use Rattle.sf_shared.proofs.Forwarding.{courier_able, courier_low, forwards, left_courier, left_gone, left_one, put_couriers, stays_inbox}
 use Rattle.sf_shared.proofs.inbox.Inbox.forward.Goals as goal
 
 pub returns-in_default-clause-own : goal.returns-in_default-clause-own
@@ -25,14 +25,16 @@ pub returns-in_default-clause-none : goal.returns-in_default-clause-none
 returns-in_default-clause-none g c = λ none.
     ap (λ held. option_to_list held ++ into_iter_items c.next_left.new.rest) c.next_left.ensures.held ∙ c.next_left.ensures.none c.in_default.is
 
-pub returns-in_default-place_of-clause-own : goal.returns-in_default-place_of-clause-own
-returns-in_default-place_of-clause-own g c =
+pub unreachable-requires : goal.unreachable-requires
+unreachable-requires g c =
     let old = c.args.self.now in
+    let by = c.oldest.inside.actor.0 in
     let oldest : Arrival ReadLeaseOf = record { number = c.oldest.inside.number; actor = c.oldest.inside.actor; step = c.oldest.inside.step; txn = c.oldest.inside.txn } in
-    let new : Inbox g.row.B.Denot = record { taker = old.taker; senders = old.senders; couriers = old.couriers; held = Some oldest; rest = c.next_left.new.rest } in
     let rest = into_iter_items c.next_left.new.rest in
-    stays_inbox c.args.lock.now old new c.requires.own
-    (ap (λ (a : Arrival ReadLeaseOf). a ∷ rest) c.oldest.view_is ∙ sym (c.next_left.ensures.left ∙ ap (λ result. option_to_list result ++ rest) c.in-Some.is)) refl refl refl
+    let left : left_of old ≡ oldest ∷ rest =
+    c.next_left.ensures.left ∙ sym (ap (λ (a : Arrival ReadLeaseOf). a ∷ rest) c.oldest.view_is ∙ ap (λ result. option_to_list result ++ rest) (sym c.in-Some.is)) in
+    left_courier c.args.lock.now old oldest rest c.requires.own c.requires.couriers left
+    (ap (position (is_courier by)) (sym c.deref.ensures.value) ∙ sym c.place_of.ensures ∙ c.in_default-place_of.is)
 
 pub index_mut-requires : goal.index_mut-requires
 index_mut-requires g c =
@@ -78,6 +80,13 @@ returns-in-Ok-clause-own g c =
     forwards c.args.lock.now old new oldest c.in-Some-place_of.place c.index_mut.result.now c.carry.new.self c.max-stamp.result c.in-Ok.given c.requires.own first c.index_mut.ensures.value left refl refl refl
     c.in-Ok.ensures.carried newest
 
+pub returns-in-Ok-clause-couriers : goal.returns-in-Ok-clause-couriers
+returns-in-Ok-clause-couriers g c =
+    let old = c.args.self.now in
+    let place = c.in-Some-place_of.place in
+    let new : Inbox g.row.B.Denot = record { taker = old.taker; senders = old.senders; couriers = with_item old.couriers place c.carry.new.self; held = c.next_left.new.held; rest = c.next_left.new.rest } in
+    put_couriers old new place c.index_mut.result.now c.carry.new.self c.requires.couriers c.index_mut.ensures.value c.in-Ok.ensures.carried.by refl refl
+
 pub returns-in-Ok-clause-last : goal.returns-in-Ok-clause-last
 returns-in-Ok-clause-last g c = record {
   step = refl;
@@ -104,3 +113,11 @@ returns-in-Err-clause-own g c =
     stays_inbox c.args.lock.now old new c.requires.own
     (ap (λ (a : Arrival ReadLeaseOf). a ∷ rest) same ∙ sym (c.next_left.ensures.left ∙ ap (λ result. option_to_list result ++ rest) c.in-Some.is)) refl refl
     (ap (λ (one : Courier g.row.B.Denot). set old.couriers.items place one) (back.1 ∙ c.index_mut.ensures.value) ∙ set-get_or old.couriers.items place c.index_mut.result.now)
+
+pub returns-in-Err-clause-couriers : goal.returns-in-Err-clause-couriers
+returns-in-Err-clause-couriers g c =
+    let old = c.args.self.now in
+    let place = c.in-Some-place_of.place in
+    let oldest : Arrival ReadLeaseOf = record { number = c.oldest.inside.number; actor = c.oldest.inside.actor; step = c.oldest.inside.step; txn = c.in-Err.txn } in
+    let new : Inbox g.row.B.Denot = record { taker = old.taker; senders = old.senders; couriers = with_item old.couriers place c.carry.new.self; held = Some oldest; rest = c.next_left.new.rest } in
+    put_couriers old new place c.index_mut.result.now c.carry.new.self c.requires.couriers c.index_mut.ensures.value (ap (λ (one : Courier g.row.B.Denot). one.by) c.in-Err.ensures.back.1) refl refl

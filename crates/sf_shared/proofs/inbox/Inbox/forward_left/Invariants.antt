@@ -1,10 +1,11 @@
 use Rattle.std.proofs.Common.{◌≡◌, length}
-use Rattle.sf_shared.specs.Inboxes.{IsInbox, IsLater, left_of}
+use Rattle.sf_shared.specs.Inboxes.{HasCouriers, IsInbox, IsLater, left_of}
 use Rattle.sf_shared.proofs.inbox.Inbox.forward_left.Given as goal
 
 abbrev pub invariant-loop : goal.invariant-loop
 invariant-loop g l = record {
   own : IsInbox l.fn.lock l.self;
+  couriers : HasCouriers l.self;
   taker : l.self.taker ≡ l.fn.self.taker;
   last : IsLater l.fn.last l.last;
 }

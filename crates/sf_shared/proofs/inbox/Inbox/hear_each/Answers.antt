@@ -1,7 +1,7 @@
 use Rattle.std.proofs.Common.{List, get_or, set, arith, ap, ◌∙◌, sym, refl, subst}
 use Rattle.std.proofs.lemmas.List.{set-get_or}
 use Rattle.sf_shared.specs.declared.seats.Seats.{Seats}
-use Rattle.sf_shared.specs.Seats.{AreSeats, IsHeard}
+use Rattle.sf_shared.specs.Seats.{IsHeard, MaySend}
 use Rattle.sf_shared.proofs.Forwarding.{hears_none, hears_on}
 use Rattle.sf_shared.proofs.Reuniting.{all_places, heard_next}
 use Rattle.sf_shared.proofs.Splitting.{by_place}
@@ -16,8 +16,8 @@ hear-requires-clause-own g c = ap (λ t. t.intake) c.loop-place.invariant.hears.
 pub hear-requires-clause-theirs : goal.hear-requires-clause-theirs
 hear-requires-clause-theirs g c =
     let at = c.loop-place in
-    subst (λ (xs : List (Seats g.row.B.Denot)). AreSeats g.B.TableName.table c.args.locks.now (get_or xs at.place c.index-ends-place.result)) (sym at.invariant.same)
-    (by_place (AreSeats g.B.TableName.table c.args.locks.now) c.args.ends.now at.place c.index-ends-place.result c.requires.theirs c.loop-place-test.true)
+    subst (λ (xs : List (Seats g.row.B.Denot)). MaySend g.B.TableName.table c.args.locks.now (get_or xs at.place c.index-ends-place.result)) (sym at.invariant.same)
+    (by_place (MaySend g.B.TableName.table c.args.locks.now) c.args.ends.now at.place c.index-ends-place.result c.requires.theirs c.loop-place-test.true)
 
 pub loop-place-preserved : goal.loop-place-preserved
 loop-place-preserved g c =

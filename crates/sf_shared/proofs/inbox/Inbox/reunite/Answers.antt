@@ -8,23 +8,17 @@ use Rattle.sf_shared.specs.Inboxes.{is_courier}
 use Rattle.sf_shared.specs.Reuniting.{Reunites}
 use Rattle.sf_shared.specs.Seats.{AreWhole, IsAtIntake, IsHeard}
 use Rattle.sf_shared.proofs.Forwarding.{courier_low, stays_inbox}
-use Rattle.sf_shared.proofs.Reuniting.{removed_inbox, reunites_own, reunites_sent, some_same, whole_own, whole_reunited}
+use Rattle.sf_shared.proofs.Reuniting.{removed_inbox, reunites_sent, some_same, whole_reunited}
 use Rattle.sf_shared.proofs.inbox.Inbox.reunite.Goals as goal
-
-pub returns-in-Nothing-clause-whole : goal.returns-in-Nothing-clause-whole
-returns-in-Nothing-clause-whole g c = whole_own g.B.TableName.table c.args.locks.now c.args.seats.now c.requires.theirs c.in-Nothing.is
-
-pub returns-in-Nothing-clause-reunites : goal.returns-in-Nothing-clause-reunites
-returns-in-Nothing-clause-reunites g c = reunites_own g.B.TableName.table c.args.locks.now c.args.seats.now c.requires.theirs
 
 pub compare-requires-clause-theirs : goal.compare-requires-clause-theirs
 compare-requires-clause-theirs g c =
     let seats = c.args.seats.now in
-    let sender = subst (λ at_intake. IsAtIntake c.args.locks.now seats.by seats.arrivals.gave seats.last at_intake) c.in-Sends.is c.requires.theirs.way in
+    let sender = subst (λ at_intake. IsAtIntake c.args.locks.now seats.by seats.arrivals.gave seats.last at_intake) c.in-Sends.is c.requires.theirs.own.way in
     some_same (sym sender.intake ∙ c.requires.intake)
 
-pub returns-in_default-clause-own : goal.returns-in_default-clause-own
-returns-in_default-clause-own g c =
+pub returns-in_default-place_of-clause-own : goal.returns-in_default-place_of-clause-own
+returns-in_default-place_of-clause-own g c =
     let old = c.args.self.now in
     let new : Inbox g.row.B.Denot = record { taker = c.compare.new.self; senders = old.senders; couriers = old.couriers; held = old.held; rest = old.rest } in
     stays_inbox c.args.locks.now.arrivals old new c.requires.own refl c.compare.ensures.taker refl refl
@@ -52,7 +46,7 @@ returns-clause-whole g c =
     let heard = subst (λ at_intake. IsHeard old.taker at_intake) c.in-Sends.is c.requires.heard in
     let courier : Courier g.row.B.Denot = c.remove-pass.result in
     subst (λ (p : ArrivalsPass). AreWhole g.B.TableName.table c.args.locks.now (record seats { arrivals = p; pass = Some courier.pass; intake = at.Nothing })) (sym c.of.ensures)
-    (whole_reunited g.B.TableName.table c.args.locks.now old seats c.in-Sends.outbox c.in-Some.place courier c.requires.own c.in-Sends.is c.requires.theirs c.requires.none c.requires.all heard c.compare.ensures.begins first
+    (whole_reunited g.B.TableName.table c.args.locks.now old seats c.in-Sends.outbox c.in-Some.place courier c.requires.own c.in-Sends.is c.requires.theirs.own c.requires.none c.requires.all heard c.compare.ensures.begins first
     c.remove-pass.ensures.value)
 
 pub returns-clause-reunites : goal.returns-clause-reunites
@@ -63,5 +57,5 @@ returns-clause-reunites g c =
     let heard = subst (λ at_intake. IsHeard old.taker at_intake) c.in-Sends.is c.requires.heard in
     let courier : Courier g.row.B.Denot = c.remove-pass.result in
     subst (λ (p : ArrivalsPass). Reunites c.args.locks.now seats (record seats { arrivals = p; pass = Some courier.pass; intake = at.Nothing })) (sym c.of.ensures)
-    (reunites_sent g.B.TableName.table c.args.locks.now old seats c.in-Sends.outbox c.in-Some.place courier c.requires.own c.in-Sends.is c.requires.theirs c.requires.none c.requires.all heard c.compare.ensures.begins first
+    (reunites_sent g.B.TableName.table c.args.locks.now old seats c.in-Sends.outbox c.in-Some.place courier c.requires.own c.in-Sends.is c.requires.theirs.own c.requires.none c.requires.all heard c.compare.ensures.begins first
     c.remove-pass.ensures.value)

@@ -2,7 +2,7 @@ use Rattle.std.proofs.Common.{get_or, arith, ap, ◌∙◌, sym, refl, subst}
 use Rattle.sf_shared.specs.declared.seats.Seats.{Seats}
 use Rattle.sf_shared.specs.Inboxes.{HasAll}
 use Rattle.sf_shared.specs.Reuniting.{Reunites}
-use Rattle.sf_shared.specs.Seats.{AreSeats, AreWhole, IsHeard}
+use Rattle.sf_shared.specs.Seats.{AreWhole, IsHeard, MaySend}
 use Rattle.sf_shared.proofs.Reuniting.{all_places, none_reunited, one_reunited, zip_places}
 use Rattle.sf_shared.proofs.Splitting.{by_place}
 use Rattle.sf_shared.proofs.inbox.Inbox.reunite_each.Goals as goal
@@ -19,8 +19,8 @@ reunite-requires g c =
       own = at.invariant.own;
       same = ap (λ t. t.intake) at.invariant.taker ∙ c.requires.same;
       intake = c.requires.intake;
-      theirs = subst (λ (s : Seats g.row.B.Denot). AreSeats g.B.TableName.table c.args.locks.now s) (sym same)
-          (by_place (AreSeats g.B.TableName.table c.args.locks.now) c.args.ends.now at.place r c.requires.theirs c.loop-place-test.true);
+      theirs = subst (λ (s : Seats g.row.B.Denot). MaySend g.B.TableName.table c.args.locks.now s) (sym same)
+          (by_place (MaySend g.B.TableName.table c.args.locks.now) c.args.ends.now at.place r c.requires.theirs c.loop-place-test.true);
       none = at.invariant.none;
       all = subst HasAll (sym at.invariant.taker) c.requires.all;
       heard = subst (λ t. IsHeard t (get_or at.ends at.place r).intake) (sym at.invariant.taker)
