@@ -132,27 +132,6 @@ impl<B: TableName> Seats<B> {
         Ok(())
     }
 
-    /// Takes what waits among the arrivals.
-    fn take_waiting<R: Wait>(
-        &mut self,
-        locks: &Locks<B>,
-        rt: &R,
-    ) -> Result<Vec<Arrived<ReadLease<B>>>, NoMemory>
-        requires own { AreSeats B.table locks.now self.old }
-        requires first { self.old.by ≡ 0 }
-        ensures own { AreSeats B.table locks.now self.new }
-        ensures changes { ChangesArrivals self.old self.new }
-        ensures took { IfOk result (λ list. Takes self.old self.new list.items) }
-        ensures stays { IfErr result (λ _. IsAsBefore (view_of self.old) (view_of self.new)) }
-    {
-        let Some(pass) = &mut self.pass else {
-            unreachable!()
-        };
-        let taken = take_one(rt, &locks.arrivals, pass, &mut self.last);
-        self.arrivals = Shown::of(pass);
-        taken
-    }
-
     /// Takes the transactions that arrived, and waits for its turn under the lock: the first caller's
     /// right, whose number is 0. What was sent through the intake arrives first. Want of memory leaves
     /// them.
@@ -169,7 +148,12 @@ impl<B: TableName> Seats<B> {
         ensures stays { IfErr result (λ _. IsAsBefore (view_of self.old) (view_of self.new)) }
     {
         self.bring_in(locks, rt)?;
-        self.take_waiting(locks, rt)
+        let Some(pass) = &mut self.pass else {
+            unreachable!()
+        };
+        let taken = take_one(rt, &locks.arrivals, pass, &mut self.last);
+        self.arrivals = Shown::of(pass);
+        taken
     }
 
     /// A handler's vsync with the seat at the turns as its eye.
