@@ -1,7 +1,5 @@
-ghost use Rattle.std.specs.Prelude.{◌≡◌, ◌≤◌, [], true, false, OnOk};
-ghost use Rattle.sf_actor_set.specs.Scripts.{permits_of};
-ghost use Rattle.sf_live.specs.Runs.{WroteLive};
-ghost use Rattle.sf_turns.specs.Counts.{range};
+ghost use Rattle.std.specs.Prelude.{true, false, OnOk};
+ghost use Rattle.sf_live.specs.Runs.{MayLive, WroteLive};
 
 use sf_io::{Gate, Sink};
 use sf_live::{live, live_queue};
@@ -24,13 +22,7 @@ pub fn live_means<R: Threads + Wait + Sync, K: Sink, G: Gate + Sync, B: TableNam
     seat: TurnSeat<Painted>,
     stock: Stock<Painted>,
 ) -> Result<(), RunFault>
-    requires some { 1 ≤ workers }
-    requires few { workers ≤ 16 }
-    requires own { (seat.table ≡ B.table) × (stock.table ≡ B.table) }
-    requires first { (seat.is_first ≡ true) × (seat.out ≡ 0) }
-    requires fresh { seat.leaves ≡ [] }
-    requires whole { stock.buffers ≡ range 0 (permits_of scene.actors) }
-    requires sized { permits_of scene.actors ≤ B.table.slots }
+    requires { MayLive B.table workers scene seat stock }
     ensures ok { OnOk result (WroteLive true scene (K.taken sink.old) (K.taken sink.new)) }
 {
     live::<R, K, G, B>(rt, alloc, workers, sink, gate, scene, seat, stock)
@@ -52,13 +44,7 @@ pub fn live_queue_means<
     seat: TurnSeat<Painted>,
     stock: Stock<Painted>,
 ) -> Result<(), RunFault>
-    requires some { 1 ≤ workers }
-    requires few { workers ≤ 16 }
-    requires own { (seat.table ≡ B.table) × (stock.table ≡ B.table) }
-    requires first { (seat.is_first ≡ true) × (seat.out ≡ 0) }
-    requires fresh { seat.leaves ≡ [] }
-    requires whole { stock.buffers ≡ range 0 (permits_of scene.actors) }
-    requires sized { permits_of scene.actors ≤ B.table.slots }
+    requires { MayLive B.table workers scene seat stock }
     ensures ok { OnOk result (WroteLive false scene (K.taken sink.old) (K.taken sink.new)) }
 {
     live_queue::<R, K, G, B>(rt, alloc, workers, sink, gate, scene, seat, stock)

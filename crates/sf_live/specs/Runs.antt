@@ -1,5 +1,6 @@
--- What is written of a whole live run.
-use Rattle.std.specs.Prelude.{ℕ, ◌≤◌, Bool, List, Option, Result, IsErrOf, OnErr, OnOk}
+-- What a live run begins with, and what is written of the whole of it.
+use Rattle.std.specs.Prelude.{◌≡◌, ℕ, ◌≤◌, Bool, true, List, [], Option, Result, IsErrOf, OnErr, OnOk}
+use Rattle.atomic_table.specs.Seated.{TableId}
 use Rattle.sf_io.specs.Causes.{Rose}
 use Rattle.sf_scene.specs.Scene.{SceneValue}
 use Rattle.sf_record.specs.declared.encode.RunFault.{RunFault}
@@ -7,6 +8,20 @@ use Rattle.sf_record.specs.declared.encode.RunFault.TheVariants.{WriteFault}
 use Rattle.sf_record.specs.declared.record.Record.{Record}
 use Rattle.sf_run.specs.Played.{PlayedLiveWhere}
 use Rattle.sf_show.specs.Writing.{CutSome, Writes}
+use Rattle.sf_turns.specs.Counts.{range}
+use Rattle.sf_turns.specs.Views.{SeatView, StockView}
+use Rattle.sf_actor_set.specs.Scripts.{permits_of}
+
+-- A scene may be run live: 1 to 16 workers compose each frame, and the run takes the seat and the whole stock of a table of turns, with a permit for
+-- each dequeue. The seat is the first one, gave none and left no turn.
+pub record MayLive (table : TableId) (workers : ℕ) (scene : SceneValue) (seat : SeatView) (stock : StockView) : Type 0 where
+  pub some : 1 ≤ workers
+  pub few : workers ≤ 16
+  pub own : (seat.table ≡ table) × (stock.table ≡ table)
+  pub first : (seat.is_first ≡ true) × (seat.out ≡ 0)
+  pub fresh : seat.leaves ≡ []
+  pub whole : stock.buffers ≡ range 0 (permits_of scene.actors)
+  pub sized : permits_of scene.actors ≤ table.slots
 
 -- the records of a run in threads were written, and mean what such a run means in which a sender is told its place, or not
 pub record WroteLive (tells : Bool) (scene : SceneValue) (old new : Option (List ℕ)) : Type 0 where

@@ -1,16 +1,14 @@
 ghost use Rattle.std.specs.Prelude.{◌≡◌, ◌≤◌, ℕ, List, [], ◌∷◌, true, false, Option};
-ghost use Rattle.sf_actor_set.specs.Scripts.{permits_of};
 ghost use Rattle.sf_run.specs.Played.{opening};
 ghost use Rattle.sf_run.specs.Vsyncs.{rising_timelines};
 ghost use Rattle.sf_scene.specs.Scene.{SceneValue};
 ghost use Rattle.sf_show.specs.Writing.{Writes};
-ghost use Rattle.sf_turns.specs.Counts.{range};
 ghost use Rattle.sf_shared.specs.Seats.{tells_of};
 ghost use Rattle.sf_shared.specs.declared.locks.Locks.{Locks};
 ghost use Rattle.sf_live.specs.Openings.{MayStart};
 ghost use Rattle.sf_live.specs.Resuming.{GoesFrom, HasCome};
 ghost use Rattle.sf_live.specs.Running.{MayRun};
-ghost use Rattle.sf_live.specs.Runs.{LiveEnded};
+ghost use Rattle.sf_live.specs.Runs.{LiveEnded, MayLive};
 ghost use Rattle.sf_live.specs.Threads.{IsTogether, RunOf};
 
 use crate::opening::{Opened, open};
@@ -150,15 +148,9 @@ fn run_scene<R: Threads + Wait + Sync, K: Sink, G: Gate + Sync, B: TableName + S
     stock: Stock<Painted>,
     tells: bool,
 ) -> Result<(), RunFault>
-    requires some { 1 ≤ workers }
-    requires few { workers ≤ 16 }
+    requires may { MayLive B.table workers scene seat stock }
     requires rising { timelines.items ≡ rising_timelines scene }
     requires begun { (start : Option (List ℕ)) × Writes start (K.taken sink.old) (opening scene ∷ []) }
-    requires own { (seat.table ≡ B.table) × (stock.table ≡ B.table) }
-    requires first { (seat.is_first ≡ true) × (seat.out ≡ 0) }
-    requires fresh { seat.leaves ≡ [] }
-    requires whole { stock.buffers ≡ range 0 (permits_of scene.actors) }
-    requires sized { permits_of scene.actors ≤ B.table.slots }
     ensures { (start : Option (List ℕ)) → Writes start (K.taken sink.old) (opening scene ∷ [])
         → LiveEnded tells scene result start (K.taken sink.new) (K.faults sink.old) (K.faults sink.new) }
 {
@@ -212,13 +204,7 @@ fn live_by<R: Threads + Wait + Sync, K: Sink, G: Gate + Sync, B: TableName + Sen
     stock: Stock<Painted>,
     tells: bool,
 ) -> Result<(), RunFault>
-    requires some { 1 ≤ workers }
-    requires few { workers ≤ 16 }
-    requires own { (seat.table ≡ B.table) × (stock.table ≡ B.table) }
-    requires first { (seat.is_first ≡ true) × (seat.out ≡ 0) }
-    requires fresh { seat.leaves ≡ [] }
-    requires whole { stock.buffers ≡ range 0 (permits_of scene.actors) }
-    requires sized { permits_of scene.actors ≤ B.table.slots }
+    requires { MayLive B.table workers scene seat stock }
     ensures { LiveEnded tells scene result (K.taken sink.old) (K.taken sink.new) (K.faults sink.old) (K.faults sink.new) }
 {
     let Ok(timelines) = rising_timelines(alloc, scene.timelines.as_slice()) else {
@@ -249,13 +235,7 @@ pub fn live<R: Threads + Wait + Sync, K: Sink, G: Gate + Sync, B: TableName + Se
     seat: TurnSeat<Painted>,
     stock: Stock<Painted>,
 ) -> Result<(), RunFault>
-    requires some { 1 ≤ workers }
-    requires few { workers ≤ 16 }
-    requires own { (seat.table ≡ B.table) × (stock.table ≡ B.table) }
-    requires first { (seat.is_first ≡ true) × (seat.out ≡ 0) }
-    requires fresh { seat.leaves ≡ [] }
-    requires whole { stock.buffers ≡ range 0 (permits_of scene.actors) }
-    requires sized { permits_of scene.actors ≤ B.table.slots }
+    requires { MayLive B.table workers scene seat stock }
     ensures { LiveEnded true scene result (K.taken sink.old) (K.taken sink.new) (K.faults sink.old) (K.faults sink.new) }
 {
     live_by::<R, K, G, B>(rt, alloc, workers, sink, gate, scene, seat, stock, true)
@@ -273,13 +253,7 @@ pub fn live_queue<R: Threads + Wait + Sync, K: Sink, G: Gate + Sync, B: TableNam
     seat: TurnSeat<Painted>,
     stock: Stock<Painted>,
 ) -> Result<(), RunFault>
-    requires some { 1 ≤ workers }
-    requires few { workers ≤ 16 }
-    requires own { (seat.table ≡ B.table) × (stock.table ≡ B.table) }
-    requires first { (seat.is_first ≡ true) × (seat.out ≡ 0) }
-    requires fresh { seat.leaves ≡ [] }
-    requires whole { stock.buffers ≡ range 0 (permits_of scene.actors) }
-    requires sized { permits_of scene.actors ≤ B.table.slots }
+    requires { MayLive B.table workers scene seat stock }
     ensures { LiveEnded false scene result (K.taken sink.old) (K.taken sink.new) (K.faults sink.old) (K.faults sink.new) }
 {
     live_by::<R, K, G, B>(rt, alloc, workers, sink, gate, scene, seat, stock, false)
