@@ -39,6 +39,7 @@ fn firsts_of<T: Copy>(alloc: Global, notes: &[(LayerId, T)]) -> Result<BTreeMap<
 }
 
 impl<T: Copy> ByLayer<T> {
+    /// These notes. Of several of one layer the first counts.
     pub fn new(alloc: Global, notes: Vec<(LayerId, T)>) -> Result<ByLayer<T>, NoMemory>
         ensures { IfOk result (λ made. made ≡ notes.items) }
     {
