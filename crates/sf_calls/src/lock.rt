@@ -11,9 +11,10 @@ use sf_base::NoMemory;
 use std::alloc::Global;
 use std::marker::Model;
 use std::snapshot::Snapshot;
+use std::sync::Mutex;
 
-/// An object that threads call under a lock, each with a `Pass`. Contracts see which table it
-/// lies in.
+/// An object that threads call under a lock, each with a `Pass`. Callers wait for the mutex; that
+/// only one of them has the object is the rule of the table. Contracts see which table it lies in.
 pub struct CallLock<O: Object> {
     pub(crate) table: Table<
         Option<O>,
@@ -22,6 +23,7 @@ pub struct CallLock<O: Object> {
         LockRule<O>,
         Global,
     >,
+    pub(crate) mutex: Mutex<()>,
 }
 
 impl<O: Object> Model for CallLock<O> {
@@ -52,7 +54,13 @@ impl<O: Object> CallLock<O> {
             return Err((NoMemory, held(failed.value)));
         }
         match Table::new(alloc, &[0; 3], slots, &about) {
-            Ok((table, seat)) => Ok((CallLock { table }, Pass { seat, by })),
+            Ok((table, seat)) => Ok((
+                CallLock {
+                    table,
+                    mutex: Mutex::new(()),
+                },
+                Pass { seat, by },
+            )),
             Err(refused) => Err((NoMemory, first_held(refused.slots))),
         }
     }
@@ -78,7 +86,7 @@ impl<O: Object> CallLock<O> {
         ensures callers { IfOk result (λ object. (b : ℕ) → (Contains (last.by ∷ last.gave) b → ⊥)
             → calls_by b (O.history object) ≡ calls_by b last.start) }
     {
-        let CallLock { table } = self;
+        let CallLock { table, mutex: _ } = self;
         let Pass { seat, by: _ } = last;
         let mut closed = table.close_with(seat);
         let slot = closed.take(0);
@@ -113,6 +121,6 @@ fn first_held<O>(slots: Vec<Option<O>, Global>) -> O
 
 impl<O: Object + Drop> Drop for CallLock<O> {
     fn drop(self) {
-        let CallLock { table: _ } = self;
+        let CallLock { table: _, mutex: _ } = self;
     }
 }

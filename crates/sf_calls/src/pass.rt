@@ -83,6 +83,7 @@ impl<O: Object> Pass<O> {
             × ((m : O.Mark) → HasMark self.old m → Waited O.answers m self.old (O.plain_call call) self.new)) }
         ensures no_memory { IfFaultNoMemory result (λ back. (back ≡ call) × (self.new ≡ self.old)) }
     {
+        let _guard = lock.mutex.lock(rt);
         let ticket = lock.draw(rt, &mut self.seat);
         let mut object = lock.enter(rt, &mut self.seat, ticket);
         match object.apply(self.by, call) {

@@ -1,5 +1,5 @@
 //! The steps of a call under the lock, each over a caller's seat.
-ghost use Rattle.std.specs.Prelude.{◌≡◌, ◌≢◌, List, ℕ, ◌+◌, true, false, [], ◌∷◌, ◌++◌, Some, None, Contains};
+ghost use Rattle.std.specs.Prelude.{◌≡◌, ◌≢◌, List, ℕ, ◌+◌, true, false, [], ◌∷◌, ◌++◌, Some, None, IfSome, Contains};
 ghost use Rattle.sf_calls.specs.declared.object.Entry.{Entry};
 ghost use Rattle.sf_calls.specs.Histories.{IsLegal, Begins, calls_by};
 ghost use Rattle.sf_calls.specs.Rule.{giving, given, met};
@@ -19,29 +19,48 @@ pub(crate) type PassSeat<O> = Seat<
 >;
 
 impl<O: Object> CallLock<O> {
-    /// Draws a ticket. An addition could wrap, so it is an exchange where the word is as loaded.
+    /// Draws a ticket. Callers have the mutex, so the first try draws one.
     pub(crate) fn draw<W: Wait>(&self, rt: &W, seat: &mut PassSeat<O>) -> u64
         requires own { seat.old.table_id ≡ self.now }
         requires idle { (seat.old.me.0.ticket ≡ None) × (seat.old.me.0.inside ≡ false) }
         ensures same { (seat.new.table_id ≡ seat.old.table_id) × (seat.new.id ≡ seat.old.id) }
         ensures drawn { seat.new.me ≡ (record seat.old.me.0 { ticket = Some result }, seat.old.me.1) }
     {
+        if let Some(ticket) = self.try_draw(seat) {
+            return ticket;
+        }
         for _ in rt.forever() {
-            let next = self.table.shared.peek(0);
-            if next < u64::MAX
-                && self
-                    .table
-                    .shared
-                    .compare_exchange::<DrawTicket>(seat, 0, next, next + 1)
-                    == next
-            {
-                return next;
+            if let Some(ticket) = self.try_draw(seat) {
+                return ticket;
             }
         }
         unreachable!()
     }
 
-    /// Waits until the ticket is served, and takes the object.
+    /// Draws a ticket where nobody else draws one meanwhile. An addition could wrap, so it is an
+    /// exchange where the word is as loaded.
+    fn try_draw(&self, seat: &mut PassSeat<O>) -> Option<u64>
+        requires own { seat.old.table_id ≡ self.now }
+        requires idle { (seat.old.me.0.ticket ≡ None) × (seat.old.me.0.inside ≡ false) }
+        ensures same { (seat.new.table_id ≡ seat.old.table_id) × (seat.new.id ≡ seat.old.id) }
+        ensures drawn { IfSome result (λ ticket. seat.new.me ≡ (record seat.old.me.0 { ticket = Some ticket }, seat.old.me.1)) }
+        ensures none { result ≡ None → seat.new.me ≡ seat.old.me }
+    {
+        let next = self.table.shared.peek(0);
+        if next < u64::MAX
+            && self
+                .table
+                .shared
+                .compare_exchange::<DrawTicket>(seat, 0, next, next + 1)
+                == next
+        {
+            return Some(next);
+        }
+        None
+    }
+
+    /// Takes the object once the ticket is served. Callers have the mutex, so the first try finds it
+    /// served.
     pub(crate) fn enter<W: Wait>(&self, rt: &W, seat: &mut PassSeat<O>, ticket: u64) -> O
         requires own { seat.old.table_id ≡ self.now }
         requires drawn { (seat.old.me.0.ticket ≡ Some ticket) × (seat.old.me.0.inside ≡ false) × (seat.old.me.0.live ≡ 1) × (seat.old.me.1 ≡ []) }
@@ -52,14 +71,33 @@ impl<O: Object> CallLock<O> {
         ensures own_calls { calls_by seat.old.me.0.by (O.history result) ≡ calls_by seat.old.me.0.by seat.old.me.0.seen }
         ensures marked { seat.old.me.0.mark ≡ Some (O.mark result) }
     {
+        if let Some(object) = self.try_enter(seat, ticket) {
+            return object;
+        }
         for _ in rt.forever() {
-            let serving = self.table.shared.load::<LoadServing>(seat, 1);
-            if serving == ticket {
-                return held(self.table.shared.exchange(seat, 0, None));
+            if let Some(object) = self.try_enter(seat, ticket) {
+                return object;
             }
-            self.table.shared.park(rt, 1, (serving % (1 << 32)) as u32);
         }
         unreachable!()
+    }
+
+    /// Takes the object where the ticket is served.
+    fn try_enter(&self, seat: &mut PassSeat<O>, ticket: u64) -> Option<O>
+        requires own { seat.old.table_id ≡ self.now }
+        requires drawn { (seat.old.me.0.ticket ≡ Some ticket) × (seat.old.me.0.inside ≡ false) × (seat.old.me.0.live ≡ 1) × (seat.old.me.1 ≡ []) }
+        ensures same { (seat.new.table_id ≡ seat.old.table_id) × (seat.new.id ≡ seat.old.id) }
+        ensures entered { IfSome result (λ object. seat.new.me ≡ (record seat.old.me.0 { inside = true; found = O.history object }, (0, None) ∷ [])) }
+        ensures legal { IfSome result (λ object. IsLegal (O.answers (O.mark object)) (O.history object)) }
+        ensures begins { IfSome result (λ object. Begins seat.old.me.0.seen (O.history object)) }
+        ensures own_calls { IfSome result (λ object. calls_by seat.old.me.0.by (O.history object) ≡ calls_by seat.old.me.0.by seat.old.me.0.seen) }
+        ensures marked { IfSome result (λ object. seat.old.me.0.mark ≡ Some (O.mark object)) }
+        ensures none { result ≡ None → seat.new.me ≡ seat.old.me }
+    {
+        if self.table.shared.load::<LoadServing>(seat, 1) == ticket {
+            return Some(held(self.table.shared.exchange(seat, 0, None)));
+        }
+        None
     }
 
     /// The object comes home, and the next ticket is served.
@@ -84,8 +122,7 @@ impl<O: Object> CallLock<O> {
             )) }
     {
         no_object(self.table.shared.exchange(seat, 0, Some(object)));
-        let served = self.table.shared.fetch_add::<PassOn>(seat, 1, 1);
-        self.wake_waiting(served);
+        self.table.shared.fetch_add::<PassOn>(seat, 1, 1);
     }
 
     /// The same for an object that is unchanged, and the pass has had no turn.
@@ -106,15 +143,7 @@ impl<O: Object> CallLock<O> {
             )) }
     {
         no_object(self.table.shared.exchange(seat, 0, Some(object)));
-        let served = self.table.shared.fetch_add::<GiveUp>(seat, 1, 1);
-        self.wake_waiting(served);
-    }
-
-    /// Wakes the callers that wait, where a ticket was drawn past the one that was served.
-    fn wake_waiting(&self, served: u64) {
-        if self.table.shared.peek(0) > served.saturating_add(1) {
-            self.table.shared.wake_all(1);
-        }
+        self.table.shared.fetch_add::<GiveUp>(seat, 1, 1);
     }
 
     /// A seat for the caller with this number, split off the first pass's.

@@ -10,8 +10,8 @@ exchange-requires g c = let M : Type 0 = Me (Option g.row.O.Denot) (Knows g.row.
   (None, c.requires.held.0 ∙ ap (λ (z : HS). (0, None) ∷ rest z) (sym c.requires.held.0)),
 )
 
-pub fetch_add-served-requires : goal.fetch_add-served-requires
-fetch_add-served-requires g c = let i = c.self.invariant in let x = c.exchange.ensures in let M : Type 0 = Me (Option g.row.O.Denot) (Knows g.row.O-PlainCall.Denot g.row.O-PlainReply.Denot g.row.O-Mark.Denot) in let HS : Type 0 = List (ℕ × Option g.row.O.Denot) in
+pub fetch_add-requires : goal.fetch_add-requires
+fetch_add-requires g c = let i = c.self.invariant in let x = c.exchange.ensures in let M : Type 0 = Me (Option g.row.O.Denot) (Knows g.row.O-PlainCall.Denot g.row.O-PlainReply.Denot g.row.O-Mark.Denot) in let HS : Type 0 = List (ℕ × Option g.row.O.Denot) in
     let held = ap (λ (m : M). m.1) x.3 ∙ ap (λ (z : HS). (0, Some c.args.object) ∷ rest z) c.requires.held.0 in
     let in_ = ap (λ (m : M). m.0.inside) x.3 ∙ c.requires.held.1 in
     let live = ap (λ (m : M). m.0.live) x.3 ∙ c.requires.held.2 in (

@@ -54,8 +54,8 @@ returns-in-NotYet-clause-not_yet g c =
           ),
     )
 
-pub returns-in-NoMemory-clause-no_memory : goal.returns-in-NoMemory-clause-no_memory
-returns-in-NoMemory-clause-no_memory g c =
+pub returns-clause-no_memory : goal.returns-clause-no_memory
+returns-clause-no_memory g c =
     let en = c.enter-object.ensures in let dr = c.draw-ticket.ensures in let p = c.give_up.ensures in
     let M : Type 0 = Me (Option g.row.O.Denot) (Knows g.row.O-PlainCall.Denot g.row.O-PlainReply.Denot g.row.O-Mark.Denot) in (
       c.in-NoMemory.ensures.no_memory.1,
