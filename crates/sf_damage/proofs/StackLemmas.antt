@@ -1,14 +1,9 @@
 -- Stacks of lists of drawn layers, one layer more at the back.
-use Rattle.std.proofs.Common.{◌≡◌, ◌≢◌, ◌↔◌, ◌≤◌, ◌<◌, ◌||◌, ℤ, Bool, true, false, List, [], ◌∷◌, length, refl, sym, ◌∙◌, ap, subst, arith}
-use Rattle.std.proofs.lemmas.Bool.{or_parts, true_from_ne_false}
-use Rattle.sf_base.specs.Geometry.{covers}
-use Rattle.sf_base.specs.declared.geometry.Rect.{Rect}
-use Rattle.sf_region.specs.Points.{has}
-use Rattle.sf_view.specs.Stacks.{Sheet, sheet_of, stack}
-use Rattle.sf_view.specs.Views.{is_in_clip, ViewOf}
+use Rattle.std.proofs.Common.{◌≡◌, ◌≢◌, ◌↔◌, ℤ, Bool, true, false, List, [], ◌∷◌, refl, sym, ◌∙◌, ap}
+use Rattle.sf_view.specs.Stacks.{Sheet, sheet_of}
+use Rattle.sf_view.specs.Views.{is_in_clip}
 use Rattle.sf_view.specs.declared.drawn.Drawn.{Drawn}
-use Rattle.sf_damage.specs.Damage.{Damages, DiffersIn, IsSameBeside, stack_in}
-use Rattle.sf_damage.proofs.ListLemmas.{first-others, first_of, others_of}
+use Rattle.sf_damage.specs.Damage.{stack_in}
 
 pub stack-in : (d : Drawn) (ds : List Drawn) (x y : ℤ) → is_in_clip d x y ≡ true → stack_in (d ∷ ds) x y ≡ sheet_of d ∷ stack_in ds x y
 stack-in d ds x y t = rw t refl
@@ -60,56 +55,3 @@ stack-without d ds others x y t = ((λ h e. h (sym (stack-out d ds x y t) ∙ e)
 
 pub stack-without_new : (d : Drawn) (ds : List Drawn) (others : List Sheet) (x y : ℤ) → is_in_clip d x y ≡ false → (others ≢ stack_in ds x y) ↔ (others ≢ stack_in (d ∷ ds) x y)
 stack-without_new d ds others x y t = ((λ h e. h (e ∙ stack-out d ds x y t)), (λ h e. h (e ∙ sym (stack-out d ds x y t))))
-
--- a region that tells all differences of a part that has them all
-pub Damages-part : (old new : ViewOf) (part region : List Rect) → IsSameBeside old.drawn new.drawn part → DiffersIn old.drawn new.drawn part region → Damages old new region
-unfolding stack
-Damages-part old new part region beside differs = record {
-  points = λ x y. (
-    (λ t. ((differs.points x y).0 t).1),
-    (λ apart. (differs.points x y).1 (true_from_ne_false (has part x y) (λ lacks. apart (beside.stacks x y lacks)), apart)),
-  );
-}
-
-pub Damages-lists : (old new : ViewOf) (olds news : List Drawn) (part region : List Rect) → olds ≡ old.drawn → news ≡ new.drawn → IsSameBeside olds news part → DiffersIn olds news part region → Damages old new region
-Damages-lists old new olds news part region e f beside differs =
-    Damages-part old new part region
-    (subst (λ (ns : List Drawn). IsSameBeside old.drawn ns part) f (subst (λ (os : List Drawn). IsSameBeside os news part) e beside))
-    (subst (λ (ns : List Drawn). DiffersIn old.drawn ns part region) f (subst (λ (os : List Drawn). DiffersIn os news part region) e differs))
-
--- beside the clips of the layers of one list, where the other has none, both have empty stacks
-pub beside-no_olds : (olds news : List Drawn) (region : List Rect) → length olds < 1 → ((x y : ℤ) → has region x y ≡ false → stack_in news x y ≡ []) → IsSameBeside olds news region
-beside-no_olds [] news region none empty = record { stacks = λ x y out. sym (empty x y out) }
-beside-no_olds (d ∷ ds) news region none empty = absurd (omega arith)
-
-pub beside-no_news : (olds news : List Drawn) (region : List Rect) → length news < 1 → ((x y : ℤ) → has region x y ≡ false → stack_in olds x y ≡ []) → IsSameBeside olds news region
-beside-no_news olds [] region none empty = record { stacks = empty }
-beside-no_news olds (d ∷ ds) region none empty = absurd (omega arith)
-
--- a layer that begins both lists changes nothing
-pub beside-both : (olds news : List Drawn) (region : List Rect) → 1 ≤ length olds → 1 ≤ length news → first_of olds ≡ first_of news → IsSameBeside (others_of olds) (others_of news) region → IsSameBeside olds news region
-beside-both olds news region some_old some_new same beside =
-    subst (λ (os : List Drawn). IsSameBeside os news region) (first-others olds some_old)
-    (subst (λ (ns : List Drawn). IsSameBeside (first_of olds ∷ others_of olds) ns region) (ap (λ (d : Drawn). d ∷ others_of news) same ∙ first-others news some_new)
-    (record { stacks = λ x y out. stack-both (first_of olds) (others_of olds) (others_of news) x y (beside.stacks x y out) }))
-
--- a layer of one list alone changes nothing beside its clip
-pub beside-more_new : (olds news : List Drawn) (rest region : List Rect) → 1 ≤ length news → IsSameBeside olds (others_of news) rest
-    → ((x y : ℤ) → has region x y ≡ (covers (first_of news).clip x y || has rest x y)) → IsSameBeside olds news region
-beside-more_new olds news rest region some beside points =
-    subst (λ (ns : List Drawn). IsSameBeside olds ns region) (first-others news some)
-    (record {
-      stacks = λ x y out.
-          (let parts = or_parts (covers (first_of news).clip x y) (has rest x y) (sym (points x y) ∙ out) in
-          beside.stacks x y parts.1 ∙ sym (stack-out (first_of news) (others_of news) x y parts.0));
-    })
-
-pub beside-more_old : (olds news : List Drawn) (rest region : List Rect) → 1 ≤ length olds → IsSameBeside (others_of olds) news rest
-    → ((x y : ℤ) → has region x y ≡ (covers (first_of olds).clip x y || has rest x y)) → IsSameBeside olds news region
-beside-more_old olds news rest region some beside points =
-    subst (λ (os : List Drawn). IsSameBeside os news region) (first-others olds some)
-    (record {
-      stacks = λ x y out.
-          (let parts = or_parts (covers (first_of olds).clip x y) (has rest x y) (sym (points x y) ∙ out) in
-          stack-out (first_of olds) (others_of olds) x y parts.0 ∙ beside.stacks x y parts.1);
-    })

@@ -1,8 +1,12 @@
 -- What shows of a layer, and that what is hidden is nothing.
-use Rattle.std.proofs.Common.{◌≡◌, ℕ, ℤ, ◌+◌, ◌-◌, ◌*◌, ◌/◌, Bool, true, false, List, [], ◌∷◌, map, filter, refl, ◌∙◌, ap, arith, inl, inr}
-use Rattle.std.specs.List.{list_any}
-use Rattle.std.proofs.lemmas.Bool.{and_parts, both_ways, eqb-true, false≢true, or_cases}
+use Rattle.std.proofs.Common.{◌≡◌, ℕ, ℤ, ◌+◌, ◌-◌, ◌*◌, ◌/◌, pos, ◌≤ℤ◌, ◌+ℤ◌, ◌&&◌, Bool, true, false, List, [], ◌∷◌, map, filter, refl, ◌∙◌, ap, arith, inl, inr}
+use Rattle.std.specs.List.{All, list_any}
+use Rattle.std.proofs.lemmas.Bool.{and_from, and_parts, both_ways, eqb-true, false≢true, or_cases}
+use Rattle.std.proofs.lemmas.Bool.Decides.{nat_tests}
+use Rattle.std.proofs.lemmas.Int.{ints}
+use Rattle.std.proofs.lemmas.List.Elements.{All-head, All-tail}
 use Rattle.sf_base.specs.Blend.{blended, product}
+use Rattle.sf_base.specs.Geometry.{covers, is_within}
 use Rattle.sf_base.specs.Paint.{painted}
 use Rattle.sf_base.specs.declared.geometry.Rect.{Rect}
 use Rattle.sf_base.specs.declared.pixel.Rgba.{Rgba}
@@ -10,9 +14,10 @@ use Rattle.sf_picture.specs.declared.picture.Picture.{Picture}
 use Rattle.sf_view.specs.Contents.{pixel_of, source_of}
 use Rattle.sf_view.specs.Image.{opaque_black}
 use Rattle.sf_view.specs.Stacks.{sheet_of, stack, under_stack, view_image}
-use Rattle.sf_view.specs.Views.{ViewOf, is_in_clip}
+use Rattle.sf_view.specs.Views.{IsClip, ViewOf, is_in_clip}
+use Rattle.sf_region.specs.Points.{has}
 use Rattle.sf_view.specs.declared.drawn.Drawn.{Drawn}
-use Rattle.sf_damage.specs.Visible.{AreVisibleAt, hides_all, hides_at, over_one, seen_over}
+use Rattle.sf_damage.specs.Visible.{AreVisibleAt, AreWithin, ShowsEverywhere, hides_all, hides_at, over_one, seen_over, shows_at}
 
 cover-whole : (a : ℕ) → a ≡ 255 → 255 - (a * 255 + 127) / 255 ≡ 0
 cover-whole a e = rw e refl
@@ -72,3 +77,37 @@ pub AreVisibleAt-within : (some fewer : ℤ → ℤ → Bool) (layers : List Dra
 AreVisibleAt-within some fewer [] regions within visible = visible
 AreVisibleAt-within some fewer (d ∷ ds) [] within visible = visible
 AreVisibleAt-within some fewer (d ∷ ds) (r ∷ rs) within visible = (λ x y t. visible.0 x y (within x y t), AreVisibleAt-within some fewer ds rs within visible.1)
+
+-- so many coordinates that lie on a display are those of the display
+within_size : (start : ℤ) (extent size : ℕ) (at : ℤ) → pos 0 ≤ℤ start → (start +ℤ pos extent) ≤ℤ pos size → is_within start extent at ≡ true → is_within (pos 0) size at ≡ true
+within_size start extent size at low high h = grind (arith, ints, nat_tests)
+
+-- a clip lies on the display
+clip_inside : (width height : ℕ) (d : Drawn) (x y : ℤ) → IsClip width height d → is_in_clip d x y ≡ true → (is_within (pos 0) width x && is_within (pos 0) height y) ≡ true
+unfolding covers
+clip_inside width height d x y c h =
+    let both = and_parts (is_within d.clip.x d.clip.width x) _ h in
+    and_from (is_within (pos 0) width x) _ (within_size d.clip.x d.clip.width width x c.left c.right both.0) (within_size d.clip.y d.clip.height height y c.top c.bottom both.1)
+
+-- what shows of a layer is known beside its clip, too
+shows_all : (part region : List Rect) (d : Drawn) (ds : List Drawn) (x y : ℤ) → (is_in_clip d x y ≡ true → has part x y ≡ true) → (has part x y ≡ true → has region x y ≡ shows_at d ds x y)
+    → (has region x y ≡ true → is_in_clip d x y ≡ true) → has region x y ≡ shows_at d ds x y
+shows_all part region d ds x y lies visible inside = by_tests (is_in_clip d x y) (has region x y) refl refl
+  where
+    by_tests : (c h : Bool) → is_in_clip d x y ≡ c → has region x y ≡ h → has region x y ≡ shows_at d ds x y
+    by_tests true h t e = visible (lies t)
+    by_tests false true t e = absurd (both_ways (is_in_clip d x y) t (inside e))
+    by_tests false false t e = rw (t, e) refl
+
+shows_each : (width height : ℕ) (part : List Rect) (layers : List Drawn) (regions : List (List Rect)) → ((x y : ℤ) → (is_within (pos 0) width x && is_within (pos 0) height y) ≡ true → has part x y ≡ true) → All (IsClip width height) layers
+    → AreVisibleAt (has part) layers regions → AreWithin layers regions → AreVisibleAt (λ x y. true) layers regions
+shows_each width height part [] regions whole clips visible within = visible
+shows_each width height part (d ∷ ds) [] whole clips visible within = visible
+shows_each width height part (d ∷ ds) (r ∷ rs) whole clips visible within = (
+  (λ x y t. shows_all part r d ds x y (λ c. whole x y (clip_inside width height d x y (All-head (IsClip width height) d ds clips) c)) (visible.0 x y) (within.0 x y)),
+  shows_each width height part ds rs whole (All-tail (IsClip width height) d ds clips) visible.1 within.1,
+)
+
+-- on the whole display a region has exactly the points that show of its layer
+pub shows_everywhere : ShowsEverywhere
+shows_everywhere view part regions is whole visible within = shows_each view.width view.height part view.drawn regions whole is.clips visible within

@@ -1,5 +1,5 @@
 -- Where two views of a display differ.
-use Rattle.std.specs.Prelude.{◌≡◌, ◌≢◌, ◌↔◌, ℕ, ℤ, Bool, List, [], false, map, filter, IsTrue}
+use Rattle.std.specs.Prelude.{◌≡◌, ◌≢◌, ◌↔◌, ℕ, ℤ, Bool, List, false, map, filter, IsTrue}
 use Rattle.std.specs.List.{All}
 use Rattle.sf_base.specs.declared.geometry.Rect.{Rect}
 use Rattle.sf_picture.specs.declared.picture.Picture.{Picture}
@@ -24,10 +24,6 @@ stack_in layers x y = map sheet_of (filter (λ drawn. is_in_clip drawn x y) laye
 -- of the points of a part a region has exactly those where the stacks of two lists differ
 pub record DiffersIn (olds news : List Drawn) (part region : List Rect) : Type 0 where
   pub points : (x y : ℤ) → IsTrue (has region x y) ↔ (IsTrue (has part x y) × (stack_in olds x y ≢ stack_in news x y))
-
--- of the points of a part a region has exactly those where a list has a layer
-pub record IsDrawnOn (layers : List Drawn) (part region : List Rect) : Type 0 where
-  pub points : (x y : ℤ) → IsTrue (has region x y) ↔ (IsTrue (has part x y) × (stack_in layers x y ≢ []))
 
 -- beside a region the stacks of two lists are equal
 pub record IsSameBeside (olds news : List Drawn) (region : List Rect) : Type 0 where

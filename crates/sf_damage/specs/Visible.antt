@@ -1,6 +1,7 @@
 -- Which points of its clip a drawn layer shows.
-use Rattle.std.specs.Prelude.{◌≡◌, ℕ, ℤ, ◌==◌, Bool, true, not, ◌&&◌, List, [], ◌∷◌, if◌then◌else◌}
-use Rattle.std.specs.List.{list_any}
+use Rattle.std.specs.Prelude.{◌≡◌, ℕ, ℤ, pos, ◌==◌, Bool, true, not, ◌&&◌, List, [], ◌∷◌, if◌then◌else◌}
+use Rattle.std.specs.List.{AllZip, list_any}
+use Rattle.sf_base.specs.Geometry.{is_within}
 use Rattle.sf_base.specs.Paint.{painted}
 use Rattle.sf_base.specs.declared.geometry.Rect.{Rect}
 use Rattle.sf_base.specs.declared.pixel.Rgba.{Rgba}
@@ -9,7 +10,7 @@ use Rattle.sf_region.specs.Points.{has}
 use Rattle.sf_view.specs.Contents.{pixel_of, source_of}
 use Rattle.sf_view.specs.Image.{opaque_black}
 use Rattle.sf_view.specs.Stacks.{view_image}
-use Rattle.sf_view.specs.Views.{ViewOf, is_in_clip}
+use Rattle.sf_view.specs.Views.{IsView, ViewOf, is_in_clip}
 use Rattle.sf_view.specs.declared.drawn.Drawn.{Drawn}
 
 -- a layer hides what is below its clip: it is opaque, and its alpha is full
@@ -34,6 +35,10 @@ AreVisibleAt test (drawn ∷ above) (region ∷ regions) =
 abbrev pub AreVisibleIn : List Rect → List Drawn → List (List Rect) → Type 0
 AreVisibleIn part layers regions = AreVisibleAt (has part) layers regions
 
+-- each region keeps within the clip of its drawn layer
+abbrev pub AreWithin : List Drawn → List (List Rect) → Type 0
+AreWithin layers regions = AllZip (λ drawn region. (x y : ℤ) → has region x y ≡ true → is_in_clip drawn x y ≡ true) layers regions
+
 -- a pixel under a drawn layer at a point
 abbrev pub over_one : (ℕ → Picture) → ℤ → ℤ → Rgba → Drawn → Rgba
 over_one picture x y under drawn =
@@ -48,3 +53,12 @@ seen_over picture x y under (drawn ∷ above) =
 -- what is hidden is nothing: the image of a view is that of what shows
 abbrev pub HiddenIsNothing : Type 0
 HiddenIsNothing = (picture : ℕ → Picture) (view : ViewOf) (x y : ℤ) → seen_over picture x y opaque_black view.drawn ≡ view_image picture view x y
+
+-- a part has each point of a view's display
+abbrev pub HasDisplay : ViewOf → List Rect → Type 0
+HasDisplay view part = (x y : ℤ) → (is_within (pos 0) view.width x && is_within (pos 0) view.height y) ≡ true → has part x y ≡ true
+
+-- on the whole display a region has exactly the points that show of its layer
+abbrev pub ShowsEverywhere : Type 0
+ShowsEverywhere = (view : ViewOf) (part : List Rect) (regions : List (List Rect)) → IsView view → HasDisplay view part →
+    AreVisibleIn part view.drawn regions → AreWithin view.drawn regions → AreVisibleAt (λ x y. true) view.drawn regions

@@ -1,32 +1,109 @@
-ghost use Rattle.std.specs.Prelude.{◌≡◌, ℤ, ◌∷◌, true, IfOk};
-ghost use Rattle.sf_region.specs.Points.{has};
+ghost use Rattle.std.specs.Prelude.{◌≡◌, ℤ, ◌∷◌, [], Bool, List, true, ◌||◌, IfOk, OnOk};
+ghost use Rattle.sf_region.specs.Points.{IsInBounds, has};
 ghost use Rattle.sf_view.specs.Views.{is_in_clip};
-ghost use Rattle.sf_damage.specs.Damage.{AreNear, DiffersIn, IsDrawnOn};
+ghost use Rattle.sf_view.specs.declared.drawn.Drawn.{Drawn as DrawnValue};
+ghost use Rattle.sf_damage.specs.Comparing.{Comparison, IsOpen, IsTold};
+ghost use Rattle.sf_damage.specs.Damage.{AreNear, DiffersIn};
 
-use crate::parts::{Halves, is_empty, join, split};
+use crate::parts::{Halves, is_empty, split};
+use crate::pieces::{Piece, joined, push_part, push_piece};
 use crate::same::{has_same_sheet, is_same};
 use sf_base::NoMemory;
 use sf_region::Region;
 use sf_view::Drawn;
 use std::alloc::Global;
+use std::mem;
 
-// The points of a part that some of the layers have.
-fn drawn_on(alloc: Global, layers: &[Drawn], part: Region) -> Result<Region, NoMemory>
-    requires { AreNear layers.now }
-    ensures { IfOk result (IsDrawnOn layers.now part) }
+// Compares a piece of an old layer's clip with the new layers from one on: where the first of them that
+// has a point there has the same sheet, the layers above both are still to be compared.
+fn compare_clip(
+    alloc: Global,
+    old: &Drawn,
+    news: &[Drawn],
+    piece: Piece,
+    above: &mut Vec<Piece>,
+    found: &mut Vec<Region>,
+) -> Result<(), NoMemory>
+    requires news { AreNear news.now }
+    requires inside { (x y : ℤ) → has piece.part x y ≡ true → is_in_clip old.now x y ≡ true }
+    ensures { OnOk result ((c : Comparison) (olds : List DrawnValue) (others : ℤ → ℤ → Bool)
+        → IsOpen c (old.now ∷ olds) news.now piece
+        → IsTold c olds news.now (λ x y. has piece.part x y || others x y) above.old.items found.old.items
+        → IsTold c olds news.now others above.new.items found.new.items) }
 {
-    let [drawn, above @ ..] = layers else {
-        return Ok(Region::empty(alloc));
-    };
-    let Halves { inside, outside } = split(alloc, part, drawn.clip)?;
-    let elsewhere = drawn_on(alloc, above, outside)?;
-    join(inside, elsewhere)
+    let Piece { part, from } = piece;
+    let mut rest = part;
+    let mut at = from;
+    while at < news.len() && !is_empty(&rest) {
+        let new = &news[at];
+        at += 1;
+        let Halves { inside, outside } = split(alloc, rest, new.clip)?;
+        rest = outside;
+        if has_same_sheet(old, new) {
+            push_piece(above, inside, at)?;
+        } else {
+            push_part(found, inside)?;
+        }
+    }
+    push_part(found, rest)
 }
 
-// The points of a part at which two lists of drawn layers, from the back, have different stacks.
-// Layers that are the same in both cost a comparison while no other lies below them, and those
-// that the part does not meet cost no operation on regions.
-#[cycle(differing)]
+// Compares a piece with an old layer and those above it, as far as that layer decides.
+fn compare_layer(
+    alloc: Global,
+    old: &Drawn,
+    news: &[Drawn],
+    piece: Piece,
+    above: &mut Vec<Piece>,
+    found: &mut Vec<Region>,
+) -> Result<(), NoMemory>
+    requires old { IsInBounds old.now.clip }
+    requires news { AreNear news.now }
+    ensures { OnOk result ((c : Comparison) (olds : List DrawnValue) (others : ℤ → ℤ → Bool)
+        → IsOpen c (old.now ∷ olds) news.now piece
+        → IsTold c olds news.now (λ x y. has piece.part x y || others x y) above.old.items found.old.items
+        → IsTold c olds news.now others above.new.items found.new.items) }
+{
+    let Piece { part, from } = piece;
+    if from < news.len() && is_same(old, &news[from]) {
+        return push_piece(above, part, from + 1);
+    }
+    let Halves { inside, outside } = split(alloc, part, old.clip)?;
+    push_piece(above, outside, from)?;
+    let piece = Piece { part: inside, from };
+    compare_clip(alloc, old, news, piece, above, found)
+}
+
+// Compares a piece behind the last old layer: it differs where a new layer is drawn.
+fn compare_rest(
+    alloc: Global,
+    news: &[Drawn],
+    piece: Piece,
+    found: &mut Vec<Region>,
+) -> Result<(), NoMemory>
+    requires news { AreNear news.now }
+    ensures { OnOk result ((c : Comparison) (others : ℤ → ℤ → Bool)
+        → IsOpen c [] news.now piece
+        → IsTold c [] news.now (λ x y. has piece.part x y || others x y) [] found.old.items
+        → IsTold c [] news.now others [] found.new.items) }
+{
+    let Piece { part, from } = piece;
+    let mut rest = part;
+    let mut at = from;
+    while at < news.len() && !is_empty(&rest) {
+        let new = &news[at];
+        at += 1;
+        let Halves { inside, outside } = split(alloc, rest, new.clip)?;
+        rest = outside;
+        push_part(found, inside)?;
+    }
+    Ok(())
+}
+
+// The points of a part at which two lists of drawn layers, from the back, have different stacks. Old
+// layer after old layer each piece of the part is split at the clips that decide there. Layers that are
+// the same in both cost a comparison while no other lies below them, and those that a piece does not
+// meet cost no operation on regions.
 pub fn differing(
     alloc: Global,
     olds: &[Drawn],
@@ -37,50 +114,20 @@ pub fn differing(
     requires news { AreNear news.now }
     ensures { IfOk result (DiffersIn olds.now news.now part) }
 {
-    if is_empty(&part) {
-        return Ok(part);
+    let mut pieces = Vec::new(alloc);
+    let mut above = Vec::new(alloc);
+    let mut found = Vec::new(alloc);
+    push_piece(&mut pieces, part, 0)?;
+    let mut at = 0;
+    while at < olds.len() {
+        while let Some(piece) = pieces.pop() {
+            compare_layer(alloc, &olds[at], news, piece, &mut above, &mut found)?;
+        }
+        mem::swap(&mut pieces, &mut above);
+        at += 1;
     }
-    let [old, olds_above @ ..] = olds else {
-        return drawn_on(alloc, news, part);
-    };
-    let [new, news_above @ ..] = news else {
-        return drawn_on(alloc, olds, part);
-    };
-    if is_same(old, new) {
-        return differing(alloc, olds_above, news_above, part);
+    while let Some(piece) = pieces.pop() {
+        compare_rest(alloc, news, piece, &mut found)?;
     }
-    let Halves { inside, outside } = split(alloc, part, old.clip)?;
-    let here = differing_over(alloc, old, olds_above, news, inside)?;
-    let elsewhere = differing(alloc, olds_above, news, outside)?;
-    join(here, elsewhere)
-}
-
-// The same of a part of a layer's clip, where the first list begins with that layer.
-#[cycle(differing)]
-fn differing_over(
-    alloc: Global,
-    old: &Drawn,
-    olds: &[Drawn],
-    news: &[Drawn],
-    part: Region,
-) -> Result<Region, NoMemory>
-    requires olds { AreNear olds.now }
-    requires news { AreNear news.now }
-    requires inside { (x y : ℤ) → has part x y ≡ true → is_in_clip old.now x y ≡ true }
-    ensures { IfOk result (DiffersIn (old.now ∷ olds.now) news.now part) }
-{
-    if is_empty(&part) {
-        return Ok(part);
-    }
-    let [new, news_above @ ..] = news else {
-        return Ok(part);
-    };
-    let Halves { inside, outside } = split(alloc, part, new.clip)?;
-    let here = if has_same_sheet(old, new) {
-        differing(alloc, olds, news_above, inside)?
-    } else {
-        inside
-    };
-    let elsewhere = differing_over(alloc, old, olds, news_above, outside)?;
-    join(here, elsewhere)
+    joined(alloc, found)
 }

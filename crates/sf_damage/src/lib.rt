@@ -13,10 +13,11 @@ mod gathered;
 mod halving;
 mod laws;
 mod parts;
+mod pieces;
 mod same;
 mod shared;
 mod shown;
 
 pub use damaged::dirty;
-pub use laws::{equal_stacks_have_equal_images, what_is_hidden_is_nothing};
+pub use laws::{equal_stacks_have_equal_images, what_is_hidden_is_nothing, what_shows_everywhere};
 pub use shown::visible;

@@ -1,10 +1,12 @@
-ghost use Rattle.std.specs.Prelude.{◌≡◌, ℤ, ◌&&◌, not, true, IfOk, OnOk, [], reverse};
+ghost use Rattle.std.specs.Prelude.{◌≡◌, ℤ, ◌&&◌, not, true, IfOk, OnOk, List, ◌∷◌, reverse};
 ghost use Rattle.std.specs.List.{All, filter, list_any};
 ghost use Rattle.sf_base.specs.Geometry.{covers};
 ghost use Rattle.sf_region.specs.Points.{IsInBounds, has};
 ghost use Rattle.sf_damage.specs.Damage.{AreNear};
 ghost use Rattle.sf_damage.specs.Meeting.{meets, rect_has};
-ghost use Rattle.sf_damage.specs.Visible.{AreVisibleAt, AreVisibleIn, hides_all, hides_at};
+ghost use Rattle.sf_damage.specs.Showing.{IsShown};
+ghost use Rattle.sf_damage.specs.Visible.{AreVisibleAt, AreVisibleIn, AreWithin, hides_all};
+ghost use Rattle.sf_view.specs.declared.drawn.Drawn.{Drawn as DrawnValue};
 
 use crate::bounds::bounds;
 use crate::gathered::region_of;
@@ -45,8 +47,9 @@ fn one_has(rects: &[Rect], rect: &Rect) -> bool
 fn rest_of(alloc: Global, rect: Rect, window: &Rect, hidden: &[Rect]) -> Result<Region, NoMemory>
     requires near { IsInBounds rect }
     requires hidden { All IsInBounds hidden.now }
-    ensures { IfOk result (λ rest. (x y : ℤ) → covers window.now x y ≡ true
+    ensures points { IfOk result (λ rest. (x y : ℤ) → covers window.now x y ≡ true
         → has rest x y ≡ (covers rect x y && not (has hidden.now x y))) }
+    ensures within { IfOk result (λ rest. (x y : ℤ) → has rest x y ≡ true → covers rect x y ≡ true) }
 {
     if one_has(hidden, window) {
         return Ok(Region::empty(alloc));
@@ -64,8 +67,9 @@ fn rest_of(alloc: Global, rect: Rect, window: &Rect, hidden: &[Rect]) -> Result<
 fn left(alloc: Global, rect: Rect, window: &Rect, hidden: &[Rect]) -> Result<Region, NoMemory>
     requires near { IsInBounds rect }
     requires hidden { All IsInBounds hidden.now }
-    ensures { IfOk result (λ rest. (x y : ℤ) → covers window.now x y ≡ true
+    ensures points { IfOk result (λ rest. (x y : ℤ) → covers window.now x y ≡ true
         → has rest x y ≡ (covers rect x y && not (has hidden.now x y))) }
+    ensures within { IfOk result (λ rest. (x y : ℤ) → has rest x y ≡ true → covers rect x y ≡ true) }
 {
     if !meets(&rect, window) {
         return Ok(Region::empty(alloc));
@@ -77,27 +81,19 @@ fn left(alloc: Global, rect: Rect, window: &Rect, hidden: &[Rect]) -> Result<Reg
     rest_of(alloc, rect, window, &met)
 }
 
-// Appends what shows in a window of each of the layers, from the front, and the clips that hide what
-// is below them there.
-fn show(
+// Appends what shows in a window of a layer, and its clip where that hides what is below it there.
+fn show_one(
     alloc: Global,
-    layers: &[Drawn],
+    drawn: &Drawn,
     window: &Rect,
     shown: &mut Vec<Region>,
     hidden: &mut Vec<Rect>,
 ) -> Result<(), NoMemory>
-    requires near { AreNear layers.now }
-    requires none { shown.old.items ≡ [] }
-    requires nothing { hidden.old.items ≡ [] }
-    ensures shown { OnOk result (AreVisibleAt (covers window.now) layers.now (reverse shown.new.items)) }
-    ensures hidden { OnOk result ((x y : ℤ) → covers window.now x y ≡ true
-        → has hidden.new.items x y ≡ list_any (hides_at x y) layers.now) }
-    ensures near { OnOk result (All IsInBounds hidden.new.items) }
+    requires near { IsInBounds drawn.now.clip }
+    requires hidden { All IsInBounds hidden.old.items }
+    ensures { OnOk result ((above : List DrawnValue) → IsShown (covers window.now) above shown.old.items hidden.old.items
+        → IsShown (covers window.now) (drawn.now ∷ above) shown.new.items hidden.new.items) }
 {
-    let [drawn, above @ ..] = layers else {
-        return Ok(());
-    };
-    show(alloc, above, window, shown, hidden)?;
     let region = left(alloc, drawn.clip, window, hidden)?;
     let adds = hides_all(drawn) && !is_empty(&region);
     shown.push(region)?;
@@ -108,24 +104,33 @@ fn show(
     }
 }
 
-/// Of each drawn layer of a view, from the back, where it shows in a part of the display. Of the points
-/// of the part the region of a layer has exactly those of its clip that no layer above it hides: the
-/// layers that are opaque and have alpha 255 hide what is below their clips, and translucent ones
-/// nothing. Beside the part the regions may have any points. A layer beside the part's bounds costs a
-/// comparison.
-pub fn visible(alloc: Global, view: &View, part: &Region) -> Result<Vec<Region>, NoMemory>
-    ensures { IfOk result (λ regions. AreVisibleIn part.now view.now.drawn regions.items) }
+// What shows in a window of each of the layers, the last one first.
+fn show(alloc: Global, layers: &[Drawn], window: &Rect) -> Result<Vec<Region>, NoMemory>
+    requires { AreNear layers.now }
+    ensures visible { IfOk result (λ shown. AreVisibleAt (covers window.now) layers.now (reverse shown.items)) }
+    ensures within { IfOk result (λ shown. AreWithin layers.now (reverse shown.items)) }
 {
     let mut shown = Vec::new(alloc);
     let mut hidden = Vec::new(alloc);
+    let mut at = layers.len();
+    while at > 0 {
+        at -= 1;
+        show_one(alloc, &layers[at], window, &mut shown, &mut hidden)?;
+    }
+    Ok(shown)
+}
+
+/// Of each drawn layer of a view, from the back, where it shows in a part of the display. Of the points
+/// of the part the region of a layer has exactly those of its clip that no layer above it hides: the
+/// layers that are opaque and have alpha 255 hide what is below their clips, and translucent ones
+/// nothing. Beside the part a region may have any points of the layer's clip. A layer beside the part's
+/// bounds costs a comparison.
+pub fn visible(alloc: Global, view: &View, part: &Region) -> Result<Vec<Region>, NoMemory>
+    ensures visible { IfOk result (λ regions. AreVisibleIn part.now view.now.drawn regions.items) }
+    ensures within { IfOk result (λ regions. AreWithin view.now.drawn regions.items) }
+{
     let window = bounds(part);
-    show(
-        alloc,
-        view.drawn.as_slice(),
-        &window,
-        &mut shown,
-        &mut hidden,
-    )?;
+    let mut shown = show(alloc, view.drawn.as_slice(), &window)?;
     shown.reverse();
     Ok(shown)
 }

@@ -1,5 +1,6 @@
 use Rattle.std.proofs.Common.{◌≡◌, ℤ, Bool, true, false, not, ◌&&◌, List, refl, sym, ◌∙◌, ap}
 use Rattle.std.specs.List.{list_any}
+use Rattle.std.proofs.lemmas.Bool.{false≢true}
 use Rattle.sf_base.specs.Geometry.{covers}
 use Rattle.sf_base.specs.declared.geometry.Rect.{Rect}
 use Rattle.sf_region.specs.Points.{has}
@@ -18,5 +19,8 @@ under_one rs q window b has_one holds x y inside =
     let over : has rs x y ≡ true = one_more rs window x y (sym has_one ∙ holds) inside in
     and_hidden (covers q x y) ∙ ap (λ h. covers q x y && not h) (sym over)
 
-pub returns-then-one_has : goal.returns-then-one_has
-returns-then-one_has c = λ x y inside. rw c.empty.ensures (under_one c.args.hidden.now c.args.rect c.args.window.now c.one_has.result c.one_has.ensures c.if-one_has.true x y inside)
+pub returns-then-one_has-clause-points : goal.returns-then-one_has-clause-points
+returns-then-one_has-clause-points c = λ x y inside. rw c.empty.ensures (under_one c.args.hidden.now c.args.rect c.args.window.now c.one_has.result c.one_has.ensures c.if-one_has.true x y inside)
+
+pub returns-then-one_has-clause-within : goal.returns-then-one_has-clause-within
+returns-then-one_has-clause-within c = rw c.empty.ensures (λ x y t. absurd (false≢true t))
