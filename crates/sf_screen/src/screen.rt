@@ -30,8 +30,8 @@ pub struct Screen {
 }
 
 /// The most layers that a view draws where it is composed over an older frame, or that one drew. To
-/// find where two views differ can take time with the square of their layers, and calls as deep as
-/// they are many. Only with copies of mirrored layers are there more than 1,024.
+/// find where two views differ can take time with the square of their layers. Only with copies of
+/// mirrored layers are there more than 1,024.
 const LONGEST: usize = 2_048;
 
 /// How many bytes a number has.
