@@ -121,7 +121,7 @@ known_queues scene run P each (queue ∷ queues) h =
 
 pub callers_known : CallersAreKnown
 unfolding rising_queues
-callers_known scene records h =
+callers_known tells scene records h =
     let IsOne : QueueDecl → Type 0 = IsHistory scene h.run (released_in (vsyncs_told scene h.arrivals h.shows.events)) in
     subst (All (AreKnown scene)) (sym (ap histories_in h.order ∙ histories_of_run scene h.shows ∙ h.fits.calls.shown))
     (known_queues scene h.run IsOne (λ queue one. one.by_none_else) (rising_queues scene)

@@ -1,12 +1,12 @@
 -- Who calls a queue in a played run, told from its records alone.
-use Rattle.std.specs.Prelude.{◌≡◌, ◌==◌, ◌||◌, true, List, [], ◌∷◌, All}
+use Rattle.std.specs.Prelude.{Bool, ◌≡◌, ◌==◌, ◌||◌, true, List, [], ◌∷◌, All}
 use Rattle.std.specs.List.{flat_map}
 use Rattle.sf_scene.specs.Scene.{SceneValue, has_actor}
 use Rattle.sf_record.specs.declared.record.HistoryEntry.{HistoryEntry}
 use Rattle.sf_record.specs.declared.record.QueueHistory.{QueueHistory}
 use Rattle.sf_record.specs.declared.record.Record.{Record}
 use Rattle.sf_record.specs.declared.record.Record.TheVariants as rec
-use Rattle.sf_run.specs.Played.{Played}
+use Rattle.sf_run.specs.Played.{PlayedWhere}
 
 -- the histories among records
 abbrev pub history_in : Record → List QueueHistory
@@ -20,7 +20,7 @@ histories_in records = flat_map history_in records
 abbrev pub IsKnown : SceneValue → HistoryEntry → Type 0
 IsKnown scene called = (called.caller == 0 || has_actor scene.actors called.caller) ≡ true
 
--- the histories of a played run have calls of the compositor and of the scene's actors alone, also where the scene has no actor
+-- the histories of a played run have calls of the compositor and of the scene's actors alone, also where the scene has no actor and where no sender is told a place
 abbrev pub CallersAreKnown : Type 0
-CallersAreKnown = (scene : SceneValue) (records : List Record) → Played scene records
+CallersAreKnown = (tells : Bool) (scene : SceneValue) (records : List Record) → PlayedWhere tells scene records
     → All (λ (history : QueueHistory). All (IsKnown scene) history.entries) (histories_in records)

@@ -10,7 +10,8 @@ pub fn one_play()
 {}
 
 /// The law that the histories of a played run show calls of the compositor and of the scene's actors
-/// alone: where the scene has no actor, nobody but the compositor calls.
+/// alone, with `--intake queue` and without: where the scene has no actor, nobody but the compositor
+/// calls.
 pub fn callers_are_known()
     ensures { CallersAreKnown }
 {}
