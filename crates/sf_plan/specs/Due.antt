@@ -73,10 +73,14 @@ ShowsDue due view = ViewsInOrder due.layers due.order due.width due.height view
 abbrev pub AreShown : List (Output ImageDue) → List (Output ViewOf) → Type 0
 AreShown dues views = AllZip (IsOutput ShowsDue) dues views
 
--- the view of the scene's own display; none is there only where the plan has neither stacks nor mirrors
+-- the scene's own display shows the whole tree as it is: the plan has neither stacks nor mirrors
+abbrev pub ShowsAll : Plan → Type 0
+ShowsAll plan = (plan.stacks ≡ []) × (plan.mirrors ≡ [])
+
+-- the view of the scene's own display; it is left out exactly where the display shows the whole tree
 abbrev pub IsFrameDue : Plan → List Layer → Option ViewOf → Type 0
-IsFrameDue plan layers None = (plan.stacks ≡ []) × (plan.mirrors ≡ [])
-IsFrameDue plan layers (Some view) = ShowsDue (frame_due plan layers) view
+IsFrameDue plan layers None = ShowsAll plan
+IsFrameDue plan layers (Some view) = (ShowsAll plan → ⊥) × ShowsDue (frame_due plan layers) view
 
 -- of these layers each stack has the same by both lists of stacks
 abbrev pub SameOrders : List Layer → List (ℕ × ℕ) → List (ℕ × ℕ) → Type 0

@@ -1,7 +1,7 @@
 ghost use Rattle.std.specs.List.{All, flat_map};
 ghost use Rattle.std.specs.Prelude.{◌≡◌, ◌≤◌, ℕ, [], IfOk, List, length, map, true};
 ghost use Rattle.sf_layer.specs.declared.layer.Layer.{Layer as LayerOf};
-ghost use Rattle.sf_plan.specs.Due.{AreShown, IsFrameDue, IsPlan, SameOrders, ShowsDue, capture_due, display_due, frame_due, hit_due, hit_number, others_due};
+ghost use Rattle.sf_plan.specs.Due.{AreShown, IsFrameDue, IsPlan, SameOrders, ShowsAll, ShowsDue, capture_due, display_due, frame_due, hit_due, hit_number, others_due};
 ghost use Rattle.sf_plan.specs.declared.plan.CapturePlan.{CapturePlan as CaptureOf};
 ghost use Rattle.sf_plan.specs.declared.plan.DisplayPlan.{DisplayPlan as DisplayOf};
 ghost use Rattle.sf_plan.specs.declared.plan.Plan.{Plan as PlanOf};
@@ -23,8 +23,8 @@ use std::alloc::Global;
 /// The views of what a vsync shows.
 #[derive(Drop)]
 pub struct ViewsDue {
-    /// That of the scene's own display. There is none where the plan has neither stacks nor mirrors:
-    /// it is the view of the whole tree then.
+    /// That of the scene's own display. There is none exactly where the plan has neither stacks nor
+    /// mirrors: it is the view of the whole tree then.
     pub frame: Option<View>,
     /// All others, in order: of further displays, of captures, and hits.
     pub others: Vec<Output<View>>,
@@ -128,7 +128,8 @@ fn hits(alloc: Global, plan: &Plan, tree: &Tree) -> Result<Vec<Output<View>>, No
 }
 
 fn has_no_mirrors(plan: &Plan) -> bool
-    ensures { result ≡ true → plan.now.mirrors ≡ [] }
+    ensures none { result ≡ true → plan.now.mirrors ≡ [] }
+    ensures all { plan.now.mirrors ≡ [] → result ≡ true }
 {
     plan.mirrors.as_slice().is_empty()
 }
@@ -137,6 +138,7 @@ fn has_no_mirrors(plan: &Plan) -> bool
 fn shows_all(plan: &Plan) -> bool
     ensures stacks { result ≡ true → plan.now.stacks ≡ [] }
     ensures mirrors { result ≡ true → plan.now.mirrors ≡ [] }
+    ensures all { ShowsAll plan.now → result ≡ true }
 {
     plan.stacks.as_slice().is_empty() && has_no_mirrors(plan)
 }

@@ -134,12 +134,12 @@ module _ {L : Type 0} (on : List (OnLayer L)) where
   -- the view of the scene's own display shows what stands for layers, and it is due
   pub own_on : (plan : Plan) (tree : List Layer) (frame : Option ViewOf) → AllOn on tree → IsFrameDue plan (written tree plan.mirrors) frame → IfSome frame (λ (own : ViewOf). AllShowOn on own.drawn)
   own_on plan tree None all due = tt
-  own_on plan tree (Some own) all due = due_on (frame_due plan (written tree plan.mirrors)) own (written_said (IsOnIf on) tree plan.mirrors all) due
+  own_on plan tree (Some own) all due = due_on (frame_due plan (written tree plan.mirrors)) own (written_said (IsOnIf on) tree plan.mirrors all) due.1
 
   pub frame_shows : (plan : Plan) (tree : List Layer) (frame : Option ViewOf) (view : ViewOf) → IsFrameDue plan (written tree plan.mirrors) frame → Views tree plan.width plan.height view
       → ShowsDue (frame_due plan (written tree plan.mirrors)) (unwrap_or frame view)
   frame_shows plan tree None view due views = own_due plan tree view due.0 due.1 views
-  frame_shows plan tree (Some own) view due views = due
+  frame_shows plan tree (Some own) view due views = due.1
 
   pub views_on : (dues : List (Output ImageDue)) (views : List (Output ViewOf)) → All (OfImage ImageOn) dues → AllZip (IsOutput ShowsDue) dues views
       → All (OfImage (λ (view : ViewOf). AllShowOn on view.drawn)) views
