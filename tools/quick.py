@@ -3,8 +3,8 @@
 
     python3 tools/quick.py
 
-runs worked_runs as it stands by `rt try`, over the shorter of its scripts, and compares what it prints of each with
-crates/worked_runs/stdout; then the tests of the tools, which look whether each must-fail edit still fits its file. Only
+runs test_program as it stands by `rt try`, over the shorter of its scripts, and compares what it prints of each with
+crates/test_program/stdout; then the tests of the tools, which look whether each must-fail edit still fits its file. Only
 `.ci/run` is the gate.
 """
 
@@ -16,7 +16,7 @@ import sys
 
 import run
 
-WORKED = os.path.join(run.TOP, "crates", "worked_runs")
+WORKED = os.path.join(run.TOP, "crates", "test_program")
 # A script of more bytes is left to the gate: what `rt try` runs is checked code, and it may print a MiB.
 MOST_BYTES = 1000
 TITLE = re.compile(r"^== (\S+)", re.M)
@@ -56,7 +56,7 @@ def try_runs():
     with open(os.path.join(WORKED, "stdout"), encoding="utf-8") as file:
         wrong, many = differing(ran.stdout, file.read(), names)
     for title in wrong:
-        print(f"worked_runs: {title} differs")
+        print(f"test_program: {title} differs")
     if wrong and not ran.stdout:
         print(ran.stderr[-2000:], end="", file=sys.stderr)
     return many, len(wrong)

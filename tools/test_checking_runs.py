@@ -11,7 +11,7 @@ from ordering import Refused
 from stream import FORMS, PIXELS, Rows, read
 from test_checking import contents, record, verdict
 
-STORED = os.path.join(run.TOP, "crates", "worked_runs")
+STORED = os.path.join(run.TOP, "crates", "test_program")
 # Stored scripts whose actors wait for one another.
 WAITING = ("phone.sf", "producers-with-two-buffers.sf", "sixteen-actors-in-a-ring.sf", "two-transactions.sf", "a-signal-that-is-held-back.sf")
 PROGRAM = run.built(run.TOP)

@@ -122,7 +122,7 @@ class Command(unittest.TestCase):
         self.assertEqual(began, sorted(began, key=lambda ended: -ended[0]), "with more memory")
 
     def test_a_live_run_with_little_memory(self):
-        with open(os.path.join(run.TOP, "crates", "worked_runs", "data", "phone.sf"), "rb") as file:
+        with open(os.path.join(run.TOP, "crates", "test_program", "data", "phone.sf"), "rb") as file:
             script = file.read()
         for words in (), ("--intake", "queue"):
             ended = [with_memory(size << 20, "--run", "live", *words, script=script) for size in (*range(4, 36, 2), 48, 64, 128, 1024)]

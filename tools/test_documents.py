@@ -70,7 +70,7 @@ class Documents(unittest.TestCase):
 
     def test_whole_scripts_on_the_page_beside_android_are_cases(self):
         blocks = [re.findall(r"^    (.*)$", block, re.M) for block in text("docs/ANDROID.md").split("\n\n") if block.startswith("    scene ")]
-        cases = [without_comments(path) for path in glob.glob(os.path.join(TOP, "crates", "worked_runs", "data", "*.sf"))]
+        cases = [without_comments(path) for path in glob.glob(os.path.join(TOP, "crates", "test_program", "data", "*.sf"))]
         self.assertEqual(len(blocks), 2)
         for block in blocks:
             self.assertIn([line for line in block if not line.startswith("#")], cases)

@@ -8,7 +8,7 @@ import run
 import stream
 
 PROGRAM = run.built(run.TOP)
-SCRIPTS = os.path.join(run.TOP, "crates", "worked_runs", "data")
+SCRIPTS = os.path.join(run.TOP, "crates", "test_program", "data")
 QUEUE, ACQUIRE, RELEASE = 7, 13, 14
 MOST_ACQUIRED = 2
 # How many steps behind an acquire these scripts apply the transaction that shows the frame.

@@ -7,13 +7,13 @@ from scenes import NoScene, read_scene
 from test_checking import contents
 
 
-# What begins a script of script_runs: one of its own, one put together of the last one and more lines, one that is also cut.
+# What begins a script of test_script: one of its own, one put together of the last one and more lines, one that is also cut.
 SCRIPTS = (b"==", b"=+", b"=<")
 
 
 def table_of_scripts():
-    """The scripts that script_runs reads, each with what is said of it there."""
-    folder = os.path.join("crates", "script_runs")
+    """The scripts that test_script reads, each with what is said of it there."""
+    folder = os.path.join("crates", "test_script")
     titles, scripts, base, is_script = [], [], b"", False
     for line in contents(folder, "stdin").split(b"\n")[:-1]:
         if line[:1] == b"=":

@@ -38,7 +38,7 @@ class Made(unittest.TestCase):
         with open(os.path.join(run.TOP, "crates.txt"), encoding="utf-8") as file:
             whole = small_program.below(["sf_main"], run.TOP, small_program.listed_crates(file.read()))
         self.assertLess(len(self.lines), len(whole))
-        for crate in ("sf_live", "sf_threads", "sf_options", "sf_generate"):
+        for crate in ("sf_live", "sf_live_threads", "sf_app_options", "sf_script_generate"):
             self.assertNotIn(crate, self.lines)
             self.assertIn(crate, whole)
 
@@ -65,7 +65,7 @@ class Made(unittest.TestCase):
             copied, whole = self.contents("crates", small_program.NAME, "src", "play.rt"), file.read()
         self.assertEqual(copied, small_program.without_contracts(whole))
         self.assertEqual(copied.count("\n"), whole.count("\n"))
-        self.assertEqual(os.listdir(os.path.join(self.folder, "crates", "sf_show")), ["src"])
+        self.assertEqual(os.listdir(os.path.join(self.folder, "crates", "sf_play_write")), ["src"])
 
     def test_only_the_clauses_of_contracts_are_left_out(self):
         text = """\

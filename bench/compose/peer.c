@@ -1,5 +1,5 @@
 /* Composes the frames of two views in turns with pixman, and prints the last as runs of equal
- * pixels, as layer_runs does. What it reads are lines of words:
+ * pixels, as test_layers does. What it reads are lines of words:
  *
  *   display WIDTH HEIGHT
  *   picture WIDTH HEIGHT [X Y WIDTH HEIGHT R G B A ..]

@@ -1,8 +1,8 @@
 #!/usr/bin/env python3
 """Times composing beside pixman, and the looking for damage and for what shows.
 
-It wants Debian's libpixman-1-dev, a C compiler, and layer_runs built (`rt run` in
-crates/layer_runs). Both programs compose the frames of two views in turns, their last
+It wants Debian's libpixman-1-dev, a C compiler, and test_layers built (`rt run` in
+crates/test_layers). Both programs compose the frames of two views in turns, their last
 frames are compared, and the best of several runs of each counts, taken in turns. What a
 run takes beside its frames is taken off: the time of one with no frames.
 
@@ -16,7 +16,7 @@ import tempfile
 import time
 
 HERE = os.path.dirname(os.path.abspath(__file__))
-PROGRAM = os.path.join(HERE, "..", "..", "crates", "layer_runs", "out", "layer_runs")
+PROGRAM = os.path.join(HERE, "..", "..", "crates", "test_layers", "out", "test_layers")
 
 
 class Colour:
@@ -65,7 +65,7 @@ class Scene:
         return "\n".join(lines) + "\n"
 
     def runs(self, ask):
-        """What layer_runs reads: the first view, what changes in the second, and what is asked of both."""
+        """What test_layers reads: the first view, what changes in the second, and what is asked of both."""
         before, after = self.views
         lines = ["case bench"] + ["picture " + picture for picture in self.pictures]
         for number, layer in enumerate(before, 1):

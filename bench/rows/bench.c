@@ -14,12 +14,12 @@
 #include <time.h>
 
 /* The exports of the static library: a slice is a pointer and a length. */
-void sf_rows_c_blend_row(uint8_t *dst, size_t dst_len, const uint8_t *src, size_t src_len, uint8_t alpha);
-void sf_rows_c_blend_row_opaque(uint8_t *dst, size_t dst_len, const uint8_t *src, size_t src_len, uint8_t alpha);
-void sf_rows_c_blend_colour(uint8_t *dst, size_t dst_len, uint8_t r, uint8_t g, uint8_t b, uint8_t a, uint8_t alpha);
-void sf_rows_c_plain_row(uint8_t *dst, size_t dst_len, const uint8_t *src, size_t src_len, uint8_t alpha);
-void sf_rows_c_plain_row_opaque(uint8_t *dst, size_t dst_len, const uint8_t *src, size_t src_len, uint8_t alpha);
-void sf_rows_c_plain_colour(uint8_t *dst, size_t dst_len, uint8_t r, uint8_t g, uint8_t b, uint8_t a, uint8_t alpha);
+void bench_rows_blend_row(uint8_t *dst, size_t dst_len, const uint8_t *src, size_t src_len, uint8_t alpha);
+void bench_rows_blend_row_opaque(uint8_t *dst, size_t dst_len, const uint8_t *src, size_t src_len, uint8_t alpha);
+void bench_rows_blend_colour(uint8_t *dst, size_t dst_len, uint8_t r, uint8_t g, uint8_t b, uint8_t a, uint8_t alpha);
+void bench_rows_plain_row(uint8_t *dst, size_t dst_len, const uint8_t *src, size_t src_len, uint8_t alpha);
+void bench_rows_plain_row_opaque(uint8_t *dst, size_t dst_len, const uint8_t *src, size_t src_len, uint8_t alpha);
+void bench_rows_plain_colour(uint8_t *dst, size_t dst_len, uint8_t r, uint8_t g, uint8_t b, uint8_t a, uint8_t alpha);
 
 enum { WIDEST = 1024, ROW, OPAQUE, COLOUR };
 enum { LANES, PLAIN, PIXMAN_RGBA, PIXMAN_BGRA, CONTENDERS };
@@ -80,11 +80,11 @@ static void once(const struct kernel *k, int who, int width) {
     if (who == PIXMAN_RGBA || who == PIXMAN_BGRA) {
         pixman_image_composite32(PIXMAN_OP_OVER, src_image, mask_image, dst_image, 0, 0, 0, 0, 0, 0, width, 1);
     } else if (k->kind == ROW) {
-        (who == LANES ? sf_rows_c_blend_row : sf_rows_c_plain_row)(dst, n, src, n, k->alpha);
+        (who == LANES ? bench_rows_blend_row : bench_rows_plain_row)(dst, n, src, n, k->alpha);
     } else if (k->kind == OPAQUE) {
-        (who == LANES ? sf_rows_c_blend_row_opaque : sf_rows_c_plain_row_opaque)(dst, n, src, n, k->alpha);
+        (who == LANES ? bench_rows_blend_row_opaque : bench_rows_plain_row_opaque)(dst, n, src, n, k->alpha);
     } else {
-        (who == LANES ? sf_rows_c_blend_colour : sf_rows_c_plain_colour)(dst, n, red, green, blue, cover, k->alpha);
+        (who == LANES ? bench_rows_blend_colour : bench_rows_plain_colour)(dst, n, red, green, blue, cover, k->alpha);
     }
 }
 

@@ -3,9 +3,9 @@
 # compiler. Arguments: rounds, and pixels of each timing.
 set -eu
 here=$(cd "$(dirname "$0")" && pwd)
-library="$here/../../crates/sf_rows_c"
+library="$here/../../crates/bench_rows"
 (cd "$library" && rt lib >/dev/null)
 program=$(mktemp)
 trap 'rm -f "$program"' EXIT
-cc -O2 -o "$program" "$here/bench.c" "$library/out/libsf_rows_c.a" $(pkg-config --cflags --libs pixman-1)
+cc -O2 -o "$program" "$here/bench.c" "$library/out/libbench_rows.a" $(pkg-config --cflags --libs pixman-1)
 "$program" "$@"

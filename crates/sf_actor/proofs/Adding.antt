@@ -7,8 +7,8 @@ use Rattle.std.proofs.lemmas.List.{append-nil, length-append, map-append}
 use Rattle.std.proofs.lemmas.List.Elements.{All-append, All-push, All-weaker, Contains-append_cases, Contains-append_left, filter-append}
 use Rattle.std.proofs.lemmas.List.Quantifiers.{all_pairs_push}
 use Rattle.sf_picture.specs.declared.picture.Picture.{Picture}
-use Rattle.sf_scene.specs.declared.step.ActorScript.{ActorScript}
-use Rattle.sf_scene.specs.declared.step.Step.{Step}
+use Rattle.sf_script_scene.specs.declared.step.ActorScript.{ActorScript}
+use Rattle.sf_script_scene.specs.declared.step.Step.{Step}
 use Rattle.sf_slots.specs.declared.calls.Entry.{Entry}
 use Rattle.sf_surface.specs.Hands.{permit_of}
 use Rattle.sf_surface.specs.Tokens.{ReadLeaseOf}

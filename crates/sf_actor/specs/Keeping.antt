@@ -3,7 +3,7 @@
 use Rattle.std.specs.Prelude.{◌≡◌, ℕ, List, Contains, Some}
 use Rattle.std.specs.List.{All, AllZip}
 use Rattle.sf_picture.specs.declared.picture.Picture.{Picture}
-use Rattle.sf_scene.specs.declared.step.ActorScript.{ActorScript}
+use Rattle.sf_script_scene.specs.declared.step.ActorScript.{ActorScript}
 use Rattle.sf_surface.specs.Hands.{permit_of}
 use Rattle.sf_turns.specs.Views.{PermitView}
 use Rattle.sf_actor.specs.declared.done.Done.{Done}

@@ -12,8 +12,8 @@ use Rattle.sf_layer.specs.declared.parent.Parent.{Parent}
 use Rattle.sf_layer.specs.declared.parent.Parent.TheVariants as parent
 use Rattle.sf_picture.specs.declared.picture.Picture.{Picture}
 use Rattle.sf_slots.specs.declared.slot.Held.{Held}
-use Rattle.sf_scene.specs.declared.change.Change.{Change}
-use Rattle.sf_scene.specs.declared.change.Change.TheVariants as change
+use Rattle.sf_script_scene.specs.declared.change.Change.{Change}
+use Rattle.sf_script_scene.specs.declared.change.Change.TheVariants as change
 
 -- no picture
 abbrev pub no_picture : Picture

@@ -9,8 +9,8 @@ use Rattle.sf_txn.specs.Transactions.{Contents, empty, merged, set, set_buffer}
 use Rattle.sf_actor.specs.declared.done.Answered.{Answered}
 use Rattle.sf_actor.specs.declared.done.Answered.TheVariants as answered
 use Rattle.sf_actor.specs.declared.done.Done.{Done}
-use Rattle.sf_scene.specs.declared.step.Step.{Step}
-use Rattle.sf_scene.specs.declared.step.Step.TheVariants as step
+use Rattle.sf_script_scene.specs.declared.step.Step.{Step}
+use Rattle.sf_script_scene.specs.declared.step.Step.TheVariants as step
 use Rattle.sf_actor.specs.Asking.{buffer_of}
 use Rattle.sf_actor.specs.Names.{Holdings, FrameOf, Token, Lent, Owing, Frame, Apart, moved, name_in, transaction_in, with_name, with_transaction, without_leases}
 use Rattle.sf_actor.specs.Scripts.{layer_of, op_of, queue_of}

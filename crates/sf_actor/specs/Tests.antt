@@ -3,8 +3,8 @@
 use Rattle.std.specs.Prelude.{ℕ, Bool, false, not, ◌==◌, ◌&&◌, ◌||◌, if◌then◌else◌, List, [], ◌∷◌, Option, Some, None, is_some, is_none}
 use Rattle.sf_picture.specs.declared.picture.Picture.{Picture}
 use Rattle.sf_actor.specs.Scripts.{is_size_of}
-use Rattle.sf_scene.specs.declared.step.Step.{Step}
-use Rattle.sf_scene.specs.declared.step.Step.TheVariants as step
+use Rattle.sf_script_scene.specs.declared.step.Step.{Step}
+use Rattle.sf_script_scene.specs.declared.step.Step.TheVariants as step
 use Rattle.sf_actor.specs.Names.{Holdings, Token, Lent, Owing, Frame, is_lent, is_owing, is_frame, is_apart, name_in, transaction_in}
 
 abbrev pub bad_value : ℕ

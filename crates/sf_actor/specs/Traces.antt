@@ -12,7 +12,7 @@ use Rattle.sf_txn.specs.Transactions.{Contents}
 use Rattle.sf_actor.specs.declared.done.Answered.{Answered}
 use Rattle.sf_actor.specs.declared.done.Answered.TheVariants as answered
 use Rattle.sf_actor.specs.declared.done.Done.{Done}
-use Rattle.sf_scene.specs.declared.step.Step.{Step}
+use Rattle.sf_script_scene.specs.declared.step.Step.{Step}
 use Rattle.sf_actor.specs.Asking.{Asked, call_of, may_wait, overtaken_by, release_of}
 use Rattle.sf_actor.specs.Names.{Holdings, FrameOf, no_holdings}
 use Rattle.sf_actor.specs.Points.{detached_fence, reached_by, shown_next, waited_fence}

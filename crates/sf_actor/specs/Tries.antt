@@ -6,9 +6,9 @@ use Rattle.sf_base.specs.Fences.{Fence, IsSignalled, value_of}
 use Rattle.sf_base.specs.Points.{greatest, points_from}
 use Rattle.sf_base.specs.declared.fences.Seen.{Seen}
 use Rattle.sf_picture.specs.declared.picture.Picture.{Picture}
-use Rattle.sf_scene.specs.declared.step.ActorScript.{ActorScript}
-use Rattle.sf_scene.specs.declared.step.Step.{Step}
-use Rattle.sf_scene.specs.declared.step.Step.TheVariants as step
+use Rattle.sf_script_scene.specs.declared.step.ActorScript.{ActorScript}
+use Rattle.sf_script_scene.specs.declared.step.Step.{Step}
+use Rattle.sf_script_scene.specs.declared.step.Step.TheVariants as step
 use Rattle.sf_surface.specs.declared.call.QCall.{QCall}
 use Rattle.sf_surface.specs.declared.work.Work.{Work}
 use Rattle.sf_surface.specs.declared.work.Work.TheVariants as work

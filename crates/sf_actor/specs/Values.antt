@@ -8,8 +8,8 @@ use Rattle.sf_actor.specs.declared.done.Answered.{Answered}
 use Rattle.sf_actor.specs.declared.done.Answered.TheVariants as answered
 use Rattle.sf_actor.specs.declared.done.Done.{Done}
 use Rattle.sf_actor.specs.declared.tried.Reply.{Reply}
-use Rattle.sf_scene.specs.declared.step.Step.{Step}
-use Rattle.sf_scene.specs.declared.step.Step.TheVariants as step
+use Rattle.sf_script_scene.specs.declared.step.Step.{Step}
+use Rattle.sf_script_scene.specs.declared.step.Step.TheVariants as step
 use Rattle.sf_actor.specs.Names.{Holdings, Token, Lent, name_in}
 use Rattle.sf_actor.specs.Traces.{DoneAt, places_of}
 

@@ -1,4 +1,4 @@
-use sf_scene::Step;
+use sf_script_scene::Step;
 use sf_slots::PlainReply;
 
 /// What a step answered.

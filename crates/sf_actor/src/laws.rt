@@ -1,7 +1,7 @@
 ghost use Rattle.std.specs.Prelude.{ℕ, List};
 ghost use Rattle.sf_picture.specs.declared.picture.Picture.{Picture};
 ghost use Rattle.sf_actor.specs.declared.done.Done.{Done};
-ghost use Rattle.sf_scene.specs.declared.step.ActorScript.{ActorScript};
+ghost use Rattle.sf_script_scene.specs.declared.step.ActorScript.{ActorScript};
 ghost use Rattle.sf_actor.specs.declared.tried.Reply.{Reply};
 ghost use Rattle.sf_actor.specs.Keeping.{TraceKept};
 ghost use Rattle.sf_actor.specs.Known.{GoesOn, Known, share_of};

@@ -6,10 +6,10 @@ use Rattle.std.proofs.lemmas.List.Elements.{All-weaker}
 use Rattle.std.proofs.lemmas.List.Sorted.{All-permutation, sum_by-IsPermutation}
 use Rattle.atomic_table.specs.Seated.{TableId}
 use Rattle.sf_picture.specs.declared.picture.Picture.{Picture}
-use Rattle.sf_scene.specs.Limits.{IsActor as IsActorOf, most_actors}
-use Rattle.sf_scene.specs.Scene.{has_queue}
-use Rattle.sf_scene.specs.declared.declarations.QueueDecl.{QueueDecl}
-use Rattle.sf_scene.specs.declared.step.ActorScript.{ActorScript}
+use Rattle.sf_script_scene.specs.Limits.{IsActor as IsActorOf, most_actors}
+use Rattle.sf_script_scene.specs.Scene.{has_queue}
+use Rattle.sf_script_scene.specs.declared.declarations.QueueDecl.{QueueDecl}
+use Rattle.sf_script_scene.specs.declared.step.ActorScript.{ActorScript}
 use Rattle.sf_surface.specs.Objects.{ObjectOf}
 use Rattle.sf_times.specs.Seats.{opened as unraised}
 use Rattle.sf_token.specs.Arrivals.{sent}
@@ -21,8 +21,8 @@ use Rattle.sf_actor.specs.Desks.{has_queue as has_mark}
 use Rattle.sf_actor.specs.Plain.{PlainOf, calls_among, home_of, view_of}
 use Rattle.sf_actor.specs.Scripts.{picture_at}
 use Rattle.sf_actor.specs.Tries.{dequeues_in}
-use Rattle.sf_steps.specs.Playable.{MayPlay}
-use Rattle.sf_steps.specs.declared.actor.Actor.{Actor}
+use Rattle.sf_actor_steps.specs.Playable.{MayPlay}
+use Rattle.sf_actor_steps.specs.declared.actor.Actor.{Actor}
 use Rattle.sf_actor_set.specs.ActorSets.{IsActorSet, KeepAs, Opens, numbers_of, scripts_of}
 use Rattle.sf_actor_set.specs.Opening.{OpensActors, OpensQueues, new_actors}
 use Rattle.sf_actor_set.specs.Scripts.{AreOfScene, permits_of}

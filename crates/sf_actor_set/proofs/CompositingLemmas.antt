@@ -17,7 +17,7 @@ use Rattle.sf_calls.specs.Histories.{IsLegal}
 use Rattle.sf_commit.specs.Handlers.{Decides, HandlerOf, Stops}
 use Rattle.sf_commit.specs.Releases.{VsyncOf}
 use Rattle.sf_picture.specs.declared.picture.Picture.{Picture}
-use Rattle.sf_scene.specs.declared.step.ActorScript.{ActorScript}
+use Rattle.sf_script_scene.specs.declared.step.ActorScript.{ActorScript}
 use Rattle.sf_slots.specs.declared.calls.PlainReply.{PlainReply}
 use Rattle.sf_slots.specs.declared.calls.PlainReply.TheVariants as plain
 use Rattle.sf_slots.specs.declared.slot.Held.{Held}
@@ -41,8 +41,8 @@ use Rattle.sf_actor.specs.Plain.{PlainOf, calls_among, home_of, is_queue, taken_
 use Rattle.sf_actor.specs.Scripts.{picture_at}
 use Rattle.sf_actor.specs.Tries.{ActorOf}
 use Rattle.sf_actor.proofs.Growing.{call_alone, goes_same, memory_goes, see_goes}
-use Rattle.sf_steps.specs.Playable.{MayPlay}
-use Rattle.sf_steps.specs.declared.actor.Actor.{Actor}
+use Rattle.sf_actor_steps.specs.Playable.{MayPlay}
+use Rattle.sf_actor_steps.specs.declared.actor.Actor.{Actor}
 use Rattle.sf_actor_set.specs.ActorSets.{ActorSetOf, IsActorSet, KeepAs, scripts_of}
 use Rattle.sf_actor_set.specs.Compositing.{GoesOnDesk, OnlyDesk, SeatGoesOn, WithoutActors}
 use Rattle.sf_actor_set.proofs.SteppingLemmas.{gathered, keeps_after, kept_as}

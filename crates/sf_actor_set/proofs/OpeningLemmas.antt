@@ -6,9 +6,9 @@ use Rattle.std.proofs.lemmas.List.{append-nil, drop_more, length-take-le, map-ap
 use Rattle.std.proofs.lemmas.List.Sums.{count_by-le-length, length-filter, sum_by-cons}
 use Rattle.atomic_table.specs.Seated.{TableId}
 use Rattle.sf_picture.specs.declared.picture.Picture.{Picture}
-use Rattle.sf_scene.specs.declared.declarations.QueueDecl.{QueueDecl}
-use Rattle.sf_scene.specs.declared.step.ActorScript.{ActorScript}
-use Rattle.sf_scene.specs.declared.step.Step.{Step}
+use Rattle.sf_script_scene.specs.declared.declarations.QueueDecl.{QueueDecl}
+use Rattle.sf_script_scene.specs.declared.step.ActorScript.{ActorScript}
+use Rattle.sf_script_scene.specs.declared.step.Step.{Step}
 use Rattle.sf_surface.specs.Histories.{Made}
 use Rattle.sf_surface.specs.Tokens.{ReadLeaseOf}
 use Rattle.sf_token.specs.Pending.{Arrival}
@@ -18,9 +18,9 @@ use Rattle.sf_actor.specs.Desks.{DeskHome, DeskView, mark_among}
 use Rattle.sf_actor.specs.Known.{arrivals_told, is_sent_by, own_calls}
 use Rattle.sf_actor.specs.Plain.{calls_among}
 use Rattle.sf_actor.specs.Tries.{dequeues_in, is_dequeue}
-use Rattle.sf_steps.specs.Actors.{IsActor, IsNew, new_actor}
-use Rattle.sf_steps.specs.declared.actor.Actor.{Actor}
-use Rattle.sf_steps.proofs.NewLemmas.{new_keeps}
+use Rattle.sf_actor_steps.specs.Actors.{IsActor, IsNew, new_actor}
+use Rattle.sf_actor_steps.specs.declared.actor.Actor.{Actor}
+use Rattle.sf_actor_steps.proofs.NewLemmas.{new_keeps}
 use Rattle.sf_actor_set.specs.ActorSets.{KeepAs, scripts_of}
 use Rattle.sf_actor_set.specs.Opening.{new_actors, new_queue}
 use Rattle.sf_actor_set.specs.Scripts.{permits_of}

@@ -9,7 +9,7 @@ use Rattle.std.proofs.lemmas.List.Elements.{All-cons, All-head, All-nil, All-tai
 use Rattle.atomic_table.specs.Seated.{TableId}
 use Rattle.sf_base.specs.declared.memory.NoMemory.{NoMemory}
 use Rattle.sf_picture.specs.declared.picture.Picture.{Picture}
-use Rattle.sf_scene.specs.declared.step.ActorScript.{ActorScript}
+use Rattle.sf_script_scene.specs.declared.step.ActorScript.{ActorScript}
 use Rattle.sf_actor.specs.declared.tried.Stepped.{Stepped}
 use Rattle.sf_actor.specs.declared.tried.Stepped.TheVariants as stepped
 use Rattle.sf_actor.specs.Desks.{DeskHome, DeskView, known_of}
@@ -18,9 +18,9 @@ use Rattle.sf_actor.specs.Plain.{PlainOf, home_of, view_of}
 use Rattle.sf_actor.specs.Scripts.{picture_at}
 use Rattle.sf_actor.specs.Tries.{ActorOf, Keeps, Tries}
 use Rattle.sf_actor.proofs.GoingOn.{keeps_on}
-use Rattle.sf_steps.specs.Actors.{IsActor, IsKept, Steps}
-use Rattle.sf_steps.specs.Playable.{MayPlay}
-use Rattle.sf_steps.specs.declared.actor.Actor.{Actor}
+use Rattle.sf_actor_steps.specs.Actors.{IsActor, IsKept, Steps}
+use Rattle.sf_actor_steps.specs.Playable.{MayPlay}
+use Rattle.sf_actor_steps.specs.declared.actor.Actor.{Actor}
 use Rattle.sf_actor_set.specs.ActorSets.{ActorSetOf, IsActorSet, KeepAs, KeepsAs, MayStep, StepsAt, numbers_of, script_of, scripts_of}
 use Rattle.sf_actor_set.proofs.RisingLemmas.{rising_differ}
 

@@ -3,14 +3,14 @@ use Rattle.std.specs.Prelude.{◌≡◌, ℕ, List, [], ◌∷◌, map, take, dr
 use Rattle.std.specs.List.{AllZip}
 use Rattle.std.specs.List.Sorted.{IsNonDecreasingBy, IsPermutation}
 use Rattle.atomic_table.specs.Seated.{TableId}
-use Rattle.sf_scene.specs.declared.declarations.QueueDecl.{QueueDecl}
-use Rattle.sf_scene.specs.declared.step.ActorScript.{ActorScript}
+use Rattle.sf_script_scene.specs.declared.declarations.QueueDecl.{QueueDecl}
+use Rattle.sf_script_scene.specs.declared.step.ActorScript.{ActorScript}
 use Rattle.sf_slots.specs.Queue.{empty_queue}
 use Rattle.sf_surface.specs.Objects.{ObjectOf}
 use Rattle.sf_actor.specs.Scripts.{queue_of}
 use Rattle.sf_actor.specs.Tries.{ActorOf, dequeues_in}
-use Rattle.sf_steps.specs.Actors.{IsActor, new_actor}
-use Rattle.sf_steps.specs.declared.actor.Actor.{Actor}
+use Rattle.sf_actor_steps.specs.Actors.{IsActor, new_actor}
+use Rattle.sf_actor_steps.specs.declared.actor.Actor.{Actor}
 
 -- the list in another order, by rising number
 pub record IsSortedFrom {X : Type 0} (number : X → ℕ) (xs sorted : List X) : Type 0 where

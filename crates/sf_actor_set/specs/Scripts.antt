@@ -2,10 +2,10 @@
 use Rattle.std.specs.Prelude.{◌≡◌, ℕ, List}
 use Rattle.std.specs.List.{sum_by}
 use Rattle.sf_picture.specs.declared.picture.Picture.{Picture}
-use Rattle.sf_scene.specs.Limits.{IsWithinLimits}
-use Rattle.sf_scene.specs.Scene.{SceneValue}
-use Rattle.sf_scene.specs.declared.declarations.QueueDecl.{QueueDecl}
-use Rattle.sf_scene.specs.declared.step.ActorScript.{ActorScript}
+use Rattle.sf_script_scene.specs.Limits.{IsWithinLimits}
+use Rattle.sf_script_scene.specs.Scene.{SceneValue}
+use Rattle.sf_script_scene.specs.declared.declarations.QueueDecl.{QueueDecl}
+use Rattle.sf_script_scene.specs.declared.step.ActorScript.{ActorScript}
 use Rattle.sf_actor.specs.Tries.{dequeues_in}
 
 -- how many permits the scripts need: one for each dequeue

@@ -1,18 +1,18 @@
 ghost use Rattle.std.specs.Prelude.{◌≡◌, ◌≤◌, length, map, take, drop, All, IfOk};
 ghost use Rattle.std.specs.List.{AllZip};
-ghost use Rattle.sf_scene.specs.Ranges.{IsQueue};
-ghost use Rattle.sf_scene.specs.declared.step.ActorScript.{ActorScript as Script};
-ghost use Rattle.sf_scene.specs.declared.declarations.QueueDecl.{QueueDecl as Decl};
+ghost use Rattle.sf_script_scene.specs.Ranges.{IsQueue};
+ghost use Rattle.sf_script_scene.specs.declared.step.ActorScript.{ActorScript as Script};
+ghost use Rattle.sf_script_scene.specs.declared.declarations.QueueDecl.{QueueDecl as Decl};
 ghost use Rattle.sf_actor.specs.Tries.{dequeues_in};
-ghost use Rattle.sf_steps.specs.Actors.{IsActor, new_actor};
+ghost use Rattle.sf_actor_steps.specs.Actors.{IsActor, new_actor};
 ghost use Rattle.sf_actor_set.specs.Opening.{IsSortedFrom, OpensActors, OpensQueues, new_actors, new_queue};
 ghost use Rattle.sf_actor_set.specs.Scripts.{permits_of};
 
 use crate::permits::dequeues;
 use sf_base::{NoMemory, QueueId};
 use sf_picture::Painted;
-use sf_scene::{ActorScript, QueueDecl};
-use sf_steps::Actor;
+use sf_script_scene::{ActorScript, QueueDecl};
+use sf_actor_steps::Actor;
 use sf_surface::QueueObject;
 use sf_turns::{Stock, TableName};
 use std::alloc::Global;

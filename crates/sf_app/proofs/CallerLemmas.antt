@@ -7,8 +7,8 @@ use Rattle.std.proofs.lemmas.List.Elements.{All-append, All-cons, All-head, All-
 use Rattle.std.specs.List.{flat_map, range_with_len}
 use Rattle.std.specs.Prelude.{filter}
 use Rattle.sf_slots.specs.declared.calls.Entry.{Entry}
-use Rattle.sf_scene.specs.Scene.{SceneValue}
-use Rattle.sf_scene.specs.declared.declarations.QueueDecl.{QueueDecl}
+use Rattle.sf_script_scene.specs.Scene.{SceneValue}
+use Rattle.sf_script_scene.specs.declared.declarations.QueueDecl.{QueueDecl}
 use Rattle.sf_record.specs.Events.{closing, event_records, events_records, output_record}
 use Rattle.sf_output.specs.declared.output.Output.{Output}
 use Rattle.sf_output.specs.declared.output.Output.TheVariants as out
@@ -22,8 +22,8 @@ use Rattle.sf_record.specs.declared.record.Record.{Record}
 use Rattle.sf_record.specs.declared.record.Record.TheVariants as rec
 use Rattle.sf_record.specs.declared.record.StuckEntry.{StuckEntry}
 use Rattle.sf_actor.specs.Makers.{Run}
-use Rattle.sf_run.specs.Histories.{IsCaller, IsHistory, entry_shown, history_shown, queue_number, released_in, rising_queues}
-use Rattle.sf_run.specs.Played.{Shows, opening, records_of, vsyncs_told}
+use Rattle.law_played.specs.Histories.{IsCaller, IsHistory, entry_shown, history_shown, queue_number, released_in, rising_queues}
+use Rattle.law_played.specs.Played.{Shows, opening, records_of, vsyncs_told}
 use Rattle.sf_app.specs.Callers.{CallersAreKnown, IsKnown, histories_in, history_in}
 
 histories_in-append : (rs ss : List Record) → histories_in (rs ++ ss) ≡ histories_in rs ++ histories_in ss

@@ -2,12 +2,12 @@
 use Rattle.std.proofs.Common.{◌≡◌, ℕ, ◌+◌, ◌≤◌, ◌==◌, Bool, true, false, List, [], ◌∷◌, length, Option, None, Some, Result, Ok, Err, refl, ap, subst, arith}
 use Rattle.std.specs.Prelude.{nat_lt}
 use Rattle.std.specs.Str.{is_utf8}
-use Rattle.sf_words.specs.Numbers.{decimal_of, in_range}
-use Rattle.sf_words.specs.Reading.{◌>>=◌, demand, end_at, good, number_at, some_or, word_at}
-use Rattle.sf_words.specs.Text.{Text, lines_of, trimmed, words_of}
-use Rattle.sf_words.specs.declared.fault.WordFault.{WordFault}
-use Rattle.sf_words.specs.declared.fault.Cause.TheVariants.{Limit, NotUtf8, OutOfOrder, UnknownWord}
-use Rattle.sf_scene.specs.Scene.{SceneValue}
+use Rattle.sf_script_words.specs.Numbers.{decimal_of, in_range}
+use Rattle.sf_script_words.specs.Reading.{◌>>=◌, demand, end_at, good, number_at, some_or, word_at}
+use Rattle.sf_script_words.specs.Text.{Text, lines_of, trimmed, words_of}
+use Rattle.sf_script_words.specs.declared.fault.WordFault.{WordFault}
+use Rattle.sf_script_words.specs.declared.fault.Cause.TheVariants.{Limit, NotUtf8, OutOfOrder, UnknownWord}
+use Rattle.sf_script_scene.specs.Scene.{SceneValue}
 use Rattle.sf_script.specs.Declarations.{header_at, version_at}
 use Rattle.sf_script.specs.Draft.{DraftValue, draft_after, has_room, is_any, is_ended, may_follow, no_lines, scene_after}
 use Rattle.sf_script.specs.Keywords.{keyword_of}

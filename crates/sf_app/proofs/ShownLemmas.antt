@@ -1,22 +1,22 @@
 -- What is written of a run, by its records or by their summary, and what it means.
 use Rattle.std.proofs.Common.{◌≡◌, ℕ, Bool, true, false, List, [], ◌∷◌, Option, Some, Result, Ok, Err, OnErr, OnOk, All, refl, subst, sym}
 use Rattle.std.specs.Io.KnownBytes.{Appends}
-use Rattle.sf_options.specs.Options.{is_live}
-use Rattle.sf_options.specs.declared.options.Run.{Run}
-use Rattle.sf_options.specs.declared.options.Run.TheVariants as run
-use Rattle.sf_scene.specs.Scene.{SceneValue}
+use Rattle.sf_app_options.specs.Options.{is_live}
+use Rattle.sf_app_options.specs.declared.options.Run.{Run}
+use Rattle.sf_app_options.specs.declared.options.Run.TheVariants as run
+use Rattle.sf_script_scene.specs.Scene.{SceneValue}
 use Rattle.sf_record.specs.Fitting.{RecordFits}
 use Rattle.sf_record.specs.Records.{bytes_of}
 use Rattle.sf_record.specs.declared.encode.RunFault.{RunFault}
 use Rattle.sf_record.specs.declared.record.Record.{Record}
 use Rattle.sf_record.specs.declared.record.Record.TheVariants as rec
 use Rattle.sf_record.specs.declared.record.Summary.{Summary}
-use Rattle.sf_run.specs.Played.{PlayedWhere}
-use Rattle.sf_show.specs.Runs.{CutRun, WroteRun}
-use Rattle.sf_show.specs.Writing.{Writes, WritesPart}
-use Rattle.sf_tally.specs.Summaries.{summary_of, wrapped}
+use Rattle.law_played.specs.Played.{PlayedWhere}
+use Rattle.sf_play_write.specs.Runs.{CutRun, WroteRun}
+use Rattle.sf_play_write.specs.Writing.{Writes, WritesPart}
+use Rattle.sf_record_sums.specs.Summaries.{summary_of, wrapped}
 use Rattle.sf_app.specs.Shown.{ShowsPart, ShowsPlay, ShowsRun, bytes_shown, records_shown}
-use Rattle.sf_show.proofs.WritingLemmas.{one_record, part_none}
+use Rattle.sf_play_write.proofs.WritingLemmas.{one_record, part_none}
 
 pub ok_then : {A B : Type 0} (r : Result (Unit {0}) RunFault) → (A → B) → OnOk r A → OnOk r B
 ok_then (Ok u) f h = f h

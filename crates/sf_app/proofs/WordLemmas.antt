@@ -1,12 +1,12 @@
 -- The words that ask for a live run ask for no summary, and those that ask for another ask for no queue of arrivals.
 use Rattle.std.proofs.Common.{◌≡◌, ℕ, ◌∙◌, Bool, true, false, not, List, Option, None, Some, refl, sym, ap, subst}
 use Rattle.std.specs.Prelude.{if◌then◌else◌}
-use Rattle.sf_options.specs.Command.{has_matches}
-use Rattle.sf_options.specs.Options.{do_conflict, is_live, is_queue, options_from, options_in, options_of}
-use Rattle.sf_options.specs.declared.options.Intake.{Intake}
-use Rattle.sf_options.specs.declared.options.Options.{Options}
-use Rattle.sf_options.specs.declared.options.Run.{Run}
-use Rattle.sf_words.specs.Text.{Text}
+use Rattle.sf_app_options.specs.Command.{has_matches}
+use Rattle.sf_app_options.specs.Options.{do_conflict, is_live, is_queue, options_from, options_in, options_of}
+use Rattle.sf_app_options.specs.declared.options.Intake.{Intake}
+use Rattle.sf_app_options.specs.declared.options.Options.{Options}
+use Rattle.sf_app_options.specs.declared.options.Run.{Run}
+use Rattle.sf_script_words.specs.Text.{Text}
 
 some_is : {A : Type 0} (x y : A) → Some x ≡ Some y → x ≡ y
 some_is x y e = cc

@@ -1,12 +1,12 @@
 -- Who calls a queue in a played run, told from its records alone.
 use Rattle.std.specs.Prelude.{Bool, ◌≡◌, ◌==◌, ◌||◌, true, List, [], ◌∷◌, All}
 use Rattle.std.specs.List.{flat_map}
-use Rattle.sf_scene.specs.Scene.{SceneValue, has_actor}
+use Rattle.sf_script_scene.specs.Scene.{SceneValue, has_actor}
 use Rattle.sf_record.specs.declared.record.HistoryEntry.{HistoryEntry}
 use Rattle.sf_record.specs.declared.record.QueueHistory.{QueueHistory}
 use Rattle.sf_record.specs.declared.record.Record.{Record}
 use Rattle.sf_record.specs.declared.record.Record.TheVariants as rec
-use Rattle.sf_run.specs.Played.{PlayedWhere}
+use Rattle.law_played.specs.Played.{PlayedWhere}
 
 -- the histories among records
 abbrev pub history_in : Record → List QueueHistory

@@ -1,16 +1,16 @@
 -- What is written of a scene's run: its records, or of a play the one record that sums them up.
 use Rattle.std.specs.Prelude.{ℕ, Bool, true, false, List, [], ◌∷◌, Option}
 use Rattle.sf_live.specs.Runs.{WroteLive}
-use Rattle.sf_options.specs.declared.options.Run.{Run}
-use Rattle.sf_options.specs.declared.options.Run.TheVariants as run
-use Rattle.sf_scene.specs.Scene.{SceneValue}
+use Rattle.sf_app_options.specs.declared.options.Run.{Run}
+use Rattle.sf_app_options.specs.declared.options.Run.TheVariants as run
+use Rattle.sf_script_scene.specs.Scene.{SceneValue}
 use Rattle.sf_record.specs.Records.{bytes_of, record_bytes}
 use Rattle.sf_record.specs.declared.record.Record.{Record}
 use Rattle.sf_record.specs.declared.record.Record.TheVariants as rec
-use Rattle.sf_run.specs.Ends.{ArePlayRecords}
-use Rattle.sf_run.specs.Played.{Played}
-use Rattle.sf_show.specs.Writing.{CutSome, Writes, WritesPart}
-use Rattle.sf_tally.specs.Summaries.{summary_of, wrapped}
+use Rattle.law_played.specs.Ends.{ArePlayRecords}
+use Rattle.law_played.specs.Played.{Played}
+use Rattle.sf_play_write.specs.Writing.{CutSome, Writes, WritesPart}
+use Rattle.sf_record_sums.specs.Summaries.{summary_of, wrapped}
 
 -- what is written of records: they themselves, or under `--summary` the one record of what they come to, each number told modulo 2^64
 abbrev pub records_shown : Bool → List Record → List Record

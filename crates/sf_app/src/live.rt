@@ -1,15 +1,15 @@
 ghost use Rattle.std.specs.Prelude.{◌≡◌, ◌≤◌, not};
 ghost use Rattle.sf_actor_set.specs.Scripts.{permits_of};
 ghost use Rattle.sf_live.specs.Runs.{LiveEnded};
-ghost use Rattle.sf_options.specs.Options.{is_queue};
+ghost use Rattle.sf_app_options.specs.Options.{is_queue};
 
 use sf_actor_set::permits_for;
 use sf_base::NoMemory;
 use sf_io::{Gate, Sink};
-use sf_options::Intake;
+use sf_app_options::Intake;
 use sf_picture::Painted;
 use sf_record::RunFault;
-use sf_scene::Scene;
+use sf_script_scene::Scene;
 use sf_turns::{Stock, TurnSeat, open_turns};
 use std::alloc::Global;
 use std::marker::Brand;

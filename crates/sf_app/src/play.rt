@@ -2,15 +2,15 @@ ghost use Rattle.std.specs.Prelude.{◌≡◌, ◌≤◌, OnErr, OnOk, IsErrOf};
 ghost use Rattle.sf_io.specs.Causes.{Rose};
 ghost use Rattle.sf_record.specs.declared.encode.RunFault.TheVariants.{WriteFault};
 ghost use Rattle.sf_actor_set.specs.Scripts.{permits_of};
-ghost use Rattle.sf_show.specs.Runs.{CutRun, WroteRun};
+ghost use Rattle.sf_play_write.specs.Runs.{CutRun, WroteRun};
 
 use sf_actor_set::permits_for;
 use sf_base::NoMemory;
 use sf_io::Sink;
 use sf_picture::Painted;
 use sf_record::RunFault;
-use sf_scene::Scene;
-use sf_show::show_play;
+use sf_script_scene::Scene;
+use sf_play_write::show_play;
 use sf_turns::{Stock, TurnSeat, open_turns};
 use std::alloc::Global;
 use std::marker::Brand;

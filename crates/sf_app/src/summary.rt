@@ -6,8 +6,8 @@ ghost use Rattle.sf_app.specs.Shown.{ShowsPart, ShowsPlay};
 use crate::play::play;
 use sf_io::Sink;
 use sf_record::{Record, RunFault, write_record};
-use sf_scene::Scene;
-use sf_tally::Tally;
+use sf_script_scene::Scene;
+use sf_record_sums::Tally;
 use std::alloc::Global;
 use std::thread::Threads;
 

@@ -3,9 +3,9 @@ ghost use Rattle.sf_io.specs.Causes.{Rose};
 ghost use Rattle.sf_io.specs.Streams.{Took};
 ghost use Rattle.sf_app.specs.Words.{IsScript, generated, is_gen};
 
-use sf_generate::generate;
+use sf_script_generate::generate;
 use sf_io::{ReadFault, Source, read_all};
-use sf_options::{Options, Run};
+use sf_app_options::{Options, Run};
 use sf_script::LONGEST_SCRIPT;
 use std::alloc::Global;
 

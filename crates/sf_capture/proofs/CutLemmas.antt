@@ -15,8 +15,8 @@ use Rattle.sf_tree.proofs.Keeping.{IsDistinct-filter, IsDistinct-map}
 use Rattle.sf_tree.proofs.ShowLemmas.{Outranks-tree}
 use Rattle.sf_view.specs.Ancestry.{ancestry, and_above}
 use Rattle.sf_view.proofs.AncestryLemmas.{ancestry-is}
-use Rattle.sf_shown.specs.Cuts.{cut, cut_layer, is_under, relative_in, under}
-use Rattle.sf_shown.proofs.KeepingLemmas.{either, origin, under-few}
+use Rattle.sf_output_shown.specs.Cuts.{cut, cut_layer, is_under, relative_in, under}
+use Rattle.sf_output_shown.proofs.KeepingLemmas.{either, origin, under-few}
 
 -- a layer that is found and picked is there among those
 found_picked : (p : Layer → Bool) (xs : List Layer) (id : LayerId) (m : Layer) → layer_of xs id ≡ Some m → p m ≡ true → has_layer (filter p xs) id ≡ true

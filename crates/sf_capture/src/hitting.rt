@@ -1,6 +1,6 @@
 ghost use Rattle.std.specs.Prelude.{◌≡◌, find, reverse};
 ghost use Rattle.std.specs.Option.{option_copied};
-ghost use Rattle.sf_shown.specs.Hits.{hit_in};
+ghost use Rattle.sf_output_shown.specs.Hits.{hit_in};
 ghost use Rattle.sf_view.specs.Views.{IsView, is_in_clip};
 
 use sf_base::{LayerId, is_within};

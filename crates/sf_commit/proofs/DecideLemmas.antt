@@ -19,9 +19,9 @@ use Rattle.sf_tree.specs.Changes.{after}
 use Rattle.sf_txn.specs.Buffers.{Buffer}
 use Rattle.sf_txn.specs.Transactions.{Contents, without_first}
 use Rattle.sf_commit.specs.Deciding.{Comes, CommitsOne, DecidesSame, Goes, IsState, ShowsIts, round_of}
-use Rattle.sf_next.specs.Next.{IsLookedAt, IsNextToken}
+use Rattle.sf_commit_next.specs.Next.{IsLookedAt, IsNextToken}
 use Rattle.sf_commit.specs.Rounds.{IsNext, Leads, Round, StageOf, committed, facts_of, frames_in, layers_in, pressed_in, shown_if, stage_after}
-use Rattle.sf_next.specs.Heads.{head_hold, ready_if, ready_of}
+use Rattle.sf_commit_next.specs.Heads.{head_hold, ready_if, ready_of}
 
 barriers_same : (barriers : List (LayerId × ℕ)) (fs gs : List (ℕ × ℕ)) → TellsSame fs gs → barrier_hold barriers fs ≡ barrier_hold barriers gs
 barriers_same barriers fs gs same =

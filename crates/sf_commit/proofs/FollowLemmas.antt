@@ -13,7 +13,7 @@ use Rattle.sf_txn.specs.declared.lease.Lease.{Ghosts}
 use Rattle.sf_base.specs.declared.ids.LayerId.{LayerId}
 use Rattle.sf_view.specs.declared.drawn.Drawn.{Drawn}
 use Rattle.sf_commit.specs.Handlers.{source_of}
-use Rattle.sf_next.specs.Next.{AreRising, IsLookedAt, drawn_for}
+use Rattle.sf_commit_next.specs.Next.{AreRising, IsLookedAt, drawn_for}
 use Rattle.sf_commit.specs.OnLayers.{OnLayer, is_on, shown_on}
 
 module _ {L : Type 0} where

@@ -19,7 +19,7 @@ use Rattle.sf_token.specs.declared.looks.Looks.{Looks}
 use Rattle.sf_commit.proofs.DecideLemmas.{hold_same}
 use Rattle.sf_commit.specs.Deciding.{Comes, IsState}
 use Rattle.sf_commit.specs.Holding.{AreLooks, IsPart, held_of, is_first, told_in}
-use Rattle.sf_next.specs.Next.{IsLookedAt}
+use Rattle.sf_commit_next.specs.Next.{IsLookedAt}
 use Rattle.sf_commit.specs.Rounds.{Leads, Round, StageOf, committed, facts_of, held}
 
 -- what holds of all holds of a part

@@ -15,10 +15,10 @@ use Rattle.sf_txn.specs.Buffers.{Buffer}
 use Rattle.sf_txn.specs.Transactions.{Contents}
 use Rattle.sf_commit.proofs.DecideLemmas.{all_left}
 use Rattle.sf_commit.proofs.LeadLemmas.{after_all, gone_all}
-use Rattle.sf_next.proofs.NextLemmas.{found_holds}
+use Rattle.sf_commit_next.proofs.NextLemmas.{found_holds}
 use Rattle.sf_commit.specs.OnLayers.{OnLayer, brought, gone_with}
 use Rattle.sf_commit.specs.Rounds.{IsNext, Leads, Round, StageOf, committed, facts_of, stage_with}
-use Rattle.sf_next.specs.Heads.{head_hold, ready_if, ready_of}
+use Rattle.sf_commit_next.specs.Heads.{head_hold, ready_if, ready_of}
 
 module _ {L : Type 0} (drawn : L → Bool) where
   abbrev pub AreDrawn : List (Buffer L) → Type 0

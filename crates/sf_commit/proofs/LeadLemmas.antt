@@ -8,7 +8,7 @@ use Rattle.sf_layer.specs.declared.op.Op.{Op}
 use Rattle.sf_layer.specs.declared.op.Op.TheVariants as op
 use Rattle.sf_txn.specs.Buffers.{Buffer}
 use Rattle.sf_commit.proofs.DecideLemmas.{all_left}
-use Rattle.sf_next.proofs.NextLemmas.{found_holds}
+use Rattle.sf_commit_next.proofs.NextLemmas.{found_holds}
 use Rattle.sf_commit.specs.OnLayers.{OnLayer, brought, gone_with, is_on, on_after, without}
 
 listed : {X : Type 0} (P : X → Type 0) (o : Option X) → IfSome o P → All P (option_to_list o)

@@ -8,7 +8,7 @@ use Rattle.sf_token.specs.declared.looks.Looks.{Looks}
 use Rattle.sf_tree.specs.Changes.{after}
 use Rattle.sf_txn.specs.Transactions.{shown_by, shows}
 use Rattle.sf_commit.specs.Inside.{Notes}
-use Rattle.sf_next.specs.Next.{IsLookedAt}
+use Rattle.sf_commit_next.specs.Next.{IsLookedAt}
 use Rattle.sf_commit.specs.Rounds.{Decided, Leads, Round, StageOf, facts_of, shown_if, stage_after}
 
 -- the same transactions are held by both

@@ -9,7 +9,7 @@ use Rattle.sf_txn.specs.declared.lease.Lease.{Ghosts}
 use Rattle.sf_token.specs.Looking.{looks_of}
 use Rattle.sf_token.specs.Pending.{Arrival, IsRisingFrom, head_of}
 use Rattle.sf_token.specs.declared.looks.Looks.{Looks}
-use Rattle.sf_next.specs.Heads.{head_hold}
+use Rattle.sf_commit_next.specs.Heads.{head_hold}
 
 module _ {L : Type 0} where
   -- whether a transaction is the first of its token

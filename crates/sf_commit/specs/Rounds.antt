@@ -17,7 +17,7 @@ use Rattle.sf_ready.specs.Holds.{hold_of}
 use Rattle.sf_ready.specs.declared.hold.Hold.{Hold}
 use Rattle.sf_ready.specs.declared.hold.Hold.TheVariants as hold
 use Rattle.sf_token.specs.Pending.{Arrival, head_of, is_of}
-use Rattle.sf_next.specs.Heads.{head_hold, ready_of}
+use Rattle.sf_commit_next.specs.Heads.{head_hold, ready_of}
 use Rattle.sf_commit.specs.OnLayers.{OnLayer, brought, gone_with, on_after}
 use Rattle.sf_commit.specs.declared.vsync.Commit.{Commit}
 

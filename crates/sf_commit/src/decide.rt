@@ -1,9 +1,9 @@
 ghost use Rattle.std.specs.List.{All};
 ghost use Rattle.std.specs.Prelude.{◌≡◌, false, IfOk, OnOk, None, Some};
 ghost use Rattle.sf_base.specs.declared.ids.TokenId.{TokenId};
-ghost use Rattle.sf_next.specs.Asking.{has_token};
+ghost use Rattle.sf_commit_next.specs.Asking.{has_token};
 ghost use Rattle.sf_commit.specs.Deciding.{Comes, CommitsOne, round_of};
-ghost use Rattle.sf_next.specs.Next.{AreRising, IsLookedAt};
+ghost use Rattle.sf_commit_next.specs.Next.{AreRising, IsLookedAt};
 ghost use Rattle.sf_commit.specs.Rounds.{pressed_in};
 ghost use Rattle.sf_ready.specs.Facts.{HasSame};
 ghost use Rattle.sf_token.specs.Pending.{Arrival, head_of, is_of};
@@ -11,7 +11,7 @@ ghost use Rattle.sf_txn.specs.Transactions.{without_first};
 
 use crate::commit::Stage;
 use sf_base::{NoMemory, Seen, TokenId};
-use sf_next::{Asking, next_token};
+use sf_commit_next::{Asking, next_token};
 use sf_ready::Facts;
 use sf_token::{Looks, TokenQueues};
 use sf_txn::Lease;

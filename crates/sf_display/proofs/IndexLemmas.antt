@@ -10,10 +10,10 @@ use Rattle.sf_layer.specs.declared.layer.Layer.{Layer}
 use Rattle.sf_tree.specs.Layers.{layer_of}
 use Rattle.sf_tree.proofs.ShowLemmas.{inside_from_slice_get}
 use Rattle.sf_view.specs.Ancestry.{ancestry}
-use Rattle.sf_shown.specs.Above.{found_above}
-use Rattle.sf_shown.specs.Copies.{number_of}
-use Rattle.sf_shown.specs.Displays.{declared, is_of, is_top, stack_by, stack_on}
-use Rattle.sf_shown.specs.declared.above.Wanted.TheVariants as wanted
+use Rattle.sf_output_shown.specs.Above.{found_above}
+use Rattle.sf_output_shown.specs.Copies.{number_of}
+use Rattle.sf_output_shown.specs.Displays.{declared, is_of, is_top, stack_by, stack_on}
+use Rattle.sf_output_shown.specs.declared.above.Wanted.TheVariants as wanted
 use Rattle.sf_display.specs.Index.{by_layer, declared_for}
 
 -- the note of a layer is that of the first pair of its number

@@ -10,7 +10,7 @@ use Rattle.sf_layer.specs.declared.parent.Parent.TheVariants as parent
 use Rattle.sf_tree.specs.DrawOrder.{draw_order}
 use Rattle.sf_tree.specs.Layers.{has_layer, is_numbered, layer_of, parent_layer}
 use Rattle.sf_view.specs.Ancestry.{ancestry, ancestry_within, and_above}
-use Rattle.sf_shown.specs.Displays.{declared, is_of, is_on, is_top, order_on, stack_by, stack_on, top}
+use Rattle.sf_output_shown.specs.Displays.{declared, is_of, is_on, is_top, order_on, stack_by, stack_on, top}
 use Rattle.sf_display.specs.Stacks.{is_of_layer, stacks_in}
 
 -- what is found first of a number is found where that is kept

@@ -2,7 +2,7 @@
 use Rattle.std.specs.Prelude.{ℕ, List}
 use Rattle.std.specs.Option.{unwrap_or}
 use Rattle.sf_base.specs.declared.ids.LayerId.{LayerId}
-use Rattle.sf_shown.specs.ByLayer.{first_for}
+use Rattle.sf_output_shown.specs.ByLayer.{first_for}
 
 -- the pair with the layer of its number
 abbrev pub by_layer : ℕ × ℕ → LayerId × ℕ

@@ -1,6 +1,6 @@
 ghost use Rattle.std.specs.Prelude.{◌≡◌, ℕ, IfOk, filter};
 ghost use Rattle.sf_display.specs.Stacks.{is_of_layer, stacks_in};
-ghost use Rattle.sf_shown.specs.Displays.{order_on};
+ghost use Rattle.sf_output_shown.specs.Displays.{order_on};
 
 use sf_base::{LayerId, NoMemory};
 use sf_tree::Tree;

@@ -10,26 +10,26 @@ use Rattle.sf_picture.specs.declared.picture.Picture.{Picture}
 use Rattle.sf_surface.specs.Tokens.{Issued, ReadLeaseOf}
 use Rattle.sf_turns.specs.Views.{SeatView}
 use Rattle.sf_txn.specs.declared.lease.Lease.{Ghosts}
-use Rattle.sf_scene.specs.Limits.{IsActor as IsDeclared, most_actors}
-use Rattle.sf_scene.specs.Scene.{SceneValue}
-use Rattle.sf_scene.specs.declared.step.ActorScript.{ActorScript}
+use Rattle.sf_script_scene.specs.Limits.{IsActor as IsDeclared, most_actors}
+use Rattle.sf_script_scene.specs.Scene.{SceneValue}
+use Rattle.sf_script_scene.specs.declared.step.ActorScript.{ActorScript}
 use Rattle.sf_actor.specs.Desks.{DeskHome, DeskView}
 use Rattle.sf_actor.specs.Plain.{PlainOf, home_of as plain_home, view_of as plain_view}
 use Rattle.sf_actor.specs.Scripts.{picture_at}
 use Rattle.sf_actor.specs.Tries.{ActorOf}
-use Rattle.sf_steps.specs.Actors.{IsKept}
-use Rattle.sf_steps.specs.declared.actor.Actor.{Actor}
+use Rattle.sf_actor_steps.specs.Actors.{IsKept}
+use Rattle.sf_actor_steps.specs.declared.actor.Actor.{Actor}
 use Rattle.sf_actor_set.specs.ActorSets.{IsActorSet, KeepAs, numbers_of, scripts_of}
-use Rattle.sf_run.specs.Actors.{number_of, script_of}
-use Rattle.sf_shared.specs.declared.locks.Locks.{Locks}
-use Rattle.sf_threads.specs.declared.all_returned.ReturnedActor.{ReturnedActor}
-use Rattle.sf_threads.specs.declared.gates.Gates.{Gates}
-use Rattle.sf_threads.specs.Walks.{Moment}
-use Rattle.sf_compositor.specs.Vsyncs.{Sitting}
-use Rattle.sf_replay.specs.Joining.{actor_at, of_at}
-use Rattle.sf_joined.specs.Joined.{IsJoined, actor_set_joined}
-use Rattle.sf_joined.proofs.Ends.{all_play}
-use Rattle.sf_joined.proofs.Standing.{actors, kept_as}
+use Rattle.law_played.specs.Actors.{number_of, script_of}
+use Rattle.sf_live_seats.specs.declared.locks.Locks.{Locks}
+use Rattle.sf_live_threads.specs.declared.all_returned.ReturnedActor.{ReturnedActor}
+use Rattle.sf_live_threads.specs.declared.gates.Gates.{Gates}
+use Rattle.sf_live_threads.specs.Walks.{Moment}
+use Rattle.sf_live_compositor.specs.Vsyncs.{Sitting}
+use Rattle.law_threads.specs.Joining.{actor_at, of_at}
+use Rattle.law_joins.specs.Joined.{IsJoined, actor_set_joined}
+use Rattle.law_joins.proofs.Ends.{all_play}
+use Rattle.law_joins.proofs.Standing.{actors, kept_as}
 use Rattle.sf_live.specs.Threads.{returned_actor, returned_gates}
 
 module _ {B : Type 0} (table : TableId) (pictures : ℕ → Picture) (home : DeskHome) (view : DeskView B) where

@@ -6,14 +6,14 @@ use Rattle.std.proofs.lemmas.List.{append-nil, drop_more, take-append-drop, take
 use Rattle.std.proofs.lemmas.List.Concat.{flat_map-append}
 use Rattle.atomic_table.specs.Seated.{TableId}
 use Rattle.sf_picture.specs.declared.picture.Picture.{Picture}
-use Rattle.sf_scene.specs.Scene.{SceneValue}
-use Rattle.sf_scene.specs.declared.step.ActorScript.{ActorScript}
+use Rattle.sf_script_scene.specs.Scene.{SceneValue}
+use Rattle.sf_script_scene.specs.declared.step.ActorScript.{ActorScript}
 use Rattle.sf_actor.specs.Desks.{DeskHome, DeskView}
 use Rattle.sf_actor.specs.Makers.{Run}
 use Rattle.sf_actor.specs.Tries.{ActorOf}
 use Rattle.sf_actor.specs.Values.{replies_of}
 use Rattle.sf_actor.specs.declared.done.Done.{Done}
-use Rattle.sf_steps.specs.declared.actor.Actor.{Actor}
+use Rattle.sf_actor_steps.specs.declared.actor.Actor.{Actor}
 use Rattle.sf_actor_set.specs.ActorSets.{KeepAs}
 use Rattle.sf_record.specs.Events.{closing, event_records, events_records}
 use Rattle.sf_record.specs.declared.encode.RunFault.{RunFault}
@@ -21,21 +21,21 @@ use Rattle.sf_record.specs.declared.event.Event.TheVariants as event
 use Rattle.sf_record.specs.declared.record.Record.{Record}
 use Rattle.sf_record.specs.declared.record.Record.TheVariants as rec
 use Rattle.sf_record.specs.declared.record.Reply.{Reply}
-use Rattle.sf_run.proofs.Members.{has_here, has_later}
-use Rattle.sf_run.proofs.Rising.{rising_actors_are}
-use Rattle.sf_run.proofs.Tracing.{trace_here}
-use Rattle.sf_run.specs.Actors.{script_of}
-use Rattle.sf_run.specs.Played.{opening, records_of, reply_events}
-use Rattle.sf_run.specs.Replies.{replies_due, reply_shown}
-use Rattle.sf_run.specs.Runs.{rising_actors}
+use Rattle.law_played.proofs.Members.{has_here, has_later}
+use Rattle.law_played.proofs.Rising.{rising_actors_are}
+use Rattle.law_played.proofs.Tracing.{trace_here}
+use Rattle.law_played.specs.Actors.{script_of}
+use Rattle.law_played.specs.Played.{opening, records_of, reply_events}
+use Rattle.law_played.specs.Replies.{replies_due, reply_shown}
+use Rattle.law_played.specs.Runs.{rising_actors}
 use Rattle.sf_play.proofs.Late.{played_live}
 use Rattle.sf_play.specs.Ending.{shows_at_end, shows_late}
 use Rattle.sf_play.specs.Players.{PlayerOf, SoFar, home_in, run_so, view_in}
 use Rattle.sf_play.specs.Standing.{StandsInRun}
-use Rattle.sf_show.specs.Closings.{closing_of}
-use Rattle.sf_show.specs.Writing.{CutSome, Writes, WritesPart}
-use Rattle.sf_show.proofs.ClosingLemmas.{closing_is}
-use Rattle.sf_show.proofs.WritingLemmas.{cut_part, part_front, part_more, writes_more}
+use Rattle.sf_play_write.specs.Closings.{closing_of}
+use Rattle.sf_play_write.specs.Writing.{CutSome, Writes, WritesPart}
+use Rattle.sf_play_write.proofs.ClosingLemmas.{closing_is}
+use Rattle.sf_play_write.proofs.WritingLemmas.{cut_part, part_front, part_more, writes_more}
 use Rattle.sf_live.specs.Rounds.{HasShownAll, all_reply_records, vsyncs_alone}
 use Rattle.sf_live.specs.Runs.{WroteLive}
 use Rattle.sf_live.proofs.RoundLemmas.{records_more}

@@ -8,24 +8,24 @@ use Rattle.sf_surface.specs.Tokens.{Issued, ReadLeaseOf}
 use Rattle.sf_turns.specs.Views.{SeatView}
 use Rattle.sf_txn.specs.declared.lease.Lease.{Ghosts}
 use Rattle.sf_commit.specs.declared.vsync.Commit.{Commit as Decided}
-use Rattle.sf_scene.specs.Scene.{SceneValue}
+use Rattle.sf_script_scene.specs.Scene.{SceneValue}
 use Rattle.sf_actor.specs.Scripts.{picture_at}
 use Rattle.sf_record.specs.Events.{events_records, vsync_records}
 use Rattle.sf_record.specs.declared.event.Event.TheVariants as event
 use Rattle.sf_record.specs.declared.event.VsyncReport.{VsyncReport as Told}
 use Rattle.sf_record.specs.declared.record.Record.{Record}
-use Rattle.sf_report.specs.Reports.{has_commits}
-use Rattle.sf_report.specs.Stages.{AreExpected}
-use Rattle.sf_run.specs.Frames.{plan_of}
-use Rattle.sf_run.specs.Vsyncs.{rising_timelines}
+use Rattle.sf_play_report.specs.Reports.{has_commits}
+use Rattle.sf_play_report.specs.Stages.{AreExpected}
+use Rattle.law_played.specs.Frames.{plan_of}
+use Rattle.law_played.specs.Vsyncs.{rising_timelines}
 use Rattle.sf_play.specs.Playing.{expected_by}
 use Rattle.sf_play.specs.Showing.{vsync_shown as play_shown}
-use Rattle.sf_show.specs.Vsyncs.{records_if, told_with, vsync_shown}
-use Rattle.sf_shared.specs.declared.locks.Locks.{Locks}
-use Rattle.sf_compositor.specs.Sitting.{AreFound, Showing, records_shown, showing_of, showings_of}
-use Rattle.sf_compositor.specs.Vsyncs.{Begin, IsVsync, More, Sitting, Vsyncs}
-use Rattle.sf_joined.specs.Frames.{AllFind}
-use Rattle.sf_joined.specs.Logs.{reports_of, shown_of}
+use Rattle.sf_play_write.specs.Vsyncs.{records_if, told_with, vsync_shown}
+use Rattle.sf_live_seats.specs.declared.locks.Locks.{Locks}
+use Rattle.sf_live_compositor.specs.Sitting.{AreFound, Showing, records_shown, showing_of, showings_of}
+use Rattle.sf_live_compositor.specs.Vsyncs.{Begin, IsVsync, More, Sitting, Vsyncs}
+use Rattle.law_joins.specs.Frames.{AllFind}
+use Rattle.law_joins.specs.Logs.{reports_of, shown_of}
 use Rattle.sf_live.proofs.RoundLemmas.{records_more}
 use Rattle.sf_live.proofs.Telling.{told_is}
 

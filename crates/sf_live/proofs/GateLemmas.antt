@@ -7,32 +7,32 @@ use Rattle.sf_picture.specs.declared.picture.Picture.{Picture}
 use Rattle.sf_surface.specs.Tokens.{ReadLeaseOf}
 use Rattle.sf_turns.specs.Views.{SeatView}
 use Rattle.sf_txn.specs.declared.lease.Lease.{Ghosts}
-use Rattle.sf_scene.specs.declared.declarations.Pick.{Pick}
-use Rattle.sf_scene.specs.declared.step.ActorScript.{ActorScript}
+use Rattle.sf_script_scene.specs.declared.declarations.Pick.{Pick}
+use Rattle.sf_script_scene.specs.declared.step.ActorScript.{ActorScript}
 use Rattle.sf_actor.specs.declared.tried.Stepped.{Stepped}
 use Rattle.sf_actor.specs.declared.tried.Stepped.TheVariants as stepped
 use Rattle.sf_actor.specs.Desks.{DeskHome, DeskView}
 use Rattle.sf_actor.specs.Plain.{home_of, view_of}
 use Rattle.sf_actor.specs.Scripts.{picture_at}
 use Rattle.sf_actor.specs.Tries.{ActorOf, Tries}
-use Rattle.sf_steps.specs.Actors.{IsActor}
-use Rattle.sf_steps.specs.declared.actor.Actor.{Actor}
+use Rattle.sf_actor_steps.specs.Actors.{IsActor}
+use Rattle.sf_actor_steps.specs.declared.actor.Actor.{Actor}
 use Rattle.sf_actor_set.specs.ActorSets.{ActorSetOf, KeepAs, KeepsAs, number_of}
-use Rattle.sf_shared.specs.declared.locks.Locks.{Locks}
+use Rattle.sf_live_seats.specs.declared.locks.Locks.{Locks}
 use Rattle.sf_play.specs.Places.{settled}
 use Rattle.sf_play.specs.Players.{PlayOf, PlayerOf}
 use Rattle.sf_play.specs.Turning.{Picks, RoundsIf, TriesIf, TriesStep, Turns, TurnsAt, TurnsVsync, next_tried, picked_place, place_by, tried_from}
 use Rattle.sf_play.specs.declared.place.Place.{Place}
 use Rattle.sf_play.specs.declared.place.Place.TheVariants as at
 use Rattle.sf_play.specs.declared.turn.Turn.{Turn}
-use Rattle.sf_threads.specs.declared.all_returned.ReturnedActor.{ReturnedActor}
-use Rattle.sf_threads.specs.declared.gates.Gates.{Gates}
-use Rattle.sf_threads.specs.declared.seated_actor.SeatedActor.{SeatedActor}
-use Rattle.sf_threads.specs.Gates.{HasPassed, HavePassed, IsReady}
-use Rattle.sf_threads.specs.Meeting.{as_returned}
-use Rattle.sf_threads.specs.SeatedActors.{Came}
-use Rattle.sf_threads.proofs.WalkLemmas.{traces_on, within}
-use Rattle.sf_threads.proofs.Zips.{zip_long}
+use Rattle.sf_live_threads.specs.declared.all_returned.ReturnedActor.{ReturnedActor}
+use Rattle.sf_live_threads.specs.declared.gates.Gates.{Gates}
+use Rattle.sf_live_threads.specs.declared.seated_actor.SeatedActor.{SeatedActor}
+use Rattle.sf_live_threads.specs.Gates.{HasPassed, HavePassed, IsReady}
+use Rattle.sf_live_threads.specs.Meeting.{as_returned}
+use Rattle.sf_live_threads.specs.SeatedActors.{Came}
+use Rattle.sf_live_threads.proofs.WalkLemmas.{traces_on, within}
+use Rattle.sf_live_threads.proofs.Zips.{zip_long}
 use Rattle.sf_live.specs.Rounds.{PassesAt, PassesFor}
 use Rattle.sf_live.specs.Threads.{HasPassedOwn, returned_actor, returned_gates}
 

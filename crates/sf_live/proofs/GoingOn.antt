@@ -5,28 +5,28 @@ use Rattle.sf_surface.specs.Tokens.{Issued, ReadLeaseOf}
 use Rattle.sf_turns.specs.Views.{SeatView}
 use Rattle.sf_txn.specs.declared.lease.Lease.{Ghosts}
 use Rattle.sf_commit.specs.Handlers.{HandlerOf}
-use Rattle.sf_plan.specs.declared.plan.Plan.{Plan}
-use Rattle.sf_scene.specs.Limits.{most_layers}
-use Rattle.sf_scene.specs.declared.declarations.Pick.{Pick}
+use Rattle.sf_output_plan.specs.declared.plan.Plan.{Plan}
+use Rattle.sf_script_scene.specs.Limits.{most_layers}
+use Rattle.sf_script_scene.specs.declared.declarations.Pick.{Pick}
 use Rattle.sf_actor.specs.Scripts.{picture_at}
 use Rattle.sf_actor_set.specs.ActorSets.{ActorSetOf}
 use Rattle.sf_record.specs.Events.{events_records}
 use Rattle.sf_record.specs.declared.event.Event.TheVariants as event
 use Rattle.sf_record.specs.declared.event.VsyncReport.{VsyncReport}
-use Rattle.sf_run.specs.Frames.{plan_of}
-use Rattle.sf_run.specs.Played.{opening}
-use Rattle.sf_run.specs.Vsyncs.{vsyncs_in}
+use Rattle.law_played.specs.Frames.{plan_of}
+use Rattle.law_played.specs.Played.{opening}
+use Rattle.law_played.specs.Vsyncs.{vsyncs_in}
 use Rattle.sf_play.specs.Players.{PlayerOf, before_round}
 use Rattle.sf_play.specs.Standing.{StandsInRun}
-use Rattle.sf_show.specs.Writing.{Writes}
-use Rattle.sf_show.proofs.WritingLemmas.{writes_more}
-use Rattle.sf_shared.specs.Seats.{tells_of}
-use Rattle.sf_shared.specs.declared.locks.Locks.{Locks}
-use Rattle.sf_joined.specs.Frames.{AllFind}
-use Rattle.sf_joined.specs.Joined.{player_joined, so_joined}
-use Rattle.sf_joined.specs.Logs.{reports_of}
+use Rattle.sf_play_write.specs.Writing.{Writes}
+use Rattle.sf_play_write.proofs.WritingLemmas.{writes_more}
+use Rattle.sf_live_seats.specs.Seats.{tells_of}
+use Rattle.sf_live_seats.specs.declared.locks.Locks.{Locks}
+use Rattle.law_joins.specs.Frames.{AllFind}
+use Rattle.law_joins.specs.Joined.{player_joined, so_joined}
+use Rattle.law_joins.specs.Logs.{reports_of}
 use Rattle.sf_live.specs.declared.threads.Joined.{Joined}
-use Rattle.sf_screen.specs.declared.screens.OutputScreen.{OutputScreen}
+use Rattle.sf_output_screen.specs.declared.screens.OutputScreen.{OutputScreen}
 use Rattle.sf_live.specs.Resuming.{GoesFrom, HasCome}
 use Rattle.sf_live.specs.Rounds.{HasShown}
 use Rattle.sf_live.specs.Threads.{IsTogether, RunOf}

@@ -8,32 +8,32 @@ use Rattle.std.proofs.lemmas.Bool.{cases_Bool, eq-eqb}
 use Rattle.std.proofs.lemmas.List.Elements.{All-cons, All-head, All-nil, All-tail, All-weaker}
 use Rattle.atomic_table.specs.Seated.{TableId}
 use Rattle.sf_picture.specs.declared.picture.Picture.{Picture}
-use Rattle.sf_scene.specs.declared.step.ActorScript.{ActorScript}
-use Rattle.sf_scene.specs.declared.step.Step.{Step}
-use Rattle.sf_scene.specs.declared.declarations.QueueDecl.{QueueDecl}
+use Rattle.sf_script_scene.specs.declared.step.ActorScript.{ActorScript}
+use Rattle.sf_script_scene.specs.declared.step.Step.{Step}
+use Rattle.sf_script_scene.specs.declared.declarations.QueueDecl.{QueueDecl}
 use Rattle.sf_surface.specs.Histories.{Made}
 use Rattle.sf_surface.specs.Tokens.{ReadLeaseOf}
 use Rattle.sf_surface.specs.Objects.{ObjectOf}
 use Rattle.sf_surface.specs.declared.mark.QueueMark.{QueueMark}
 use Rattle.sf_actor.specs.Desks.{DeskHome, DeskView, mark_among}
 use Rattle.sf_actor.specs.Known.{arrivals_told, is_sent_by, own_calls}
-use Rattle.sf_scene.specs.Named.{queue_named}
+use Rattle.sf_script_scene.specs.Named.{queue_named}
 use Rattle.sf_actor.specs.Scripts.{picture_at}
 use Rattle.sf_actor.specs.Tries.{dequeues_in}
-use Rattle.sf_steps.specs.Actors.{IsActor, new_actor}
-use Rattle.sf_steps.specs.Playable.{IsPlayable, MayPlay}
-use Rattle.sf_steps.specs.declared.actor.Actor.{Actor}
+use Rattle.sf_actor_steps.specs.Actors.{IsActor, new_actor}
+use Rattle.sf_actor_steps.specs.Playable.{IsPlayable, MayPlay}
+use Rattle.sf_actor_steps.specs.declared.actor.Actor.{Actor}
 use Rattle.sf_actor_set.specs.ActorSets.{KeepAs, KeepsAs, scripts_of}
 use Rattle.sf_actor_set.specs.Opening.{OpensQueues, new_actors, new_queue}
 use Rattle.sf_token.specs.Pending.{Arrival}
-use Rattle.sf_stamped.specs.Stamps.{unstamped}
-use Rattle.sf_shared.proofs.Handing.{none_arrived}
-use Rattle.sf_shared.specs.Closing.{HasNoCalls}
-use Rattle.sf_shared.specs.First.{KnowsNothing}
-use Rattle.sf_shared.specs.Seats.{QueuePass, calls_known, is_at, marks_of, tells_of}
-use Rattle.sf_shared.specs.declared.locks.Locks.{Locks}
-use Rattle.sf_shared.specs.declared.seats.Seats.{Seats}
-use Rattle.sf_threads.specs.Seating.{IsNewcomer, home_for, number_of}
+use Rattle.sf_calls_stamped.specs.Stamps.{unstamped}
+use Rattle.sf_live_seats.proofs.Handing.{none_arrived}
+use Rattle.sf_live_seats.specs.Closing.{HasNoCalls}
+use Rattle.sf_live_seats.specs.First.{KnowsNothing}
+use Rattle.sf_live_seats.specs.Seats.{QueuePass, calls_known, is_at, marks_of, tells_of}
+use Rattle.sf_live_seats.specs.declared.locks.Locks.{Locks}
+use Rattle.sf_live_seats.specs.declared.seats.Seats.{Seats}
+use Rattle.sf_live_threads.specs.Seating.{IsNewcomer, home_for, number_of}
 use Rattle.sf_play.proofs.Lasting.{many_below}
 
 -- a script that may be played over a desk may be over another one with the same queues that serves its actor

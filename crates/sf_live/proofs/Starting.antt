@@ -2,16 +2,16 @@
 use Rattle.std.proofs.Common.{◌≡◌, ℕ, List, [], ◌∷◌, Option, ap, ◌∙◌, sym, subst}
 use Rattle.atomic_table.specs.Seated.{TableId}
 use Rattle.sf_commit.specs.Handlers.{HandlerOf, new_handler}
-use Rattle.sf_plan.specs.declared.plan.Plan.{Plan}
-use Rattle.sf_scene.specs.Limits.{IsWithinLimits, most_layers}
-use Rattle.sf_scene.specs.Scene.{SceneValue}
-use Rattle.sf_scene.specs.declared.declarations.QueueDecl.{QueueDecl}
+use Rattle.sf_output_plan.specs.declared.plan.Plan.{Plan}
+use Rattle.sf_script_scene.specs.Limits.{IsWithinLimits, most_layers}
+use Rattle.sf_script_scene.specs.Scene.{SceneValue}
+use Rattle.sf_script_scene.specs.declared.declarations.QueueDecl.{QueueDecl}
 use Rattle.sf_surface.specs.Tokens.{ReadLeaseOf}
 use Rattle.sf_actor_set.specs.Scripts.{AreOfScene}
-use Rattle.sf_run.specs.Frames.{plan_of}
-use Rattle.sf_run.specs.Played.{opening}
-use Rattle.sf_run.specs.Vsyncs.{rising_timelines}
-use Rattle.sf_show.specs.Writing.{Writes}
+use Rattle.law_played.specs.Frames.{plan_of}
+use Rattle.law_played.specs.Played.{opening}
+use Rattle.law_played.specs.Vsyncs.{rising_timelines}
+use Rattle.sf_play_write.specs.Writing.{Writes}
 use Rattle.sf_live.specs.declared.opening.Opened.{Opened}
 use Rattle.sf_live.specs.Openings.{IsOpen}
 use Rattle.sf_live.specs.Running.{MayRun}

@@ -9,15 +9,15 @@ use Rattle.sf_turns.specs.Views.{SeatView}
 use Rattle.sf_txn.specs.declared.lease.Lease.{Ghosts}
 use Rattle.sf_actor.specs.Desks.{KnowsAll, mark_among}
 use Rattle.sf_actor.specs.Plain.{PlainOf, home_of as plain_home, view_of as plain_view}
-use Rattle.sf_steps.specs.declared.actor.Actor.{Actor}
+use Rattle.sf_actor_steps.specs.declared.actor.Actor.{Actor}
 use Rattle.sf_actor_set.specs.ActorSets.{ActorSetOf, IsActorSet}
-use Rattle.sf_scene.specs.Limits.{most_layers}
-use Rattle.sf_shared.specs.declared.locks.Locks.{Locks}
-use Rattle.sf_threads.specs.declared.all_returned.AllReturned.{AllReturned}
-use Rattle.sf_joined.specs.Joined.{IsJoined, actor_set_joined}
+use Rattle.sf_script_scene.specs.Limits.{most_layers}
+use Rattle.sf_live_seats.specs.declared.locks.Locks.{Locks}
+use Rattle.sf_live_threads.specs.declared.all_returned.AllReturned.{AllReturned}
+use Rattle.law_joins.specs.Joined.{IsJoined, actor_set_joined}
 use Rattle.sf_live.specs.declared.threads.Joined.{Joined}
-use Rattle.sf_threads.specs.declared.gates.Gates.{Gates}
-use Rattle.sf_threads.specs.Gates.{HavePassed}
+use Rattle.sf_live_threads.specs.declared.gates.Gates.{Gates}
+use Rattle.sf_live_threads.specs.Gates.{HavePassed}
 use Rattle.sf_live.specs.Threads.{AreClosedTo, HasRun, IsTogether, RunOf, returned_actor, returned_gates}
 use Rattle.sf_live.proofs.GateLemmas.{apart}
 use Rattle.sf_live.proofs.ActorSetLemmas.{is_actor_set}

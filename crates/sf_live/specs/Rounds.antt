@@ -4,30 +4,30 @@ use Rattle.std.specs.Prelude.{◌≡◌, ℕ, Bool, true, false, List, [], ◌�
 use Rattle.std.specs.List.{flat_map}
 use Rattle.atomic_table.specs.Seated.{TableId}
 use Rattle.sf_picture.specs.declared.picture.Picture.{Picture}
-use Rattle.sf_scene.specs.Scene.{SceneValue}
+use Rattle.sf_script_scene.specs.Scene.{SceneValue}
 use Rattle.sf_actor.specs.Scripts.{picture_at}
-use Rattle.sf_steps.specs.declared.actor.Actor.{Actor}
-use Rattle.sf_threads.specs.Gates.{HasPassed, IsReady}
-use Rattle.sf_threads.specs.declared.gates.Gates.{Gates}
+use Rattle.sf_actor_steps.specs.declared.actor.Actor.{Actor}
+use Rattle.sf_live_threads.specs.Gates.{HasPassed, IsReady}
+use Rattle.sf_live_threads.specs.declared.gates.Gates.{Gates}
 use Rattle.sf_record.specs.Events.{events_records}
 use Rattle.sf_record.specs.declared.event.Event.{Event}
 use Rattle.sf_record.specs.declared.event.Event.TheVariants as event
 use Rattle.sf_record.specs.declared.record.Record.{Record}
 use Rattle.sf_record.specs.declared.record.Record.TheVariants as rec
-use Rattle.sf_plan.specs.declared.plan.Plan.{Plan}
-use Rattle.sf_run.specs.Frames.{plan_of}
-use Rattle.sf_run.specs.Played.{opening}
-use Rattle.sf_run.specs.Replies.{reply_shown}
-use Rattle.sf_run.specs.Vsyncs.{rising_timelines, vsyncs_in}
-use Rattle.sf_screen.specs.ScreenLists.{AreShown}
-use Rattle.sf_screen.specs.declared.screens.OutputScreen.{OutputScreen}
+use Rattle.sf_output_plan.specs.declared.plan.Plan.{Plan}
+use Rattle.law_played.specs.Frames.{plan_of}
+use Rattle.law_played.specs.Played.{opening}
+use Rattle.law_played.specs.Replies.{reply_shown}
+use Rattle.law_played.specs.Vsyncs.{rising_timelines, vsyncs_in}
+use Rattle.sf_output_screen.specs.ScreenLists.{AreShown}
+use Rattle.sf_output_screen.specs.declared.screens.OutputScreen.{OutputScreen}
 use Rattle.sf_play.specs.Going.{EndsRun, TellsStage}
 use Rattle.sf_play.specs.Players.{PlayerOf, SoFar}
 use Rattle.sf_play.specs.Standing.{StandsInRun}
 use Rattle.sf_play.specs.declared.turn.Turn.{Turn}
 use Rattle.sf_play.specs.declared.turn.Turn.TheVariants as turn
-use Rattle.sf_show.specs.Vsyncs.{vsync_shown}
-use Rattle.sf_show.specs.Writing.{Writes}
+use Rattle.sf_play_write.specs.Vsyncs.{vsync_shown}
+use Rattle.sf_play_write.specs.Writing.{Writes}
 
 -- the vsyncs among events, alone
 abbrev pub vsyncs_alone : List Event → List Event

@@ -9,19 +9,19 @@ use Rattle.sf_turns.specs.Views.{SeatView}
 use Rattle.sf_turns.specs.declared.naming.TableName.{Ghosts as Naming}
 use Rattle.sf_txn.specs.declared.lease.Lease.{Ghosts}
 use Rattle.sf_commit.specs.Handlers.{HandlerOf, new_handler}
-use Rattle.sf_plan.specs.declared.plan.Plan.{Plan}
-use Rattle.sf_scene.specs.Limits.{most_layers}
-use Rattle.sf_scene.specs.Scene.{SceneValue}
-use Rattle.sf_scene.specs.declared.declarations.Pick.{Pick}
-use Rattle.sf_run.specs.Frames.{plan_of}
-use Rattle.sf_run.specs.Played.{opening}
-use Rattle.sf_run.specs.Vsyncs.{rising_timelines}
-use Rattle.sf_show.specs.Writing.{CutSome, Writes, WritesSome}
-use Rattle.sf_shared.specs.declared.locks.Locks.{Locks}
-use Rattle.sf_shared.specs.declared.seats.Seats.{Seats}
-use Rattle.sf_compositor.specs.declared.compositor.Compositor.{Compositor}
-use Rattle.sf_compositor.specs.Keeping.{IsSame}
-use Rattle.sf_compositor.specs.Sitting.{IsSet}
+use Rattle.sf_output_plan.specs.declared.plan.Plan.{Plan}
+use Rattle.sf_script_scene.specs.Limits.{most_layers}
+use Rattle.sf_script_scene.specs.Scene.{SceneValue}
+use Rattle.sf_script_scene.specs.declared.declarations.Pick.{Pick}
+use Rattle.law_played.specs.Frames.{plan_of}
+use Rattle.law_played.specs.Played.{opening}
+use Rattle.law_played.specs.Vsyncs.{rising_timelines}
+use Rattle.sf_play_write.specs.Writing.{CutSome, Writes, WritesSome}
+use Rattle.sf_live_seats.specs.declared.locks.Locks.{Locks}
+use Rattle.sf_live_seats.specs.declared.seats.Seats.{Seats}
+use Rattle.sf_live_compositor.specs.declared.compositor.Compositor.{Compositor}
+use Rattle.sf_live_compositor.specs.Keeping.{IsSame}
+use Rattle.sf_live_compositor.specs.Sitting.{IsSet}
 use Rattle.sf_live.specs.declared.opening.Opened.{Opened}
 use Rattle.sf_live.specs.Openings.{IsOpen}
 use Rattle.sf_live.specs.declared.threads.Joined.{Joined}

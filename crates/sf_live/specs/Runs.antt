@@ -2,12 +2,12 @@
 use Rattle.std.specs.Prelude.{◌≡◌, ℕ, ◌≤◌, Bool, true, List, [], Option, Result, IsErrOf, OnErr, OnOk}
 use Rattle.atomic_table.specs.Seated.{TableId}
 use Rattle.sf_io.specs.Causes.{Rose}
-use Rattle.sf_scene.specs.Scene.{SceneValue}
+use Rattle.sf_script_scene.specs.Scene.{SceneValue}
 use Rattle.sf_record.specs.declared.encode.RunFault.{RunFault}
 use Rattle.sf_record.specs.declared.encode.RunFault.TheVariants.{WriteFault}
 use Rattle.sf_record.specs.declared.record.Record.{Record}
-use Rattle.sf_run.specs.Played.{PlayedLiveWhere}
-use Rattle.sf_show.specs.Writing.{CutSome, Writes}
+use Rattle.law_played.specs.Played.{PlayedLiveWhere}
+use Rattle.sf_play_write.specs.Writing.{CutSome, Writes}
 use Rattle.sf_turns.specs.Counts.{range}
 use Rattle.sf_turns.specs.Views.{SeatView, StockView}
 use Rattle.sf_actor_set.specs.Scripts.{permits_of}

@@ -6,31 +6,31 @@ use Rattle.sf_picture.specs.declared.picture.Picture.{Picture}
 use Rattle.sf_surface.specs.Tokens.{Issued, ReadLeaseOf}
 use Rattle.sf_turns.specs.Views.{SeatView}
 use Rattle.sf_txn.specs.declared.lease.Lease.{Ghosts}
-use Rattle.sf_scene.specs.Limits.{most_layers}
-use Rattle.sf_scene.specs.Scene.{SceneValue}
+use Rattle.sf_script_scene.specs.Limits.{most_layers}
+use Rattle.sf_script_scene.specs.Scene.{SceneValue}
 use Rattle.sf_actor.specs.Desks.{known_of}
 use Rattle.sf_actor.specs.Known.{GoesOn}
 use Rattle.sf_actor.specs.Plain.{PlainOf, home_of as plain_home, view_of as plain_view}
-use Rattle.sf_steps.specs.declared.actor.Actor.{Actor}
-use Rattle.sf_run.specs.Frames.{plan_of}
-use Rattle.sf_screen.specs.ScreenLists.{AreShown}
-use Rattle.sf_screen.specs.declared.screens.OutputScreen.{OutputScreen}
-use Rattle.sf_show.specs.Writing.{Writes}
-use Rattle.sf_shared.specs.declared.first.FirstSeats.{FirstSeats}
-use Rattle.sf_shared.specs.declared.locks.Locks.{Locks}
-use Rattle.sf_shared.specs.declared.seats.Seats.{Seats}
-use Rattle.sf_shared.specs.Closing.{Closes, HasNoEntry, IsOrdered}
-use Rattle.sf_shared.specs.First.{gave_of, took_of}
-use Rattle.sf_shared.specs.Seats.{home_of, view_of}
-use Rattle.sf_threads.specs.declared.all_returned.AllReturned.{AllReturned}
-use Rattle.sf_threads.specs.declared.all_returned.ReturnedActor.{ReturnedActor}
-use Rattle.sf_threads.specs.declared.gates.Gates.{Gates}
-use Rattle.sf_threads.specs.Gates.{HasPassed, HavePassed}
-use Rattle.sf_threads.specs.Walks.{Moment}
-use Rattle.sf_compositor.specs.Sitting.{AreFound, records_shown, showings_of}
-use Rattle.sf_compositor.specs.Vsyncs.{Sitting, Vsyncs}
-use Rattle.sf_replay.specs.Joining.{Joins, actor_at}
-use Rattle.sf_joined.specs.Joined.{IsJoined, actor_set_joined}
+use Rattle.sf_actor_steps.specs.declared.actor.Actor.{Actor}
+use Rattle.law_played.specs.Frames.{plan_of}
+use Rattle.sf_output_screen.specs.ScreenLists.{AreShown}
+use Rattle.sf_output_screen.specs.declared.screens.OutputScreen.{OutputScreen}
+use Rattle.sf_play_write.specs.Writing.{Writes}
+use Rattle.sf_live_seats.specs.declared.first.FirstSeats.{FirstSeats}
+use Rattle.sf_live_seats.specs.declared.locks.Locks.{Locks}
+use Rattle.sf_live_seats.specs.declared.seats.Seats.{Seats}
+use Rattle.sf_live_seats.specs.Closing.{Closes, HasNoEntry, IsOrdered}
+use Rattle.sf_live_seats.specs.First.{gave_of, took_of}
+use Rattle.sf_live_seats.specs.Seats.{home_of, view_of}
+use Rattle.sf_live_threads.specs.declared.all_returned.AllReturned.{AllReturned}
+use Rattle.sf_live_threads.specs.declared.all_returned.ReturnedActor.{ReturnedActor}
+use Rattle.sf_live_threads.specs.declared.gates.Gates.{Gates}
+use Rattle.sf_live_threads.specs.Gates.{HasPassed, HavePassed}
+use Rattle.sf_live_threads.specs.Walks.{Moment}
+use Rattle.sf_live_compositor.specs.Sitting.{AreFound, records_shown, showings_of}
+use Rattle.sf_live_compositor.specs.Vsyncs.{Sitting, Vsyncs}
+use Rattle.law_threads.specs.Joining.{Joins, actor_at}
+use Rattle.law_joins.specs.Joined.{IsJoined, actor_set_joined}
 use Rattle.sf_live.specs.declared.threads.Joined.{Joined}
 
 -- a run in threads: its scene, where its compositor came to, of which timelines it tells, what the sink had taken before the first vsync and what it

@@ -1,5 +1,5 @@
 //! What the program says of itself.
-use sf_options::About;
+use sf_app_options::About;
 
 const HELP: &str = "\
 sf_main plays a script of a compositor: an actor draws buffers and sends transactions, and each

@@ -1,6 +1,6 @@
 //! What a person at a terminal is told: records are binary and would spoil it, and a script that is
 //! to be typed is waited for.
-use sf_options::{Options, Run};
+use sf_app_options::{Options, Run};
 use std::io::IsTerminal;
 
 /// Told in place of records that would go to a terminal.

@@ -9,10 +9,10 @@ use Rattle.sf_base.specs.declared.ids.LayerId.{LayerId}
 use Rattle.sf_layer.specs.declared.layer.Layer.{Layer}
 use Rattle.sf_tree.specs.Kept.{IsLayerInRange, IsOfKind}
 use Rattle.sf_tree.specs.Layers.{is_numbered}
-use Rattle.sf_shown.specs.ByLayer.{is_for}
-use Rattle.sf_shown.specs.Copies.{copied, copy_of}
-use Rattle.sf_shown.specs.Cuts.{under}
-use Rattle.sf_shown.proofs.KeepingLemmas.{either, origin, under-few}
+use Rattle.sf_output_shown.specs.ByLayer.{is_for}
+use Rattle.sf_output_shown.specs.Copies.{copied, copy_of}
+use Rattle.sf_output_shown.specs.Cuts.{under}
+use Rattle.sf_output_shown.proofs.KeepingLemmas.{either, origin, under-few}
 
 pub positive_copy : (names : List (LayerId × LayerId)) (id : LayerId) → All (λ (name : LayerId × LayerId). 0 < name.1.0) names → IfSome (copy_of names id) (λ copy. 0 < copy.0)
 positive_copy [] id all = tt

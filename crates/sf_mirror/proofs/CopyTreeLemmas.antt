@@ -18,10 +18,10 @@ use Rattle.sf_tree.proofs.Keeping.{IsDistinct-filter, IsTied-stays, found_itself
 use Rattle.sf_tree.proofs.Lookups.{index_of-absent}
 use Rattle.sf_tree.proofs.Places.{IsDistinct-push}
 use Rattle.sf_tree.proofs.Ranks.{bounded_rank}
-use Rattle.sf_shown.specs.ByLayer.{is_for}
-use Rattle.sf_shown.specs.Copies.{copied, copy_of, free_from, holds_copies, is_free, is_taken_by, least_free, mirrors, named, number_of, parent_by, parent_of, relative_of}
-use Rattle.sf_shown.specs.Cuts.{is_under, under}
-use Rattle.sf_shown.proofs.KeepingLemmas.{under-few}
+use Rattle.sf_output_shown.specs.ByLayer.{is_for}
+use Rattle.sf_output_shown.specs.Copies.{copied, copy_of, free_from, holds_copies, is_free, is_taken_by, least_free, mirrors, named, number_of, parent_by, parent_of, relative_of}
+use Rattle.sf_output_shown.specs.Cuts.{is_under, under}
+use Rattle.sf_output_shown.proofs.KeepingLemmas.{under-few}
 use Rattle.sf_mirror.specs.Extended.{Extends}
 use Rattle.sf_mirror.proofs.CopyLemmas.{in_range, of_kind}
 

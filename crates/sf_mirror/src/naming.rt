@@ -1,7 +1,7 @@
 ghost use Rattle.std.specs.Prelude.{◌≡◌, ◌≤◌, ◌<◌, ◌+◌, ◌++◌, ◌∷◌, [], ℕ, List, IfOk, length, false};
 ghost use Rattle.std.specs.List.{All};
 ghost use Rattle.sf_base.specs.declared.ids.LayerId.{LayerId as LayerIdValue};
-ghost use Rattle.sf_shown.specs.Copies.{IsLeastFree, is_free, named};
+ghost use Rattle.sf_output_shown.specs.Copies.{IsLeastFree, is_free, named};
 ghost use Rattle.sf_mirror.specs.Marks.{AreMarks};
 
 use sf_base::{LayerId, NoMemory};

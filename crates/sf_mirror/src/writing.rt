@@ -1,12 +1,12 @@
 ghost use Rattle.std.specs.Prelude.{◌≡◌, ◌≤◌, ◌+◌, IfOk, OnOk, length, map};
-ghost use Rattle.sf_shown.specs.Copies.{mirrors, number_of, with_copies, written};
+ghost use Rattle.sf_output_shown.specs.Copies.{mirrors, number_of, with_copies, written};
 ghost use Rattle.sf_mirror.specs.Extended.{Extends};
 
 use crate::copies::copy_all;
 use crate::naming::name_all;
 use sf_base::{LayerId, NoMemory};
 use sf_layer::{Kind, Layer};
-use sf_shown::{ByLayer, tree_of, under};
+use sf_output_shown::{ByLayer, tree_of, under};
 use sf_tree::Tree;
 use std::alloc::Global;
 

@@ -7,19 +7,19 @@ use Rattle.sf_surface.specs.Histories.{told}
 use Rattle.sf_surface.specs.Objects.{ObjectOf}
 use Rattle.sf_token.specs.Arrivals.{sent}
 use Rattle.sf_turns.specs.Views.{SeatView}
-use Rattle.sf_scene.specs.Scene.{SceneValue}
-use Rattle.sf_scene.specs.declared.declarations.QueueDecl.{QueueDecl}
-use Rattle.sf_scene.specs.declared.step.ActorScript.{ActorScript}
+use Rattle.sf_script_scene.specs.Scene.{SceneValue}
+use Rattle.sf_script_scene.specs.declared.declarations.QueueDecl.{QueueDecl}
+use Rattle.sf_script_scene.specs.declared.step.ActorScript.{ActorScript}
 use Rattle.sf_actor.specs.Desks.{mark_among}
 use Rattle.sf_actor.specs.Known.{plain_arrival}
 use Rattle.sf_actor.specs.Plain.{calls_among, home_of, is_queue}
 use Rattle.sf_actor.specs.Tries.{dequeues_in}
 use Rattle.sf_actor_set.specs.ActorSets.{Opens}
 use Rattle.sf_actor_set.specs.Opening.{new_actors, new_queue}
-use Rattle.sf_run.specs.Actors.{trace_among}
-use Rattle.sf_run.specs.Plays.{IsPlay}
-use Rattle.sf_run.specs.Vsyncs.{vsyncs_in}
-use Rattle.sf_run.specs.Worlds.{World, first_world}
+use Rattle.law_played.specs.Actors.{trace_among}
+use Rattle.law_played.specs.Plays.{IsPlay}
+use Rattle.law_played.specs.Vsyncs.{vsyncs_in}
+use Rattle.law_played.specs.Worlds.{World, first_world}
 use Rattle.sf_play.proofs.AlongLemmas.{plays_first}
 use Rattle.sf_play.specs.Alongs.{PlaysSo, PlaysTo, world_so}
 use Rattle.sf_play.specs.Players.{PlayOf, SoFar}

@@ -18,11 +18,11 @@ use Rattle.sf_turns.specs.Views.{SeatView}
 use Rattle.sf_txn.specs.declared.lease.Lease.{Ghosts}
 use Rattle.sf_commit.specs.Releases.{VsyncOf}
 use Rattle.sf_commit.specs.declared.vsync.Commit.{Commit as Decided}
-use Rattle.sf_scene.specs.Limits.{IsPick}
-use Rattle.sf_scene.specs.Scene.{SceneValue, has_actor}
-use Rattle.sf_scene.specs.declared.declarations.Pick.{Pick}
-use Rattle.sf_scene.specs.declared.step.ActorScript.{ActorScript}
-use Rattle.sf_steps.specs.declared.actor.Actor.{Actor}
+use Rattle.sf_script_scene.specs.Limits.{IsPick}
+use Rattle.sf_script_scene.specs.Scene.{SceneValue, has_actor}
+use Rattle.sf_script_scene.specs.declared.declarations.Pick.{Pick}
+use Rattle.sf_script_scene.specs.declared.step.ActorScript.{ActorScript}
+use Rattle.sf_actor_steps.specs.declared.actor.Actor.{Actor}
 use Rattle.sf_actor.specs.declared.tried.Stepped.{Stepped}
 use Rattle.sf_actor.specs.declared.tried.Stepped.TheVariants as stepped
 use Rattle.sf_actor.specs.Desks.{DeskHome, DeskView}
@@ -31,16 +31,16 @@ use Rattle.sf_actor.specs.Plain.{home_of, view_of}
 use Rattle.sf_actor.specs.Scripts.{picture_at}
 use Rattle.sf_actor.specs.Tries.{ActorOf}
 use Rattle.sf_actor_set.specs.ActorSets.{KeepAs, StepsAt, number_of}
-use Rattle.sf_run.specs.Actors.{script_of}
-use Rattle.sf_run.specs.Ends.{held_in}
-use Rattle.sf_run.specs.Progress.{ShowsWhatIsWritten, is_time}
-use Rattle.sf_run.specs.Runs.{rising_actors}
-use Rattle.sf_run.specs.Stepping.{TellsFirst}
-use Rattle.sf_run.specs.Stopping.{TellsOlder}
-use Rattle.sf_rights.specs.Vsyncs.{IsOfTurns}
-use Rattle.sf_run.proofs.AsQueued.{one_passes}
-use Rattle.sf_run.proofs.Keeping.{got_has}
-use Rattle.sf_run.proofs.Members.{has_cases, has_found, has_here, has_later, has_none, map_has}
+use Rattle.law_played.specs.Actors.{script_of}
+use Rattle.law_played.specs.Ends.{held_in}
+use Rattle.law_played.specs.Progress.{ShowsWhatIsWritten, is_time}
+use Rattle.law_played.specs.Runs.{rising_actors}
+use Rattle.law_played.specs.Stepping.{TellsFirst}
+use Rattle.law_played.specs.Stopping.{TellsOlder}
+use Rattle.law_rights.specs.Vsyncs.{IsOfTurns}
+use Rattle.law_played.proofs.AsQueued.{one_passes}
+use Rattle.law_played.proofs.Keeping.{got_has}
+use Rattle.law_played.proofs.Members.{has_cases, has_found, has_here, has_later, has_none, map_has}
 use Rattle.sf_play.proofs.AlongLemmas.{plays_settled}
 use Rattle.sf_play.proofs.AlongTurns.{pick_done, pick_ended, pick_waits, round_done, round_ended, round_waits}
 use Rattle.sf_play.proofs.AlongVsyncs.{all_had, holds_silent, pick_shown, pick_silent, round_shown, round_silent}
@@ -56,8 +56,8 @@ use Rattle.sf_play.specs.Places.{settled}
 use Rattle.sf_play.specs.Players.{PlayOf, PlayerOf, SoFar, Stands, home_in, run_so, view_in, written_so}
 use Rattle.sf_play.specs.Playing.{KeepsItself, KeepsRights}
 use Rattle.sf_play.specs.Standing.{HoldsAt}
-use Rattle.sf_report.specs.Reports.{has_commits}
-use Rattle.sf_report.specs.declared.report.VsyncReport.{VsyncReport}
+use Rattle.sf_play_report.specs.Reports.{has_commits}
+use Rattle.sf_play_report.specs.declared.report.VsyncReport.{VsyncReport}
 use Rattle.sf_play.specs.Turning.{Picks, RoundsIf, TriesIf, TriesStep, Turns, TurnsAt, TurnsVsync, is_step, turn_by}
 use Rattle.sf_play.specs.declared.place.Place.{Place}
 use Rattle.sf_play.specs.declared.place.Place.TheVariants as at

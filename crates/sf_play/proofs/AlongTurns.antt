@@ -10,9 +10,9 @@ use Rattle.std.proofs.lemmas.List.Sorted.{Contains-permutation, IsPermutation-sy
 use Rattle.atomic_table.specs.Seated.{TableId}
 use Rattle.sf_surface.specs.Histories.{Made}
 use Rattle.sf_surface.specs.declared.mark.QueueMark.{QueueMark}
-use Rattle.sf_scene.specs.Scene.{SceneValue, has_queue}
-use Rattle.sf_scene.specs.declared.declarations.Pick.{Pick}
-use Rattle.sf_scene.specs.declared.step.ActorScript.{ActorScript}
+use Rattle.sf_script_scene.specs.Scene.{SceneValue, has_queue}
+use Rattle.sf_script_scene.specs.declared.declarations.Pick.{Pick}
+use Rattle.sf_script_scene.specs.declared.step.ActorScript.{ActorScript}
 use Rattle.sf_actor.specs.declared.done.Done.{Done}
 use Rattle.sf_actor.specs.declared.tried.Stepped.TheVariants as stepped
 use Rattle.sf_actor.specs.Desks.{DeskHome, DeskView}
@@ -24,25 +24,25 @@ use Rattle.sf_actor_set.specs.ActorSets.{ActorSetOf, IsSameActorSet, StepsAt}
 use Rattle.sf_record.specs.declared.event.Event.{Event}
 use Rattle.sf_record.specs.declared.event.Event.TheVariants as event
 use Rattle.sf_record.specs.declared.event.VsyncReport.{VsyncReport}
-use Rattle.sf_run.specs.Actors.{AreCalls, arrivals_of, number_of, run_of, script_of, trace_among}
-use Rattle.sf_run.specs.Plays.{TakesTurn}
-use Rattle.sf_run.specs.Replies.{reply_shown}
-use Rattle.sf_run.specs.Runs.{rising_actors}
-use Rattle.sf_run.specs.Stepping.{KnowsRun, TellsFirst}
-use Rattle.sf_run.specs.Stopping.{TellsOlder}
-use Rattle.sf_run.specs.Stuck.{IsNotReady, next_step}
-use Rattle.sf_run.specs.Vsyncs.{vsync_in, vsyncs_in}
-use Rattle.sf_run.specs.Worlds.{Turn, World, actor_turn, idle, with_list}
-use Rattle.sf_run.proofs.Advancing.{not_none}
-use Rattle.sf_run.proofs.AsQueued.{one_passes}
-use Rattle.sf_run.proofs.Desking.{desk_called, sent_numbered}
-use Rattle.sf_run.proofs.Keeping.{got_has}
-use Rattle.sf_run.proofs.Members.{has_map}
-use Rattle.sf_run.proofs.NextStep.{desk_turn, script_of_number, traces}
-use Rattle.sf_run.proofs.Rising.{rising_actors_are}
-use Rattle.sf_run.proofs.SteppingLemmas.{idle_ended, idle_waits}
-use Rattle.sf_run.proofs.Stopping.{left_not_ready, run_stays}
-use Rattle.sf_run.proofs.Tracing.{trace_here}
+use Rattle.law_played.specs.Actors.{AreCalls, arrivals_of, number_of, run_of, script_of, trace_among}
+use Rattle.law_played.specs.Plays.{TakesTurn}
+use Rattle.law_played.specs.Replies.{reply_shown}
+use Rattle.law_played.specs.Runs.{rising_actors}
+use Rattle.law_played.specs.Stepping.{KnowsRun, TellsFirst}
+use Rattle.law_played.specs.Stopping.{TellsOlder}
+use Rattle.law_played.specs.Stuck.{IsNotReady, next_step}
+use Rattle.law_played.specs.Vsyncs.{vsync_in, vsyncs_in}
+use Rattle.law_played.specs.Worlds.{Turn, World, actor_turn, idle, with_list}
+use Rattle.law_played.proofs.Advancing.{not_none}
+use Rattle.law_played.proofs.AsQueued.{one_passes}
+use Rattle.law_played.proofs.Desking.{desk_called, sent_numbered}
+use Rattle.law_played.proofs.Keeping.{got_has}
+use Rattle.law_played.proofs.Members.{has_map}
+use Rattle.law_played.proofs.NextStep.{desk_turn, script_of_number, traces}
+use Rattle.law_played.proofs.Rising.{rising_actors_are}
+use Rattle.law_played.proofs.SteppingLemmas.{idle_ended, idle_waits}
+use Rattle.law_played.proofs.Stopping.{left_not_ready, run_stays}
+use Rattle.law_played.proofs.Tracing.{trace_here}
 use Rattle.sf_play.proofs.AlongLemmas.{plays_idle, plays_pick, plays_step}
 use Rattle.sf_play.proofs.Stepping.{stands_done, stands_waiting}
 use Rattle.sf_play.specs.Alongs.{DeskKnows, PlaysSo, PlaysTo, world_so}

@@ -22,39 +22,39 @@ use Rattle.sf_commit.specs.Leases.{HandsBack, IsReleaseOf}
 use Rattle.sf_commit.specs.OnLayers.{OnLayer}
 use Rattle.sf_commit.specs.Releases.{ReleaseOf, VsyncOf}
 use Rattle.sf_commit.specs.declared.vsync.Commit.{Commit as Decided}
-use Rattle.sf_scene.specs.Scene.{SceneValue, has_queue}
-use Rattle.sf_scene.specs.declared.declarations.Pick.{Pick}
-use Rattle.sf_scene.specs.declared.declarations.QueueDecl.{QueueDecl}
-use Rattle.sf_scene.specs.declared.step.ActorScript.{ActorScript}
+use Rattle.sf_script_scene.specs.Scene.{SceneValue, has_queue}
+use Rattle.sf_script_scene.specs.declared.declarations.Pick.{Pick}
+use Rattle.sf_script_scene.specs.declared.declarations.QueueDecl.{QueueDecl}
+use Rattle.sf_script_scene.specs.declared.step.ActorScript.{ActorScript}
 use Rattle.sf_actor.specs.Desks.{DeskHome, DeskView, mark_among}
 use Rattle.sf_actor.specs.Known.{frame_of, plain_arrival}
 use Rattle.sf_actor.specs.Makers.{Run}
 use Rattle.sf_actor.specs.Names.{FrameOf}
 use Rattle.sf_actor.specs.Plain.{home_of, taken_in, view_of}
 use Rattle.sf_actor.specs.Tries.{ActorOf}
-use Rattle.sf_steps.specs.declared.actor.Actor.{Actor}
+use Rattle.sf_actor_steps.specs.declared.actor.Actor.{Actor}
 use Rattle.sf_actor_set.proofs.ArrivalLemmas.{sent_is}
 use Rattle.sf_actor_set.specs.ActorSets.{KeepAs}
 use Rattle.sf_record.specs.declared.event.Event.{Event}
 use Rattle.sf_record.specs.declared.event.Event.TheVariants as event
 use Rattle.sf_record.specs.declared.event.VsyncReport.{VsyncReport}
-use Rattle.sf_run.specs.Actors.{mark_declared, run_of, script_of, trace_among}
-use Rattle.sf_run.specs.Commits.{commit_shown}
-use Rattle.sf_run.specs.Ends.{held_in}
-use Rattle.sf_run.specs.Framing.{framed_arrival, framed_on}
-use Rattle.sf_run.specs.Histories.{Released}
-use Rattle.sf_run.specs.Plays.{TakesTurn}
-use Rattle.sf_run.specs.Frames.{shown_after}
-use Rattle.sf_run.specs.Progress.{ShowsWhatIsWritten}
-use Rattle.sf_run.specs.Runs.{final_values, rising_actors}
-use Rattle.sf_run.specs.Seeing.{value_shown}
-use Rattle.sf_run.specs.Vsyncs.{rising_timelines, vsyncs_in}
-use Rattle.sf_run.specs.Worlds.{IsPlaysVsync, Turn, World, after_vsync, release_asked, report_of, reports_if, reports_of, with_call, with_calls}
-use Rattle.sf_run.proofs.LeaseLemmas.{plain_arrivals, plain_frame}
-use Rattle.sf_run.proofs.NextStep.{desk_release}
-use Rattle.sf_run.proofs.ProgressLemmas.{vsync_of_play}
-use Rattle.sf_run.proofs.Rising.{rising_actors_are}
-use Rattle.sf_run.proofs.Stopping.{final_is}
+use Rattle.law_played.specs.Actors.{mark_declared, run_of, script_of, trace_among}
+use Rattle.law_played.specs.Commits.{commit_shown}
+use Rattle.law_played.specs.Ends.{held_in}
+use Rattle.law_played.specs.Framing.{framed_arrival, framed_on}
+use Rattle.law_played.specs.Histories.{Released}
+use Rattle.law_played.specs.Plays.{TakesTurn}
+use Rattle.law_played.specs.Frames.{shown_after}
+use Rattle.law_played.specs.Progress.{ShowsWhatIsWritten}
+use Rattle.law_played.specs.Runs.{final_values, rising_actors}
+use Rattle.law_played.specs.Seeing.{value_shown}
+use Rattle.law_played.specs.Vsyncs.{rising_timelines, vsyncs_in}
+use Rattle.law_played.specs.Worlds.{IsPlaysVsync, Turn, World, after_vsync, release_asked, report_of, reports_if, reports_of, with_call, with_calls}
+use Rattle.law_played.proofs.LeaseLemmas.{plain_arrivals, plain_frame}
+use Rattle.law_played.proofs.NextStep.{desk_release}
+use Rattle.law_played.proofs.ProgressLemmas.{vsync_of_play}
+use Rattle.law_played.proofs.Rising.{rising_actors_are}
+use Rattle.law_played.proofs.Stopping.{final_is}
 use Rattle.sf_play.proofs.AlongLemmas.{plays_pick, plays_round}
 use Rattle.sf_play.proofs.AlongTurns.{calls_declared}
 use Rattle.sf_play.proofs.Compositing.{arrived_is, arrivals_now, calls_same, gives_now, goes, home_now, plain, rises, vsyncs_in_more}

@@ -11,18 +11,18 @@ use Rattle.sf_surface.specs.declared.call.QCall.{QCall}
 use Rattle.sf_surface.specs.declared.call.QCall.TheVariants as call
 use Rattle.sf_token.specs.Pending.{Arrival}
 use Rattle.sf_txn.specs.Buffers.{Buffer}
-use Rattle.sf_scene.specs.Scene.{SceneValue}
+use Rattle.sf_script_scene.specs.Scene.{SceneValue}
 use Rattle.sf_actor.specs.Desks.{DeskHome, DeskView, known_of, mark_among}
 use Rattle.sf_actor.specs.Known.{arrivals_told, is_sent_by, plain_arrival, plain_buffer, share_of}
 use Rattle.sf_actor.specs.Rights.{HoldsAcquired, SendsAcquired, Takes, WasTaken}
 use Rattle.sf_actor.specs.Tales.{sent_as}
 use Rattle.sf_actor.specs.Traces.{SentStep}
 use Rattle.sf_actor.specs.Tries.{ActorOf}
-use Rattle.sf_run.proofs.Bringing.{is_numbered, own_is, told_has}
-use Rattle.sf_run.proofs.Keeping.{of_all}
-use Rattle.sf_run.proofs.Members.{has_filter, has_map}
-use Rattle.sf_run.proofs.Sent.{IsShown, sent_shown}
-use Rattle.sf_run.specs.Actors.{AreActors, AreArrivals, number_of}
+use Rattle.law_played.proofs.Bringing.{is_numbered, own_is, told_has}
+use Rattle.law_played.proofs.Keeping.{of_all}
+use Rattle.law_played.proofs.Members.{has_filter, has_map}
+use Rattle.law_played.proofs.Sent.{IsShown, sent_shown}
+use Rattle.law_played.specs.Actors.{AreActors, AreArrivals, number_of}
 use Rattle.sf_play.specs.Players.{AreLent, IsBufferLent, WasLent}
 
 module _ {B : Type 0} where

@@ -19,10 +19,10 @@ use Rattle.sf_turns.specs.Views.{SeatView}
 use Rattle.sf_txn.specs.Buffers.{Buffer}
 use Rattle.sf_commit.specs.Handlers.{HandlerOf, new_handler}
 use Rattle.sf_commit.specs.OnLayers.{OnLayer}
-use Rattle.sf_scene.specs.Limits.{IsWithinLimits, most_layers}
-use Rattle.sf_scene.specs.Scene.{SceneValue, has_queue}
-use Rattle.sf_scene.specs.declared.declarations.QueueDecl.{QueueDecl}
-use Rattle.sf_scene.specs.declared.step.ActorScript.{ActorScript}
+use Rattle.sf_script_scene.specs.Limits.{IsWithinLimits, most_layers}
+use Rattle.sf_script_scene.specs.Scene.{SceneValue, has_queue}
+use Rattle.sf_script_scene.specs.declared.declarations.QueueDecl.{QueueDecl}
+use Rattle.sf_script_scene.specs.declared.step.ActorScript.{ActorScript}
 use Rattle.sf_actor.specs.Desks.{mark_among}
 use Rattle.sf_actor.specs.Known.{frame_of, plain_arrival}
 use Rattle.sf_actor.specs.Names.{FrameOf}
@@ -35,17 +35,17 @@ use Rattle.sf_actor_set.specs.ActorSets.{KeepAs, Opens}
 use Rattle.sf_actor_set.specs.Opening.{new_actors, new_queue}
 use Rattle.sf_record.specs.declared.event.VsyncReport.{VsyncReport}
 use Rattle.sf_record.specs.declared.record.Reply.{Reply}
-use Rattle.sf_run.proofs.Keeping.{of_all}
-use Rattle.sf_run.proofs.KeepingLemmas.{none_played}
-use Rattle.sf_run.proofs.Members.{has_cases, has_map, has_none}
-use Rattle.sf_run.specs.Actors.{IsCallBy, mark_declared, number_of, script_of, told_on}
-use Rattle.sf_run.specs.Frames.{ShowsImage}
-use Rattle.sf_run.specs.Histories.{IsReleased, Released, queue_number, released_in, released_on}
-use Rattle.sf_run.specs.Progress.{HasPlayed}
-use Rattle.sf_run.specs.Replies.{replies_in, replies_to, reply_shown}
-use Rattle.sf_run.specs.Runs.{calls_of}
-use Rattle.sf_run.specs.Stages.{told_from, told_of}
-use Rattle.sf_run.specs.Vsyncs.{WasSignalled, rising_timelines, timeline_of, vsyncs_in}
+use Rattle.law_played.proofs.Keeping.{of_all}
+use Rattle.law_played.proofs.KeepingLemmas.{none_played}
+use Rattle.law_played.proofs.Members.{has_cases, has_map, has_none}
+use Rattle.law_played.specs.Actors.{IsCallBy, mark_declared, number_of, script_of, told_on}
+use Rattle.law_played.specs.Frames.{ShowsImage}
+use Rattle.law_played.specs.Histories.{IsReleased, Released, queue_number, released_in, released_on}
+use Rattle.law_played.specs.Progress.{HasPlayed}
+use Rattle.law_played.specs.Replies.{replies_in, replies_to, reply_shown}
+use Rattle.law_played.specs.Runs.{calls_of}
+use Rattle.law_played.specs.Stages.{told_from, told_of}
+use Rattle.law_played.specs.Vsyncs.{WasSignalled, rising_timelines, timeline_of, vsyncs_in}
 use Rattle.sf_play.proofs.Compositing.{keeps_all}
 use Rattle.sf_play.proofs.Seeing.{any_has}
 use Rattle.sf_play.specs.Players.{AreLent, IsBufferLent, PlayOf, SoFar, Stands, VsyncsStand, signals_so, taken_at, written_so}

@@ -26,18 +26,18 @@ use Rattle.sf_commit.specs.Handlers.{Decides, HandlerOf, source_of}
 use Rattle.sf_commit.specs.Leases.{ShowsLease}
 use Rattle.sf_commit.specs.OnLayers.{OnLayer, is_on, shown_on}
 use Rattle.sf_commit.specs.Releases.{VsyncOf}
-use Rattle.sf_scene.specs.Scene.{SceneValue, has_queue}
+use Rattle.sf_script_scene.specs.Scene.{SceneValue, has_queue}
 use Rattle.sf_actor.specs.Desks.{mark_among}
 use Rattle.sf_actor.specs.Known.{frame_of}
 use Rattle.sf_actor.specs.Scripts.{picture_at}
-use Rattle.sf_run.proofs.Desking.{desk_called}
-use Rattle.sf_run.proofs.FrameLemmas.{is_plan}
-use Rattle.sf_run.proofs.LimitLemmas.{few_layers, most_played}
-use Rattle.sf_run.proofs.Taking.{shows_picture}
-use Rattle.sf_run.specs.Actors.{AreCalls}
-use Rattle.sf_run.specs.Frames.{plan_of}
-use Rattle.sf_run.specs.Vsyncs.{vsyncs_in}
-use Rattle.sf_report.specs.Stages.{AreExpected, IsStage}
+use Rattle.law_played.proofs.Desking.{desk_called}
+use Rattle.law_played.proofs.FrameLemmas.{is_plan}
+use Rattle.law_played.proofs.LimitLemmas.{few_layers, most_played}
+use Rattle.law_played.proofs.Taking.{shows_picture}
+use Rattle.law_played.specs.Actors.{AreCalls}
+use Rattle.law_played.specs.Frames.{plan_of}
+use Rattle.law_played.specs.Vsyncs.{vsyncs_in}
+use Rattle.sf_play_report.specs.Stages.{AreExpected, IsStage}
 use Rattle.sf_play.proofs.Seeing.{one_passes}
 use Rattle.sf_play.specs.Players.{IsBufferLent, PlayOf, SoFar, home_in, taken_at, view_in, written_so}
 use Rattle.sf_play.specs.Players.{Stands as PlayStands}

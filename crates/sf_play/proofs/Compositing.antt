@@ -21,33 +21,33 @@ use Rattle.sf_commit.specs.OnLayers.{OnLayer}
 use Rattle.sf_commit.specs.Leases.{IsReleaseOf}
 use Rattle.sf_commit.specs.Releases.{ReleaseOf, VsyncOf}
 use Rattle.sf_commit.specs.declared.vsync.Commit.{Commit as Decided}
-use Rattle.sf_scene.specs.Scene.{SceneValue, has_queue}
-use Rattle.sf_scene.specs.declared.declarations.QueueDecl.{QueueDecl}
+use Rattle.sf_script_scene.specs.Scene.{SceneValue, has_queue}
+use Rattle.sf_script_scene.specs.declared.declarations.QueueDecl.{QueueDecl}
 use Rattle.sf_actor.specs.Desks.{DeskHome, DeskView, mark_among}
 use Rattle.sf_actor.specs.Known.{frame_of, plain_arrival}
 use Rattle.sf_actor.specs.Names.{FrameOf}
 use Rattle.sf_actor.specs.Plain.{PlainOf, calls_among, home_of, taken_in, view_of}
 use Rattle.sf_actor.specs.Scripts.{picture_at}
 use Rattle.sf_actor.specs.Tries.{ActorOf, Keeps}
-use Rattle.sf_steps.specs.declared.actor.Actor.{Actor}
+use Rattle.sf_actor_steps.specs.declared.actor.Actor.{Actor}
 use Rattle.sf_actor_set.proofs.ArrivalLemmas.{sent_is, waiting_last, waiting_rises}
 use Rattle.sf_actor_set.specs.ActorSets.{ActorSetOf, KeepAs}
 use Rattle.sf_actor_set.specs.Compositing.{OnlyDesk}
 use Rattle.sf_record.specs.declared.event.Event.{Event}
 use Rattle.sf_record.specs.declared.event.Event.TheVariants as event
 use Rattle.sf_record.specs.declared.event.VsyncReport.{VsyncReport}
-use Rattle.sf_run.proofs.Advancing.{nothing_told, tells_vsync}
-use Rattle.sf_run.proofs.LeaseLemmas.{images_go_on, plain_arrivals, plain_frame, releases_go_on}
-use Rattle.sf_run.proofs.ProgressLemmas.{goes_further, goes_on_by, goes_silently, releases_nothing, tells_no_more}
-use Rattle.sf_run.specs.Actors.{mark_declared}
-use Rattle.sf_run.specs.Commits.{commit_shown}
-use Rattle.sf_run.specs.Frames.{ShowImages}
-use Rattle.sf_run.specs.Framing.{framed_arrival, framed_on}
-use Rattle.sf_run.specs.Histories.{Released, released_in}
-use Rattle.sf_run.specs.Progress.{GoesOnBy, HasPlayed, SaysVsync, WroteWhatShows}
-use Rattle.sf_run.specs.Stages.{told_of}
-use Rattle.sf_run.specs.Telling.{TellRun}
-use Rattle.sf_run.specs.Vsyncs.{AreVsyncs, vsync_in, vsyncs_in}
+use Rattle.law_played.proofs.Advancing.{nothing_told, tells_vsync}
+use Rattle.law_played.proofs.LeaseLemmas.{images_go_on, plain_arrivals, plain_frame, releases_go_on}
+use Rattle.law_played.proofs.ProgressLemmas.{goes_further, goes_on_by, goes_silently, releases_nothing, tells_no_more}
+use Rattle.law_played.specs.Actors.{mark_declared}
+use Rattle.law_played.specs.Commits.{commit_shown}
+use Rattle.law_played.specs.Frames.{ShowImages}
+use Rattle.law_played.specs.Framing.{framed_arrival, framed_on}
+use Rattle.law_played.specs.Histories.{Released, released_in}
+use Rattle.law_played.specs.Progress.{GoesOnBy, HasPlayed, SaysVsync, WroteWhatShows}
+use Rattle.law_played.specs.Stages.{told_of}
+use Rattle.law_played.specs.Telling.{TellRun}
+use Rattle.law_played.specs.Vsyncs.{AreVsyncs, vsync_in, vsyncs_in}
 use Rattle.sf_play.proofs.Arriving.{arrivals_lent}
 use Rattle.sf_play.proofs.Leasing.{IsArrivedLent, IsOnLent, OfFrames, arrived_lent_on, gone_lent, on_lent_on, stays_lent, waits_lent}
 use Rattle.sf_play.proofs.Releasing.{gives_grow, gives_same, gives_told}

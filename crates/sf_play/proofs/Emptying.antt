@@ -15,7 +15,7 @@ use Rattle.sf_actor.specs.Desks.{DeskHome, DeskView}
 use Rattle.sf_actor.specs.Plain.{PlainOf, home_of, taken_in, view_of}
 use Rattle.sf_actor_set.specs.ActorSets.{ActorSetOf}
 use Rattle.sf_actor_set.proofs.ArrivalLemmas.{sent_is}
-use Rattle.sf_run.specs.Progress.{is_time}
+use Rattle.law_played.specs.Progress.{is_time}
 use Rattle.sf_play.specs.Fuel.{now_in, steps_left, to_commit, untaken, work_left}
 use Rattle.sf_play.specs.Giving.{GivesFrames}
 use Rattle.sf_play.specs.Players.{PlayOf, home_in, view_in}

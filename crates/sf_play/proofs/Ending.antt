@@ -14,31 +14,31 @@ use Rattle.sf_token.specs.Pending.{Arrival}
 use Rattle.sf_turns.specs.Views.{SeatView}
 use Rattle.sf_txn.specs.declared.lease.Lease.{Ghosts}
 use Rattle.sf_commit.specs.Releases.{VsyncOf}
-use Rattle.sf_scene.specs.Scene.{SceneValue, has_queue}
+use Rattle.sf_script_scene.specs.Scene.{SceneValue, has_queue}
 use Rattle.sf_actor.specs.Desks.{DeskView, KnowsAll}
 use Rattle.sf_actor.specs.Known.{frame_of}
 use Rattle.sf_actor.specs.Names.{FrameOf}
 use Rattle.sf_actor.specs.Plain.{PlainOf}
 use Rattle.sf_actor.specs.Tries.{Sees}
-use Rattle.sf_run.proofs.AsQueued.{one_passes}
-use Rattle.sf_run.proofs.Desking.{desk_called, sent_numbered}
-use Rattle.sf_run.proofs.Fitting.{played_fits}
-use Rattle.sf_run.proofs.LeaseLemmas.{plain_frame}
-use Rattle.sf_run.proofs.ProgressLemmas.{end_is_held}
-use Rattle.sf_run.proofs.Stopping.{are_stuck, final_is}
-use Rattle.sf_run.specs.Actors.{AreCalls}
-use Rattle.sf_run.specs.Frames.{ShowImages}
-use Rattle.sf_run.specs.Framing.{framed_arrival}
-use Rattle.sf_run.specs.Histories.{released_in}
-use Rattle.sf_run.specs.Holds.{AreHeld, uncommitted}
-use Rattle.sf_run.specs.Played.{FitsWhere, end_of}
-use Rattle.sf_run.specs.Progress.{HasPlayed, ShowsWhatIsWritten, held_shown, is_time}
-use Rattle.sf_run.specs.Runs.{final_values}
-use Rattle.sf_run.specs.Stages.{bare_round, round_at_end, told_of}
-use Rattle.sf_run.specs.Stopping.{stuck_among}
-use Rattle.sf_run.specs.Telling.{AreReleases}
-use Rattle.sf_run.specs.Turns.{DrawAfterOwed}
-use Rattle.sf_run.specs.Vsyncs.{commits_in, vsyncs_in}
+use Rattle.law_played.proofs.AsQueued.{one_passes}
+use Rattle.law_played.proofs.Desking.{desk_called, sent_numbered}
+use Rattle.law_played.proofs.Fitting.{played_fits}
+use Rattle.law_played.proofs.LeaseLemmas.{plain_frame}
+use Rattle.law_played.proofs.ProgressLemmas.{end_is_held}
+use Rattle.law_played.proofs.Stopping.{are_stuck, final_is}
+use Rattle.law_played.specs.Actors.{AreCalls}
+use Rattle.law_played.specs.Frames.{ShowImages}
+use Rattle.law_played.specs.Framing.{framed_arrival}
+use Rattle.law_played.specs.Histories.{released_in}
+use Rattle.law_played.specs.Holds.{AreHeld, uncommitted}
+use Rattle.law_played.specs.Played.{FitsWhere, end_of}
+use Rattle.law_played.specs.Progress.{HasPlayed, ShowsWhatIsWritten, held_shown, is_time}
+use Rattle.law_played.specs.Runs.{final_values}
+use Rattle.law_played.specs.Stages.{bare_round, round_at_end, told_of}
+use Rattle.law_played.specs.Stopping.{stuck_among}
+use Rattle.law_played.specs.Telling.{AreReleases}
+use Rattle.law_played.specs.Turns.{DrawAfterOwed}
+use Rattle.law_played.specs.Vsyncs.{commits_in, vsyncs_in}
 use Rattle.sf_play.proofs.Compositing.{arrived_rises, taken_now}
 use Rattle.sf_play.proofs.Leasing.{OfFrames}
 use Rattle.sf_play.proofs.Ledging.{IsLegalDesk}

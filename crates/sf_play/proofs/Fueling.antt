@@ -12,8 +12,8 @@ use Rattle.sf_picture.specs.declared.picture.Picture.{Picture}
 use Rattle.sf_surface.specs.Tokens.{ReadLeaseOf}
 use Rattle.sf_token.specs.Pending.{Arrival}
 use Rattle.sf_txn.specs.Transactions.{Contents}
-use Rattle.sf_scene.specs.declared.step.ActorScript.{ActorScript}
-use Rattle.sf_scene.specs.declared.step.Step.{Step}
+use Rattle.sf_script_scene.specs.declared.step.ActorScript.{ActorScript}
+use Rattle.sf_script_scene.specs.declared.step.Step.{Step}
 use Rattle.sf_actor.specs.declared.done.Answered.{Answered}
 use Rattle.sf_actor.specs.declared.done.Answered.TheVariants as answered
 use Rattle.sf_actor.specs.declared.done.Done.{Done}
@@ -25,10 +25,10 @@ use Rattle.sf_actor.specs.Steps.{sent_by}
 use Rattle.sf_actor.specs.Tales.{sent_as, step_done}
 use Rattle.sf_actor.specs.Traces.{DoneAt, Past, SentStep, next, no_past, places_from, places_of, sends_of, sent_at, sent_with}
 use Rattle.sf_actor.specs.Tries.{ActorOf, Keeps}
-use Rattle.sf_steps.specs.declared.actor.Actor.{Actor}
+use Rattle.sf_actor_steps.specs.declared.actor.Actor.{Actor}
 use Rattle.sf_actor_set.specs.ActorSets.{KeepAs, StepsAt}
-use Rattle.sf_run.proofs.Members.{has_first, has_later}
-use Rattle.sf_run.proofs.Bringing.{any_passes}
+use Rattle.law_played.proofs.Members.{has_first, has_later}
+use Rattle.law_played.proofs.Bringing.{any_passes}
 use Rattle.sf_play.specs.Fuel.{now_in, steps_left, to_commit, untaken, wait_left, work_left}
 use Rattle.sf_play.specs.Players.{PlayOf, home_in, view_in}
 

@@ -6,23 +6,23 @@ use Rattle.atomic_table.specs.Seated.{TableId}
 use Rattle.sf_surface.specs.Tokens.{Issued, ReadLeaseOf}
 use Rattle.sf_turns.specs.Views.{SeatView}
 use Rattle.sf_txn.specs.declared.lease.Lease.{Ghosts}
-use Rattle.sf_scene.specs.Scene.{SceneValue}
-use Rattle.sf_scene.specs.declared.declarations.Pick.{Pick}
+use Rattle.sf_script_scene.specs.Scene.{SceneValue}
+use Rattle.sf_script_scene.specs.declared.declarations.Pick.{Pick}
 use Rattle.sf_actor.specs.declared.tried.Stepped.{Stepped}
 use Rattle.sf_actor.specs.declared.tried.Stepped.TheVariants as stepped
 use Rattle.sf_actor.specs.Tries.{ActorOf}
 use Rattle.sf_actor_set.specs.ActorSets.{number_of}
-use Rattle.sf_steps.specs.declared.actor.Actor.{Actor}
-use Rattle.sf_run.proofs.Stopping.{are_stuck}
-use Rattle.sf_run.specs.Actors.{mark_declared}
-use Rattle.sf_run.specs.Arrivals.{entry_of}
-use Rattle.sf_run.specs.Ends.{shows_of}
-use Rattle.sf_run.specs.Histories.{history_shown, rising_queues}
-use Rattle.sf_run.specs.Played.{FitsWhere, records_of}
-use Rattle.sf_run.specs.Progress.{held_shown}
-use Rattle.sf_run.specs.Stopping.{stuck_among}
-use Rattle.sf_rights.specs.Vsyncs.{IsOfTurns}
-use Rattle.sf_report.specs.declared.report.VsyncReport.{VsyncReport}
+use Rattle.sf_actor_steps.specs.declared.actor.Actor.{Actor}
+use Rattle.law_played.proofs.Stopping.{are_stuck}
+use Rattle.law_played.specs.Actors.{mark_declared}
+use Rattle.law_played.specs.Arrivals.{entry_of}
+use Rattle.law_played.specs.Ends.{shows_of}
+use Rattle.law_played.specs.Histories.{history_shown, rising_queues}
+use Rattle.law_played.specs.Played.{FitsWhere, records_of}
+use Rattle.law_played.specs.Progress.{held_shown}
+use Rattle.law_played.specs.Stopping.{stuck_among}
+use Rattle.law_rights.specs.Vsyncs.{IsOfTurns}
+use Rattle.sf_play_report.specs.declared.report.VsyncReport.{VsyncReport}
 use Rattle.sf_play.proofs.AlongEnds.{ends_play}
 use Rattle.sf_play.proofs.AlongNext.{StageTold, PlaysOn, WasAlong, turns_on}
 use Rattle.sf_play.proofs.Happening.{ends_run, may_turn, nothing_happens}

@@ -13,23 +13,23 @@ use Rattle.sf_surface.specs.Tokens.{Issued, ReadLeaseOf}
 use Rattle.sf_token.specs.Arrivals.{Calls, sent}
 use Rattle.sf_turns.specs.Views.{SeatView}
 use Rattle.sf_txn.specs.declared.lease.Lease.{Ghosts}
-use Rattle.sf_scene.specs.Limits.{IsActor, IsPick, most_actors}
-use Rattle.sf_scene.specs.Scene.{SceneValue}
-use Rattle.sf_scene.specs.declared.declarations.Pick.{Pick}
-use Rattle.sf_scene.specs.declared.step.ActorScript.{ActorScript}
+use Rattle.sf_script_scene.specs.Limits.{IsActor, IsPick, most_actors}
+use Rattle.sf_script_scene.specs.Scene.{SceneValue}
+use Rattle.sf_script_scene.specs.declared.declarations.Pick.{Pick}
+use Rattle.sf_script_scene.specs.declared.step.ActorScript.{ActorScript}
 use Rattle.sf_actor.specs.Desks.{DeskHome, DeskView, KnowsAll}
 use Rattle.sf_actor.specs.Known.{plain_arrival}
 use Rattle.sf_actor.specs.Plain.{taken_in}
 use Rattle.sf_actor.specs.Tries.{ActorOf}
 use Rattle.sf_actor.specs.Scripts.{picture_at}
 use Rattle.sf_actor_set.specs.ActorSets.{KeepAs}
-use Rattle.sf_steps.specs.declared.actor.Actor.{Actor}
-use Rattle.sf_run.proofs.Keeping.{of_all}
-use Rattle.sf_run.proofs.Members.{has_map}
-use Rattle.sf_run.proofs.Parts.{map_twice}
-use Rattle.sf_run.specs.Actors.{script_of}
-use Rattle.sf_run.specs.Played.{FitsWhere}
-use Rattle.sf_run.specs.Turns.{DrawAfterOwed}
+use Rattle.sf_actor_steps.specs.declared.actor.Actor.{Actor}
+use Rattle.law_played.proofs.Keeping.{of_all}
+use Rattle.law_played.proofs.Members.{has_map}
+use Rattle.law_played.proofs.Parts.{map_twice}
+use Rattle.law_played.specs.Actors.{script_of}
+use Rattle.law_played.specs.Played.{FitsWhere}
+use Rattle.law_played.specs.Turns.{DrawAfterOwed}
 use Rattle.sf_play.proofs.Ending.{fits_at_end}
 use Rattle.sf_play.proofs.Lasting.{few_actors, vsyncs_fit}
 use Rattle.sf_play.proofs.Ledging.{IsLegalDesk}

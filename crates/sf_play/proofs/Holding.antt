@@ -6,14 +6,14 @@ use Rattle.sf_tree.specs.Trees.{TreeOf}
 use Rattle.sf_commit.specs.OnLayers.{OnLayer}
 use Rattle.sf_commit.specs.Rounds.{Leads, held}
 use Rattle.sf_commit.specs.declared.vsync.Commit.{Commit as Decided}
-use Rattle.sf_scene.specs.Scene.{SceneValue}
+use Rattle.sf_script_scene.specs.Scene.{SceneValue}
 use Rattle.sf_actor.specs.Names.{FrameOf}
-use Rattle.sf_run.proofs.PathLemmas.{commits_along, told_along}
-use Rattle.sf_run.proofs.RoundEnd.{begins_bare, round_same, world_bare}
-use Rattle.sf_run.specs.Commits.{is_written}
-use Rattle.sf_run.specs.Ends.{held_in}
-use Rattle.sf_run.specs.Runs.{final_values, written_in}
-use Rattle.sf_run.specs.Worlds.{IsPlaysVsync, World, after_vsync, round_now}
+use Rattle.law_played.proofs.PathLemmas.{commits_along, told_along}
+use Rattle.law_played.proofs.RoundEnd.{begins_bare, round_same, world_bare}
+use Rattle.law_played.specs.Commits.{is_written}
+use Rattle.law_played.specs.Ends.{held_in}
+use Rattle.law_played.specs.Runs.{final_values, written_in}
+use Rattle.law_played.specs.Worlds.{IsPlaysVsync, World, after_vsync, round_now}
 
 module _ (scene : SceneValue) (world : World) (commits : List Decided) (tree : TreeOf) (gone : List (OnLayer FrameOf)) (holds : List (ℕ × Hold)) (v : IsPlaysVsync scene world commits tree gone holds) where
   nothing_told : (taken : List (Arrival FrameOf)) → told_along (round_now scene world) taken ≡ []

@@ -21,9 +21,9 @@ use Rattle.sf_commit.specs.Handlers.{Decides}
 use Rattle.sf_commit.specs.Leases.{ShowsLease}
 use Rattle.sf_commit.specs.OnLayers.{OnLayer}
 use Rattle.sf_commit.specs.Releases.{ReleaseOf, VsyncOf}
-use Rattle.sf_scene.specs.Limits.{IsWithinLimits}
-use Rattle.sf_scene.specs.Scene.{SceneValue}
-use Rattle.sf_scene.specs.declared.step.ActorScript.{ActorScript}
+use Rattle.sf_script_scene.specs.Limits.{IsWithinLimits}
+use Rattle.sf_script_scene.specs.Scene.{SceneValue}
+use Rattle.sf_script_scene.specs.declared.step.ActorScript.{ActorScript}
 use Rattle.sf_actor.specs.Desks.{DeskHome, DeskView, KnowsAll, has_queue, mark_among}
 use Rattle.sf_actor.specs.Known.{frame_of}
 use Rattle.sf_actor.specs.Plain.{PlainOf, calls_among, home_of, taken_in, view_of}
@@ -32,22 +32,22 @@ use Rattle.sf_actor.specs.Scripts.{picture_at}
 use Rattle.sf_actor.specs.Tries.{ActorOf}
 use Rattle.sf_actor.specs.Written as written
 use Rattle.sf_actor_set.proofs.ArrivalLemmas.{sent_is, waiting_many}
-use Rattle.sf_run.proofs.LeaseLemmas.{looks_tell_all}
-use Rattle.sf_run.proofs.Members.{has_here, has_later, has_none}
-use Rattle.sf_run.proofs.Rising.{rising_actors_are}
-use Rattle.sf_run.proofs.Tracing.{trace_here}
-use Rattle.sf_run.specs.Actors.{AreActors, run_of, script_of, trace_among}
-use Rattle.sf_run.specs.Commits.{is_written}
-use Rattle.sf_run.specs.Progress.{ShowsWhatIsWritten}
-use Rattle.sf_run.specs.Runs.{written_in}
-use Rattle.sf_rights.specs.Actors.{AreOver}
-use Rattle.sf_rights.specs.Looks.{WasAcquired}
-use Rattle.sf_rights.specs.Standing.{GiveAll, LedgerStands, VsyncIn, home_taken}
-use Rattle.sf_rights.specs.PlaceTries.{TellsPlaces}
-use Rattle.sf_rights.specs.States.{is_queue}
-use Rattle.sf_rights.specs.Vsyncs.{IsOfTurns}
-use Rattle.sf_rights.proofs.Standing.{vsync_stands}
-use Rattle.sf_rights.proofs.Stocking.{stands_look}
+use Rattle.law_played.proofs.LeaseLemmas.{looks_tell_all}
+use Rattle.law_played.proofs.Members.{has_here, has_later, has_none}
+use Rattle.law_played.proofs.Rising.{rising_actors_are}
+use Rattle.law_played.proofs.Tracing.{trace_here}
+use Rattle.law_played.specs.Actors.{AreActors, run_of, script_of, trace_among}
+use Rattle.law_played.specs.Commits.{is_written}
+use Rattle.law_played.specs.Progress.{ShowsWhatIsWritten}
+use Rattle.law_played.specs.Runs.{written_in}
+use Rattle.law_rights.specs.Actors.{AreOver}
+use Rattle.law_rights.specs.Looks.{WasAcquired}
+use Rattle.law_rights.specs.Standing.{GiveAll, LedgerStands, VsyncIn, home_taken}
+use Rattle.law_rights.specs.PlaceTries.{TellsPlaces}
+use Rattle.law_rights.specs.States.{is_queue}
+use Rattle.law_rights.specs.Vsyncs.{IsOfTurns}
+use Rattle.law_rights.proofs.Standing.{vsync_stands}
+use Rattle.law_rights.proofs.Stocking.{stands_look}
 use Rattle.sf_play.proofs.Compositing.{arrived_is, calls_same, came, gives_now, home_now, sent_same, taken_all}
 use Rattle.sf_play.proofs.Leasing.{IsArrivedLent, OfFrames, looked_all}
 use Rattle.sf_play.specs.Giving.{GivesFrames}

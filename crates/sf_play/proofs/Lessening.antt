@@ -9,19 +9,19 @@ use Rattle.sf_surface.specs.Tokens.{ReadLeaseOf}
 use Rattle.sf_turns.specs.Views.{SeatView}
 use Rattle.sf_txn.specs.declared.lease.Lease.{Ghosts}
 use Rattle.sf_commit.specs.declared.vsync.Commit.{Commit}
-use Rattle.sf_scene.specs.declared.declarations.Pick.{Pick}
-use Rattle.sf_steps.specs.declared.actor.Actor.{Actor}
+use Rattle.sf_script_scene.specs.declared.declarations.Pick.{Pick}
+use Rattle.sf_actor_steps.specs.declared.actor.Actor.{Actor}
 use Rattle.sf_actor.specs.declared.tried.Stepped.{Stepped}
 use Rattle.sf_actor.specs.declared.tried.Stepped.TheVariants as stepped
 use Rattle.sf_actor.specs.Desks.{DeskView}
 use Rattle.sf_actor.specs.Scripts.{picture_at}
 use Rattle.sf_actor.specs.Tries.{ActorOf}
 use Rattle.sf_actor_set.specs.ActorSets.{StepsAt, number_of}
-use Rattle.sf_run.specs.Progress.{is_time}
+use Rattle.law_played.specs.Progress.{is_time}
 use Rattle.sf_play.specs.Fuel.{fuel, rounds_left, vsyncs_left, work_left}
 use Rattle.sf_play.specs.Places.{settled}
 use Rattle.sf_play.specs.Players.{PlayOf, PlayerOf, home_in, view_in}
-use Rattle.sf_report.specs.Reports.{has_commits}
+use Rattle.sf_play_report.specs.Reports.{has_commits}
 use Rattle.sf_play.specs.Turning.{EndsRound, GoesRound, KeepsActorSet, Picks, Rounds, RoundsIf, TakesPick, TriesIf, TriesStep, Turns, TurnsAt, TurnsVsync, goes_on, is_step, turn_by}
 use Rattle.sf_play.specs.declared.place.Place.{Place}
 use Rattle.sf_play.specs.declared.place.Place.TheVariants as at

@@ -9,26 +9,26 @@ use Rattle.sf_turns.specs.Counts.{IsExact}
 use Rattle.sf_turns.specs.Views.{SeatView}
 use Rattle.sf_txn.specs.declared.lease.Lease.{Ghosts}
 use Rattle.sf_commit.specs.Releases.{VsyncOf}
-use Rattle.sf_scene.specs.Scene.{SceneValue}
+use Rattle.sf_script_scene.specs.Scene.{SceneValue}
 use Rattle.sf_actor.specs.declared.tried.Stepped.{Stepped}
 use Rattle.sf_actor.specs.Desks.{DeskHome, KnowsAll}
 use Rattle.sf_actor.specs.Plain.{home_of, view_of}
 use Rattle.sf_actor.specs.Scripts.{picture_at}
 use Rattle.sf_actor.specs.Tries.{ActorOf}
 use Rattle.sf_actor_set.specs.ActorSets.{ActorSetOf, IsSameActorSet, StepsAt}
-use Rattle.sf_run.specs.Stepping.{TellsFirst}
-use Rattle.sf_run.specs.Stopping.{TellsOlder}
-use Rattle.sf_run.specs.Turns.{DrawAfterOwed, calls_in}
-use Rattle.sf_rights.proofs.FirstLemmas.{tells_first}
-use Rattle.sf_rights.proofs.InTurnEnd.{draw_after_owed}
-use Rattle.sf_rights.proofs.InTurnSteps.{step_in_turn, vsync_in_turn}
-use Rattle.sf_rights.proofs.MakersPlayed.{step_makers, vsync_makers}
-use Rattle.sf_rights.proofs.MakersTelling.{makers_tell}
-use Rattle.sf_rights.proofs.OlderLemmas.{tells_older}
-use Rattle.sf_rights.specs.InTurn.{DrawsStand}
-use Rattle.sf_rights.specs.MakerRuns.{MakersPlay}
-use Rattle.sf_rights.specs.Standing.{state_of}
-use Rattle.sf_rights.specs.Vsyncs.{IsOfTurns}
+use Rattle.law_played.specs.Stepping.{TellsFirst}
+use Rattle.law_played.specs.Stopping.{TellsOlder}
+use Rattle.law_played.specs.Turns.{DrawAfterOwed, calls_in}
+use Rattle.law_rights.proofs.FirstLemmas.{tells_first}
+use Rattle.law_rights.proofs.InTurnEnd.{draw_after_owed}
+use Rattle.law_rights.proofs.InTurnSteps.{step_in_turn, vsync_in_turn}
+use Rattle.law_rights.proofs.MakersPlayed.{step_makers, vsync_makers}
+use Rattle.law_rights.proofs.MakersTelling.{makers_tell}
+use Rattle.law_rights.proofs.OlderLemmas.{tells_older}
+use Rattle.law_rights.specs.InTurn.{DrawsStand}
+use Rattle.law_rights.specs.MakerRuns.{MakersPlay}
+use Rattle.law_rights.specs.Standing.{state_of}
+use Rattle.law_rights.specs.Vsyncs.{IsOfTurns}
 use Rattle.sf_play.proofs.Leasing.{OfFrames}
 use Rattle.sf_play.proofs.Ledging.{IsLegalDesk, TellsAll, are_over, home_then, none_absent, vsync_in}
 use Rattle.sf_play.specs.Players.{PlayOf, SoFar, Stands, home_in, run_so, view_in}

@@ -5,12 +5,12 @@ use Rattle.sf_picture.specs.declared.picture.Picture.{Picture}
 use Rattle.sf_surface.specs.Tokens.{Issued, ReadLeaseOf}
 use Rattle.sf_turns.specs.Views.{SeatView}
 use Rattle.sf_txn.specs.declared.lease.Lease.{Ghosts}
-use Rattle.sf_scene.specs.Scene.{SceneValue}
+use Rattle.sf_script_scene.specs.Scene.{SceneValue}
 use Rattle.sf_actor.specs.Plain.{home_of, view_of}
 use Rattle.sf_actor.specs.Scripts.{picture_at}
 use Rattle.sf_actor.specs.Tries.{ActorOf}
 use Rattle.sf_actor_set.specs.ActorSets.{KeepAs}
-use Rattle.sf_rights.specs.Vsyncs.{IsOfTurns}
+use Rattle.law_rights.specs.Vsyncs.{IsOfTurns}
 use Rattle.sf_play.proofs.Going.{goes_along, goes_on, leaves_less, same_order}
 use Rattle.sf_play.proofs.Telling.{tells_on}
 use Rattle.sf_play.proofs.Leasing.{OfFrames}

@@ -10,19 +10,19 @@ use Rattle.sf_surface.specs.Tokens.{ReadLeaseOf}
 use Rattle.sf_turns.specs.Views.{SeatView}
 use Rattle.sf_txn.specs.declared.lease.Lease.{Ghosts}
 use Rattle.sf_ready.specs.declared.hold.Hold.{Hold}
-use Rattle.sf_run.specs.Progress.{is_time}
-use Rattle.sf_steps.specs.declared.actor.Actor.{Actor}
+use Rattle.law_played.specs.Progress.{is_time}
+use Rattle.sf_actor_steps.specs.declared.actor.Actor.{Actor}
 use Rattle.sf_actor.specs.Tries.{ActorOf}
 use Rattle.sf_actor_set.specs.ActorSets.{number_of}
-use Rattle.sf_scene.specs.declared.declarations.Pick.{Pick}
+use Rattle.sf_script_scene.specs.declared.declarations.Pick.{Pick}
 use Rattle.sf_play.specs.Places.{behind, settled, settled_at}
 use Rattle.sf_play.specs.Players.{PlayerOf}
 use Rattle.sf_play.specs.Playing.{MakesReport}
-use Rattle.sf_report.specs.Reports.{has_commits}
+use Rattle.sf_play_report.specs.Reports.{has_commits}
 use Rattle.sf_play.specs.Turning.{Picks, Rounds, RoundsIf, TakesPick, TriesIf, TriesStep, TurnsAt, TurnsVsync, picked_place}
 use Rattle.sf_play.specs.declared.place.Place.{Place}
 use Rattle.sf_play.specs.declared.place.Place.TheVariants as at
-use Rattle.sf_report.specs.declared.report.VsyncReport.{VsyncReport}
+use Rattle.sf_play_report.specs.declared.report.VsyncReport.{VsyncReport}
 use Rattle.sf_play.specs.declared.turn.Turn.{Turn}
 use Rattle.sf_play.specs.declared.turn.Turn.TheVariants as turn
 

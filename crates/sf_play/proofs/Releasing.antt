@@ -17,21 +17,21 @@ use Rattle.sf_txn.specs.declared.lease.Lease.{Ghosts}
 use Rattle.sf_commit.specs.Leases.{HandsBack, IsReleaseOf}
 use Rattle.sf_commit.specs.OnLayers.{OnLayer}
 use Rattle.sf_commit.specs.Releases.{ReleaseOf}
-use Rattle.sf_scene.specs.Limits.{IsWithinLimits}
-use Rattle.sf_scene.specs.Scene.{SceneValue}
-use Rattle.sf_scene.specs.declared.declarations.QueueDecl.{QueueDecl}
+use Rattle.sf_script_scene.specs.Limits.{IsWithinLimits}
+use Rattle.sf_script_scene.specs.Scene.{SceneValue}
+use Rattle.sf_script_scene.specs.declared.declarations.QueueDecl.{QueueDecl}
 use Rattle.sf_actor.specs.Desks.{DeskHome, DeskView, mark_among}
 use Rattle.sf_actor.specs.Known.{frame_of}
 use Rattle.sf_actor.specs.Names.{FrameOf}
 use Rattle.sf_actor.specs.Tries.{ActorOf}
 use Rattle.sf_record.specs.declared.event.Event.{Event}
-use Rattle.sf_run.proofs.Advancing.{releases_frame}
-use Rattle.sf_run.proofs.LeaseLemmas.{plain_frame}
-use Rattle.sf_run.proofs.Members.{has_later}
-use Rattle.sf_run.specs.Actors.{mark_declared}
-use Rattle.sf_run.specs.Framing.{framed_on}
-use Rattle.sf_run.specs.Histories.{Released}
-use Rattle.sf_run.specs.Telling.{TellRun}
+use Rattle.law_played.proofs.Advancing.{releases_frame}
+use Rattle.law_played.proofs.LeaseLemmas.{plain_frame}
+use Rattle.law_played.proofs.Members.{has_later}
+use Rattle.law_played.specs.Actors.{mark_declared}
+use Rattle.law_played.specs.Framing.{framed_on}
+use Rattle.law_played.specs.Histories.{Released}
+use Rattle.law_played.specs.Telling.{TellRun}
 use Rattle.sf_play.specs.Giving.{GivesFrame, GivesFrames}
 use Rattle.sf_play.proofs.Leasing.{IsOnLent, OfFrames}
 

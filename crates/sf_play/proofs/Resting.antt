@@ -16,8 +16,8 @@ use Rattle.sf_turns.specs.Views.{SeatView}
 use Rattle.sf_txn.specs.declared.lease.Lease.{Ghosts}
 use Rattle.sf_commit.specs.Releases.{ReleaseOf}
 use Rattle.sf_commit.specs.declared.vsync.Commit.{Commit}
-use Rattle.sf_scene.specs.Scene.{SceneValue}
-use Rattle.sf_scene.specs.declared.declarations.Pick.{Pick}
+use Rattle.sf_script_scene.specs.Scene.{SceneValue}
+use Rattle.sf_script_scene.specs.declared.declarations.Pick.{Pick}
 use Rattle.sf_actor.specs.Desks.{DeskHome, DeskView}
 use Rattle.sf_actor.specs.Known.{frame_of, plain_arrival}
 use Rattle.sf_actor.specs.Makers.{Run}
@@ -27,16 +27,16 @@ use Rattle.sf_actor.specs.Tries.{ActorOf, LeavesStep}
 use Rattle.sf_actor.specs.declared.tried.Stepped.{Stepped}
 use Rattle.sf_actor.specs.declared.tried.Stepped.TheVariants as stepped
 use Rattle.sf_actor_set.specs.ActorSets.{KeepAs, StepsAt}
-use Rattle.sf_steps.specs.declared.actor.Actor.{Actor}
-use Rattle.sf_run.proofs.Keeping.{got_has}
-use Rattle.sf_run.proofs.LeaseLemmas.{plain_frame}
-use Rattle.sf_run.proofs.ProgressLemmas.{releases_nothing}
-use Rattle.sf_run.proofs.Stopping.{ended_not_stuck, left_not_ready, run_stays}
-use Rattle.sf_run.specs.Holds.{AreHeld, uncommitted}
-use Rattle.sf_run.specs.Played.{end_of}
-use Rattle.sf_run.specs.Progress.{held_shown, is_time}
-use Rattle.sf_run.specs.Stopping.{TellsOlder}
-use Rattle.sf_run.specs.Vsyncs.{commits_in, vsyncs_in}
+use Rattle.sf_actor_steps.specs.declared.actor.Actor.{Actor}
+use Rattle.law_played.proofs.Keeping.{got_has}
+use Rattle.law_played.proofs.LeaseLemmas.{plain_frame}
+use Rattle.law_played.proofs.ProgressLemmas.{releases_nothing}
+use Rattle.law_played.proofs.Stopping.{ended_not_stuck, left_not_ready, run_stays}
+use Rattle.law_played.specs.Holds.{AreHeld, uncommitted}
+use Rattle.law_played.specs.Played.{end_of}
+use Rattle.law_played.specs.Progress.{held_shown, is_time}
+use Rattle.law_played.specs.Stopping.{TellsOlder}
+use Rattle.law_played.specs.Vsyncs.{commits_in, vsyncs_in}
 use Rattle.sf_play.proofs.Compositing.{arrivals_now, arrived_rises, calls_same, home_now, taken_all}
 use Rattle.sf_play.proofs.Ending.{calls_stand, held_at_end}
 use Rattle.sf_play.proofs.Leasing.{OfFrames}
@@ -44,7 +44,7 @@ use Rattle.sf_play.proofs.Ledging.{IsLegalDesk}
 use Rattle.sf_play.specs.Ending.{IsAtEnd, LooksTell, Rests, RestsAt, has_shown}
 use Rattle.sf_play.specs.Giving.{GivesFrames}
 use Rattle.sf_play.specs.Places.{behind, settled, settled_at}
-use Rattle.sf_report.specs.Reports.{has_commits}
+use Rattle.sf_play_report.specs.Reports.{has_commits}
 use Rattle.sf_play.specs.Players.{PlayOf, PlayerOf, SoFar, Stands, home_in, run_so, taken_at, told_at, view_in, written_so}
 use Rattle.sf_play.specs.Turning.{EndsRound, Rounds, RoundsIf, Turns, TurnsAt, TurnsVsync, is_step, turn_by}
 use Rattle.sf_play.specs.declared.place.Place.{Place}

@@ -11,34 +11,34 @@ use Rattle.sf_turns.specs.Counts.{range, stock_at}
 use Rattle.sf_turns.specs.Views.{SeatView}
 use Rattle.sf_ready.specs.declared.hold.Hold.{Hold}
 use Rattle.sf_commit.specs.Handlers.{HandlerOf, new_handler}
-use Rattle.sf_scene.specs.Limits.{IsWithinLimits, most_layers}
-use Rattle.sf_scene.specs.Scene.{SceneValue, has_queue as has_declared}
-use Rattle.sf_scene.specs.declared.declarations.QueueDecl.{QueueDecl}
-use Rattle.sf_scene.specs.declared.step.ActorScript.{ActorScript}
+use Rattle.sf_script_scene.specs.Limits.{IsWithinLimits, most_layers}
+use Rattle.sf_script_scene.specs.Scene.{SceneValue, has_queue as has_declared}
+use Rattle.sf_script_scene.specs.declared.declarations.QueueDecl.{QueueDecl}
+use Rattle.sf_script_scene.specs.declared.step.ActorScript.{ActorScript}
 use Rattle.sf_actor.specs.Desks.{DeskHome, DeskView, has_queue}
 use Rattle.sf_actor.specs.Plain.{home_of}
 use Rattle.sf_actor.specs.Scripts.{picture_at}
 use Rattle.sf_actor.specs.Tries.{ActorOf}
-use Rattle.sf_steps.specs.Actors.{IsActor}
-use Rattle.sf_steps.specs.Playable.{MayPlay}
-use Rattle.sf_steps.specs.declared.actor.Actor.{Actor}
+use Rattle.sf_actor_steps.specs.Actors.{IsActor}
+use Rattle.sf_actor_steps.specs.Playable.{MayPlay}
+use Rattle.sf_actor_steps.specs.declared.actor.Actor.{Actor}
 use Rattle.sf_actor_set.proofs.OpeningLemmas.{news_scripts}
 use Rattle.sf_actor_set.proofs.PlayingLemmas.{has_opened, may_play}
 use Rattle.sf_actor_set.proofs.RisingLemmas.{rising_differ, sorted_rises}
 use Rattle.sf_actor_set.specs.ActorSets.{ActorSetOf, KeepAs, Opens}
 use Rattle.sf_actor_set.specs.Opening.{new_actors, new_queue}
 use Rattle.sf_actor_set.specs.Scripts.{permits_of}
-use Rattle.sf_run.proofs.Parts.{map_twice}
-use Rattle.sf_run.proofs.Rising.{rising_queues_are}
-use Rattle.sf_run.specs.Actors.{mark_declared}
-use Rattle.sf_run.specs.Histories.{queue_number, rising_queues}
-use Rattle.sf_run.specs.Turns.{calls_in}
-use Rattle.sf_rights.proofs.InTurnBeginning.{draws_begin}
-use Rattle.sf_rights.proofs.MakersBeginning.{makers_begin}
-use Rattle.sf_rights.proofs.Starting.{begins_standing}
-use Rattle.sf_rights.specs.Standing.{stock_of}
-use Rattle.sf_rights.specs.Standing.{Begins as RightsBegin}
-use Rattle.sf_rights.specs.States.{AreApart}
+use Rattle.law_played.proofs.Parts.{map_twice}
+use Rattle.law_played.proofs.Rising.{rising_queues_are}
+use Rattle.law_played.specs.Actors.{mark_declared}
+use Rattle.law_played.specs.Histories.{queue_number, rising_queues}
+use Rattle.law_played.specs.Turns.{calls_in}
+use Rattle.law_rights.proofs.InTurnBeginning.{draws_begin}
+use Rattle.law_rights.proofs.MakersBeginning.{makers_begin}
+use Rattle.law_rights.proofs.Starting.{begins_standing}
+use Rattle.law_rights.specs.Standing.{stock_of}
+use Rattle.law_rights.specs.Standing.{Begins as RightsBegin}
+use Rattle.law_rights.specs.States.{AreApart}
 use Rattle.sf_play.proofs.AlongEnds.{begins_along}
 use Rattle.sf_play.proofs.Beginning.{arrivals_none, calls_none, nothing, stands_at_first}
 use Rattle.sf_play.proofs.Happening.{begins_stand}

@@ -9,13 +9,13 @@ use Rattle.sf_base.proofs.PointLemmas.{has_le}
 use Rattle.sf_base.specs.Fences.{value_of}
 use Rattle.sf_base.specs.Points.{greatest, value_at}
 use Rattle.sf_base.specs.declared.fences.Seen.{Seen}
-use Rattle.sf_scene.specs.Limits.{EachStep, IsWithinLimits, most_actors}
-use Rattle.sf_scene.specs.Named.{KnowsTimelines}
-use Rattle.sf_scene.specs.Ranges.{IsTimeline}
-use Rattle.sf_scene.specs.Scene.{SceneValue, has_timeline}
-use Rattle.sf_scene.specs.declared.step.ActorScript.{ActorScript}
-use Rattle.sf_scene.specs.declared.step.Step.{Step}
-use Rattle.sf_scene.specs.declared.step.Step.TheVariants as step
+use Rattle.sf_script_scene.specs.Limits.{EachStep, IsWithinLimits, most_actors}
+use Rattle.sf_script_scene.specs.Named.{KnowsTimelines}
+use Rattle.sf_script_scene.specs.Ranges.{IsTimeline}
+use Rattle.sf_script_scene.specs.Scene.{SceneValue, has_timeline}
+use Rattle.sf_script_scene.specs.declared.step.ActorScript.{ActorScript}
+use Rattle.sf_script_scene.specs.declared.step.Step.{Step}
+use Rattle.sf_script_scene.specs.declared.step.Step.TheVariants as step
 use Rattle.sf_actor.specs.Desks.{DeskHome, DeskView}
 use Rattle.sf_actor.specs.Known.{AreAmong}
 use Rattle.sf_actor.specs.Tales.{step_done}
@@ -24,14 +24,14 @@ use Rattle.sf_actor.specs.Written.{signal_of, signals_of}
 use Rattle.sf_actor.specs.declared.done.Done.{Done}
 use Rattle.sf_record.specs.declared.event.VsyncReport.{VsyncReport}
 use Rattle.sf_record.specs.declared.record.TimelineValue.{TimelineValue}
-use Rattle.sf_run.proofs.Members.{filter_has, has_cases, has_first, has_here, has_later, has_map, has_none, joined_has, map_has}
-use Rattle.sf_run.proofs.SeenLemmas.{seen_is}
-use Rattle.sf_run.proofs.Tracing.{played_by, trace_here}
-use Rattle.sf_run.specs.Actors.{AreActors, run_of, trace_among}
-use Rattle.sf_run.specs.Commits.{seen_by}
-use Rattle.sf_run.specs.Seeing.{value_shown}
-use Rattle.sf_run.specs.Runs.{actor_number, rising_actors, signals_in}
-use Rattle.sf_run.specs.Vsyncs.{AllNext, AllNextTo, AreVsyncs, GoesOn, HasNotFallen, WasSignalled, rising_timelines, timeline_of}
+use Rattle.law_played.proofs.Members.{filter_has, has_cases, has_first, has_here, has_later, has_map, has_none, joined_has, map_has}
+use Rattle.law_played.proofs.SeenLemmas.{seen_is}
+use Rattle.law_played.proofs.Tracing.{played_by, trace_here}
+use Rattle.law_played.specs.Actors.{AreActors, run_of, trace_among}
+use Rattle.law_played.specs.Commits.{seen_by}
+use Rattle.law_played.specs.Seeing.{value_shown}
+use Rattle.law_played.specs.Runs.{actor_number, rising_actors, signals_in}
+use Rattle.law_played.specs.Vsyncs.{AllNext, AllNextTo, AreVsyncs, GoesOn, HasNotFallen, WasSignalled, rising_timelines, timeline_of}
 use Rattle.sf_play.specs.Showing.{values_shown}
 
 -- the greatest value of a number is one of its points, where it is not 0

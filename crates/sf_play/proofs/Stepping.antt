@@ -12,8 +12,8 @@ use Rattle.sf_surface.specs.declared.mark.QueueMark.{QueueMark}
 use Rattle.sf_surface.specs.Histories.{Made}
 use Rattle.sf_surface.specs.Tokens.{ReadLeaseOf}
 use Rattle.sf_token.specs.Pending.{Arrival}
-use Rattle.sf_scene.specs.Scene.{SceneValue, has_queue}
-use Rattle.sf_scene.specs.declared.declarations.QueueDecl.{QueueDecl}
+use Rattle.sf_script_scene.specs.Scene.{SceneValue, has_queue}
+use Rattle.sf_script_scene.specs.declared.declarations.QueueDecl.{QueueDecl}
 use Rattle.sf_actor.specs.declared.tried.Reply.{Reply}
 use Rattle.sf_actor.specs.declared.tried.Stepped.TheVariants as stepped
 use Rattle.sf_actor.specs.Desks.{DeskHome, DeskView, known_of, mark_among}
@@ -23,27 +23,27 @@ use Rattle.sf_actor.specs.Plain.{home_of, view_of}
 use Rattle.sf_actor.specs.Scripts.{picture_at}
 use Rattle.sf_actor.specs.Tries.{ActorOf, DoesStep, Keeps, LeavesStep}
 use Rattle.sf_actor_set.specs.ActorSets.{ActorSetOf, IsSameActorSet, KeepAs, StepsAt}
-use Rattle.sf_steps.specs.declared.actor.Actor.{Actor}
+use Rattle.sf_actor_steps.specs.declared.actor.Actor.{Actor}
 use Rattle.sf_record.specs.declared.event.Event.{Event}
 use Rattle.sf_record.specs.declared.event.Event.TheVariants as event
 use Rattle.sf_record.specs.declared.event.VsyncReport.{VsyncReport}
 use Rattle.sf_record.specs.declared.record.TimelineValue.{TimelineValue}
-use Rattle.sf_run.specs.Actors.{arrivals_of, mark_declared, number_of, run_of}
-use Rattle.sf_run.specs.Frames.{ShowImages}
-use Rattle.sf_run.specs.Histories.{released_in}
-use Rattle.sf_run.specs.Progress.{AreWrittenToo, HasPlayed}
-use Rattle.sf_run.specs.Replies.{reply_shown}
-use Rattle.sf_run.specs.Runs.{signals_in}
-use Rattle.sf_run.specs.Stages.{VsyncAt, told_of}
-use Rattle.sf_run.specs.Telling.{TellRun}
-use Rattle.sf_run.specs.Vsyncs.{AreVsyncs, WasSignalled, vsync_in, vsyncs_in}
-use Rattle.sf_run.proofs.Advancing.{does_step, leaves_step, not_none}
-use Rattle.sf_run.proofs.Going.{written_kept}
-use Rattle.sf_run.proofs.Keeping.{Replaces, got_has, signals_more}
-use Rattle.sf_run.proofs.KeepingLemmas.{played_too}
-use Rattle.sf_run.proofs.Members.{has_map}
-use Rattle.sf_run.proofs.AsQueued.{one_passes}
-use Rattle.sf_run.proofs.Bringing.{any_passes}
+use Rattle.law_played.specs.Actors.{arrivals_of, mark_declared, number_of, run_of}
+use Rattle.law_played.specs.Frames.{ShowImages}
+use Rattle.law_played.specs.Histories.{released_in}
+use Rattle.law_played.specs.Progress.{AreWrittenToo, HasPlayed}
+use Rattle.law_played.specs.Replies.{reply_shown}
+use Rattle.law_played.specs.Runs.{signals_in}
+use Rattle.law_played.specs.Stages.{VsyncAt, told_of}
+use Rattle.law_played.specs.Telling.{TellRun}
+use Rattle.law_played.specs.Vsyncs.{AreVsyncs, WasSignalled, vsync_in, vsyncs_in}
+use Rattle.law_played.proofs.Advancing.{does_step, leaves_step, not_none}
+use Rattle.law_played.proofs.Going.{written_kept}
+use Rattle.law_played.proofs.Keeping.{Replaces, got_has, signals_more}
+use Rattle.law_played.proofs.KeepingLemmas.{played_too}
+use Rattle.law_played.proofs.Members.{has_map}
+use Rattle.law_played.proofs.AsQueued.{one_passes}
+use Rattle.law_played.proofs.Bringing.{any_passes}
 use Rattle.sf_play.proofs.Leasing.{arrived_lent_on, on_lent_on}
 use Rattle.sf_play.specs.Players.{IsOfScene, PlayOf, SoFar, Stands, signals_so, taken_at, told_at, written_so}
 

@@ -6,14 +6,14 @@ use Rattle.std.proofs.lemmas.Bool.{cases_eq, eq-eqb, ne_eqb}
 use Rattle.std.proofs.lemmas.List.Elements.{All-cons, All-head, All-nil, All-tail}
 use Rattle.sf_surface.specs.Objects.{mark_of}
 use Rattle.sf_turns.specs.Counts.{range, stock_at}
-use Rattle.sf_scene.specs.declared.declarations.QueueDecl.{QueueDecl}
-use Rattle.sf_scene.specs.declared.step.ActorScript.{ActorScript}
+use Rattle.sf_script_scene.specs.declared.declarations.QueueDecl.{QueueDecl}
+use Rattle.sf_script_scene.specs.declared.step.ActorScript.{ActorScript}
 use Rattle.sf_actor.specs.Tries.{dequeues_in}
 use Rattle.sf_actor_set.specs.Opening.{new_actors, new_queue}
-use Rattle.sf_run.proofs.Members.{has_cases, has_none}
-use Rattle.sf_run.specs.Histories.{queue_number}
-use Rattle.sf_rights.specs.Standing.{IsFresh, stock_of}
-use Rattle.sf_rights.specs.States.{AreApart, is_queue}
+use Rattle.law_played.proofs.Members.{has_cases, has_none}
+use Rattle.law_played.specs.Histories.{queue_number}
+use Rattle.law_rights.specs.Standing.{IsFresh, stock_of}
+use Rattle.law_rights.specs.States.{AreApart, is_queue}
 
 stock_append : (number : ℕ) (xs ys : List ℕ) → stock_at number (xs ++ ys) ≡ stock_at number xs + stock_at number ys
 stock_append number [] ys = omega arith

@@ -12,8 +12,8 @@ use Rattle.sf_turns.specs.Views.{SeatView}
 use Rattle.sf_txn.specs.declared.lease.Lease.{Ghosts}
 use Rattle.sf_commit.specs.Releases.{VsyncOf}
 use Rattle.sf_commit.specs.declared.vsync.Commit.{Commit as Decided}
-use Rattle.sf_scene.specs.Scene.{SceneValue}
-use Rattle.sf_scene.specs.declared.step.ActorScript.{ActorScript}
+use Rattle.sf_script_scene.specs.Scene.{SceneValue}
+use Rattle.sf_script_scene.specs.declared.step.ActorScript.{ActorScript}
 use Rattle.sf_actor.specs.declared.tried.Stepped.{Stepped}
 use Rattle.sf_actor.specs.declared.tried.Stepped.TheVariants as stepped
 use Rattle.sf_actor.specs.Desks.{DeskHome, DeskView, KnowsAll}
@@ -21,25 +21,25 @@ use Rattle.sf_actor.specs.Known.{frame_of}
 use Rattle.sf_actor.specs.Plain.{taken_in}
 use Rattle.sf_actor.specs.Scripts.{picture_at}
 use Rattle.sf_actor.specs.Tries.{ActorOf}
-use Rattle.sf_steps.specs.Actors.{IsActor}
-use Rattle.sf_steps.specs.Playable.{MayPlay}
-use Rattle.sf_steps.specs.declared.actor.Actor.{Actor}
+use Rattle.sf_actor_steps.specs.Actors.{IsActor}
+use Rattle.sf_actor_steps.specs.Playable.{MayPlay}
+use Rattle.sf_actor_steps.specs.declared.actor.Actor.{Actor}
 use Rattle.sf_actor_set.proofs.CompositingLemmas.{taken_plays}
 use Rattle.sf_actor_set.specs.ActorSets.{ActorSetOf, IsSameActorSet, KeepAs, StepsAt, scripts_of}
 use Rattle.sf_record.specs.declared.event.Event.TheVariants as event
-use Rattle.sf_run.specs.Progress.{ShowsWhatIsWritten, WroteWhatShows}
-use Rattle.sf_rights.proofs.Played.{step_stands}
-use Rattle.sf_rights.specs.InTurn.{DrawsStand}
-use Rattle.sf_rights.specs.MakerRuns.{MakersPlay}
-use Rattle.sf_rights.specs.Standing.{LedgerStands}
-use Rattle.sf_rights.specs.Vsyncs.{IsOfTurns}
+use Rattle.law_played.specs.Progress.{ShowsWhatIsWritten, WroteWhatShows}
+use Rattle.law_rights.proofs.Played.{step_stands}
+use Rattle.law_rights.specs.InTurn.{DrawsStand}
+use Rattle.law_rights.specs.MakerRuns.{MakersPlay}
+use Rattle.law_rights.specs.Standing.{LedgerStands}
+use Rattle.law_rights.specs.Vsyncs.{IsOfTurns}
 use Rattle.sf_play.proofs.Compositing.{home_now, shown, stands_shown, stands_silent, whole}
 use Rattle.sf_play.proofs.Leasing.{OfFrames}
 use Rattle.sf_play.proofs.Ledging.{IsLegalDesk, TellsAll, are_over, ledger_vsync, looks_written}
 use Rattle.sf_play.proofs.Makers.{draws_tried, draws_vsync, makers_tried, makers_vsync}
 use Rattle.sf_play.proofs.Stepping.{later_so, same_ended, same_left, stands_done, stands_ended, stands_waiting}
-use Rattle.sf_report.specs.Reports.{has_commits}
-use Rattle.sf_report.specs.declared.report.VsyncReport.{VsyncReport}
+use Rattle.sf_play_report.specs.Reports.{has_commits}
+use Rattle.sf_play_report.specs.declared.report.VsyncReport.{VsyncReport}
 use Rattle.sf_play.specs.Happening.{Happens, VsyncHappens}
 use Rattle.sf_play.specs.Players.{PlayOf, SoFar, Stands, home_in, view_in, written_so}
 use Rattle.sf_play.specs.Playing.{KeepsRights}

@@ -22,12 +22,12 @@ use Rattle.sf_commit.specs.Handlers.{Decides, HandlerOf, last_of}
 use Rattle.sf_commit.specs.Leases.{IsReleaseOf}
 use Rattle.sf_commit.specs.OnLayers.{OnLayer}
 use Rattle.sf_commit.specs.Releases.{ReleaseOf, VsyncOf}
-use Rattle.sf_scene.specs.Scene.{SceneValue}
+use Rattle.sf_script_scene.specs.Scene.{SceneValue}
 use Rattle.sf_actor.specs.Desks.{DeskHome, MadeCall, has_queue}
 use Rattle.sf_actor.specs.Plain.{PlainOf, calls_among, home_of, taken_in, view_of}
 use Rattle.sf_actor_set.specs.ActorSets.{ActorSetOf}
 use Rattle.sf_actor_set.specs.Compositing.{OnlyDesk, Takes}
-use Rattle.sf_run.proofs.Members.{has_none}
+use Rattle.law_played.proofs.Members.{has_none}
 use Rattle.sf_play.specs.Giving.{GivesFrames}
 use Rattle.sf_play.specs.Players.{PlayOf, SoFar, Stands}
 use Rattle.sf_play.proofs.Compositing.{arrived_lent, arrived_rises, only_twice}

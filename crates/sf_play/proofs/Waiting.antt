@@ -24,9 +24,9 @@ use Rattle.sf_commit.specs.Releases.{VsyncOf}
 use Rattle.sf_tree.specs.Changes.{Rejection, after}
 use Rattle.sf_tree.specs.Trees.{TreeOf}
 use Rattle.sf_commit.specs.Rounds.{Leads, Round, commit_of, committed, facts_of, hold_at, stage_with}
-use Rattle.sf_next.specs.Heads.{head_hold, ready_if}
-use Rattle.sf_run.specs.Progress.{is_time}
-use Rattle.sf_run.proofs.Members.{has_cases, has_here, has_later, has_none}
+use Rattle.sf_commit_next.specs.Heads.{head_hold, ready_if}
+use Rattle.law_played.specs.Progress.{is_time}
+use Rattle.law_played.proofs.Members.{has_cases, has_here, has_later, has_none}
 use Rattle.sf_play.specs.Fuel.{to_commit, wait_left}
 
 -- later there is no longer to wait

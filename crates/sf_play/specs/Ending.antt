@@ -7,23 +7,23 @@ use Rattle.sf_txn.specs.declared.lease.Lease.{Ghosts}
 use Rattle.sf_base.specs.declared.fences.Seen.{Seen}
 use Rattle.atomic_table.specs.Seated.{TableId}
 use Rattle.sf_commit.specs.Releases.{VsyncOf}
-use Rattle.sf_scene.specs.Scene.{SceneValue}
+use Rattle.sf_script_scene.specs.Scene.{SceneValue}
 use Rattle.sf_actor.specs.Known.{frame_of}
 use Rattle.sf_actor.specs.Makers.{Run}
 use Rattle.sf_actor.specs.Tries.{ActorOf}
 use Rattle.sf_record.specs.declared.event.Event.{Event}
 use Rattle.sf_record.specs.declared.event.Event.TheVariants as event
-use Rattle.sf_run.specs.Arrivals.{entry_of}
-use Rattle.sf_run.specs.Histories.{history_shown, rising_queues}
-use Rattle.sf_run.specs.Holds.{AreHeld, uncommitted}
-use Rattle.sf_run.specs.Played.{Shows, end_of, reply_events}
-use Rattle.sf_run.specs.Progress.{ShowsWhatIsWritten, held_shown}
-use Rattle.sf_run.specs.Runs.{rising_actors}
-use Rattle.sf_run.specs.Stopping.{TellsOlder, stuck_among}
-use Rattle.sf_run.specs.Stuck.{IsNotReady, next_step}
-use Rattle.sf_run.specs.Vsyncs.{commits_in, vsyncs_in}
+use Rattle.law_played.specs.Arrivals.{entry_of}
+use Rattle.law_played.specs.Histories.{history_shown, rising_queues}
+use Rattle.law_played.specs.Holds.{AreHeld, uncommitted}
+use Rattle.law_played.specs.Played.{Shows, end_of, reply_events}
+use Rattle.law_played.specs.Progress.{ShowsWhatIsWritten, held_shown}
+use Rattle.law_played.specs.Runs.{rising_actors}
+use Rattle.law_played.specs.Stopping.{TellsOlder, stuck_among}
+use Rattle.law_played.specs.Stuck.{IsNotReady, next_step}
+use Rattle.law_played.specs.Vsyncs.{commits_in, vsyncs_in}
 use Rattle.sf_play.specs.Players.{PlayOf, PlayerOf, SoFar, arrived_at, home_in, run_so, taken_at, told_at, view_in, written_so}
-use Rattle.sf_report.specs.Reports.{has_commits}
+use Rattle.sf_play_report.specs.Reports.{has_commits}
 use Rattle.sf_play.specs.Vsyncing.{MakesVsync}
 use Rattle.sf_play.specs.declared.place.Place.{Place}
 use Rattle.sf_play.specs.declared.place.Place.TheVariants as at

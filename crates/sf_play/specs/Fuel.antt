@@ -3,8 +3,8 @@ use Rattle.std.specs.Prelude.{ℕ, ◌+◌, ◌-◌, ◌*◌, ◌/◌, min, Bool
 use Rattle.std.specs.List.{sum_by}
 use Rattle.sf_surface.specs.Tokens.{ReadLeaseOf}
 use Rattle.sf_token.specs.Pending.{Arrival}
-use Rattle.sf_scene.specs.declared.declarations.Pick.{Pick}
-use Rattle.sf_steps.specs.declared.actor.Actor.{Actor}
+use Rattle.sf_script_scene.specs.declared.declarations.Pick.{Pick}
+use Rattle.sf_actor_steps.specs.declared.actor.Actor.{Actor}
 use Rattle.sf_play.specs.Players.{PlayOf, home_in, view_in}
 use Rattle.sf_play.specs.declared.place.Place.{Place}
 use Rattle.sf_play.specs.declared.place.Place.TheVariants as at

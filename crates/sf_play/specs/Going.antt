@@ -1,15 +1,15 @@
 -- What a turn of a player tells who shows it: it goes on with a run of the scene, up to its end, and along with the scene's play.
 use Rattle.std.specs.Prelude.{◌≡◌, ℕ, ◌<◌, List, All}
 use Rattle.atomic_table.specs.Seated.{TableId}
-use Rattle.sf_scene.specs.Scene.{SceneValue}
+use Rattle.sf_script_scene.specs.Scene.{SceneValue}
 use Rattle.sf_actor.specs.Scripts.{picture_at}
 use Rattle.sf_record.specs.Fitting.{RecordFits}
 use Rattle.sf_record.specs.declared.record.Record.{Record}
-use Rattle.sf_run.specs.Ends.{ArePlayRecords}
-use Rattle.sf_run.specs.Frames.{plan_of}
-use Rattle.sf_run.specs.Played.{FitsWhere, Played, records_of}
-use Rattle.sf_report.specs.Stages.{AreExpected, IsStage}
-use Rattle.sf_report.specs.declared.report.VsyncReport.{VsyncReport}
+use Rattle.law_played.specs.Ends.{ArePlayRecords}
+use Rattle.law_played.specs.Frames.{plan_of}
+use Rattle.law_played.specs.Played.{FitsWhere, Played, records_of}
+use Rattle.sf_play_report.specs.Stages.{AreExpected, IsStage}
+use Rattle.sf_play_report.specs.declared.report.VsyncReport.{VsyncReport}
 use Rattle.sf_play.specs.Ending.{shows_at_end}
 use Rattle.sf_play.specs.Fuel.{fuel}
 use Rattle.sf_play.specs.Happening.{Happens}

@@ -1,18 +1,18 @@
 -- What happened by a turn of a play, and what stands then.
 use Rattle.std.specs.Prelude.{◌≡◌, ℕ, ◌+◌, ◌<◌, Bool, true, false, List, [], ◌∷◌, ◌++◌, Some, slice_get, slice_set}
 use Rattle.atomic_table.specs.Seated.{TableId}
-use Rattle.sf_scene.specs.Scene.{SceneValue}
+use Rattle.sf_script_scene.specs.Scene.{SceneValue}
 use Rattle.sf_actor.specs.declared.tried.Reply.{Reply}
 use Rattle.sf_actor.specs.Tries.{ActorOf}
-use Rattle.sf_steps.specs.declared.actor.Actor.{Actor}
+use Rattle.sf_actor_steps.specs.declared.actor.Actor.{Actor}
 use Rattle.sf_record.specs.declared.event.Event.TheVariants as event
-use Rattle.sf_run.specs.Replies.{reply_shown}
+use Rattle.law_played.specs.Replies.{reply_shown}
 use Rattle.sf_play.specs.Ending.{RestsAt}
 use Rattle.sf_play.specs.Fuel.{vsyncs_left}
 use Rattle.sf_play.specs.Players.{PlayOf, PlayerOf, SoFar, Stands}
 use Rattle.sf_play.specs.Showing.{vsync_shown}
-use Rattle.sf_report.specs.Reports.{has_commits}
-use Rattle.sf_report.specs.declared.report.VsyncReport.{VsyncReport}
+use Rattle.sf_play_report.specs.Reports.{has_commits}
+use Rattle.sf_play_report.specs.declared.report.VsyncReport.{VsyncReport}
 use Rattle.sf_play.specs.declared.turn.Turn.{Turn}
 use Rattle.sf_play.specs.declared.turn.Turn.TheVariants as turn
 

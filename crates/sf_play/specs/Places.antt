@@ -1,6 +1,6 @@
 -- The order of a play: the picks of the scene's order one at a time, then rounds.
 use Rattle.std.specs.Prelude.{ℕ, ◌+◌, nat_lt, false, if◌then◌else◌, List, length, Option, Some, None, slice_get}
-use Rattle.sf_scene.specs.declared.declarations.Pick.{Pick}
+use Rattle.sf_script_scene.specs.declared.declarations.Pick.{Pick}
 use Rattle.sf_play.specs.declared.place.Place.{Place}
 use Rattle.sf_play.specs.declared.place.Place.TheVariants as at
 

@@ -11,10 +11,10 @@ use Rattle.sf_surface.specs.Reading.{plain_lease}
 use Rattle.sf_surface.specs.Tokens.{ReadLeaseOf}
 use Rattle.sf_token.specs.Pending.{Arrival}
 use Rattle.sf_txn.specs.Buffers.{Buffer}
-use Rattle.sf_scene.specs.Limits.{IsWithinLimits}
-use Rattle.sf_scene.specs.Scene.{SceneValue, has_queue}
-use Rattle.sf_scene.specs.declared.declarations.Pick.{Pick}
-use Rattle.sf_scene.specs.declared.declarations.QueueDecl.{QueueDecl}
+use Rattle.sf_script_scene.specs.Limits.{IsWithinLimits}
+use Rattle.sf_script_scene.specs.Scene.{SceneValue, has_queue}
+use Rattle.sf_script_scene.specs.declared.declarations.Pick.{Pick}
+use Rattle.sf_script_scene.specs.declared.declarations.QueueDecl.{QueueDecl}
 use Rattle.sf_actor.specs.Desks.{DeskHome, DeskView, mark_among}
 use Rattle.sf_actor.specs.Known.{frame_of}
 use Rattle.sf_actor.specs.Makers.{Run}
@@ -26,15 +26,15 @@ use Rattle.sf_actor.specs.Written.{FrameNumber}
 use Rattle.sf_actor_set.specs.ActorSets.{ActorSetOf, KeepAs}
 use Rattle.sf_record.specs.declared.event.Event.{Event}
 use Rattle.sf_record.specs.declared.event.VsyncReport.{VsyncReport}
-use Rattle.sf_run.specs.Acquired.{TakesFrame}
-use Rattle.sf_run.specs.Actors.{arrivals_of, mark_declared, run_of}
-use Rattle.sf_run.specs.Frames.{ShowImages}
-use Rattle.sf_run.specs.Histories.{released_in}
-use Rattle.sf_run.specs.Progress.{HasPlayed}
-use Rattle.sf_run.specs.Runs.{signals_in, written_in}
-use Rattle.sf_run.specs.Stages.{VsyncAt, told_of}
-use Rattle.sf_run.specs.Telling.{TellRun}
-use Rattle.sf_run.specs.Vsyncs.{AreVsyncs, vsyncs_in}
+use Rattle.law_played.specs.Acquired.{TakesFrame}
+use Rattle.law_played.specs.Actors.{arrivals_of, mark_declared, run_of}
+use Rattle.law_played.specs.Frames.{ShowImages}
+use Rattle.law_played.specs.Histories.{released_in}
+use Rattle.law_played.specs.Progress.{HasPlayed}
+use Rattle.law_played.specs.Runs.{signals_in, written_in}
+use Rattle.law_played.specs.Stages.{VsyncAt, told_of}
+use Rattle.law_played.specs.Telling.{TellRun}
+use Rattle.law_played.specs.Vsyncs.{AreVsyncs, vsyncs_in}
 use Rattle.sf_play.specs.declared.place.Place.{Place}
 use Rattle.sf_play.specs.declared.place.Place.TheVariants as at
 

@@ -8,16 +8,16 @@ use Rattle.sf_commit.specs.Releases.{VsyncOf}
 use Rattle.sf_surface.specs.Tokens.{ReadLeaseOf}
 use Rattle.sf_turns.specs.Views.{SeatView}
 use Rattle.sf_txn.specs.declared.lease.Lease.{Ghosts}
-use Rattle.sf_scene.specs.Scene.{SceneValue}
-use Rattle.sf_steps.specs.Playable.{MayPlay}
+use Rattle.sf_script_scene.specs.Scene.{SceneValue}
+use Rattle.sf_actor_steps.specs.Playable.{MayPlay}
 use Rattle.sf_actor_set.specs.ActorSets.{scripts_of}
-use Rattle.sf_rights.specs.InTurn.{DrawsStand}
-use Rattle.sf_rights.specs.MakerRuns.{MakersPlay}
-use Rattle.sf_rights.specs.Standing.{LedgerStands}
+use Rattle.law_rights.specs.InTurn.{DrawsStand}
+use Rattle.law_rights.specs.MakerRuns.{MakersPlay}
+use Rattle.law_rights.specs.Standing.{LedgerStands}
 use Rattle.sf_play.specs.Alongs.{DeskKnows}
 use Rattle.sf_play.specs.Players.{PlayOf, PlayerOf, SoFar, Stands, home_in, view_in}
 use Rattle.sf_play.specs.Vsyncing.{MakesVsync}
-use Rattle.sf_report.specs.declared.report.VsyncReport.{VsyncReport}
+use Rattle.sf_play_report.specs.declared.report.VsyncReport.{VsyncReport}
 
 -- the picture that the pixels of a buffer on a layer show
 abbrev pub expected_by : OnLayer ReadLeaseOf → Picture

@@ -2,10 +2,10 @@
 -- with the play of its scene, too, which determines what it shows.
 use Rattle.std.specs.Prelude.{◌≡◌, false, true, [], None, map}
 use Rattle.atomic_table.specs.Seated.{TableId}
-use Rattle.sf_scene.specs.Scene.{SceneValue}
-use Rattle.sf_run.specs.Actors.{mark_declared}
-use Rattle.sf_run.specs.Ends.{held_in}
-use Rattle.sf_run.specs.Histories.{rising_queues}
+use Rattle.sf_script_scene.specs.Scene.{SceneValue}
+use Rattle.law_played.specs.Actors.{mark_declared}
+use Rattle.law_played.specs.Ends.{held_in}
+use Rattle.law_played.specs.Histories.{rising_queues}
 use Rattle.sf_play.specs.Alongs.{PlaysSo, world_so}
 use Rattle.sf_play.specs.Happening.{StandsAt}
 use Rattle.sf_play.specs.Players.{PlayerOf, SoFar, home_in}

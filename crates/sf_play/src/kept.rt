@@ -1,7 +1,7 @@
 ghost use Rattle.std.specs.Prelude.{◌≡◌, IfOk};
 
 use sf_base::NoMemory;
-use sf_report::VsyncReport;
+use sf_play_report::VsyncReport;
 use std::alloc::Global;
 use std::marker::Model;
 
@@ -12,7 +12,7 @@ pub struct KeptReport {
 }
 
 impl Model for KeptReport {
-    ghost use Rattle.sf_report.specs.declared.report.VsyncReport.{VsyncReport};
+    ghost use Rattle.sf_play_report.specs.declared.report.VsyncReport.{VsyncReport};
 
     ghost Value = { VsyncReport };
 

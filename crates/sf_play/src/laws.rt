@@ -1,9 +1,9 @@
 ghost use Rattle.std.specs.Prelude.{◌≡◌, ℕ, ◌+◌, ◌<◌, ◌≤◌, All, List, Some, false};
 ghost use Rattle.atomic_table.specs.Seated.{TableId};
-ghost use Rattle.sf_scene.specs.Scene.{SceneValue};
+ghost use Rattle.sf_script_scene.specs.Scene.{SceneValue};
 ghost use Rattle.sf_actor.specs.Tries.{ActorOf};
 ghost use Rattle.sf_record.specs.Fitting.{RecordFits};
-ghost use Rattle.sf_run.specs.Played.{FitsWhere, PlayedLiveWhere, records_of};
+ghost use Rattle.law_played.specs.Played.{FitsWhere, PlayedLiveWhere, records_of};
 ghost use Rattle.sf_play.specs.Alongs.{DeskKnows};
 ghost use Rattle.sf_play.specs.Ending.{shows_late};
 ghost use Rattle.sf_play.specs.Fuel.{vsyncs_left};

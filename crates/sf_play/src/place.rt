@@ -1,7 +1,7 @@
 ghost use Rattle.std.specs.Prelude.{◌≡◌};
 ghost use Rattle.sf_play.specs.Places.{settled};
 
-use sf_scene::Pick;
+use sf_script_scene::Pick;
 
 /// Where a play stands.
 #[derive(Clone, Copy)]

@@ -1,16 +1,16 @@
 ghost use Rattle.std.specs.Prelude.{◌≡◌, ◌<◌, ◌||◌, ℕ, true, false, if◌then◌else◌, List, length, IfErr, IfOk, IfSome, IsErr};
 ghost use Rattle.std.specs.List.{list_any};
 ghost use Rattle.sf_ready.specs.declared.hold.Hold.{Hold as HoldValue};
-ghost use Rattle.sf_run.specs.Progress.{is_time};
+ghost use Rattle.law_played.specs.Progress.{is_time};
 ghost use Rattle.sf_actor.specs.Tries.{ActorOf};
-ghost use Rattle.sf_scene.specs.Scene.{SceneValue};
+ghost use Rattle.sf_script_scene.specs.Scene.{SceneValue};
 ghost use Rattle.sf_play.specs.Going.{GoesAlong, GoesOn, LeavesLess};
 ghost use Rattle.sf_play.specs.Places.{settled};
 ghost use Rattle.sf_play.specs.Players.{SoFar, home_in};
 ghost use Rattle.sf_play.specs.Playing.{MayMakeVsync};
 ghost use Rattle.sf_play.specs.Standing.{StandsAlong, StandsInRun};
 ghost use Rattle.sf_play.specs.declared.place.Place.TheVariants as at;
-ghost use Rattle.sf_report.specs.Reports.{has_commits};
+ghost use Rattle.sf_play_report.specs.Reports.{has_commits};
 ghost use Rattle.sf_play.specs.Turning.{KeepsActorSet, Picks, Rounds, TriesStep, Turns, TurnsAt, is_step, next_tried, picked_place, turn_by};
 
 use crate::kept::KeptReport;

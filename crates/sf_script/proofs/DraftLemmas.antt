@@ -5,8 +5,8 @@ use Rattle.std.specs.BTreeSet.{BTreeSet, Updates, contains}
 use Rattle.std.specs.Cmp.{unsigned_tied}
 use Rattle.std.specs.Ordering.{nat_cmp}
 use Rattle.std.specs.Prelude.{IfSome, option_to_list}
-use Rattle.sf_words.specs.Text.{Text}
-use Rattle.sf_scene.specs.Scene.{SceneValue, has_layer}
+use Rattle.sf_script_words.specs.Text.{Text}
+use Rattle.sf_script_scene.specs.Scene.{SceneValue, has_layer}
 use Rattle.sf_script.specs.Draft.{TellsLayers, is_of, names_after, picks_of, scene_after}
 use Rattle.sf_script.specs.Fits.{LineNameFits}
 use Rattle.sf_script.specs.declared.line.Keyword.{Keyword}

@@ -3,11 +3,11 @@ use Rattle.std.proofs.Common.{◌≡◌, ℕ, List, [], ◌∷◌, ◌++◌, len
 use Rattle.std.proofs.lemmas.Bool.{cond-true}
 use Rattle.std.proofs.lemmas.List.Elements.{All-push}
 use Rattle.std.specs.Str.{bytes_eq}
-use Rattle.sf_words.specs.Text.{Text}
-use Rattle.sf_words.specs.Reading.{◌>>=◌}
-use Rattle.sf_words.specs.declared.fault.WordFault.{WordFault}
-use Rattle.sf_scene.specs.Named.{AreKnown, timelines_in}
-use Rattle.sf_scene.specs.Scene.{SceneValue, has_timeline}
+use Rattle.sf_script_words.specs.Text.{Text}
+use Rattle.sf_script_words.specs.Reading.{◌>>=◌}
+use Rattle.sf_script_words.specs.declared.fault.WordFault.{WordFault}
+use Rattle.sf_script_scene.specs.Named.{AreKnown, timelines_in}
+use Rattle.sf_script_scene.specs.Scene.{SceneValue, has_timeline}
 use Rattle.sf_script.specs.Parts.{fences_at, point_of}
 
 -- the points with one more, and what is left behind its words

@@ -1,12 +1,12 @@
 -- What follows `set N LAYER`.
 use Rattle.std.specs.Prelude.{ℕ, ℤ, if◌then◌else◌, Bool, List, length, Option, None, Some, Ok, codes}
 use Rattle.std.specs.Str.{bytes_eq}
-use Rattle.sf_words.specs.Text.{Text}
-use Rattle.sf_words.specs.Colours.{colour_at}
-use Rattle.sf_words.specs.Reading.{Read, ◌>>=◌, flag_at, number_at, signed_at, some_or, word_at, wrong}
-use Rattle.sf_words.specs.declared.fault.Cause.TheVariants.{UnknownWord}
-use Rattle.sf_scene.specs.declared.change.Change.{Change}
-use Rattle.sf_scene.specs.declared.change.Change.TheVariants as change
+use Rattle.sf_script_words.specs.Text.{Text}
+use Rattle.sf_script_words.specs.Colours.{colour_at}
+use Rattle.sf_script_words.specs.Reading.{Read, ◌>>=◌, flag_at, number_at, signed_at, some_or, word_at, wrong}
+use Rattle.sf_script_words.specs.declared.fault.Cause.TheVariants.{UnknownWord}
+use Rattle.sf_script_scene.specs.declared.change.Change.{Change}
+use Rattle.sf_script_scene.specs.declared.change.Change.TheVariants as change
 use Rattle.sf_script.specs.Keywords.{change_form_of}
 use Rattle.sf_script.specs.declared.line.ChangeForm.{ChangeForm}
 use Rattle.sf_script.specs.declared.line.ChangeForm.TheVariants as form

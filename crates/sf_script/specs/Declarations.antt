@@ -5,14 +5,14 @@ use Rattle.sf_base.specs.declared.format.Format.{Format}
 use Rattle.sf_base.specs.declared.format.Format.TheVariants as format
 use Rattle.sf_picture.specs.declared.fill.Fill.{Fill}
 use Rattle.sf_picture.specs.declared.picture.Picture.{Picture}
-use Rattle.sf_words.specs.Text.{Text}
-use Rattle.sf_words.specs.Colours.{colour_at}
-use Rattle.sf_words.specs.Reading.{Read, ◌>>=◌, demand, end_at, fixed_at, good, number_at, word_at}
-use Rattle.sf_words.specs.declared.fault.Cause.TheVariants.{Twice, WrongVersion}
-use Rattle.sf_words.specs.declared.fault.WordFault.{WordFault}
-use Rattle.sf_scene.specs.Limits.{most_actors}
-use Rattle.sf_scene.specs.Scene.{SceneValue, has_actor, has_picture, has_queue, has_timeline}
-use Rattle.sf_scene.specs.declared.declarations.QueueDecl.{QueueDecl}
+use Rattle.sf_script_words.specs.Text.{Text}
+use Rattle.sf_script_words.specs.Colours.{colour_at}
+use Rattle.sf_script_words.specs.Reading.{Read, ◌>>=◌, demand, end_at, fixed_at, good, number_at, word_at}
+use Rattle.sf_script_words.specs.declared.fault.Cause.TheVariants.{Twice, WrongVersion}
+use Rattle.sf_script_words.specs.declared.fault.WordFault.{WordFault}
+use Rattle.sf_script_scene.specs.Limits.{most_actors}
+use Rattle.sf_script_scene.specs.Scene.{SceneValue, has_actor, has_picture, has_queue, has_timeline}
+use Rattle.sf_script_scene.specs.declared.declarations.QueueDecl.{QueueDecl}
 use Rattle.sf_script.specs.declared.line.Header.{Header}
 
 -- the version is 1 or 2

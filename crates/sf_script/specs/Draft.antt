@@ -4,9 +4,9 @@ use Rattle.std.specs.Prelude.{List, [], ◌∷◌, ◌++◌, length, position, o
 use Rattle.std.specs.BTreeSet.{BTreeSet, contains}
 use Rattle.std.specs.Ordering.{nat_cmp}
 use Rattle.std.specs.Str.{bytes_eq}
-use Rattle.sf_words.specs.Text.{Text}
-use Rattle.sf_scene.specs.Scene.{SceneValue, bare_scene, fills_so_far, has_layer, last_of, steps_so_far, with_fill, with_step}
-use Rattle.sf_scene.specs.declared.declarations.Pick.{Pick}
+use Rattle.sf_script_words.specs.Text.{Text}
+use Rattle.sf_script_scene.specs.Scene.{SceneValue, bare_scene, fills_so_far, has_layer, last_of, steps_so_far, with_fill, with_step}
+use Rattle.sf_script_scene.specs.declared.declarations.Pick.{Pick}
 use Rattle.sf_script.specs.declared.line.Keyword.{Keyword}
 use Rattle.sf_script.specs.declared.line.Keyword.TheVariants as key
 use Rattle.sf_script.specs.declared.line.Line.{Line}

@@ -2,11 +2,11 @@
 use Rattle.std.specs.Prelude.{◌≡◌, ℕ, ◌<◌, ◌≤◌, Bool, false, List, length, All, Option, IfSome}
 use Rattle.sf_picture.specs.declared.fill.Fill.{Fill}
 use Rattle.sf_picture.specs.declared.picture.Picture.{Picture}
-use Rattle.sf_words.specs.Text.{Text}
-use Rattle.sf_scene.specs.Limits.{IsHeader, IsPick, IsRgba, StepFits, most_actors}
-use Rattle.sf_scene.specs.Ranges.{IsCapture, IsDisplay, IsFill, IsHit, IsMirror, IsPicture, IsQueue, IsStack, IsTimeline}
-use Rattle.sf_scene.specs.declared.step.Step.{Step}
-use Rattle.sf_scene.specs.Scene.{SceneValue, fills_so_far, has_actor, has_capture, has_display, has_hit, has_layer, has_picture, has_queue, has_timeline, last_of, steps_so_far}
+use Rattle.sf_script_words.specs.Text.{Text}
+use Rattle.sf_script_scene.specs.Limits.{IsHeader, IsPick, IsRgba, StepFits, most_actors}
+use Rattle.sf_script_scene.specs.Ranges.{IsCapture, IsDisplay, IsFill, IsHit, IsMirror, IsPicture, IsQueue, IsStack, IsTimeline}
+use Rattle.sf_script_scene.specs.declared.step.Step.{Step}
+use Rattle.sf_script_scene.specs.Scene.{SceneValue, fills_so_far, has_actor, has_capture, has_display, has_hit, has_layer, has_picture, has_queue, has_timeline, last_of, steps_so_far}
 use Rattle.sf_script.specs.Draft.{DraftValue}
 use Rattle.sf_script.specs.declared.line.Line.{Line}
 use Rattle.sf_script.specs.declared.line.Line.TheVariants as line

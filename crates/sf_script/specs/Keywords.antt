@@ -1,7 +1,7 @@
 -- The form that a word begins.
 use Rattle.std.specs.Prelude.{◌&&◌, not, if◌then◌else◌, Bool, true, false, Option, None, Some, codes, option_map}
 use Rattle.std.specs.Str.{bytes_eq}
-use Rattle.sf_words.specs.Text.{Text}
+use Rattle.sf_script_words.specs.Text.{Text}
 use Rattle.sf_script.specs.declared.line.ChangeForm.{ChangeForm}
 use Rattle.sf_script.specs.declared.line.ChangeForm.TheVariants as change
 use Rattle.sf_script.specs.declared.line.Keyword.{Keyword}

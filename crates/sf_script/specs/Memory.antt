@@ -1,6 +1,6 @@
 -- What a reader returned that may run out of memory.
 use Rattle.std.specs.Prelude.{◌≡◌, Result, Ok, Err}
-use Rattle.sf_words.specs.declared.fault.WordFault.{WordFault}
+use Rattle.sf_script_words.specs.declared.fault.WordFault.{WordFault}
 use Rattle.sf_script.specs.declared.fault.LineFault.{LineFault}
 use Rattle.sf_script.specs.declared.fault.LineFault.TheVariants.{NoMemory, Word}
 

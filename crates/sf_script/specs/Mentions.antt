@@ -1,12 +1,12 @@
 -- What a line names that the lines before it declare or bind.
 use Rattle.std.specs.Prelude.{ℕ, nat_lt, if◌then◌else◌, List, length, Option, None, Some, Result, Ok}
-use Rattle.sf_words.specs.Text.{Text}
-use Rattle.sf_words.specs.Names.{name_at}
-use Rattle.sf_words.specs.Numbers.{decimal_of}
-use Rattle.sf_words.specs.Reading.{Read, ◌>>=◌, demand, good, in_range, number_at, some_or, word_at}
-use Rattle.sf_words.specs.declared.fault.Cause.TheVariants.{Limit, Undefined}
-use Rattle.sf_words.specs.declared.fault.WordFault.{WordFault}
-use Rattle.sf_scene.specs.Scene.{SceneValue, has_picture, has_queue, has_timeline}
+use Rattle.sf_script_words.specs.Text.{Text}
+use Rattle.sf_script_words.specs.Names.{name_at}
+use Rattle.sf_script_words.specs.Numbers.{decimal_of}
+use Rattle.sf_script_words.specs.Reading.{Read, ◌>>=◌, demand, good, in_range, number_at, some_or, word_at}
+use Rattle.sf_script_words.specs.declared.fault.Cause.TheVariants.{Limit, Undefined}
+use Rattle.sf_script_words.specs.declared.fault.WordFault.{WordFault}
+use Rattle.sf_script_scene.specs.Scene.{SceneValue, has_picture, has_queue, has_timeline}
 use Rattle.sf_script.specs.Draft.{place_of}
 use Rattle.sf_script.specs.declared.line.BoundName.{BoundName}
 

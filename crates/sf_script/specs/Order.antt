@@ -2,14 +2,14 @@
 use Rattle.std.specs.Prelude.{ℕ, ◌==◌, not, ◌||◌, if◌then◌else◌, List, [], ◌∷◌, ◌++◌, length, take, drop, Option, None, Some, Result, Ok, codes}
 use Rattle.std.specs.Str.{bytes_eq}
 use Rattle.std.specs.List.{prefix_len}
-use Rattle.sf_words.specs.Text.{Text}
-use Rattle.sf_words.specs.Numbers.{decimal_of}
-use Rattle.sf_words.specs.Reading.{◌>>=◌, demand, good, in_range, word_at}
-use Rattle.sf_words.specs.declared.fault.Cause.TheVariants.{Undefined}
-use Rattle.sf_words.specs.declared.fault.WordFault.{WordFault}
-use Rattle.sf_scene.specs.Limits.{most_actors}
-use Rattle.sf_scene.specs.Scene.{SceneValue, has_actor}
-use Rattle.sf_scene.specs.declared.declarations.Pick.{Pick}
+use Rattle.sf_script_words.specs.Text.{Text}
+use Rattle.sf_script_words.specs.Numbers.{decimal_of}
+use Rattle.sf_script_words.specs.Reading.{◌>>=◌, demand, good, in_range, word_at}
+use Rattle.sf_script_words.specs.declared.fault.Cause.TheVariants.{Undefined}
+use Rattle.sf_script_words.specs.declared.fault.WordFault.{WordFault}
+use Rattle.sf_script_scene.specs.Limits.{most_actors}
+use Rattle.sf_script_scene.specs.Scene.{SceneValue, has_actor}
+use Rattle.sf_script_scene.specs.declared.declarations.Pick.{Pick}
 
 -- who is picked, of so many: `v` is the vsync, which is 0, and a number is an actor
 unfoldable pub picked_of : ℕ → Text → Option ℕ

@@ -1,9 +1,9 @@
 -- What `parse` answers.
 use Rattle.std.specs.Prelude.{◌≡◌, nat_lt, if◌then◌else◌, length, Result, Ok, Err}
-use Rattle.sf_words.specs.Causes.{number_of}
-use Rattle.sf_words.specs.Text.{Text}
-use Rattle.sf_words.specs.declared.fault.Cause.TheVariants.{Limit}
-use Rattle.sf_scene.specs.Scene.{SceneValue}
+use Rattle.sf_script_words.specs.Causes.{number_of}
+use Rattle.sf_script_words.specs.Text.{Text}
+use Rattle.sf_script_words.specs.declared.fault.Cause.TheVariants.{Limit}
+use Rattle.sf_script_scene.specs.Scene.{SceneValue}
 use Rattle.sf_script.specs.Script.{script_of}
 use Rattle.sf_script.specs.declared.fault.ScriptFault.{ScriptFault}
 use Rattle.sf_script.specs.declared.fault.ParseFault.{ParseFault}

@@ -1,12 +1,12 @@
 -- The parts of a form that may be absent.
 use Rattle.std.specs.Prelude.{ℕ, ◌++◌, if◌then◌else◌, List, [], ◌∷◌, length, Option, None, Some, Result, Ok, codes}
 use Rattle.std.specs.Str.{bytes_eq}
-use Rattle.sf_words.specs.Text.{Text}
-use Rattle.sf_words.specs.Numbers.{decimal_of}
-use Rattle.sf_words.specs.Reading.{Read, ◌>>=◌, end_at, fixed_at, good, in_range, number_at, wrong}
-use Rattle.sf_words.specs.declared.fault.Cause.TheVariants.{MissingWord, UnknownWord}
-use Rattle.sf_words.specs.declared.fault.WordFault.{WordFault}
-use Rattle.sf_scene.specs.Scene.{SceneValue}
+use Rattle.sf_script_words.specs.Text.{Text}
+use Rattle.sf_script_words.specs.Numbers.{decimal_of}
+use Rattle.sf_script_words.specs.Reading.{Read, ◌>>=◌, end_at, fixed_at, good, in_range, number_at, wrong}
+use Rattle.sf_script_words.specs.declared.fault.Cause.TheVariants.{MissingWord, UnknownWord}
+use Rattle.sf_script_words.specs.declared.fault.WordFault.{WordFault}
+use Rattle.sf_script_scene.specs.Scene.{SceneValue}
 use Rattle.sf_script.specs.Mentions.{timeline_of}
 
 -- a time in nanoseconds

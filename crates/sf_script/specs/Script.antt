@@ -1,12 +1,12 @@
 -- A whole script: its lines in order, and the scene that they spell.
 use Rattle.std.specs.Prelude.{ℕ, ◌+◌, ◌-◌, ◌==◌, Bool, true, if◌then◌else◌, List, [], ◌∷◌, length, slice_index, Result, Ok, Err}
 use Rattle.std.specs.Str.{is_utf8}
-use Rattle.sf_words.specs.Causes.{number_of}
-use Rattle.sf_words.specs.Text.{Text, lines_of, trimmed, words_of}
-use Rattle.sf_words.specs.Reading.{◌>>=◌, demand, end_at, some_or, word_at}
-use Rattle.sf_words.specs.declared.fault.Cause.TheVariants.{Limit, NotUtf8, OutOfOrder, Unended, UnknownWord}
-use Rattle.sf_words.specs.declared.fault.WordFault.{WordFault}
-use Rattle.sf_scene.specs.Scene.{SceneValue}
+use Rattle.sf_script_words.specs.Causes.{number_of}
+use Rattle.sf_script_words.specs.Text.{Text, lines_of, trimmed, words_of}
+use Rattle.sf_script_words.specs.Reading.{◌>>=◌, demand, end_at, some_or, word_at}
+use Rattle.sf_script_words.specs.declared.fault.Cause.TheVariants.{Limit, NotUtf8, OutOfOrder, Unended, UnknownWord}
+use Rattle.sf_script_words.specs.declared.fault.WordFault.{WordFault}
+use Rattle.sf_script_scene.specs.Scene.{SceneValue}
 use Rattle.sf_script.specs.Declarations.{fill_at, header_at, new_actor_at, new_picture_at, new_queue_at, new_timeline_at}
 use Rattle.sf_script.specs.Draft.{DraftValue, draft_after, has_room, is_any, is_ended, may_follow, no_lines}
 use Rattle.sf_script.specs.Keywords.{keyword_of}

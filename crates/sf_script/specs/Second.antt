@@ -1,12 +1,12 @@
 -- The forms of declarations that version 2 has, behind their first words.
 use Rattle.std.specs.Prelude.{ℕ, List, Result, Ok}
-use Rattle.sf_words.specs.Text.{Text}
-use Rattle.sf_words.specs.Reading.{◌>>=◌, end_at, number_at, signed_at}
-use Rattle.sf_words.specs.declared.fault.WordFault.{WordFault}
-use Rattle.sf_scene.specs.Scene.{SceneValue, has_capture, has_display, has_hit, has_layer}
-use Rattle.sf_scene.specs.declared.declarations.CaptureDecl.{CaptureDecl}
-use Rattle.sf_scene.specs.declared.declarations.DisplayDecl.{DisplayDecl}
-use Rattle.sf_scene.specs.declared.declarations.HitDecl.{HitDecl}
+use Rattle.sf_script_words.specs.Text.{Text}
+use Rattle.sf_script_words.specs.Reading.{◌>>=◌, end_at, number_at, signed_at}
+use Rattle.sf_script_words.specs.declared.fault.WordFault.{WordFault}
+use Rattle.sf_script_scene.specs.Scene.{SceneValue, has_capture, has_display, has_hit, has_layer}
+use Rattle.sf_script_scene.specs.declared.declarations.CaptureDecl.{CaptureDecl}
+use Rattle.sf_script_scene.specs.declared.declarations.DisplayDecl.{DisplayDecl}
+use Rattle.sf_script_scene.specs.declared.declarations.HitDecl.{HitDecl}
 use Rattle.sf_script.specs.Declarations.{new_number_at}
 
 -- `display D W H STACK`

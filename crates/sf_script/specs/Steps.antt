@@ -1,11 +1,11 @@
 -- The forms of steps, behind their first words.
 use Rattle.std.specs.Prelude.{ℕ, Bool, true, false, List, [], Option, None, Result, Ok, Err, codes}
-use Rattle.sf_words.specs.Text.{Text}
-use Rattle.sf_words.specs.Reading.{Read, ◌>>=◌, end_at, fixed_at, flag_at, number_at}
-use Rattle.sf_words.specs.declared.fault.WordFault.{WordFault}
-use Rattle.sf_scene.specs.Scene.{SceneValue}
-use Rattle.sf_scene.specs.declared.step.Step.{Step}
-use Rattle.sf_scene.specs.declared.step.Step.TheVariants as step
+use Rattle.sf_script_words.specs.Text.{Text}
+use Rattle.sf_script_words.specs.Reading.{Read, ◌>>=◌, end_at, fixed_at, flag_at, number_at}
+use Rattle.sf_script_words.specs.declared.fault.WordFault.{WordFault}
+use Rattle.sf_script_scene.specs.Scene.{SceneValue}
+use Rattle.sf_script_scene.specs.declared.step.Step.{Step}
+use Rattle.sf_script_scene.specs.declared.step.Step.TheVariants as step
 use Rattle.sf_script.specs.Draft.{DraftValue}
 use Rattle.sf_script.specs.Mentions.{bound_name_at, declared_picture_at, declared_queue_at, declared_timeline_at, used_name_at}
 use Rattle.sf_script.specs.Parts.{asked_size_at, expected_at, fences_at, part_at, time_at, value_at}

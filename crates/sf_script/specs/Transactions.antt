@@ -1,10 +1,10 @@
 -- The forms of steps on transactions, behind their first words.
 use Rattle.std.specs.Prelude.{ℕ, List, Result, Ok, codes}
-use Rattle.sf_words.specs.Text.{Text}
-use Rattle.sf_words.specs.Reading.{Read, ◌>>=◌, end_at, fixed_at, number_at}
-use Rattle.sf_words.specs.declared.fault.WordFault.{WordFault}
-use Rattle.sf_scene.specs.declared.step.Step.{Step}
-use Rattle.sf_scene.specs.declared.step.Step.TheVariants as step
+use Rattle.sf_script_words.specs.Text.{Text}
+use Rattle.sf_script_words.specs.Reading.{Read, ◌>>=◌, end_at, fixed_at, number_at}
+use Rattle.sf_script_words.specs.declared.fault.WordFault.{WordFault}
+use Rattle.sf_script_scene.specs.declared.step.Step.{Step}
+use Rattle.sf_script_scene.specs.declared.step.Step.TheVariants as step
 use Rattle.sf_script.specs.Changes.{change_at}
 use Rattle.sf_script.specs.Mentions.{used_name_at}
 use Rattle.sf_script.specs.Parts.{moment_at, value_at}

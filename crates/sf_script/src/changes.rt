@@ -1,15 +1,15 @@
 ghost use Rattle.std.specs.Prelude.{◌≡◌, ◌≤◌, IfOk};
-ghost use Rattle.sf_words.specs.Text.{words_of};
-ghost use Rattle.sf_words.specs.Reading.{Gives};
-ghost use Rattle.sf_scene.specs.Ranges.{IsChange, IsPlace};
-ghost use Rattle.sf_scene.specs.declared.change.Change.TheVariants as change;
+ghost use Rattle.sf_script_words.specs.Text.{words_of};
+ghost use Rattle.sf_script_words.specs.Reading.{Gives};
+ghost use Rattle.sf_script_scene.specs.Ranges.{IsChange, IsPlace};
+ghost use Rattle.sf_script_scene.specs.declared.change.Change.TheVariants as change;
 ghost use Rattle.sf_script.specs.Changes.{change_at, changed_at, coloured_at, created_at, cropped_at, depth_at, framed_at};
 ghost use Rattle.sf_script.specs.Changes.{moved_at, parent_at, place_at, raised_at, related_at, with_flag_at, with_number_at};
 
 use crate::keywords::change_form;
 use crate::line::ChangeForm;
-use sf_scene::Change;
-use sf_words::{Cause, WordFault, colour, flag, is, number32, signed, word, wrong};
+use sf_script_scene::Change;
+use sf_script_words::{Cause, WordFault, colour, flag, is, number32, signed, word, wrong};
 
 const MOST_PLACE: u32 = 16_384;
 

@@ -1,10 +1,10 @@
 ghost use Rattle.std.specs.Prelude.{◌≡◌, ◌==◌, ◌≤◌, false, IfOk};
 ghost use Rattle.sf_base.specs.declared.format.Format.TheVariants.{Rgba};
-ghost use Rattle.sf_words.specs.Text.{words_of};
-ghost use Rattle.sf_words.specs.Reading.{Gives, number_at};
-ghost use Rattle.sf_scene.specs.Limits.{IsHeader};
-ghost use Rattle.sf_scene.specs.Ranges.{IsFill, IsQueue, IsTimeline};
-ghost use Rattle.sf_scene.specs.Scene.{has_actor, has_queue, has_timeline};
+ghost use Rattle.sf_script_words.specs.Text.{words_of};
+ghost use Rattle.sf_script_words.specs.Reading.{Gives, number_at};
+ghost use Rattle.sf_script_scene.specs.Limits.{IsHeader};
+ghost use Rattle.sf_script_scene.specs.Ranges.{IsFill, IsQueue, IsTimeline};
+ghost use Rattle.sf_script_scene.specs.Scene.{has_actor, has_queue, has_timeline};
 ghost use Rattle.sf_script.specs.Declarations.{fill_at, format_at, format_of, header_at, new_actor_at, new_number_at};
 ghost use Rattle.sf_script.specs.Declarations.{new_picture_at, new_queue_at, new_timeline_at, version_at, versioned_format_at};
 ghost use Rattle.sf_script.specs.Fits.{ActorFits, IsNew, PictureFits};
@@ -12,8 +12,8 @@ ghost use Rattle.sf_script.specs.Fits.{ActorFits, IsNew, PictureFits};
 use crate::line::Header;
 use sf_base::{Format, Items, Rect};
 use sf_picture::{Fill, Picture};
-use sf_scene::{QueueDecl, Scene, most_actors};
-use sf_words::{
+use sf_script_scene::{QueueDecl, Scene, most_actors};
+use sf_script_words::{
     Cause, WordFault, colour, demand, end, fixed, is, next_word, number32, number64, word, wrong,
 };
 use std::alloc::Global;

@@ -1,13 +1,13 @@
 ghost use Rattle.std.specs.Prelude.{◌≡◌, ◌==◌, ◌<◌, ◌≤◌, ◌+◌, ◌++◌, ◌∷◌, [], IfOk, IfSome, None, Some, if◌then◌else◌, length, nat_lt};
-ghost use Rattle.sf_scene.specs.Limits.{IsHeader};
-ghost use Rattle.sf_scene.specs.Scene.{SceneValue, bare_scene, has_layer};
+ghost use Rattle.sf_script_scene.specs.Limits.{IsHeader};
+ghost use Rattle.sf_script_scene.specs.Scene.{SceneValue, bare_scene, has_layer};
 ghost use Rattle.sf_script.specs.Draft.{TellsLayers, draft_after, has_room, is_any, is_ended, is_led, may_follow, may_follow_rank};
 ghost use Rattle.sf_script.specs.Draft.{names_after, no_lines, picks_of, place_of, rank_of_keyword, rank_of_line, scene_after};
 ghost use Rattle.sf_script.specs.Fits.{LineFits, SceneFits};
 
 use crate::line::{Header, Keyword, Line};
 use sf_base::{Items, NoMemory};
-use sf_scene::Scene;
+use sf_script_scene::Scene;
 use std::alloc::Global;
 use std::collections::BTreeSet;
 use std::marker::Model;

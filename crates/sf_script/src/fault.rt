@@ -2,7 +2,7 @@ ghost use Rattle.std.specs.Prelude.{◌≡◌};
 ghost use Rattle.sf_script.specs.declared.fault.LineFault.TheVariants.{NoMemory, Word};
 
 use sf_base::NoMemory;
-use sf_words::WordFault;
+use sf_script_words::WordFault;
 use std::alloc::{AllocError, AllocFailed};
 
 /// Why a line was not read.

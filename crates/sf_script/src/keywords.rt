@@ -4,7 +4,7 @@ ghost use Rattle.sf_script.specs.Keywords.{change_form_of, consumer_form_of, key
 ghost use Rattle.sf_script.specs.Keywords.{second_keyword_of, step_form_of, transaction_form_of, versioned_keyword_of};
 
 use crate::line::{ChangeForm, Keyword, PointForm, QueueForm, Side, StepForm};
-use sf_words::is;
+use sf_script_words::is;
 
 // The form of a producer's step.
 #[tactic(auto, unfolding(crate::specs::Keywords::producer_form_of))]

@@ -1,6 +1,6 @@
 use sf_base::Items;
 use sf_picture::{Fill, Picture};
-use sf_scene::{CaptureDecl, DisplayDecl, HitDecl, Pick, QueueDecl, Step};
+use sf_script_scene::{CaptureDecl, DisplayDecl, HitDecl, Pick, QueueDecl, Step};
 
 /// The two sides of a queue.
 #[derive(Clone, Copy)]

@@ -1,8 +1,8 @@
 ghost use Rattle.std.specs.Prelude.{◌≡◌, true, length, IfOk};
-ghost use Rattle.sf_words.specs.Text.{words_of};
-ghost use Rattle.sf_words.specs.Reading.{Gives};
-ghost use Rattle.sf_scene.specs.Ranges.{IsName};
-ghost use Rattle.sf_scene.specs.Scene.{has_picture, has_queue, has_timeline};
+ghost use Rattle.sf_script_words.specs.Text.{words_of};
+ghost use Rattle.sf_script_words.specs.Reading.{Gives};
+ghost use Rattle.sf_script_scene.specs.Ranges.{IsName};
+ghost use Rattle.sf_script_scene.specs.Scene.{has_picture, has_queue, has_timeline};
 ghost use Rattle.sf_script.specs.Fits.{NameFits};
 ghost use Rattle.sf_script.specs.Memory.{GivesUnless};
 ghost use Rattle.sf_script.specs.Mentions.{bound_name_at, declared_picture_at, declared_queue_at, declared_timeline_at, timeline_of, used_name_at};
@@ -11,8 +11,8 @@ use crate::draft::Draft;
 use crate::fault::LineFault;
 use crate::line::BoundName;
 use sf_base::Items;
-use sf_scene::Scene;
-use sf_words::{Cause, WordFault, demand, name, number_within, number32, word, wrong};
+use sf_script_scene::Scene;
+use sf_script_words::{Cause, WordFault, demand, name, number_within, number32, word, wrong};
 use std::alloc::Global;
 
 /// The number of a declared queue, and what is left of the line behind it.

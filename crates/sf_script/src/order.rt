@@ -1,14 +1,14 @@
 ghost use Rattle.std.specs.Prelude.{◌≡◌, ◌==◌, ◌≤◌, [], length, not, All, IfOk, IfSome};
 ghost use Rattle.std.specs.List.{prefix_len};
-ghost use Rattle.sf_words.specs.Text.{words_of};
-ghost use Rattle.sf_words.specs.Reading.{Gives};
-ghost use Rattle.sf_scene.specs.Limits.{IsPick};
+ghost use Rattle.sf_script_words.specs.Text.{words_of};
+ghost use Rattle.sf_script_words.specs.Reading.{Gives};
+ghost use Rattle.sf_script_scene.specs.Limits.{IsPick};
 ghost use Rattle.sf_script.specs.Memory.{GivesUnless};
 ghost use Rattle.sf_script.specs.Order.{order_at, pick_at, pick_of, picked_of, picks_at, times_of};
 
 use crate::fault::LineFault;
-use sf_scene::{Pick, Scene, most_actors};
-use sf_words::{Cause, WordFault, is, next_word, number_within, word, wrong};
+use sf_script_scene::{Pick, Scene, most_actors};
+use sf_script_words::{Cause, WordFault, is, next_word, number_within, word, wrong};
 use std::alloc::Global;
 
 // Who is picked, of so many.
@@ -85,7 +85,7 @@ pub fn order_line(alloc: Global, scene: &Scene, line: &[u8]) -> Result<Vec<Pick>
     picks(alloc, scene, line)
 }
 
-#[tactic(auto, unfolding(crate::specs::Order::picks_at), using(sf_words::proofs::Sets::word_counts))]
+#[tactic(auto, unfolding(crate::specs::Order::picks_at), using(sf_script_words::proofs::Sets::word_counts))]
 fn picks(alloc: Global, scene: &Scene, line: &[u8]) -> Result<Vec<Pick>, LineFault>
     ensures given { GivesUnless (λ x. x.items) result (picks_at scene.now [] (words_of line.now)) }
     ensures fits { IfOk result (λ v. All (IsPick scene.now.actors) v.items) }

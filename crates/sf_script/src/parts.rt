@@ -1,16 +1,16 @@
 ghost use Rattle.std.specs.Prelude.{◌≡◌, [], true, length, IfOk, IfSome};
-ghost use Rattle.sf_words.specs.Text.{words_of};
-ghost use Rattle.sf_words.specs.Reading.{Gives};
-ghost use Rattle.sf_scene.specs.Named.{AreKnown, timelines_in};
-ghost use Rattle.sf_scene.specs.Ranges.{IsAskedSize, IsPart, IsTime};
-ghost use Rattle.sf_scene.specs.Scene.{has_timeline};
+ghost use Rattle.sf_script_words.specs.Text.{words_of};
+ghost use Rattle.sf_script_words.specs.Reading.{Gives};
+ghost use Rattle.sf_script_scene.specs.Named.{AreKnown, timelines_in};
+ghost use Rattle.sf_script_scene.specs.Ranges.{IsAskedSize, IsPart, IsTime};
+ghost use Rattle.sf_script_scene.specs.Scene.{has_timeline};
 ghost use Rattle.sf_script.specs.Memory.{GivesUnless};
 ghost use Rattle.sf_script.specs.Parts.{asked_size_at, cut_point, expected_at, fences_at, moment_at, part_at, point_of, some_part_at, time_at, value_at};
 
 use crate::fault::LineFault;
 use crate::mentions::timeline_in;
-use sf_scene::{Points, Scene};
-use sf_words::{
+use sf_script_scene::{Points, Scene};
+use sf_script_words::{
     Cause, WordFault, count_words, end, fixed, is, next_word, number_within, number32, number64,
     wrong,
 };

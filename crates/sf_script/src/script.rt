@@ -1,6 +1,6 @@
 ghost use Rattle.std.specs.Prelude.{◌≡◌, ◌≤◌, ◌<◌, ◌+◌, ◌==◌, [], IfOk, length, true};
 ghost use Rattle.std.specs.Str.{is_utf8};
-ghost use Rattle.sf_words.specs.Text.{lines_of, words_of};
+ghost use Rattle.sf_script_words.specs.Text.{lines_of, words_of};
 ghost use Rattle.sf_script.specs.Draft.{has_room, is_of, picks_of};
 ghost use Rattle.sf_script.specs.Fits.{LineFits};
 ghost use Rattle.sf_script.specs.Memory.{GivesUnless};
@@ -18,8 +18,8 @@ use crate::order::order_line;
 use crate::second::{capture_line, display_line, hit_line, mirror_line, stack_line};
 use crate::steps::step_line;
 use sf_base::Items;
-use sf_scene::Scene;
-use sf_words::{
+use sf_script_scene::Scene;
+use sf_script_words::{
     Cause, WordFault, count_words, demand, end, next_line, next_word, trim, word, wrong,
 };
 use std::alloc::Global;
@@ -86,7 +86,7 @@ fn is_text(line: &[u8]) -> bool
 }
 
 // A line that is not skipped.
-#[tactic(auto, unfolding(crate::specs::Script::line_at), using(sf_words::proofs::Sets::word_counts))]
+#[tactic(auto, unfolding(crate::specs::Script::line_at), using(sf_script_words::proofs::Sets::word_counts))]
 fn whole_line(alloc: Global, draft: &Draft, line: &[u8]) -> Result<Line, LineFault>
     ensures given { GivesUnless (λ x. x) result (line_at draft.now line.now) }
     ensures fits { IfOk result (LineFits draft.now) }
@@ -113,7 +113,7 @@ fn skips(line: &[u8]) -> bool
 }
 
 // A fault in the line with this number.
-#[tactic(auto, using(sf_words::proofs::Sets::word_counts))]
+#[tactic(auto, using(sf_script_words::proofs::Sets::word_counts))]
 fn place(number: u32, line: &[u8], fault: WordFault) -> ScriptFault
     requires { length line.now ≤ 1048576 }
     ensures { result ≡ placed number line.now fault }

@@ -1,15 +1,15 @@
 ghost use Rattle.std.specs.Prelude.{◌≡◌, ◌≤◌, false, IfOk};
-ghost use Rattle.sf_words.specs.Text.{words_of};
-ghost use Rattle.sf_words.specs.Reading.{Gives};
-ghost use Rattle.sf_scene.specs.Ranges.{IsCapture, IsDisplay, IsHit, IsMirror, IsStack};
-ghost use Rattle.sf_scene.specs.Scene.{has_capture, has_display, has_hit, has_layer};
+ghost use Rattle.sf_script_words.specs.Text.{words_of};
+ghost use Rattle.sf_script_words.specs.Reading.{Gives};
+ghost use Rattle.sf_script_scene.specs.Ranges.{IsCapture, IsDisplay, IsHit, IsMirror, IsStack};
+ghost use Rattle.sf_script_scene.specs.Scene.{has_capture, has_display, has_hit, has_layer};
 ghost use Rattle.sf_script.specs.Declarations.{new_number_at};
 ghost use Rattle.sf_script.specs.Fits.{IsNewSecond};
 ghost use Rattle.sf_script.specs.Second.{new_capture_at, new_display_at, new_hit_at, new_mirror_at, new_stack_at};
 
 use crate::draft::Draft;
-use sf_scene::{CaptureDecl, DisplayDecl, HitDecl, Scene};
-use sf_words::{Cause, WordFault, demand, end, number32, signed};
+use sf_script_scene::{CaptureDecl, DisplayDecl, HitDecl, Scene};
+use sf_script_words::{Cause, WordFault, demand, end, number32, signed};
 
 const MOST_PLACE: u32 = 16_384;
 

@@ -1,10 +1,10 @@
 ghost use Rattle.std.specs.Prelude.{◌≡◌, IfOk, Result};
-ghost use Rattle.sf_words.specs.Text.{words_of};
-ghost use Rattle.sf_words.specs.Reading.{Gives};
-ghost use Rattle.sf_words.specs.declared.fault.WordFault.{WordFault};
-ghost use Rattle.sf_scene.specs.Limits.{StepFits};
-ghost use Rattle.sf_scene.specs.Ranges.{IsName};
-ghost use Rattle.sf_scene.specs.declared.step.Step.{Step};
+ghost use Rattle.sf_script_words.specs.Text.{words_of};
+ghost use Rattle.sf_script_words.specs.Reading.{Gives};
+ghost use Rattle.sf_script_words.specs.declared.fault.WordFault.{WordFault};
+ghost use Rattle.sf_script_scene.specs.Limits.{StepFits};
+ghost use Rattle.sf_script_scene.specs.Ranges.{IsName};
+ghost use Rattle.sf_script_scene.specs.declared.step.Step.{Step};
 ghost use Rattle.sf_script.specs.Draft.{DraftValue};
 ghost use Rattle.sf_script.specs.Fits.{NameFits, NamedFits};
 ghost use Rattle.sf_script.specs.Memory.{GivesUnless};
@@ -18,8 +18,8 @@ use crate::line::{BoundName, NamedStep, PointForm, QueueForm, Side, StepForm};
 use crate::mentions::{bound_name, declared_picture, declared_queue, declared_timeline, used_name};
 use crate::parts::{asked_size, expected, fences, part, time, value};
 use crate::transactions::{apply, barrier, buffer, desire, merge, set, tx};
-use sf_scene::{Scene, Step};
-use sf_words::{WordFault, end, fixed, flag, number32};
+use sf_script_scene::{Scene, Step};
+use sf_script_words::{WordFault, end, fixed, flag, number32};
 use std::alloc::Global;
 
 // `connect Q`, `disconnect Q`, `abandon Q`

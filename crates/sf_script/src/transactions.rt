@@ -1,17 +1,17 @@
 ghost use Rattle.std.specs.Prelude.{◌≡◌, IfOk};
-ghost use Rattle.sf_words.specs.Text.{words_of};
-ghost use Rattle.sf_words.specs.Reading.{Gives};
-ghost use Rattle.sf_scene.specs.Limits.{StepFits};
-ghost use Rattle.sf_scene.specs.Ranges.{IsNumber, IsTransactionNumber};
-ghost use Rattle.sf_scene.specs.Scene.{SceneValue};
+ghost use Rattle.sf_script_words.specs.Text.{words_of};
+ghost use Rattle.sf_script_words.specs.Reading.{Gives};
+ghost use Rattle.sf_script_scene.specs.Limits.{StepFits};
+ghost use Rattle.sf_script_scene.specs.Ranges.{IsNumber, IsTransactionNumber};
+ghost use Rattle.sf_script_scene.specs.Scene.{SceneValue};
 ghost use Rattle.sf_script.specs.Transactions.{apply_at, barrier_at, buffer_at, desire_at, layer_at, merge_at, set_at, transaction_at, tx_at};
 
 use crate::changes::change;
 use crate::draft::Draft;
 use crate::mentions::used_name;
 use crate::parts::{moment, value};
-use sf_scene::Step;
-use sf_words::{WordFault, end, fixed, number32};
+use sf_script_scene::Step;
+use sf_script_words::{WordFault, end, fixed, number32};
 
 // The number of a transaction.
 fn transaction(line: &[u8]) -> Result<(u32, &[u8]), WordFault>

@@ -3,7 +3,7 @@ use Rattle.std.specs.Prelude.{◌==◌}
 use Rattle.std.specs.List.{list_any}
 use Rattle.sf_base.specs.declared.ids.TokenId.{TokenId}
 use Rattle.sf_token.specs.Pending.{is_of}
-use Rattle.sf_next.specs.Asking.{has_token}
+use Rattle.sf_commit_next.specs.Asking.{has_token}
 use Rattle.sf_commit.proofs.decide.all_tokens.Given as goal
 
 -- a token that is not asked and comes no more has nothing pending

@@ -1,12 +1,12 @@
 use Rattle.std.proofs.Common.{◌≡◌, ◌∙◌, ap, subst, refl, true}
 use Rattle.std.specs.Option.{IfSome}
 use Rattle.sf_token.specs.Pending.{QueuesOf}
-use Rattle.sf_next.proofs.AskingLemmas.{enough_after, out_none}
+use Rattle.sf_commit_next.proofs.AskingLemmas.{enough_after, out_none}
 use Rattle.sf_commit.proofs.DecideLemmas.{begins, ends, goes_on, shrinks}
-use Rattle.sf_next.specs.Asking.{has_token}
+use Rattle.sf_commit_next.specs.Asking.{has_token}
 use Rattle.sf_commit.specs.Deciding.{round_of}
-use Rattle.sf_next.specs.Next.{IsNextToken}
-use Rattle.sf_next.specs.Heads.{ready_of}
+use Rattle.sf_commit_next.specs.Next.{IsNextToken}
+use Rattle.sf_commit_next.specs.Heads.{ready_of}
 use Rattle.sf_commit.proofs.decide.decide.Goals as goal
 
 pub loop-asking-init : goal.loop-asking-init

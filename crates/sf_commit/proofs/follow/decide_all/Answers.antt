@@ -9,7 +9,7 @@ use Rattle.sf_commit.proofs.FollowLemmas.{looked_all, looks_rise, rising_append,
 use Rattle.sf_commit.proofs.HeldLemmas.{held_is, looks_begin, looks_stay}
 use Rattle.sf_commit.specs.Handlers.{last_of}
 use Rattle.sf_commit.specs.Holding.{AreLooks}
-use Rattle.sf_next.specs.Next.{AreRising, IsLookedAt}
+use Rattle.sf_commit_next.specs.Next.{AreRising, IsLookedAt}
 use Rattle.sf_commit.specs.Rounds.{Leads, pressed_in}
 use Rattle.sf_commit.proofs.follow.decide_all.Goals as goal
 

@@ -1,7 +1,7 @@
 use Rattle.std.proofs.Common.{◌≡◌, ◌∙◌, ◌∷◌, ◌++◌, [], List, ap, length, refl, reverse, subst, sym, arith}
 use Rattle.std.proofs.lemmas.List.{reverse-append, reverse-reverse}
 use Rattle.std.proofs.lemmas.List.Elements.{All-head}
-use Rattle.sf_next.proofs.AskingLemmas.{nothing_left}
+use Rattle.sf_commit_next.proofs.AskingLemmas.{nothing_left}
 use Rattle.sf_commit.proofs.LendLemmas.{Left, left_all, left_more, left_none}
 use Rattle.sf_commit.specs.Lending.{IsThere, KeptRead}
 use Rattle.sf_commit.proofs.lending.leave_all.Goals as goal

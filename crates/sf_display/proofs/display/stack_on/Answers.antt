@@ -1,8 +1,8 @@
 use Rattle.std.proofs.Common.{◌≡◌, ◌∙◌, length, ap, sym, arith}
 use Rattle.std.proofs.lemmas.List.{length-map}
-use Rattle.sf_shown.specs.Above.{found_above}
-use Rattle.sf_shown.specs.Displays.{stack_by, stack_on}
-use Rattle.sf_shown.specs.declared.above.Wanted.TheVariants as wanted
+use Rattle.sf_output_shown.specs.Above.{found_above}
+use Rattle.sf_output_shown.specs.Displays.{stack_by, stack_on}
+use Rattle.sf_output_shown.specs.declared.above.Wanted.TheVariants as wanted
 use Rattle.sf_tree.proofs.Lookups.{layer_of-none}
 use Rattle.sf_tree.proofs.Places.{index_of_inside}
 use Rattle.sf_tree.proofs.ShowLemmas.{at_found}

@@ -1,6 +1,6 @@
 use Rattle.std.proofs.Common.{ℕ, List, ◌∙◌, ap, filter}
 use Rattle.std.proofs.lemmas.List.{take_all}
-use Rattle.sf_shown.specs.Displays.{order_on}
+use Rattle.sf_output_shown.specs.Displays.{order_on}
 use Rattle.sf_display.specs.Stacks.{is_of_layer}
 use Rattle.sf_display.proofs.NarrowingLemmas.{same_orders}
 use Rattle.sf_display.proofs.stacks.stacks_in.Goals as goal

@@ -4,12 +4,12 @@ use Rattle.sf_surface.specs.Tokens.{ReadLeaseOf}
 use Rattle.sf_actor.specs.Scripts.{picture_at}
 use Rattle.sf_play.specs.Playing.{expected_by}
 use Rattle.sf_play.specs.declared.turn.Turn.{Turn}
-use Rattle.sf_report.specs.Stages.{IsStage}
-use Rattle.sf_report.specs.declared.report.VsyncReport.{VsyncReport}
-use Rattle.sf_screen.specs.ScreenLists.{AreShown}
-use Rattle.sf_show.specs.Vsyncs.{vsync_shown}
-use Rattle.sf_show.specs.Writing.{Writes, WritesPart}
-use Rattle.sf_show.proofs.WritingLemmas.{writes_none}
+use Rattle.sf_play_report.specs.Stages.{IsStage}
+use Rattle.sf_play_report.specs.declared.report.VsyncReport.{VsyncReport}
+use Rattle.sf_output_screen.specs.ScreenLists.{AreShown}
+use Rattle.sf_play_write.specs.Vsyncs.{vsync_shown}
+use Rattle.sf_play_write.specs.Writing.{Writes, WritesPart}
+use Rattle.sf_play_write.proofs.WritingLemmas.{writes_none}
 use Rattle.sf_live.specs.Rounds.{MayWriteTurn, turn_written}
 use Rattle.sf_live.proofs.RoundLemmas.{none_written, stage_told, expected_told}
 use Rattle.sf_live.proofs.rounds.write_turn.Goals as goal

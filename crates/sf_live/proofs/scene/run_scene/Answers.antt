@@ -1,6 +1,6 @@
 use Rattle.std.proofs.Common.{◌≤◌, Bool, arith, sym, subst}
-use Rattle.sf_run.proofs.LimitLemmas.{few_layers}
-use Rattle.sf_scene.specs.Scene.{SceneValue}
+use Rattle.law_played.proofs.LimitLemmas.{few_layers}
+use Rattle.sf_script_scene.specs.Scene.{SceneValue}
 use Rattle.sf_actor_set.specs.Scripts.{permits_of}
 use Rattle.sf_live.specs.Runs.{LiveEnded}
 use Rattle.sf_live.proofs.Starting.{may_run, of_scene}

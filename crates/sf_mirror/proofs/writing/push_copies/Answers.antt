@@ -3,9 +3,9 @@ use Rattle.std.specs.List.{All}
 use Rattle.std.proofs.lemmas.List.{length-map}
 use Rattle.sf_layer.specs.declared.layer.Layer.{Layer}
 use Rattle.sf_base.specs.declared.ids.LayerId.{LayerId}
-use Rattle.sf_shown.specs.Copies.{copied, copy_of, named, number_of}
-use Rattle.sf_shown.specs.Cuts.{under}
-use Rattle.sf_shown.proofs.KeepingLemmas.{under-few}
+use Rattle.sf_output_shown.specs.Copies.{copied, copy_of, named, number_of}
+use Rattle.sf_output_shown.specs.Cuts.{under}
+use Rattle.sf_output_shown.proofs.KeepingLemmas.{under-few}
 use Rattle.sf_mirror.specs.Extended.{Extends}
 use Rattle.sf_mirror.proofs.CopyLemmas.{long_copies}
 use Rattle.sf_mirror.proofs.CopyTreeLemmas.{Extends-copies, all_named, mirror_there}

@@ -1,9 +1,9 @@
 use Rattle.std.proofs.Common.{arith, length, length-append, ap, List}
 use Rattle.std.proofs.lemmas.Grind.{common_steps}
 use Rattle.std.proofs.lemmas.List.Elements.{All-push}
-use Rattle.sf_words.specs.Text.{Text}
-use Rattle.sf_scene.specs.Limits.{IsPick}
-use Rattle.sf_scene.specs.declared.declarations.Pick.{Pick}
+use Rattle.sf_script_words.specs.Text.{Text}
+use Rattle.sf_script_scene.specs.Limits.{IsPick}
+use Rattle.sf_script_scene.specs.declared.declarations.Pick.{Pick}
 use Rattle.sf_script.specs.Order.{picks_at}
 use Rattle.sf_script.proofs.order.picks.Goals as goal
 

@@ -1,7 +1,7 @@
 use Rattle.std.proofs.Common.{◌≡◌, ◌+◌, [], length}
 use Rattle.std.specs.List.{All}
-use Rattle.sf_words.specs.Text.{words_of}
-use Rattle.sf_scene.specs.Limits.{IsPick}
+use Rattle.sf_script_words.specs.Text.{words_of}
+use Rattle.sf_script_scene.specs.Limits.{IsPick}
 use Rattle.sf_script.specs.Order.{picks_at}
 use Rattle.sf_script.proofs.order.picks.Given as goal
 

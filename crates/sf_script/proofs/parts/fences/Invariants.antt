@@ -1,6 +1,6 @@
 use Rattle.std.proofs.Common.{◌≡◌, [], length}
-use Rattle.sf_words.specs.Text.{words_of}
-use Rattle.sf_scene.specs.Named.{AreKnown, timelines_in}
+use Rattle.sf_script_words.specs.Text.{words_of}
+use Rattle.sf_script_scene.specs.Named.{AreKnown, timelines_in}
 use Rattle.sf_script.specs.Parts.{fences_at}
 use Rattle.sf_script.proofs.parts.fences.Given as goal
 

@@ -1,5 +1,5 @@
 use Rattle.std.proofs.Common.{◌≡◌, ◌+◌, ◌≤◌, length}
-use Rattle.sf_words.specs.Text.{lines_of}
+use Rattle.sf_script_words.specs.Text.{lines_of}
 use Rattle.sf_script.specs.Draft.{no_lines}
 use Rattle.sf_script.specs.Script.{lines_at}
 use Rattle.sf_script.proofs.script.whole_script.Given as goal

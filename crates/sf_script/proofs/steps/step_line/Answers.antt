@@ -1,9 +1,9 @@
 use Rattle.std.proofs.Common.{IfOk, subst}
-use Rattle.sf_words.specs.Text.{words_of}
-use Rattle.sf_words.specs.Reading.{Gives}
-use Rattle.sf_scene.specs.Limits.{StepFits}
-use Rattle.sf_scene.specs.Scene.{SceneValue}
-use Rattle.sf_scene.specs.declared.step.Step.{Step}
+use Rattle.sf_script_words.specs.Text.{words_of}
+use Rattle.sf_script_words.specs.Reading.{Gives}
+use Rattle.sf_script_scene.specs.Limits.{StepFits}
+use Rattle.sf_script_scene.specs.Scene.{SceneValue}
+use Rattle.sf_script_scene.specs.declared.step.Step.{Step}
 use Rattle.sf_script.specs.Steps.{async_at, draw_at, most_at, on_point_at, on_queue_at, request_at, step_at}
 use Rattle.sf_script.specs.Transactions.{apply_at, barrier_at, buffer_at, desire_at, merge_at, set_at, tx_at}
 use Rattle.sf_script.proofs.steps.step_line.Goals as goal

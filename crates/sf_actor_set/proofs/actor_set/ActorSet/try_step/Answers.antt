@@ -1,5 +1,5 @@
 use Rattle.std.proofs.Common.{◌∙◌, ap, List, length}
-use Rattle.sf_steps.specs.declared.actor.Actor.{Actor}
+use Rattle.sf_actor_steps.specs.declared.actor.Actor.{Actor}
 use Rattle.sf_actor_set.specs.ActorSets.{ActorSetOf, scripts_of}
 use Rattle.sf_actor_set.proofs.SteppingLemmas.{as_lent, is_actor_set_after, many_same, may_step, whole_tries, written_back}
 use Rattle.sf_actor_set.proofs.actor_set.ActorSet.try_step.Goals as goal

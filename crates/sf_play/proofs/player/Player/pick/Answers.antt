@@ -1,6 +1,6 @@
 use Rattle.std.proofs.Common.{◌≡◌, ◌∙◌, ◌==◌, Some, ap, subst, sym}
 use Rattle.std.specs.List.{position}
-use Rattle.sf_steps.specs.declared.actor.Actor.{Actor}
+use Rattle.sf_actor_steps.specs.declared.actor.Actor.{Actor}
 use Rattle.sf_actor_set.specs.ActorSets.{number_of}
 use Rattle.sf_play.specs.Players.{PlayerOf}
 use Rattle.sf_play.proofs.Picking.{picks_step}

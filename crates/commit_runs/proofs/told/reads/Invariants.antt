@@ -1,5 +1,0 @@
-use Rattle.std.proofs.Common.{length}
-use Rattle.commit_runs.proofs.told.reads.Given as goal
-
-abbrev pub decreases-loop-end : goal.decreases-loop-end
-decreases-loop-end l = length l.ends

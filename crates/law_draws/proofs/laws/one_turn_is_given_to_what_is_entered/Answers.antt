@@ -1,0 +1,5 @@
+use Rattle.law_draws.proofs.Giving.{given_once}
+use Rattle.law_draws.proofs.laws.one_turn_is_given_to_what_is_entered.Goals as goal
+
+pub returns : goal.returns
+returns g c = given_once

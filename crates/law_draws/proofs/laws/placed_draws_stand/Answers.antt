@@ -1,0 +1,5 @@
+use Rattle.law_draws.proofs.Ending.{draws_stand}
+use Rattle.law_draws.proofs.laws.placed_draws_stand.Goals as goal
+
+pub returns : goal.returns
+returns g c = draws_stand

@@ -1,0 +1,5 @@
+use Rattle.law_joins.proofs.Fronts.{known_before}
+use Rattle.law_joins.proofs.laws.what_seats_knew_is_known_at_the_join.Goals as goal
+
+pub returns : goal.returns
+returns g c = known_before _

@@ -1,0 +1,18 @@
+use Rattle.std.proofs.Common.{ℕ, ap, refl}
+use Rattle.sf_surface.specs.Reading.{PlainLease}
+use Rattle.sf_actor.specs.Makers.{BufferOf}
+use Rattle.law_joins.proofs.Tied.{tied_in_run, tied_standing}
+use Rattle.law_joins.proofs.rights.a_run_in_threads_goes_on.Goals as goal
+
+abbrev at : PlainLease → BufferOf
+at plain = record { queue = plain.queue.0; number = plain.held.number }
+
+pub returns-clause-in_run : goal.returns-clause-in_run
+returns-clause-in_run g c = λ scene period most locks last ends desk is few.
+    tied_in_run _ scene g.B.TableName.table period most locks last ends desk is (record { plain = λ a b e. e; picture = λ a b e. e; number = λ a b e. ap (λ (p : ℕ × ℕ). p.1) e }) (λ eye l knows. knows)
+    (record { end = λ l. refl; next_end = λ l. refl; ends = λ eye. refl }) (λ one other same. ap at same) few
+
+pub returns-clause-standing : goal.returns-clause-standing
+returns-clause-standing g c = λ scene period most locks last ends desk is few.
+    tied_standing _ scene g.B.TableName.table period most locks last ends desk is (record { plain = λ a b e. e; picture = λ a b e. e; number = λ a b e. ap (λ (p : ℕ × ℕ). p.1) e }) (λ eye l knows. knows)
+    (record { end = λ l. refl; next_end = λ l. refl; ends = λ eye. refl }) (λ one other same. ap at same) few

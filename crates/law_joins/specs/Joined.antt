@@ -1,0 +1,58 @@
+-- A run in threads at its join, as one that a player goes on with.
+use Rattle.std.specs.Prelude.{◌≡◌, ℕ, false, List, ◌++◌, map}
+use Rattle.std.specs.List.{flat_map}
+use Rattle.atomic_table.specs.Seated.{TableId}
+use Rattle.sf_calls.specs.Histories.{IsLegal}
+use Rattle.sf_surface.specs.Histories.{Answers}
+use Rattle.sf_surface.specs.Tokens.{Issued, ReadLeaseOf}
+use Rattle.sf_turns.specs.Views.{SeatView}
+use Rattle.sf_txn.specs.declared.lease.Lease.{Ghosts}
+use Rattle.sf_script_scene.specs.Scene.{SceneValue}
+use Rattle.sf_actor.specs.declared.tried.Reply.{Reply as Told}
+use Rattle.sf_actor.specs.Desks.{KnowsAll, mark_among}
+use Rattle.sf_actor.specs.Plain.{PlainOf, home_of as plain_home, view_of as plain_view}
+use Rattle.sf_actor.specs.Tries.{ActorOf}
+use Rattle.sf_actor_set.specs.ActorSets.{ActorSetOf}
+use Rattle.sf_record.specs.declared.event.Event.{Event}
+use Rattle.sf_record.specs.declared.event.Event.TheVariants as event
+use Rattle.sf_record.specs.declared.event.VsyncReport.{VsyncReport}
+use Rattle.law_played.specs.Replies.{reply_shown}
+use Rattle.sf_script_scene.specs.Limits.{most_layers}
+use Rattle.sf_live_seats.specs.declared.locks.Locks.{Locks}
+use Rattle.sf_live_threads.specs.Walks.{Moment}
+use Rattle.sf_play.specs.Players.{PlayerOf, SoFar, before_round}
+use Rattle.law_joins.specs.Logs.{reports_of}
+use Rattle.law_threads.specs.Joining.{Joins, actor_at, of_at}
+use Rattle.sf_live_compositor.specs.Vsyncs.{Sitting}
+
+module _ {B : Type 0} where
+  -- what an actor replied
+  abbrev pub replies_told : ActorOf B → List Event
+  replies_told of = map (λ (told : Told). event.Reply (reply_shown told)) of.replies
+
+  -- the vsyncs that were shown, and behind them all replies, by actor and step
+  abbrev pub events_of : List VsyncReport → List (ActorOf B) → List Event
+  events_of reports ofs = map event.Vsync reports ++ flat_map replies_told ofs
+
+  -- the actors that came back, over the desk that is left
+  abbrev pub actor_set_joined : SceneValue → List (Moment B) → PlainOf B → ActorSetOf B
+  actor_set_joined scene ends desk = record { pictures = scene.pictures; actors = map actor_at ends; desk = desk; is_spent = false }
+
+  -- a player that goes on from there, with the compositor as it was after its last vsync
+  abbrev pub player_joined : SceneValue → List (Moment B) → PlainOf B → Sitting B → PlayerOf B
+  player_joined scene ends desk last = before_round scene.period scene.order (actor_set_joined scene ends desk) last.handler last.number
+
+module _ {B : Type 0} (lease : Ghosts ReadLeaseOf SeatView ReadLeaseOf Issued) (scene : SceneValue) (table : TableId) (period most : ℕ)
+    (locks : Locks B) (last : Sitting B) (ends : List (Moment B)) (desk : PlainOf B) where
+  -- A run in threads is joined, over a desk that knows all that happened, and whose histories are legal. Its vsyncs came with the scene's
+  -- period, and its compositor began for as many layers as the scene's version has.
+  pub record IsJoined : Type 0 where
+    pub joins : Joins lease scene table period most locks last ends desk
+    pub knows : KnowsAll (plain_view desk)
+    pub legal : (queue : ℕ) → IsLegal (Answers (mark_among (plain_home desk).marks queue)) ((plain_view desk).calls queue)
+    pub same_period : period ≡ scene.period
+    pub same_most : most ≡ most_layers scene.version
+
+  -- what happened in it: the actors as they came back, what its vsyncs showed, and all replies
+  abbrev pub so_joined : IsJoined → SoFar B
+  so_joined is = record { actors = map of_at ends; events = events_of (reports_of lease table locks period scene is.joins.log) (map of_at ends) }

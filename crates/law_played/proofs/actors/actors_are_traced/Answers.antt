@@ -1,0 +1,5 @@
+use Rattle.law_played.proofs.Tracing.{are_traced}
+use Rattle.law_played.proofs.actors.actors_are_traced.Goals as goal
+
+pub returns : goal.returns
+returns g c = are_traced

@@ -1,0 +1,5 @@
+use Rattle.law_played.proofs.Ending.{play_ends}
+use Rattle.law_played.proofs.ongoing.a_play_ends.Goals as goal
+
+pub returns : goal.returns
+returns c = play_ends

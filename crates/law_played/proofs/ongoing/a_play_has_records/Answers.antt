@@ -1,0 +1,8 @@
+use Rattle.law_played.proofs.Ending.{has_records, records_on}
+use Rattle.law_played.proofs.ongoing.a_play_has_records.Goals as goal
+
+pub returns-clause-has : goal.returns-clause-has
+returns-clause-has c = has_records
+
+pub returns-clause-go_on : goal.returns-clause-go_on
+returns-clause-go_on c = records_on

@@ -1,0 +1,5 @@
+use Rattle.law_played.proofs.Parts.{answer_steps}
+use Rattle.law_played.proofs.telling.replies_answer_steps.Goals as goal
+
+pub returns : goal.returns
+returns g c = answer_steps

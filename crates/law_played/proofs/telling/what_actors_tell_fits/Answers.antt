@@ -1,0 +1,5 @@
+use Rattle.law_played.proofs.Fitting.{fits}
+use Rattle.law_played.proofs.telling.what_actors_tell_fits.Goals as goal
+
+pub returns : goal.returns
+returns g c = fits

@@ -1,0 +1,48 @@
+-- The end of a play, and the records of a whole play. They are determined by what was shown and by the world at its end.
+use Rattle.std.specs.Prelude.{◌≡◌, ℕ, ◌*◌, List, ◌∷◌, map}
+use Rattle.sf_ready.specs.declared.hold.Hold.{Hold}
+use Rattle.sf_commit.specs.Rounds.{held}
+use Rattle.sf_script_scene.specs.Scene.{SceneValue}
+use Rattle.sf_record.specs.Events.{events_records}
+use Rattle.sf_record.specs.declared.event.Event.{Event}
+use Rattle.sf_record.specs.declared.record.Record.{Record}
+use Rattle.law_played.specs.Arrivals.{entry_of}
+use Rattle.law_played.specs.Commits.{is_written}
+use Rattle.law_played.specs.Histories.{history_shown, rising_queues}
+use Rattle.law_played.specs.Played.{Shows, opening, records_of}
+use Rattle.law_played.specs.Plays.{Comes, IsOver, IsPlay, Playing}
+use Rattle.law_played.specs.Progress.{held_shown}
+use Rattle.law_played.specs.Runs.{final_values, written_in}
+use Rattle.law_played.specs.Stuck.{stuck_of}
+use Rattle.law_played.specs.Worlds.{World, round_now}
+
+-- what the last vsync held
+abbrev pub held_in : SceneValue → World → List (ℕ × Hold)
+held_in scene world = held (is_written (written_in scene world.run)) (final_values scene world.run) (world.vsyncs * scene.period) (round_now scene world)
+
+-- what the records of a run show, whose play showed these events and came to this world
+abbrev pub shows_of : SceneValue → List Event → World → Shows
+shows_of scene events world = record {
+  events = events;
+  arrived = map entry_of world.arrivals;
+  histories = map (history_shown world.run) (rising_queues scene);
+  held = map held_shown (held_in scene world);
+  stuck = stuck_of scene world.run;
+}
+
+-- these are the records of the play of a scene
+pub record ArePlayRecords (scene : SceneValue) (records : List Record) : Type 0 where
+  pub events : List Event
+  pub world : World
+  pub is_play : IsPlay scene events world
+  pub are : records ≡ records_of scene (shows_of scene events world)
+
+-- the records of what a play showed so far
+abbrev pub records_so_far : SceneValue → List Event → List Record
+records_so_far scene events = opening scene ∷ events_records events
+
+-- a play comes to its end
+pub record Ends (scene : SceneValue) (playing : Playing) : Type 0 where
+  pub end : Playing
+  pub comes : Comes scene playing end
+  pub over : IsOver scene end

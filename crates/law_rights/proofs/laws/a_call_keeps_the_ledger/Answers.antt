@@ -1,0 +1,5 @@
+use Rattle.law_rights.proofs.Stepping.{call_keeps}
+use Rattle.law_rights.proofs.laws.a_call_keeps_the_ledger.Goals as goal
+
+pub returns : goal.returns
+returns g c = call_keeps

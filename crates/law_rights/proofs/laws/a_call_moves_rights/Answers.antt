@@ -1,0 +1,5 @@
+use Rattle.law_rights.proofs.Balancing.{call_moves}
+use Rattle.law_rights.proofs.laws.a_call_moves_rights.Goals as goal
+
+pub returns : goal.returns
+returns g c = call_moves

@@ -1,0 +1,5 @@
+use Rattle.law_rights.proofs.Starting.{begins_standing}
+use Rattle.law_rights.proofs.laws.a_ledger_stands_at_the_beginning.Goals as goal
+
+pub returns : goal.returns
+returns g c = begins_standing

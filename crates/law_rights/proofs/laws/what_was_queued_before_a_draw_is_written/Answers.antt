@@ -1,0 +1,5 @@
+use Rattle.law_rights.proofs.Entering.{enters_last}
+use Rattle.law_rights.proofs.laws.what_was_queued_before_a_draw_is_written.Goals as goal
+
+pub returns : goal.returns
+returns g c = enters_last

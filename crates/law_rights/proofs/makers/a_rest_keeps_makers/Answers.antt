@@ -1,0 +1,5 @@
+use Rattle.law_rights.proofs.MakersKeeping.{rest_keeps}
+use Rattle.law_rights.proofs.makers.a_rest_keeps_makers.Goals as goal
+
+pub returns : goal.returns
+returns c = rest_keeps

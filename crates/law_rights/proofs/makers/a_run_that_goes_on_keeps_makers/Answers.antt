@@ -1,0 +1,5 @@
+use Rattle.law_rights.proofs.MakersKeeping.{run_keeps}
+use Rattle.law_rights.proofs.makers.a_run_that_goes_on_keeps_makers.Goals as goal
+
+pub returns : goal.returns
+returns c = run_keeps

@@ -1,0 +1,14 @@
+use Rattle.std.proofs.Common.{ap}
+use Rattle.sf_actor.specs.Makers.{BufferOf}
+use Rattle.sf_surface.specs.Reading.{PlainLease}
+use Rattle.law_rights.proofs.Standing.{vsync_returns}
+use Rattle.law_rights.proofs.makers.a_vsync_does_to_places_what_is_told.Goals as goal
+
+abbrev at : PlainLease → BufferOf
+at plain = record { queue = plain.queue.0; number = plain.held.number }
+
+pub returns-clause-tells : goal.returns-clause-tells
+returns-clause-tells g c = λ one other same. ap at same
+
+pub returns-clause-returns : goal.returns-clause-returns
+returns-clause-returns g c = λ buffers home ofs old new handler after vsync stands. vsync_returns _ buffers home ofs old new handler after vsync stands (λ one other same. ap at same)

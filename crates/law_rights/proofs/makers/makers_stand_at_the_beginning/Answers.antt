@@ -1,0 +1,5 @@
+use Rattle.law_rights.proofs.MakersBeginning.{makers_begin}
+use Rattle.law_rights.proofs.makers.makers_stand_at_the_beginning.Goals as goal
+
+pub returns : goal.returns
+returns g c = makers_begin

@@ -1,0 +1,5 @@
+use Rattle.law_rights.proofs.InTurnBeginning.{draws_begin}
+use Rattle.law_rights.proofs.turns.draws_stand_at_the_beginning.Goals as goal
+
+pub returns : goal.returns
+returns g c = draws_begin

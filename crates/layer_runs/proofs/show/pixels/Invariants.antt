@@ -1,5 +1,0 @@
-use Rattle.std.proofs.Common.{length}
-use Rattle.layer_runs.proofs.show.pixels.Given as goal
-
-abbrev pub decreases-loop-rest : goal.decreases-loop-rest
-decreases-loop-rest g l = length l.rest

@@ -1,4 +1,0 @@
-use Rattle.queue_runs.proofs.turns.play.Given as goal
-
-abbrev pub ghosts-play_at : goal.ghosts-play_at
-ghosts-play_at g a = record { table = a.seat.table }

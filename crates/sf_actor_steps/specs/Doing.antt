@@ -1,0 +1,25 @@
+-- What a step that makes a call on a queue does.
+use Rattle.std.specs.Prelude.{◌≡◌, ℕ, true, Option, Some}
+use Rattle.sf_picture.specs.declared.picture.Picture.{Picture}
+use Rattle.sf_script_scene.specs.declared.step.Step.{Step}
+use Rattle.sf_actor.specs.Desks.{DeskHome, DeskView, has_queue}
+use Rattle.sf_actor.specs.Names.{Frame, Lent, Token}
+use Rattle.sf_actor_steps.specs.Calling.{TriesCall}
+use Rattle.sf_actor_steps.specs.Forming.{FormsCall}
+use Rattle.sf_actor_steps.specs.declared.asking.Asking.{Asking}
+use Rattle.sf_actor_steps.specs.declared.bindings.Bindings.{Bindings}
+use Rattle.sf_actor_steps.specs.declared.tried.Tried.{Tried}
+
+-- it makes the step's call, with tokens out of the bindings
+pub record MakesCall {B : Type 0} (pictures : ℕ → Picture) (home : DeskHome) (by place : ℕ) (s : Step)
+    (before after : Bindings B) (old new : DeskView B) (tried : Tried) : Type 0 where
+  pub taken : Bindings B
+  pub asking : Asking B
+  pub forms : FormsCall pictures s before taken asking
+  pub tries : TriesCall home by place asking taken after old new tried
+
+-- the queue of a lent buffer or of a frame is there
+abbrev pub HasQueueOf : DeskHome → Option Token → Type 0
+HasQueueOf home (Some (Lent queue token drawn)) = has_queue home queue.0 ≡ true
+HasQueueOf home (Some (Frame queue token)) = has_queue home queue.0 ≡ true
+HasQueueOf home other = Unit {0}

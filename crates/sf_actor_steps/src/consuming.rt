@@ -1,0 +1,120 @@
+use crate::asking::{fence_of, joining, named, release};
+use crate::bindings::Bindings;
+use crate::tried::Tried;
+use sf_actor::{Desk, TokensOf};
+use sf_base::{NoMemory, QueueId};
+use sf_script_scene::Points;
+use sf_surface::QCall;
+use sf_turns::TableName;
+
+impl<B: TableName> Bindings<B> {
+    ghost use Rattle.std.specs.Prelude.{◌≡◌, ℕ, true, IfOk};
+    ghost use Rattle.sf_picture.specs.declared.picture.Picture.{Picture};
+    ghost use Rattle.sf_script_scene.specs.declared.step.Step.TheVariants as step;
+    ghost use Rattle.sf_actor.specs.Desks.{has_queue};
+    ghost use Rattle.sf_actor.specs.Names.{is_apart, is_frame, name_in};
+    ghost use Rattle.sf_actor_steps.specs.Doing.{HasQueueOf, MakesCall};
+    ghost use Rattle.sf_actor_steps.specs.Forming.{ArePoints};
+    ghost use Rattle.sf_actor_steps.specs.Bindings.{holdings_of};
+
+    /// Limits how many buffers a consumer may hold.
+    pub fn limit_acquired<D: Desk<TokensOf<B>>>(
+        &mut self,
+        desk: &mut D,
+        place: u32,
+        queue: u32,
+        n: u32,
+    ) -> Result<Tried, NoMemory>
+        requires served { (D.home desk.old).serves self.old.by.0 ≡ true }
+        requires there { has_queue (D.home desk.old) queue ≡ true }
+        ensures makes { IfOk result (λ tried. (pictures : ℕ → Picture) → MakesCall pictures
+            (D.home desk.old) self.old.by.0 place (step.MaxAcquired queue n) self.old self.new (D.view desk.old) (D.view desk.new) tried) }
+        ensures home { D.home desk.new ≡ D.home desk.old }
+    {
+        self.ask(desk, place, named(QueueId(queue), 0, QCall::MaxAcquired(n)))
+    }
+
+    /// Abandons a queue, as its consumer.
+    pub fn abandon<D: Desk<TokensOf<B>>>(
+        &mut self,
+        desk: &mut D,
+        place: u32,
+        queue: u32,
+    ) -> Result<Tried, NoMemory>
+        requires served { (D.home desk.old).serves self.old.by.0 ≡ true }
+        requires there { has_queue (D.home desk.old) queue ≡ true }
+        ensures makes { IfOk result (λ tried. (pictures : ℕ → Picture) → MakesCall pictures
+            (D.home desk.old) self.old.by.0 place (step.Abandon queue) self.old self.new (D.view desk.old) (D.view desk.new) tried) }
+        ensures home { D.home desk.new ≡ D.home desk.old }
+    {
+        self.ask(desk, place, named(QueueId(queue), 0, QCall::Abandon))
+    }
+
+    /// Lets a name hold the frame in front of a queue.
+    pub fn acquire<D: Desk<TokensOf<B>>>(
+        &mut self,
+        desk: &mut D,
+        place: u32,
+        queue: u32,
+        name: u32,
+        at: Option<u64>,
+    ) -> Result<Tried, NoMemory>
+        requires served { (D.home desk.old).serves self.old.by.0 ≡ true }
+        requires there { has_queue (D.home desk.old) queue ≡ true }
+        ensures makes { IfOk result (λ tried. (pictures : ℕ → Picture) → MakesCall pictures
+            (D.home desk.old) self.old.by.0 place (step.Acquire queue name at) self.old self.new (D.view desk.old) (D.view desk.new) tried) }
+        ensures home { D.home desk.new ≡ D.home desk.old }
+    {
+        self.ask(
+            desk,
+            place,
+            named(QueueId(queue), name, QCall::Acquire(at.unwrap_or(0))),
+        )
+    }
+
+    /// Gives a frame's buffer back.
+    pub fn release<D: Desk<TokensOf<B>>>(
+        &mut self,
+        desk: &mut D,
+        place: u32,
+        name: u32,
+        points: &Points,
+    ) -> Result<Tried, NoMemory>
+        requires served { (D.home desk.old).serves self.old.by.0 ≡ true }
+        requires frame { is_frame (name_in (holdings_of self.old) name) ≡ true }
+        requires there { HasQueueOf (D.home desk.old) (name_in (holdings_of self.old) name) }
+        requires points { ArePoints points.now }
+        ensures makes { IfOk result (λ tried. (pictures : ℕ → Picture) → MakesCall pictures
+            (D.home desk.old) self.old.by.0 place (step.Release name points.now) self.old self.new (D.view desk.old) (D.view desk.new) tried) }
+        ensures home { D.home desk.new ≡ D.home desk.old }
+    {
+        let lease = self.take_frame(name);
+        let fence = fence_of(self.alloc, points)?;
+        let asking = release(self.alloc, name, lease, fence)?;
+        self.ask(desk, place, asking)
+    }
+
+    /// Puts a loose buffer into a queue, held by its consumer.
+    pub fn attach_read<D: Desk<TokensOf<B>>>(
+        &mut self,
+        desk: &mut D,
+        place: u32,
+        queue: u32,
+        from: u32,
+        to: u32,
+    ) -> Result<Tried, NoMemory>
+        requires served { (D.home desk.old).serves self.old.by.0 ≡ true }
+        requires there { has_queue (D.home desk.old) queue ≡ true }
+        requires apart { is_apart (name_in (holdings_of self.old) from) ≡ true }
+        ensures makes { IfOk result (λ tried. (pictures : ℕ → Picture) → MakesCall pictures
+            (D.home desk.old) self.old.by.0 place (step.CAttach queue from to) self.old self.new (D.view desk.old) (D.view desk.new) tried) }
+        ensures home { D.home desk.new ≡ D.home desk.old }
+    {
+        let (last, loose) = self.take_free(from);
+        self.ask(
+            desk,
+            place,
+            joining(QueueId(queue), from, to, last, QCall::AttachRead(loose)),
+        )
+    }
+}

@@ -1,0 +1,213 @@
+ghost use Rattle.std.specs.Prelude.{◌≡◌};
+ghost use Rattle.std.specs.Option.{option_copied};
+ghost use Rattle.sf_actor_steps.specs.Leaving.{Looks, was_ok};
+
+use crate::asking::{moving, named};
+use crate::bindings::Bindings;
+use crate::drawing::look;
+use crate::refusal::BAD_VALUE;
+use crate::tried::Tried;
+use sf_actor::{Desk, Holding, TokensOf};
+use sf_base::{Fence, NoMemory, QueueId};
+use sf_surface::QCall;
+use sf_turns::TableName;
+
+/// Whether a point of a fence is not signalled, as a look shows, if there is a fence.
+fn is_open<B: TableName, D: Desk<TokensOf<B>>>(desk: &mut D, fence: Option<&Fence>) -> bool
+    ensures looks { Looks (D.home desk.old) (option_copied fence.entry) (D.view desk.old) (D.view desk.new) result }
+    ensures home { D.home desk.new ≡ D.home desk.old }
+{
+    match fence {
+        Some(fence) => fence.first_open(&look(desk)).is_some(),
+        None => false,
+    }
+}
+
+/// Whether a call was done.
+fn was_ok(tried: &Tried) -> bool
+    ensures { result ≡ was_ok tried.now }
+{
+    match tried {
+        Tried::Called(status, _) => status.number() == 0,
+        _ => false,
+    }
+}
+
+impl<B: TableName> Bindings<B> {
+    ghost use Rattle.std.specs.Prelude.{◌≡◌, ℕ, true, IfOk, None, get_or, length};
+    ghost use Rattle.std.specs.Option.{option_copied};
+    ghost use Rattle.sf_picture.specs.declared.picture.Picture.{Picture};
+    ghost use Rattle.sf_script_scene.specs.declared.step.Step.TheVariants as step;
+    ghost use Rattle.sf_actor.specs.Desks.{has_queue};
+    ghost use Rattle.sf_actor.specs.Names.{is_frame, is_lent, name_in};
+    ghost use Rattle.sf_actor.specs.Points.{frame_fence, requested_fence};
+    ghost use Rattle.sf_actor_steps.specs.Calling.{with_held};
+    ghost use Rattle.sf_actor_steps.specs.Doing.{HasQueueOf, MakesCall};
+    ghost use Rattle.sf_actor_steps.specs.Bindings.{holdings_of};
+    ghost use Rattle.sf_actor_steps.specs.Leaving.{Disconnects, TriesToLeave, holds_lent, let_go_of, without_lent};
+
+    /// Drops what a name holds, if it is a lent buffer of a queue.
+    fn drop_if_lent(&mut self, name: u32, queue: u32)
+        ensures { self.new ≡ with_held self.old name (let_go_of queue (get_or self.old.names name None)) }
+    {
+        if self.is_lent_by(name, queue) {
+            let _lease = self.names.take(name);
+        }
+    }
+
+    /// Whether a name holds a lent buffer of a queue.
+    fn is_lent_by(&self, name: u32, queue: u32) -> bool
+        ensures { result ≡ holds_lent queue (get_or self.now.names name None) }
+    {
+        match self.names.get(name) {
+            Some(Holding::Lends(lease)) => lease.queue.0 == queue,
+            _ => false,
+        }
+    }
+
+    /// Drops the lent buffers of a queue.
+    fn drop_lent(&mut self, queue: u32)
+        requires { length self.old.names ≡ 32 }
+        ensures { self.new ≡ without_lent queue self.old }
+    {
+        for name in 0..32 {
+            self.drop_if_lent(name, queue);
+        }
+    }
+
+    /// Disconnects from a queue. Once it is done, the buffers that it lent are dropped.
+    pub fn disconnect<D: Desk<TokensOf<B>>>(
+        &mut self,
+        desk: &mut D,
+        place: u32,
+        queue: u32,
+    ) -> Result<Tried, NoMemory>
+        requires served { (D.home desk.old).serves self.old.by.0 ≡ true }
+        requires there { has_queue (D.home desk.old) queue ≡ true }
+        requires names { length self.old.names ≡ 32 }
+        ensures makes { IfOk result (λ tried. (pictures : ℕ → Picture) → Disconnects pictures
+            (D.home desk.old) self.old.by.0 place (step.Disconnect queue) queue self.old self.new (D.view desk.old) (D.view desk.new) tried) }
+        ensures home { D.home desk.new ≡ D.home desk.old }
+    {
+        let tried = self.ask(desk, place, named(QueueId(queue), 0, QCall::Disconnect))?;
+        if was_ok(&tried) {
+            self.drop_lent(queue);
+        }
+        Ok(tried)
+    }
+
+    /// What a lent buffer has to wait for before it leaves its queue: nothing where its producer does
+    /// not know it, since the queue refuses it then.
+    #[tactic(auto, using(crate::proofs::HoldingLemmas::held))]
+    fn requested_fence(&self, name: u32) -> Option<&Fence>
+        ensures { option_copied result ≡ requested_fence (name_in (holdings_of self.now) name) }
+    {
+        match self.names.get(name) {
+            Some(Holding::Lends(lease)) if lease.requested => Some(&lease.fence),
+            _ => None,
+        }
+    }
+
+    /// What a frame has to wait for before its buffer leaves its queue.
+    #[tactic(auto, using(crate::proofs::HoldingLemmas::held))]
+    fn frame_fence(&self, name: u32) -> Option<&Fence>
+        ensures { option_copied result ≡ frame_fence (name_in (holdings_of self.now) name) }
+    {
+        match self.names.get(name) {
+            Some(Holding::Reads(lease)) => Some(&lease.fence),
+            _ => None,
+        }
+    }
+
+    /// Takes a lent buffer out of its queue, once its fence is signalled: a loose buffer has none.
+    pub fn detach<D: Desk<TokensOf<B>>>(
+        &mut self,
+        desk: &mut D,
+        place: u32,
+        from: u32,
+        to: u32,
+    ) -> Result<Tried, NoMemory>
+        requires served { (D.home desk.old).serves self.old.by.0 ≡ true }
+        requires lent { is_lent (name_in (holdings_of self.old) from) ≡ true }
+        requires there { HasQueueOf (D.home desk.old) (name_in (holdings_of self.old) from) }
+        ensures tries { IfOk result (λ tried. (pictures : ℕ → Picture) → TriesToLeave pictures
+            (D.home desk.old) self.old.by.0 place (step.PDetach from to) (requested_fence (name_in (holdings_of self.old) from)) self.old self.new
+            (D.view desk.old) (D.view desk.new) tried) }
+        ensures home { D.home desk.new ≡ D.home desk.old }
+    {
+        if is_open(desk, self.requested_fence(from)) {
+            return Ok(Tried::Own(BAD_VALUE));
+        }
+        self.detach_now(desk, place, from, to)
+    }
+
+    /// Takes a lent buffer out of its queue.
+    fn detach_now<D: Desk<TokensOf<B>>>(
+        &mut self,
+        desk: &mut D,
+        place: u32,
+        from: u32,
+        to: u32,
+    ) -> Result<Tried, NoMemory>
+        requires served { (D.home desk.old).serves self.old.by.0 ≡ true }
+        requires lent { is_lent (name_in (holdings_of self.old) from) ≡ true }
+        requires there { HasQueueOf (D.home desk.old) (name_in (holdings_of self.old) from) }
+        ensures makes { IfOk result (λ tried. (pictures : ℕ → Picture) → MakesCall pictures
+            (D.home desk.old) self.old.by.0 place (step.PDetach from to) self.old self.new (D.view desk.old) (D.view desk.new) tried) }
+        ensures home { D.home desk.new ≡ D.home desk.old }
+    {
+        let lease = self.take_lent(from);
+        let (queue, held) = (lease.queue, lease.held);
+        self.ask(
+            desk,
+            place,
+            moving(queue, from, to, held, QCall::Detach(lease)),
+        )
+    }
+
+    /// Takes a frame's buffer out of its queue, once its fence is signalled: a loose buffer has none.
+    pub fn detach_read<D: Desk<TokensOf<B>>>(
+        &mut self,
+        desk: &mut D,
+        place: u32,
+        from: u32,
+        to: u32,
+    ) -> Result<Tried, NoMemory>
+        requires served { (D.home desk.old).serves self.old.by.0 ≡ true }
+        requires frame { is_frame (name_in (holdings_of self.old) from) ≡ true }
+        requires there { HasQueueOf (D.home desk.old) (name_in (holdings_of self.old) from) }
+        ensures tries { IfOk result (λ tried. (pictures : ℕ → Picture) → TriesToLeave pictures
+            (D.home desk.old) self.old.by.0 place (step.CDetach from to) (frame_fence (name_in (holdings_of self.old) from)) self.old self.new
+            (D.view desk.old) (D.view desk.new) tried) }
+        ensures home { D.home desk.new ≡ D.home desk.old }
+    {
+        if is_open(desk, self.frame_fence(from)) {
+            return Ok(Tried::Own(BAD_VALUE));
+        }
+        self.detach_read_now(desk, place, from, to)
+    }
+
+    /// Takes a frame's buffer out of its queue.
+    fn detach_read_now<D: Desk<TokensOf<B>>>(
+        &mut self,
+        desk: &mut D,
+        place: u32,
+        from: u32,
+        to: u32,
+    ) -> Result<Tried, NoMemory>
+        requires served { (D.home desk.old).serves self.old.by.0 ≡ true }
+        requires frame { is_frame (name_in (holdings_of self.old) from) ≡ true }
+        requires there { HasQueueOf (D.home desk.old) (name_in (holdings_of self.old) from) }
+        ensures makes { IfOk result (λ tried. (pictures : ℕ → Picture) → MakesCall pictures
+            (D.home desk.old) self.old.by.0 place (step.CDetach from to) self.old self.new (D.view desk.old) (D.view desk.new) tried) }
+        ensures home { D.home desk.new ≡ D.home desk.old }
+    {
+        let lease = self.take_frame(from);
+        let (queue, held) = (lease.queue, lease.held);
+        self.ask(
+            desk,
+            place,
+            moving(queue, from, to, held, QCall::DetachRead(lease)),
+        )
+    }
+}

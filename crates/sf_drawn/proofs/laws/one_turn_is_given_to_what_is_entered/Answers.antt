@@ -1,5 +1,0 @@
-use Rattle.sf_drawn.proofs.Giving.{given_once}
-use Rattle.sf_drawn.proofs.laws.one_turn_is_given_to_what_is_entered.Goals as goal
-
-pub returns : goal.returns
-returns g c = given_once

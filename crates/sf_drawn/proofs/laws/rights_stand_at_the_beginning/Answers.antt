@@ -1,5 +1,0 @@
-use Rattle.sf_drawn.proofs.Beginning.{rights_begin}
-use Rattle.sf_drawn.proofs.laws.rights_stand_at_the_beginning.Goals as goal
-
-pub returns : goal.returns
-returns g c = rights_begin

@@ -1,6 +1,0 @@
-use Rattle.sf_drawn.proofs.Ending.{draws_stand}
-use Rattle.sf_drawn.proofs.laws.rights_that_stand_in_the_end_tell.Goals as goal
-
-pub returns-clause-draws : goal.returns-clause-draws
-returns-clause-draws g c scene ofs home view limits actors pictures buffers handler stands over exact rights =
-    draws_stand scene ofs home view limits actors pictures buffers handler stands over exact rights.placed

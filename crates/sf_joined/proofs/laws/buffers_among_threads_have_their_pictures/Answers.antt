@@ -1,6 +1,0 @@
-use Rattle.std.proofs.Common.{ℕ, ap}
-use Rattle.sf_joined.proofs.Finding.{all_find}
-use Rattle.sf_joined.proofs.laws.buffers_among_threads_have_their_pictures.Goals as goal
-
-pub returns : goal.returns
-returns g c = λ scene. all_find _ (record { plain = λ a b e. e; picture = λ a b e. e; number = λ a b e. ap (λ (p : ℕ × ℕ). p.1) e }) scene g.B.TableName.table

@@ -1,5 +1,0 @@
-use Rattle.sf_joined.proofs.Fronts.{known_before}
-use Rattle.sf_joined.proofs.laws.what_seats_knew_is_known_at_the_join.Goals as goal
-
-pub returns : goal.returns
-returns g c = known_before _

@@ -1,0 +1,42 @@
+-- A frame goes back in a call of the compositor.
+use Rattle.std.proofs.Common.{◌≡◌, ℕ, Ok, Err, Result, sym, subst}
+use Rattle.std.proofs.lemmas.Bool.{false≢true}
+use Rattle.std.specs.Prelude.{IfOk, None, OnOk, is_ok}
+use Rattle.sf_base.specs.Fences.{Fence}
+use Rattle.sf_base.specs.declared.NoMemory.{NoMemory}
+use Rattle.sf_calls.specs.declared.fault.CallFault.{CallFault}
+use Rattle.sf_commit.specs.Releases.{ReleaseOf}
+use Rattle.sf_surface.specs.declared.call.QCall.{QCall}
+use Rattle.sf_surface.specs.declared.call.QCall.TheVariants as call
+use Rattle.sf_surface.specs.declared.call.QReply.{QReply}
+use Rattle.sf_surface.specs.Tokens.{ReadLeaseOf}
+use Rattle.sf_actor.specs.Desks.{DeskHome, DeskView, MadeCall}
+use Rattle.sf_actor_set.proofs.CompositingLemmas.{ends_none}
+use Rattle.law_rights.specs.Standing.{GivesOne}
+
+module _ {B : Type 0} (home : DeskHome) (old new : DeskView B) (by step queue : ℕ) (lease : ReadLeaseOf) (fence : Fence) (first : by ≡ 0) where
+  abbrev Made : QReply B → Type 0
+  Made reply = MadeCall home old new by queue (step, call.Release lease fence) reply
+
+  made_first : (reply : QReply B) → Made reply → MadeCall home old new 0 queue (step, call.Release lease fence) reply
+  made_first reply made = subst (λ (b : ℕ). MadeCall home old new b queue (step, call.Release lease fence) reply) first made
+
+  -- its reply ends no drawing
+  pub ends_given : (outcome : Result (QReply B) (CallFault (QCall B))) → IfOk outcome Made → IfOk outcome (λ (reply : QReply B). reply.ends ≡ None)
+  ends_given (Ok reply) made = ends_none home old new queue step lease fence reply (made_first reply made)
+  ends_given (Err e) made = tt
+
+  pub given : (outcome : Result (QReply B) (CallFault (QCall B))) (result : Result (Unit {0}) NoMemory) → is_ok result ≡ is_ok outcome → IfOk outcome Made → OnOk result ((reply : QReply B) × MadeCall home old new 0 queue (step, call.Release lease fence) reply)
+  given (Ok reply) (Ok done) same made = (reply, made_first reply made)
+  given outcome (Err e) same made = tt
+  given (Err e) (Ok done) same made = absurd (false≢true (sym same))
+
+pub step_given : {X E F : Type 0} (P : Type 0) (outcome : Result X E) (result : Result (Unit {0}) F) → is_ok result ≡ is_ok outcome → IfOk outcome (λ x. P) → OnOk result P
+step_given P (Ok x) (Ok done) same p = p
+step_given P outcome (Err e) same p = tt
+step_given P (Err e) (Ok done) same p = absurd (false≢true (sym same))
+
+pub gives_it : {B : Type 0} (home : DeskHome) (old new : DeskView B) (step : ℕ) (release : ReleaseOf ReadLeaseOf) (result : Result (Unit {0}) NoMemory)
+    → OnOk result ((reply : QReply B) × MadeCall home old new 0 release.queue.0 (step, call.Release release.lease release.fence) reply) → OnOk result (GivesOne home step release old new)
+gives_it home old new step release (Ok done) made = record { reply = made.0; made = made.1 }
+gives_it home old new step release (Err e) made = tt

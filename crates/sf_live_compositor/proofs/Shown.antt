@@ -1,0 +1,93 @@
+-- What a vsync shows can be composed by a plan, and what is written of it is that of its report.
+use Rattle.std.proofs.Common.{◌≡◌, ℕ, ◌≤◌, List, Option, Result, Ok, OnOk, arith, ap, ◌∙◌, length, map, sym, subst}
+use Rattle.std.specs.Prelude.{IfOk}
+use Rattle.atomic_table.specs.Seated.{TableId}
+use Rattle.sf_picture.specs.declared.picture.Picture.{Picture}
+use Rattle.sf_commit.specs.Handlers.{HandlerOf, source_of}
+use Rattle.sf_output_plan.specs.Due.{IsPlan}
+use Rattle.sf_output_plan.specs.declared.plan.Plan.{Plan}
+use Rattle.sf_play_report.specs.Stages.{AreExpected, IsStage}
+use Rattle.sf_play_report.specs.declared.report.VsyncReport.{VsyncReport}
+use Rattle.sf_output_screen.specs.ScreenLists.{AreShown}
+use Rattle.sf_output_screen.specs.declared.screens.OutputScreen.{OutputScreen}
+use Rattle.sf_calls_stamped.specs.Stamps.{unstamped}
+use Rattle.sf_surface.specs.Tokens.{Issued, ReadLeaseOf}
+use Rattle.sf_turns.specs.Views.{SeatView}
+use Rattle.sf_txn.specs.declared.lease.Lease.{Ghosts}
+use Rattle.sf_view.specs.Views.{Views}
+use Rattle.sf_actor.specs.Plain.{taken_in}
+use Rattle.sf_live_seats.specs.declared.locks.Locks.{Locks}
+use Rattle.sf_play.proofs.Composing.{sources_told, views_told}
+use Rattle.sf_play.specs.Playing.{expected_by}
+use Rattle.sf_play_write.specs.Vsyncs.{vsync_shown}
+use Rattle.sf_play_write.specs.Writing.{Writes}
+use Rattle.sf_live_compositor.specs.Sitting.{HasAll, MakesVsync, MaySit, ShowsBuffers, ShowsVsync}
+use Rattle.sf_live_compositor.specs.Vsyncs.{Sitting}
+use Rattle.sf_live_compositor.proofs.Limits.{limit_stays}
+
+-- what is so of what came of it, where it succeeded
+pub if_ok : {T E : Type 0} (result : Result T E) (value : T) (P : T → Type 0) → result ≡ Ok value → IfOk result P → P value
+if_ok {T} {E} result value P is all = subst (λ (r : Result T E). IfOk r P) is all
+
+pub on_ok : {T E X : Type 0} (result : Result T E) (value : T) → result ≡ Ok value → OnOk result X → X
+on_ok {T} {E} {X} result value is fact = subst (λ (r : Result T E). OnOk r X) is fact
+
+module _ {B : Type 0} (lease : Ghosts ReadLeaseOf SeatView ReadLeaseOf Issued) (table : TableId) (locks : Locks B) (period : ℕ) where
+  abbrev Makes : Sitting B → Sitting B → VsyncReport → Type 0
+  Makes old new report = MakesVsync lease table locks period old new report
+
+  limit_is : (old new : Sitting B) (report : VsyncReport) → Makes old new report → new.handler.tree.most ≡ old.handler.tree.most
+  limit_is old new report makes =
+      let vsync = makes.vsync in
+      limit_stays lease old.handler new.handler vsync.took.turns vsync.turns vsync.arrived vsync.seen vsync.expected vsync.told vsync.decides
+
+  -- what there is to show
+  pub is_stage : (plan : Plan) (old new : Sitting B) (report : VsyncReport) → Makes old new report → IsPlan plan → MaySit plan old → length new.handler.tree.layers ≤ new.handler.tree.most
+      → ShowsBuffers new.handler → IsStage expected_by plan new.handler report.view report.sources
+  is_stage plan old new report makes planned may few buffers =
+      let vsync = makes.vsync in
+      let limit = limit_is old new report makes in
+      let low = may.few in
+      record {
+        planned = planned;
+        few = omega (arith, few, limit, low);
+        stands = buffers.stands;
+        crops = buffers.crops;
+        view =
+            subst (λ (r : VsyncReport). Views new.handler.tree.layers plan.width plan.height r.view) makes.is
+            (subst (λ (h : ℕ). Views new.handler.tree.layers plan.width h vsync.told.view) may.high
+            (subst (λ (w : ℕ). Views new.handler.tree.layers w old.handler.height vsync.told.view) may.wide
+            (views_told lease old.handler new.handler vsync.took.turns vsync.turns vsync.arrived vsync.seen vsync.expected vsync.told vsync.decides)));
+        sources =
+            subst (λ (r : VsyncReport). r.sources ≡ map (source_of new.handler.on) r.view.drawn) makes.is
+            (sources_told lease old.handler new.handler vsync.took.turns vsync.turns vsync.arrived vsync.seen vsync.expected vsync.told vsync.decides);
+      }
+
+  -- another vsync may follow
+  pub sits_on : (plan : Plan) (old new : Sitting B) (report : VsyncReport) → Makes old new report → MaySit plan old → HasAll new.handler
+      → new.handler.last ≤ taken_in (unstamped new.seats.arrivals.seen) → new.seats.last.step ≤ new.number → MaySit plan new
+  sits_on plan old new report makes may all known early =
+      let state = makes.vsync.decides.settled.state in
+      let limit = limit_is old new report makes in
+      let low = may.few in
+      record {
+        alive = ap (λ (h : HandlerOf ReadLeaseOf). h.is_spent) state ∙ may.alive;
+        all = all;
+        wide = ap (λ (h : HandlerOf ReadLeaseOf). h.width) state ∙ may.wide;
+        high = ap (λ (h : HandlerOf ReadLeaseOf). h.height) state ∙ may.high;
+        few = omega (arith, limit, low);
+        known = known;
+        early = early;
+      }
+
+  -- what was written of the report
+  pub shows_it : (plan : Plan) (timelines : List ℕ) (before now : Option (List ℕ)) (screens shown : List OutputScreen) (old new : Sitting B) (report : VsyncReport) → Makes old new report
+      → ((pictures : ℕ → Picture) → AreExpected expected_by pictures new.handler → AreShown pictures screens
+      → Writes before now (vsync_shown pictures plan timelines report new.handler.tree.layers) × AreShown pictures shown)
+      → ShowsVsync lease table locks period plan timelines before now screens shown old new
+  shows_it plan timelines before now screens shown old new report makes written = record {
+    vsync = makes.vsync;
+    written = λ pictures expected was.
+        let both = written pictures expected was in
+        (subst (λ (r : VsyncReport). Writes before now (vsync_shown pictures plan timelines r new.handler.tree.layers)) (sym makes.is) both.0, both.1);
+  }

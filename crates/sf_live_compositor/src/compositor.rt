@@ -1,0 +1,145 @@
+ghost use denote.Param.Send.{IsSync};
+ghost use Rattle.std.specs.Prelude.{OnErr, OnOk};
+ghost use Rattle.sf_live_seats.specs.First.{IsFirst};
+ghost use Rattle.sf_live_threads.specs.Visits.{LeavesGiven};
+ghost use Rattle.sf_live_compositor.specs.Keeping.{HasEnded, Keeps};
+
+use crate::decider::Decider;
+use crate::showing::show_next;
+use crate::vsync::Made;
+use sf_io::Sink;
+use sf_output_plan::Plan;
+use sf_record::RunFault;
+use sf_play_report::VsyncReport;
+use sf_output_screen::Screens;
+use sf_live_seats::{FirstSeats, Locks};
+use sf_play_write::show_vsync;
+use sf_surface::ReadLease;
+use sf_live_threads::{Ended, Look, Visit};
+use sf_turns::TableName;
+use sf_txn::Lease;
+use std::alloc::Global;
+use std::sync::Wait;
+use std::thread::Threads;
+
+/// How many vsyncs are made at most while actors run: what is left is done in the rounds behind.
+const MOST_VSYNCS: u32 = 1 << 31;
+
+/// The compositor of a run whose actors are threads: whenever something was done it makes a vsync, while
+/// what the last one shows is composed, and then writes the last one's records.
+#[derive(Drop)]
+pub struct Compositor<'a, K, B: TableName> {
+    pub alloc: Global,
+    /// How many compose a frame, 1 to 16.
+    pub workers: u32,
+    /// Between two vsyncs, in nanoseconds, at most a second.
+    pub period: u64,
+    /// The declared timelines by rising number.
+    pub timelines: Vec<u32>,
+    pub sink: &'a mut K,
+    /// What its vsyncs show.
+    pub plan: Plan,
+    pub screens: Screens,
+    /// What the last vsync did, if there was one: its records are still to be written.
+    pub due: Option<VsyncReport>,
+    pub decider: Decider<B>,
+    /// How many vsyncs there were.
+    pub vsyncs: u32,
+    /// Why it makes no more.
+    pub fault: Option<RunFault>,
+}
+
+impl<'a, R: Threads + Wait + Sync, K: Sink, B: TableName> Visit<R, B> for Compositor<'a, K, B> {
+    ghost keeps = { λ start c locks first. IsSync R.row × Keeps K.taken K.faults ⟦<ReadLease<B> as Lease>⟧ B.table start c locks first };
+
+    ghost ended = { HasEnded K.taken K.faults };
+
+    fn visit(
+        &mut self,
+        rt: &R,
+        locks: &Locks<B>,
+        first: &mut FirstSeats<B>,
+        look: &Look,
+    ) -> Result<bool, Ended>
+        requires first { IsFirst B.table locks.now first.old }
+        requires kept { (start : _) × (IsSync R.row × Keeps K.taken K.faults ⟦<ReadLease<B> as Lease>⟧ B.table start self.old locks.now first.old) }
+        ensures first { OnOk result (IsFirst B.table locks.now first.new) }
+        ensures kept { (start : _) → IsSync R.row × Keeps K.taken K.faults ⟦<ReadLease<B> as Lease>⟧ B.table start self.old locks.now first.old
+            → OnOk result (IsSync R.row × Keeps K.taken K.faults ⟦<ReadLease<B> as Lease>⟧ B.table start self.new locks.now first.new) }
+        ensures given { OnOk result (LeavesGiven first.old first.new) }
+        ensures ended { (start : _) → IsSync R.row × Keeps K.taken K.faults ⟦<ReadLease<B> as Lease>⟧ B.table start self.old locks.now first.old
+            → OnErr result (HasEnded K.taken K.faults start self.new) }
+    {
+        if self.vsyncs >= MOST_VSYNCS {
+            return Ok(false);
+        }
+        match show_next(
+            rt,
+            self.alloc,
+            self.workers,
+            self.sink,
+            &self.timelines,
+            &self.plan,
+            &mut self.screens,
+            self.due.take(),
+            look,
+            locks,
+            &mut first.seats,
+            &mut self.decider.handler,
+            self.period,
+            self.vsyncs,
+        ) {
+            Ok(made) => {
+                let Made {
+                    report,
+                    goes_on: _,
+                    releases,
+                } = made;
+                self.due = Some(report);
+                self.vsyncs += 1;
+                Ok(releases)
+            }
+            Err(fault) => {
+                self.fault = Some(fault);
+                Err(Ended)
+            }
+        }
+    }
+}
+
+impl<'a, K: Sink, B: TableName> Compositor<'a, K, B> {
+    ghost use Rattle.std.specs.Prelude.{◌≡◌, None, OnErr, OnOk};
+    ghost use Rattle.sf_live_compositor.specs.Keeping.{HasEnded, Keeps};
+    ghost use Rattle.sf_live_seats.specs.declared.first.FirstSeats.{FirstSeats as FirstIn};
+    ghost use Rattle.sf_live_seats.specs.declared.locks.Locks.{Locks as LocksIn};
+
+    /// Composes what the last vsync shows, once none follows, and writes its records, if they are due.
+    pub fn settle<R: Threads + Sync>(&mut self, rt: &R) -> Result<(), Ended>
+        requires kept { (start : _) × (locks : LocksIn B) × (first : FirstIn B) × Keeps K.taken K.faults ⟦<ReadLease<B> as Lease>⟧ B.table start self.old locks first }
+        ensures kept { (start : _) (locks : LocksIn B) (first : FirstIn B) → Keeps K.taken K.faults ⟦<ReadLease<B> as Lease>⟧ B.table start self.old locks first
+            → OnOk result (Keeps K.taken K.faults ⟦<ReadLease<B> as Lease>⟧ B.table start self.new locks first × (self.new.due ≡ None)) }
+        ensures ended { (start : _) (locks : LocksIn B) (first : FirstIn B) → Keeps K.taken K.faults ⟦<ReadLease<B> as Lease>⟧ B.table start self.old locks first
+            → OnErr result (HasEnded K.taken K.faults start self.new) }
+    {
+        let Some(report) = self.due.take() else {
+            return Ok(());
+        };
+        match show_vsync(
+            rt,
+            self.alloc,
+            self.workers,
+            self.sink,
+            &self.timelines,
+            &self.plan,
+            &mut self.screens,
+            &self.decider.handler,
+            report,
+        ) {
+            Ok(()) => Ok(()),
+            Err(fault) => {
+                self.fault = Some(fault);
+                Err(Ended)
+            }
+        }
+    }
+}

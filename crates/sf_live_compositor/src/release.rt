@@ -1,0 +1,107 @@
+ghost use Rattle.std.specs.Prelude.{◌≡◌, ◌≤◌, None, OnOk, IfOk, is_ok};
+ghost use Rattle.sf_calls.specs.Calling.{IfFaultNotYet};
+ghost use Rattle.law_rights.specs.Standing.{GiveAll, GivesOne};
+ghost use Rattle.sf_live_seats.specs.Moves.{ChangesPasses, MadeLater, Stays};
+ghost use Rattle.sf_live_seats.specs.Seats.{AreSeats, home_of, view_of};
+
+use sf_base::NoMemory;
+use sf_calls::CallFault;
+use sf_commit::Release;
+use sf_live_seats::{Locks, Seats};
+use sf_surface::{QCall, QReply, ReadLease};
+use sf_turns::TableName;
+use std::sync::Wait;
+
+/// Lets a reply go that ends no drawing, with what it gives.
+fn let_go<B: TableName>(reply: QReply<B>)
+    requires { reply.ends ≡ None }
+{
+    let QReply {
+        status: _status,
+        values: _values,
+        gives,
+        ends,
+        spare: _spare,
+    } = reply;
+    drop(gives);
+    match ends {
+        None => {}
+        Some(_ending) => unreachable!(),
+    }
+}
+
+/// Whether a call that gives nothing and never waits was made. Its reply is let go, and so is what
+/// comes back for want of memory.
+fn settle<B: TableName>(outcome: Result<QReply<B>, CallFault<QCall<B>>>) -> Result<(), NoMemory>
+    requires ends { IfOk outcome (λ reply. reply.ends ≡ None) }
+    requires never { IfFaultNotYet outcome (λ _. ⊥) }
+    ensures { is_ok result ≡ is_ok outcome }
+{
+    match outcome {
+        Ok(reply) => {
+            let_go(reply);
+            Ok(())
+        }
+        Err(CallFault::NotYet(_)) => unreachable!(),
+        Err(CallFault::NoMemory(call)) => {
+            drop(call);
+            Err(NoMemory)
+        }
+    }
+}
+
+/// Gives a frame back to its queue, as the compositor and for a vsync. A frame that the queue refuses
+/// is dropped. Only want of memory stops it, or a frame of no queue that is shared, which none of
+/// these queues gave.
+fn release_one<R: Wait, B: TableName>(
+    rt: &R,
+    locks: &Locks<B>,
+    seats: &mut Seats<B>,
+    number: u32,
+    release: Release<ReadLease<B>>,
+) -> Result<(), NoMemory>
+    requires own { AreSeats B.table locks.now seats.old }
+    requires first { seats.old.by ≡ 0 }
+    ensures own { OnOk result (AreSeats B.table locks.now seats.new) }
+    ensures changes { OnOk result (ChangesPasses seats.old seats.new) }
+    ensures step { OnOk result (seats.new.last.step ≡ number) }
+    ensures gives { OnOk result (GivesOne (home_of locks.now seats.old) number release (view_of seats.old) (view_of seats.new)) }
+    ensures turns { seats.new.turns ≡ seats.old.turns }
+{
+    let Release {
+        queue,
+        frame: _,
+        fence,
+        lease,
+    } = release;
+    if !locks.has_queue(queue) {
+        drop(lease);
+        return Err(NoMemory);
+    }
+    settle(seats.call(locks, rt, queue, number, QCall::Release(lease, fence)))
+}
+
+/// Gives frames back to their queues, in order, for the vsync of this number.
+pub(crate) fn release_all<R: Wait, B: TableName>(
+    rt: &R,
+    locks: &Locks<B>,
+    seats: &mut Seats<B>,
+    number: u32,
+    releases: Vec<Release<ReadLease<B>>>,
+) -> Result<(), NoMemory>
+    requires own { AreSeats B.table locks.now seats.old }
+    requires first { seats.old.by ≡ 0 }
+    ensures own { OnOk result (AreSeats B.table locks.now seats.new) }
+    ensures stays { OnOk result (Stays seats.old seats.new) }
+    ensures gives { OnOk result (GiveAll (home_of locks.now seats.old) number releases.items (view_of seats.old) (view_of seats.new)) }
+    ensures later { OnOk result (MadeLater seats.old seats.new) }
+    ensures last { OnOk result (seats.old.last.stamp ≤ seats.new.last.stamp) }
+    ensures arrivals { OnOk result (seats.new.arrivals ≡ seats.old.arrivals) }
+    ensures early { OnOk result (seats.old.last.step ≤ number → seats.new.last.step ≤ number) }
+    ensures turns { seats.new.turns ≡ seats.old.turns }
+{
+    for release in releases {
+        release_one(rt, locks, seats, number, release)?;
+    }
+    Ok(())
+}

@@ -1,0 +1,22 @@
+use Rattle.std.proofs.Common.{List, ap, ◌∙◌, sym, subst}
+use Rattle.std.specs.Prelude.{map}
+use Rattle.std.specs.List.{AllByRecursion}
+use Rattle.sf_live_seats.specs.declared.seats.Seats.{Seats}
+use Rattle.sf_live_seats.specs.Inboxes.{number_of}
+use Rattle.sf_live_seats.specs.Seats.{IsHeard}
+use Rattle.sf_live_seats.proofs.Forwarding.{hears_inbox, same_couriers}
+use Rattle.sf_live_seats.proofs.Reuniting.{all_heard}
+use Rattle.sf_live_seats.proofs.inbox.Inbox.finish.Goals as goal
+
+pub drain-requires : goal.drain-requires
+drain-requires g c = record {
+  own = hears_inbox c.args.locks.now.arrivals c.args.self.now c.hear_each.new.self c.requires.own c.hear_each.ensures.hears;
+  couriers = same_couriers c.args.self.now c.hear_each.new.self c.requires.couriers (ap (λ t. t.made) c.hear_each.ensures.hears.taker) (ap (λ cs. map number_of cs.items) c.hear_each.ensures.hears.couriers);
+  intake = ap (λ t. t.intake) c.hear_each.ensures.hears.taker ∙ c.requires.same;
+}
+
+pub reunite_each-requires-clause-heard : goal.reunite_each-requires-clause-heard
+reunite_each-requires-clause-heard g c =
+    all_heard c.hear_each.new.self.taker c.drain.new.self.taker c.hear_each.new.ends c.drain.ensures.same.heard
+    (subst (λ (ends : List (Seats g.row.B.Denot)). AllByRecursion (λ (s : Seats g.row.B.Denot). IsHeard c.hear_each.new.self.taker s.intake) ends) (sym c.hear_each.ensures.same)
+    c.hear_each.ensures.heard)

@@ -1,0 +1,62 @@
+-- What a call through one pass tells.
+use Rattle.std.specs.Prelude.{◌≡◌, ℕ, ◌+◌, ◌<◌, ◌≤◌, List, [], ◌∷◌, ◌++◌, ◌⊎◌, length}
+use Rattle.sf_calls.specs.Histories.{GoesOnWithout, IsLegal, entry, waits}
+use Rattle.sf_calls_stamped.specs.Stamps.{unstamped}
+use Rattle.sf_surface.specs.declared.call.QCall.{QCall}
+use Rattle.sf_surface.specs.declared.call.QReply.{QReply}
+use Rattle.sf_surface.specs.declared.mark.QueueMark.{QueueMark}
+use Rattle.sf_surface.specs.Histories.{Answers, Made}
+use Rattle.sf_surface.specs.Tokens.{ReadLeaseOf}
+use Rattle.sf_token.specs.Arrivals.{AnswersCall, sent, waiting}
+use Rattle.sf_token.specs.declared.arrivals.ArriveCall.TheVariants as arrive
+use Rattle.sf_token.specs.declared.arrivals.ArriveReply.TheVariants as reply
+use Rattle.sf_token.specs.Pending.{Arrival}
+use Rattle.sf_txn.specs.Transactions.{Contents}
+use Rattle.sf_actor.specs.Known.{ArriveWithout}
+use Rattle.sf_live_seats.specs.declared.clock.Clock.{Clock}
+use Rattle.sf_live_seats.specs.Arriving.{ArrivalCalls, ArrivalsPass}
+use Rattle.sf_live_seats.specs.Seats.{QueuePass}
+
+module _ {B : Type 0} where
+  -- a call was made: it is the newest that is known, and the calls before it go on without one of the caller
+  pub record MadeOne (mark : QueueMark) (old new : QueuePass B) (asked : ℕ × QCall B) (reply : QReply B) : Type 0 where
+    pub legal : IsLegal (Answers mark) (unstamped new.seen)
+    pub earlier : List (Made B)
+    pub newest : unstamped new.seen ≡ entry old.by asked reply ∷ earlier
+    pub goes_on : GoesOnWithout old.by (unstamped old.seen) earlier
+
+  -- a call was not made: it is not time for it after the calls that are known, which go on without one of the caller
+  pub record WaitsOne (mark : QueueMark) (old new : QueuePass B) (asked : ℕ × QCall B) : Type 0 where
+    pub legal : IsLegal (Answers mark) (unstamped new.seen)
+    pub goes_on : GoesOnWithout old.by (unstamped old.seen) (unstamped new.seen)
+    pub not_yet : Answers mark (unstamped new.seen) old.by asked waits
+    pub looked : old.turns < new.turns
+
+-- a transaction was sent: it is the last that is known to have arrived, and those before it go on without one of the caller
+pub record SentOne (old new : ArrivalsPass) (step : ℕ) (txn : Contents ReadLeaseOf) (number : ℕ) : Type 0 where
+  pub earlier : List (Arrival ReadLeaseOf)
+  pub last : sent (unstamped new.seen) ≡ earlier ++ record { number = length earlier + 1; actor = record { 0 = old.by }; step = step; txn = txn } ∷ []
+  pub place : number ≡ length earlier + 1
+  pub goes_on : ArriveWithout old.by (sent (unstamped old.seen)) earlier
+
+-- what waits was taken: it is what was sent since anybody last took, of the calls that are known, and these go on without one
+-- of the caller
+pub record TookOne (old new : ArrivalsPass) (list : List (Arrival ReadLeaseOf)) : Type 0 where
+  pub earlier : ArrivalCalls
+  pub newest : unstamped new.seen ≡ entry old.by arrive.Take (reply.Batch list) ∷ earlier
+  pub waits : list ≡ waiting earlier
+  pub legal : IsLegal AnswersCall (unstamped new.seen)
+  pub goes_on : GoesOnWithout old.by (unstamped old.seen) earlier
+
+-- The moments of what a caller did before and after a call: the call was made now, after all of those, or it was not made.
+pub record IsMade (before after : Clock) (old new : List (ℕ × ℕ)) : Type 0 where
+  pub step : before.step ≤ after.step
+  pub stamp : before.stamp < after.stamp
+  pub moments : new ≡ (after.step, after.stamp) ∷ old
+
+pub record IsNotMade (before after : Clock) (old new : List (ℕ × ℕ)) : Type 0 where
+  pub last : after ≡ before
+  pub moments : new ≡ old
+
+abbrev pub Ticks : Clock → Clock → List (ℕ × ℕ) → List (ℕ × ℕ) → Type 0
+Ticks before after old new = IsMade before after old new ⊎ IsNotMade before after old new

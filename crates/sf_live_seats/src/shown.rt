@@ -1,0 +1,38 @@
+use crate::arrivals::StampedArrivals;
+use sf_calls::Pass;
+use sf_turns::TableName;
+use std::marker::Model;
+use std::snapshot::Snapshot;
+
+/// What a caller's pass at the arrivals shows, or what it showed when it was given away. It is for
+/// proofs alone, and contracts see it as the pass.
+pub struct Shown<B: TableName> {
+    pass: Snapshot<Pass<StampedArrivals<B>>>,
+}
+
+impl<B: TableName> Model for Shown<B> {
+    ghost use Rattle.sf_live_seats.specs.Arriving.{ArrivalsPass};
+
+    ghost Value = { ArrivalsPass };
+
+    ghost view = { λ shown. shown.pass.value };
+}
+
+impl<B: TableName> Shown<B> {
+    ghost use Rattle.std.specs.Prelude.{◌≡◌};
+
+    /// What this pass shows.
+    pub(crate) fn of(pass: &Pass<StampedArrivals<B>>) -> Shown<B>
+        ensures { result ≡ pass.now }
+    {
+        Shown {
+            pass: Snapshot::of(pass),
+        }
+    }
+}
+
+impl<B: TableName> Drop for Shown<B> {
+    fn drop(self) {
+        let Shown { pass: _ } = self;
+    }
+}

@@ -1,0 +1,38 @@
+use Rattle.std.proofs.Common.{◌≡◌, ◌<◌, ◌++◌, ◌∷◌, [], List, subst, sym, arith, rules}
+use Rattle.std.specs.List.{AllZip}
+use Rattle.std.proofs.lemmas.Iterator.Adapters.{YieldsList-from_vec}
+use Rattle.std.proofs.lemmas.Iterator.Consumers.{YieldsList-end, YieldsList-turn}
+use Rattle.sf_live_threads.specs.declared.task.Task.{Task}
+use Rattle.sf_live_threads.specs.declared.seated_actor.SeatedActor.{SeatedActor}
+use Rattle.sf_live_threads.specs.SeatedActors.{MayTryNext}
+use Rattle.sf_live_threads.specs.Tasks.{IsTask}
+use Rattle.sf_live_threads.proofs.Zips.{all_next, whole, zip_long, zip_push}
+use Rattle.sf_live_threads.proofs.threads.send_all.Goals as goal
+
+pub send-task-requires-clause-place : goal.send-task-requires-clause-place
+send-task-requires-clause-place g c =
+    let t = YieldsList-turn (YieldsList-from_vec c.args.seated_actors.items (search rules) (search rules)) c.loop-seated_actor.yielded _ c.loop-seated_actor.yielded_by c.next.result c.next.new.self c.in-Some.seated_actor c.in-Some.is c.next.ensures.steps in
+    let long = zip_long (IsTask {B = g.row.B.Denot} g.B.TableName.table c.args.locks.now c.args.pictures.now) c.loop-seated_actor.yielded c.loop-seated_actor.tasks.items c.loop-seated_actor.invariant.tasks in
+    let low : c.len-place.result < 64 = omega (arith, t.0, long, c.requires.few, c.len-place.ensures) in search rules
+
+pub send-task-requires-clause-may_try_next : goal.send-task-requires-clause-may_try_next
+send-task-requires-clause-may_try_next g c =
+    let t = YieldsList-turn (YieldsList-from_vec c.args.seated_actors.items (search rules) (search rules)) c.loop-seated_actor.yielded _ c.loop-seated_actor.yielded_by c.next.result c.next.new.self c.in-Some.seated_actor c.in-Some.is c.next.ensures.steps in
+    let may_try_next : MayTryNext {B = g.row.B.Denot} g.B.TableName.table c.args.locks.now c.args.pictures.now c.in-Some.seated_actor =
+    all_next (MayTryNext {B = g.row.B.Denot} g.B.TableName.table c.args.locks.now c.args.pictures.now) c.args.seated_actors.items _ c.in-Some.seated_actor c.requires.may_try_next t in search rules
+
+pub loop-seated_actor-preserved : goal.loop-seated_actor-preserved
+loop-seated_actor-preserved g c =
+    let P = IsTask {B = g.row.B.Denot} g.B.TableName.table c.args.locks.now c.args.pictures.now in
+    let pushed : c.push.new.self.items ≡ c.loop-seated_actor.tasks.items ++ c.send-task.result ∷ [] = search rules in record {
+      can_next = search rules;
+      is_finite = search rules;
+      tasks = subst (λ (l : List (Task g.row.B.Denot)). AllZip P (c.loop-seated_actor.yielded ++ c.in-Some.seated_actor ∷ []) l) (sym pushed)
+          (zip_push P c.loop-seated_actor.yielded c.loop-seated_actor.tasks.items c.in-Some.seated_actor c.send-task.result c.loop-seated_actor.invariant.tasks c.send-task.ensures);
+    }
+
+pub returns : goal.returns
+returns g c =
+    let all = YieldsList-end (YieldsList-from_vec c.args.seated_actors.items (search rules) (search rules)) c.loop-seated_actor.yielded _ c.loop-seated_actor.yielded_by c.next.result c.next.new.self c.in-None.is c.next.ensures.steps in
+    subst (λ (l : List (SeatedActor g.row.B.Denot)). AllZip (IsTask {B = g.row.B.Denot} g.B.TableName.table c.args.locks.now c.args.pictures.now) l c.loop-seated_actor.tasks.items)
+    (whole c.loop-seated_actor.yielded c.args.seated_actors.items all.0) c.loop-seated_actor.invariant.tasks

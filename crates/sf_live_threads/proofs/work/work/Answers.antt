@@ -1,0 +1,18 @@
+use Rattle.std.proofs.Common.{rules}
+use Rattle.sf_live_threads.proofs.WalkLemmas.{came_none, came_ok}
+use Rattle.sf_live_threads.proofs.work.work.Goals as goal
+
+pub returns-then-is_turned_away : goal.returns-then-is_turned_away
+returns-then-is_turned_away g c = came_none _ _ _ c.args.seated_actor c.requires.may_try_next
+
+pub loop-init : goal.loop-init
+loop-init g c = record { steps = search rules; came = came_none _ _ _ c.args.seated_actor c.requires.may_try_next }
+
+pub returns-then-not-goes_on : goal.returns-then-not-goes_on
+returns-then-not-goes_on g c = came_ok _ _ _ c.args.seated_actor c.loop.seated_actor c.turn-turned.result.0 c.turn-turned.result.1 c.in-Ok.stepped c.in-Ok.is c.turn-turned.ensures c.loop.invariant.came
+
+pub loop-preserved : goal.loop-preserved
+loop-preserved g c = record {
+  steps = search rules;
+  came = came_ok _ _ _ c.args.seated_actor c.loop.seated_actor c.turn-turned.result.0 c.turn-turned.result.1 c.in-Ok.stepped c.in-Ok.is c.turn-turned.ensures c.loop.invariant.came;
+}

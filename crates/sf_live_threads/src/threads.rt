@@ -1,0 +1,112 @@
+ghost use Rattle.std.specs.Prelude.{◌<◌, ◌≤◌, length, IfSome};
+ghost use Rattle.std.specs.List.{AllByRecursion, AllZip};
+ghost use Rattle.sf_live_threads.specs.Backs.{IfWhole};
+ghost use Rattle.sf_live_threads.specs.SeatedActors.{MayTryNext};
+ghost use Rattle.sf_live_threads.specs.Tasks.{AreTasks, Gives, GivesWhole, IsTask};
+
+use crate::seated_actor::{Back, SeatedActor};
+use crate::task::{Brings, Task};
+use crate::work::work;
+use sf_io::Gate;
+use sf_picture::Picture;
+use sf_live_seats::Locks;
+use sf_turns::TableName;
+use sf_live_watch::Watch;
+use std::alloc::Global;
+use std::snapshot::Snapshot;
+use std::sync::Wait;
+use std::thread::{Scope, Threads};
+
+/// Starts a thread for a seated actor, or keeps it here where none can be started. `place` is its
+/// place at the watch.
+pub(crate) fn send<'s, E, R: Wait + Sync, G: Gate + Sync, B: TableName + Send + Sync + 's>(
+    scope: &Scope<'s, E>,
+    rt: &'s R,
+    locks: &'s Locks<B>,
+    pictures: &'s [Picture],
+    watch: &'s Watch,
+    gate: &'s G,
+    place: usize,
+    seated_actor: SeatedActor<B>,
+) -> Task<'s, B>
+    requires place { place < 64 }
+    requires may_try_next { MayTryNext B.table locks.now pictures.now seated_actor }
+    ensures { IsTask B.table locks.now pictures.now seated_actor result }
+{
+    let promise = Brings {
+        locks,
+        pictures,
+        sent: Snapshot::of(&seated_actor),
+    };
+    let started = scope.spawn_with(
+        promise,
+        move || -> Back<B>
+            requires place { place < 64 }
+            requires may_try_next { MayTryNext B.table locks.now pictures.now seated_actor }
+            ensures { IfWhole B.table locks.entry.now pictures.entry.now seated_actor result }
+        { work(rt, locks, pictures, watch, gate, place, seated_actor) },
+    );
+    match started {
+        Ok(handle) => Task::Away(handle),
+        Err(refused) => {
+            watch.turn_away(rt, place);
+            Task::Here((refused.value)())
+        }
+    }
+}
+
+/// Starts a thread for each seated actor.
+pub(crate) fn send_all<'s, E, R: Wait + Sync, G: Gate + Sync, B: TableName + Send + Sync + 's>(
+    scope: &Scope<'s, E>,
+    rt: &'s R,
+    alloc: Global,
+    locks: &'s Locks<B>,
+    pictures: &'s [Picture],
+    watch: &'s Watch,
+    gate: &'s G,
+    seated_actors: Vec<SeatedActor<B>>,
+) -> Option<Vec<Task<'s, B>>>
+    requires few { length seated_actors.items ≤ 64 }
+    requires may_try_next { AllByRecursion (MayTryNext B.table locks.now pictures.now) seated_actors.items }
+    ensures { IfSome result (λ tasks. AreTasks B.table locks.now pictures.now seated_actors.items tasks.items) }
+{
+    let mut tasks = Vec::new(alloc);
+    for seated_actor in seated_actors {
+        let place = tasks.len();
+        let task = send(scope, rt, locks, pictures, watch, gate, place, seated_actor);
+        if tasks.push(task).is_err() {
+            return None;
+        }
+    }
+    Some(tasks)
+}
+
+/// What comes back of a seated actor.
+pub(crate) fn back<R: Threads, B: TableName>(rt: &R, task: Task<B>) -> Back<B>
+    ensures { Gives B.table task.entry result }
+{
+    match task {
+        Task::Away(handle) => handle.join(rt),
+        Task::Here(back) => back,
+    }
+}
+
+/// Joins all threads. Nothing comes back where one found no memory.
+pub(crate) fn bring_back<R: Threads, B: TableName>(
+    rt: &R,
+    alloc: Global,
+    tasks: Vec<Task<B>>,
+) -> Option<Vec<SeatedActor<B>>>
+    ensures { IfSome result (λ seated_actors. AllZip (GivesWhole B.table) tasks.entry.items seated_actors.items) }
+{
+    let mut seated_actors = Vec::new(alloc);
+    for task in tasks {
+        let Back::Whole(seated_actor) = back(rt, task) else {
+            return None;
+        };
+        if seated_actors.push(seated_actor).is_err() {
+            return None;
+        }
+    }
+    Some(seated_actors)
+}

@@ -1,0 +1,66 @@
+ghost use Rattle.std.specs.Prelude.{OnErr, OnOk};
+ghost use Rattle.sf_live_seats.specs.declared.first.FirstSeats.{FirstSeats as FirstIn};
+ghost use Rattle.sf_live_seats.specs.declared.locks.Locks.{Locks as LocksIn};
+ghost use Rattle.sf_live_seats.specs.First.{IsFirst};
+ghost use Rattle.sf_live_threads.specs.Visits.{LeavesGiven};
+
+use sf_live_seats::{FirstSeats, Locks};
+use sf_turns::TableName;
+use sf_live_watch::{Effect, Watch};
+use std::sync::Wait;
+use std::thread::Threads;
+
+/// A visitor can do no more. It keeps the cause.
+#[derive(Clone, Copy)]
+pub struct Ended;
+
+/// What a visit may bring that did something: it gives buffers back, and ends turns at them.
+const OF_VISIT: Effect = Effect {
+    slots: true,
+    points: false,
+    turns: true,
+};
+
+/// A look of whoever starts the threads at all that was done up to some news.
+#[derive(Clone, Copy)]
+pub struct Look<'a> {
+    pub(crate) watch: &'a Watch,
+    pub(crate) news: u64,
+}
+
+impl<'a> Look<'a> {
+    /// Tells threads that wait for it that all was looked at, before the part that follows is over;
+    /// and whether anything was done that may let a thread go on.
+    pub fn tell<R: Wait>(&self, rt: &R, did: bool) {
+        self.watch.tell_looked(rt, self.news);
+        if did {
+            self.watch.tell_done(rt, OF_VISIT);
+        }
+    }
+}
+
+/// What whoever starts the threads does meanwhile, with the first seats, as a compositor does its
+/// vsyncs.
+pub trait Visit<R: Threads + Wait + Sync, B: TableName> {
+    /// What it keeps since it was the first one, of itself and of what the first seats know.
+    ghost keeps: { Self → Self → LocksIn B → FirstIn B → Type 0 };
+
+    /// What it keeps of itself since then once it can do no more.
+    ghost ended: { Self → Self → Type 0 };
+
+    /// Does its part, after something was done. It may tell of its look before it is done with it.
+    /// Whether it did anything itself since then that may let a thread go on.
+    fn visit(
+        &mut self,
+        rt: &R,
+        locks: &Locks<B>,
+        first: &mut FirstSeats<B>,
+        look: &Look,
+    ) -> Result<bool, Ended>
+        requires first { IsFirst B.table locks.now first.old }
+        requires kept { (start : Self) × keeps start self.old locks.now first.old }
+        ensures first { OnOk result (IsFirst B.table locks.now first.new) }
+        ensures kept { (start : Self) → keeps start self.old locks.now first.old → OnOk result (keeps start self.new locks.now first.new) }
+        ensures given { OnOk result (LeavesGiven first.old first.new) }
+        ensures ended { (start : Self) → keeps start self.old locks.now first.old → OnErr result (ended start self.new) };
+}

@@ -1,9 +1,0 @@
-use Rattle.std.proofs.Common.{length}
-use Rattle.sf_next.proofs.AskingLemmas.{Asked}
-use Rattle.sf_next.proofs.next.first_ready.Given as goal
-
-abbrev pub invariant-loop-token : goal.invariant-loop-token
-invariant-loop-token g l = Asked g.L.Lease.shown l.fn.seen l.fn.expected l.fn.facts l.fn.queues.pending l.asking l.stopped
-
-abbrev pub decreases-loop-token : goal.decreases-loop-token
-decreases-loop-token g l = length l.asking

@@ -1,0 +1,22 @@
+ghost use Rattle.std.specs.Prelude.{◌≡◌, IfOk};
+ghost use Rattle.sf_record.specs.declared.record.Record.TheVariants as rec;
+ghost use Rattle.law_played.specs.Replies.{reply_shown};
+
+use sf_actor::Reply as Told;
+use sf_base::{Items, NoMemory};
+use sf_record::{Record, Reply};
+use std::alloc::Global;
+
+/// The record of a reply.
+pub fn reply_record(alloc: Global, told: &Told) -> Result<Record, NoMemory>
+    ensures { IfOk result (λ written. written ≡ rec.Repl (reply_shown told.now)) }
+{
+    let mut values = Vec::new(alloc);
+    values.extend_from_slice(told.values.as_slice())?;
+    Ok(Record::Repl(Reply {
+        actor: told.actor,
+        step: told.step,
+        status: told.status,
+        values: Items::new(values),
+    }))
+}

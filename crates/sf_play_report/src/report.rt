@@ -1,0 +1,32 @@
+ghost use Rattle.std.specs.Prelude.{◌≡◌};
+ghost use Rattle.sf_play_report.specs.Reports.{has_commits};
+
+use sf_base::{Items, Seen};
+use sf_commit::Commit;
+use sf_view::View;
+
+/// What a vsync did.
+#[derive(Drop)]
+pub struct VsyncReport {
+    /// From 1.
+    pub number: u32,
+    /// When the frame is expected, in nanoseconds from the start of the run.
+    pub expected: u64,
+    /// What it saw of the timelines.
+    pub seen: Seen,
+    /// In the order in which they were made.
+    pub commits: Items<Commit>,
+    /// What the display shows now.
+    pub view: View,
+    /// For each drawn layer of the view the place of its buffer in the contents.
+    pub sources: Items<u32>,
+}
+
+impl VsyncReport {
+    /// Whether a transaction was committed, or rejected as a whole.
+    pub fn has_commits(&self) -> bool
+        ensures { result ≡ has_commits self.now.commits }
+    {
+        !self.commits.as_slice().is_empty()
+    }
+}

@@ -1,0 +1,148 @@
+ghost use Rattle.std.specs.List.{All, AllZip};
+ghost use Rattle.std.specs.Option.{unwrap_or};
+ghost use Rattle.std.specs.Prelude.{◌≡◌, ℕ, IfOk, IfSome, map};
+ghost use Rattle.sf_output.specs.Outputs.{IsOutput, OfImage};
+ghost use Rattle.sf_picture.specs.declared.picture.Picture.{Picture};
+ghost use Rattle.sf_play_report.specs.Stages.{AllShowOn, AreExpected, AreSourced, AreSourcesOf, FindsPictures, IsSourceOf, IsSourcedBy, IsStage, ShowsOn};
+ghost use Rattle.sf_view.specs.declared.drawn.Drawn.{Drawn as DrawnOf};
+
+use crate::sourced::SourcedView;
+use sf_base::{Items, NoMemory};
+use sf_commit::Handler;
+use sf_output::Output;
+use sf_output_plan::{Plan, ViewsDue, views_due};
+use sf_txn::Lease;
+use sf_view::{Content, Drawn, View};
+use std::alloc::Global;
+
+/// The place of the buffer that a drawn layer shows, 0 for a colour.
+fn source<L: Lease + Drop>(handler: &Handler<L>, drawn: &Drawn) -> u32
+where
+    L::Reading: Drop,
+    requires { ShowsOn handler.now.on drawn.now.content }
+    ensures { IsSourceOf handler.now.on drawn.now.content result }
+{
+    match drawn.content {
+        Content::Buffer(shown) => handler.source(&shown).unwrap(),
+        Content::Colour(_) => 0,
+    }
+}
+
+/// The place of the buffer that each drawn layer shows.
+fn sources<L: Lease + Drop>(
+    alloc: Global,
+    handler: &Handler<L>,
+    drawn: &[Drawn],
+) -> Result<Items<u32>, NoMemory>
+where
+    L::Reading: Drop,
+    requires { AllShowOn handler.now.on drawn.now }
+    ensures { IfOk result (λ sources. AllZip (λ (one : DrawnOf) (source : ℕ). IsSourceOf handler.now.on one.content source) drawn.now sources) }
+{
+    let mut sources = Vec::new(alloc);
+    for one in drawn {
+        sources.push(source(handler, one))?;
+    }
+    Ok(Items::new(sources))
+}
+
+/// A view with the places of its buffers.
+fn sourced<L: Lease + Drop>(
+    alloc: Global,
+    handler: &Handler<L>,
+    view: View,
+) -> Result<SourcedView, NoMemory>
+where
+    L::Reading: Drop,
+    requires { AllShowOn handler.now.on view.drawn }
+    ensures { IfOk result (IsSourcedBy handler.now.on view) }
+{
+    let sources = sources(alloc, handler, view.drawn.as_slice())?;
+    Ok(SourcedView { view, sources })
+}
+
+/// The view of the scene's own display with the places of its buffers: `view` and `sources`, unless
+/// there is another one.
+fn own_sourced<L: Lease + Drop>(
+    alloc: Global,
+    handler: &Handler<L>,
+    own: Option<View>,
+    view: View,
+    sources: Items<u32>,
+) -> Result<SourcedView, NoMemory>
+where
+    L::Reading: Drop,
+    requires shows { IfSome own (λ other. AllShowOn handler.now.on other.drawn) }
+    requires told { AreSourcesOf handler.now.on view.drawn sources }
+    ensures { IfOk result (IsSourcedBy handler.now.on (unwrap_or own view)) }
+{
+    match own {
+        Some(other) => sourced(alloc, handler, other),
+        None => Ok(SourcedView { view, sources }),
+    }
+}
+
+/// An output whose view has the places of its buffers.
+fn sourced_output<L: Lease + Drop>(
+    alloc: Global,
+    handler: &Handler<L>,
+    output: Output<View>,
+) -> Result<Output<SourcedView>, NoMemory>
+where
+    L::Reading: Drop,
+    requires { OfImage (λ view. AllShowOn handler.now.on view.drawn) output }
+    ensures { IfOk result (IsOutput (IsSourcedBy handler.now.on) output) }
+{
+    Ok(match output {
+        Output::Frame(view) => Output::Frame(sourced(alloc, handler, view)?),
+        Output::Display(number, view) => Output::Display(number, sourced(alloc, handler, view)?),
+        Output::Capture(number, view) => Output::Capture(number, sourced(alloc, handler, view)?),
+        Output::Hit(number, layer) => Output::Hit(number, layer),
+    })
+}
+
+/// These outputs, whose views have the places of their buffers.
+fn sourced_outputs<L: Lease + Drop>(
+    alloc: Global,
+    handler: &Handler<L>,
+    outputs: Vec<Output<View>>,
+) -> Result<Vec<Output<SourcedView>>, NoMemory>
+where
+    L::Reading: Drop,
+    requires { All (OfImage (λ view. AllShowOn handler.now.on view.drawn)) outputs.items }
+    ensures { IfOk result (λ views. AllZip (IsOutput (IsSourcedBy handler.now.on)) outputs.items views.items) }
+{
+    let mut views = Vec::new(alloc);
+    for output in outputs {
+        views.push(sourced_output(alloc, handler, output)?)?;
+    }
+    Ok(views)
+}
+
+/// What a vsync shows, as the plan asks for it, ready to be composed: after its commits, and before
+/// another vsync. `view` is that of the whole tree, and `sources` has the places of its buffers, both
+/// as the vsync told them. It may be asked while the pixels are lent.
+pub fn sourced_views<L: Lease + Drop>(
+    alloc: Global,
+    plan: &Plan,
+    handler: &Handler<L>,
+    view: View,
+    sources: Items<u32>,
+) -> Result<Vec<Output<SourcedView>>, NoMemory>
+where
+    L::Reading: Drop,
+    requires { IsStage (λ one. L.picture one.lease) plan.now handler.now view sources }
+    ensures views { IfOk result (λ views. AreSourced plan.now handler.now.tree (map (λ one. L.picture one.lease) handler.now.on) views.items) }
+    ensures found { (pictures : ℕ → Picture) → AreExpected (λ one. L.picture one.lease) pictures handler.now
+        → IfOk result (λ views. All (OfImage (FindsPictures pictures (map (λ one. L.picture one.lease) handler.now.on))) views.items) }
+{
+    let tree = handler.tree();
+    tree.layers();
+    let ViewsDue { frame, others } = views_due(alloc, plan, tree)?;
+    let frame = own_sourced(alloc, handler, frame, view, sources)?;
+    let mut views = Vec::new(alloc);
+    views.push(Output::Frame(frame))?;
+    let mut others = sourced_outputs(alloc, handler, others)?;
+    views.append(&mut others)?;
+    Ok(views)
+}

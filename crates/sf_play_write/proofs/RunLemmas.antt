@@ -1,0 +1,86 @@
+-- What is written of a whole play, from its first record to the last one.
+use Rattle.std.proofs.Common.{◌≡◌, ℕ, List, [], ◌∷◌, ◌++◌, Option, Result, Ok, Err, ap, sym, ◌∙◌, subst, OnErr, OnOk}
+use Rattle.std.proofs.lemmas.List.Elements.{All-nil}
+use Rattle.atomic_table.specs.Seated.{TableId}
+use Rattle.sf_actor.specs.Scripts.{picture_at}
+use Rattle.sf_output_plan.specs.declared.plan.Plan.{Plan}
+use Rattle.sf_output_screen.specs.Screens.{IsShown}
+use Rattle.sf_output_screen.specs.declared.screens.OutputScreen.{OutputScreen}
+use Rattle.sf_script_scene.specs.Limits.{IsWithinLimits}
+use Rattle.sf_script_scene.specs.Scene.{SceneValue}
+use Rattle.sf_actor_set.specs.Opening.{IsSortedFrom}
+use Rattle.sf_record.specs.Events.{events_records}
+use Rattle.sf_record.specs.declared.encode.RunFault.{RunFault}
+use Rattle.sf_record.specs.declared.event.Event.{Event}
+use Rattle.sf_record.specs.declared.record.Record.{Record}
+use Rattle.law_played.proofs.Ending.{has_records}
+use Rattle.law_played.specs.Frames.{plan_of}
+use Rattle.law_played.specs.Played.{opening}
+use Rattle.law_played.specs.Plays.{first_playing, stays}
+use Rattle.sf_play.specs.Going.{records_so}
+use Rattle.sf_play.specs.Players.{PlayerOf}
+use Rattle.sf_play.specs.Standing.{Begins}
+use Rattle.sf_play_write.specs.Closings.{closing_of}
+use Rattle.sf_play_write.specs.Runs.{CutRun, WroteRun}
+use Rattle.sf_play_write.specs.Turns.{HasWritten, IsReady, IsWriting}
+use Rattle.sf_play_write.specs.Writing.{Writes, WritesPart}
+use Rattle.sf_play_write.proofs.ClosingLemmas.{closing_is}
+use Rattle.sf_play_write.proofs.TurnLemmas.{cut_so_far, timelines_are}
+use Rattle.sf_play_write.proofs.WritingLemmas.{part_more, part_none, writes_more}
+
+-- nothing was shown: only the first record is there
+first_alone : (scene : SceneValue) (first : Record) (events : List Event) → first ≡ opening scene → events ≡ [] → first ∷ [] ≡ opening scene ∷ events_records events
+unfolding events_records
+first_alone scene first events opens none = (λ i. opens i ∷ events_records (sym none i))
+
+-- nothing was written of a play, whose first record is still to come
+pub nothing_written : (scene : SceneValue) (a : Option (List ℕ)) → IsWithinLimits scene → CutRun scene a a
+nothing_written scene a limits =
+    let begins = has_records scene (first_playing scene) limits stays in
+    record { records = begins.0; is_play = begins.1; written = part_none a begins.0 }
+
+-- a player that begins is ready, with the timelines by rising number
+pub is_ready : {B : Type 0} (table : TableId) (scene : SceneValue) (plan : Plan) (first : Record) (given sorted timelines : List ℕ) (player : PlayerOf B) → IsWithinLimits scene
+    → Begins table scene player → plan ≡ plan_of scene → first ≡ opening scene → given ≡ scene.timelines → IsSortedFrom (λ timeline. timeline) given sorted → timelines ≡ sorted
+    → IsReady table scene plan first timelines player
+is_ready table scene plan first given sorted timelines player limits begins planned opens are is same = record {
+  begins = begins;
+  planned = planned;
+  opens = opens;
+  rising = same ∙ timelines_are scene sorted limits (subst (λ (ts : List ℕ). IsSortedFrom (λ timeline. timeline) ts sorted) are is);
+}
+
+module _ {B : Type 0} (table : TableId) (scene : SceneValue) (plan : Plan) (first : Record) (timelines : List ℕ) (player : PlayerOf B) (ready : IsReady table scene plan first timelines player) where
+  -- the first record was written
+  pub has_begun : (a b : Option (List ℕ)) → Writes a b (first ∷ []) → IsWriting table scene plan timelines a b [] player
+  has_begun a b written = record {
+    so = ready.begins.so;
+    stands = ready.begins.stands;
+    planned = ready.planned;
+    rising = ready.rising;
+    written = subst (Writes a b) (first_alone scene first ready.begins.so.events ready.opens ready.begins.nothing) written;
+    shown = All-nil (λ (one : OutputScreen). IsShown (picture_at scene.pictures) one.screen);
+  }
+
+  pub first_cut : (a b : Option (List ℕ)) → WritesPart a b (first ∷ []) → CutRun scene a b
+  first_cut a b part =
+      cut_so_far table scene a b ready.begins.so player ready.begins.stands (subst (WritesPart a b) (first_alone scene first ready.begins.so.events ready.opens ready.begins.nothing) part)
+
+module _ {B : Type 0} (table : TableId) (scene : SceneValue) (a b c : Option (List ℕ)) (player : PlayerOf B) (has : HasWritten table scene a b player) where
+  all_records : (opening scene ∷ events_records has.so.events) ++ closing_of player ≡ records_so scene has.so player
+  all_records = ap (λ (rs : List Record). (opening scene ∷ events_records has.so.events) ++ rs) (closing_is table scene has.so player has.stands.in_run)
+
+  -- the closing records were written behind all others, or a part of them
+  pub run_written : (r : Result (Unit {0}) RunFault) → OnOk r (Writes b c (closing_of player)) → OnOk r (WroteRun scene a c)
+  run_written (Ok u) last =
+      let written = subst (Writes a c) all_records (writes_more a b c (opening scene ∷ events_records has.so.events) (closing_of player) has.written last) in
+      record { records = records_so scene has.so player; is_play = has.ends.are; means = has.ends.means written.fits; written = written }
+  run_written (Err e) last = tt
+
+  pub run_cut : (r : Result (Unit {0}) RunFault) → OnErr r (WritesPart b c (closing_of player)) → OnErr r (CutRun scene a c)
+  run_cut (Ok u) last = tt
+  run_cut (Err e) last = record {
+    records = records_so scene has.so player;
+    is_play = has.ends.are;
+    written = subst (WritesPart a c) all_records (part_more a b c (opening scene ∷ events_records has.so.events) (closing_of player) has.written last);
+  }

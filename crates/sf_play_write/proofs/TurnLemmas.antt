@@ -1,0 +1,195 @@
+-- The records of turns, and how far a play has been written.
+use Rattle.std.proofs.Common.{◌≡◌, ℕ, suc, ◌-◌, ◌<◌, ◌≤◌, Bool, not, ◌||◌, if◌then◌else◌, List, [], ◌∷◌, ◌++◌, length, get_or, map, filter, Option, Some, refl, ap, ◌∙◌, sym, subst, arith}
+use Rattle.std.specs.Prelude.{All, Contains, ◌==◌, slice_get}
+use Rattle.std.specs.List.{flat_map, list_any, range_with_len}
+use Rattle.std.proofs.lemmas.List.{append-nil}
+use Rattle.std.proofs.lemmas.List.Concat.{flat_map-append}
+use Rattle.std.proofs.lemmas.List.Elements.{All-contains, All-weaker}
+use Rattle.std.proofs.lemmas.Option.{slice_get_read, slice_get_within}
+use Rattle.atomic_table.specs.Seated.{TableId}
+use Rattle.sf_commit.specs.declared.vsync.Commit.{Commit as Decided}
+use Rattle.sf_script_scene.specs.Limits.{IsWithinLimits}
+use Rattle.sf_script_scene.specs.Ranges.{IsTimeline}
+use Rattle.sf_script_scene.specs.Scene.{SceneValue}
+use Rattle.sf_actor.specs.Scripts.{picture_at}
+use Rattle.sf_actor.specs.declared.tried.Reply.{Reply}
+use Rattle.sf_actor_steps.specs.declared.actor.Actor.{Actor}
+use Rattle.sf_actor_set.specs.Opening.{IsSortedFrom}
+use Rattle.sf_actor_set.proofs.RisingLemmas.{sorted_rises}
+use Rattle.sf_record.specs.Events.{event_records, events_records, vsync_records}
+use Rattle.sf_record.specs.declared.event.Event.{Event}
+use Rattle.sf_record.specs.declared.event.Event.TheVariants as event
+use Rattle.sf_record.specs.declared.event.VsyncReport.{VsyncReport as Told}
+use Rattle.sf_record.specs.declared.record.Record.{Record}
+use Rattle.sf_record.specs.declared.record.Record.TheVariants as rec
+use Rattle.sf_output_plan.specs.declared.plan.Plan.{Plan}
+use Rattle.sf_play_report.specs.Reports.{has_commits}
+use Rattle.sf_play_report.specs.Stages.{is_accepted}
+use Rattle.sf_play_report.specs.declared.report.VsyncReport.{VsyncReport}
+use Rattle.law_played.proofs.Ending.{has_records}
+use Rattle.law_played.proofs.Keeping.{of_all}
+use Rattle.law_played.proofs.Members.{filter_has, joined_has}
+use Rattle.law_played.proofs.Rising.{rising_is}
+use Rattle.law_played.specs.Commits.{commit_shown}
+use Rattle.law_played.specs.Frames.{is_done, plan_of, shown_due}
+use Rattle.law_played.specs.Played.{opening}
+use Rattle.law_played.specs.Replies.{reply_shown}
+use Rattle.law_played.specs.Seeing.{value_shown}
+use Rattle.law_played.specs.Vsyncs.{rising_timelines}
+use Rattle.sf_output_screen.specs.ScreenLists.{AreShown}
+use Rattle.sf_output_screen.specs.declared.screens.OutputScreen.{OutputScreen}
+use Rattle.sf_play.specs.Going.{GoesAlong}
+use Rattle.sf_play.specs.Happening.{VsyncHappens}
+use Rattle.sf_play.specs.Players.{PlayOf, PlayerOf, SoFar}
+use Rattle.sf_play.specs.Showing.{vsync_shown as play_shown}
+use Rattle.sf_play.specs.Standing.{StandsAlong}
+use Rattle.sf_play.specs.declared.turn.Turn.{Turn}
+use Rattle.sf_play.specs.declared.turn.Turn.TheVariants as turn
+use Rattle.sf_play_write.specs.Runs.{CutRun}
+use Rattle.sf_play_write.specs.Turns.{IsWriting, MayShowTurn, TurnsOn, is_end, newest_of, newest_shown, turn_shown}
+use Rattle.sf_play_write.specs.Vsyncs.{records_if, told_with}
+use Rattle.sf_play_write.specs.Writing.{Writes, WritesPart}
+use Rattle.sf_play_write.proofs.WritingLemmas.{part_front, part_more, writes_more}
+
+-- timelines by rising number are those of the scene
+pub timelines_are : (scene : SceneValue) (sorted : List ℕ) → IsWithinLimits scene → IsSortedFrom (λ timeline. timeline) scene.timelines sorted → sorted ≡ rising_timelines scene
+unfolding rising_timelines
+timelines_are scene sorted limits is =
+    sym (rising_is (λ (timeline : ℕ). timeline) 64 scene.timelines sorted limits.timelines.differ is.permutation
+    (sorted_rises (λ (timeline : ℕ). timeline) scene.timelines sorted limits.timelines.differ is)
+    (All-weaker IsTimeline (λ (timeline : ℕ). (1 ≤ timeline) × (timeline ≤ 64)) (λ timeline is. (is.low, is.high)) scene.timelines limits.timelines.each))
+
+pub timelines_within : (scene : SceneValue) (timelines : List ℕ) → IsWithinLimits scene → timelines ≡ rising_timelines scene → All (λ timeline. (1 ≤ timeline) × (timeline ≤ 64)) timelines
+unfolding rising_timelines
+timelines_within scene timelines limits are =
+    of_all (λ (timeline : ℕ). (1 ≤ timeline) × (timeline ≤ 64)) timelines (λ timeline there.
+    let at = joined_has (λ n. filter (λ item. item == n) scene.timelines) (range_with_len 1 64) timeline (subst (λ (ts : List ℕ). Contains ts timeline) are there) in
+    let is = All-contains IsTimeline scene.timelines timeline limits.timelines.each (filter_has (λ item. item == at.0) scene.timelines timeline at.2).0 in
+    (is.low, is.high))
+
+-- the newest reply is the last one
+pub newest_is : (earlier : List Reply) (reply : Reply) → newest_shown (earlier ++ reply ∷ []) ≡ rec.Repl (reply_shown reply) ∷ []
+newest_is [] reply = refl
+newest_is (first ∷ []) reply = refl
+newest_is (first ∷ second ∷ earlier) reply = newest_is (second ∷ earlier) reply
+
+pub newest_at : (replies : List Reply) (reply : Reply) → 1 ≤ length replies → reply ≡ get_or replies (length replies - 1) reply → rec.Repl (reply_shown reply) ∷ [] ≡ newest_shown replies
+newest_at [] reply some is = absurd (omega (arith, some))
+newest_at (first ∷ []) reply some is = ap (λ (r : Reply). rec.Repl (reply_shown r) ∷ []) is
+newest_at (first ∷ second ∷ later) reply some is =
+    let place : length (first ∷ second ∷ later) - 1 ≡ suc (length (second ∷ later) - 1) = omega arith in
+    newest_at (second ∷ later) reply (omega arith) (is ∙ ap (λ (n : ℕ). get_or (first ∷ second ∷ later) n reply) place)
+
+pub none_newest : (replies : List Reply) → length replies < 1 → [] ≡ newest_shown replies
+none_newest [] none = refl
+none_newest (first ∷ later) none = absurd (omega (arith, none))
+
+-- a frame is due where a commit was accepted
+shown_done : (commits : List Decided) → list_any is_done (map commit_shown commits) ≡ list_any is_accepted commits
+shown_done [] = refl
+shown_done (commit ∷ commits) = ap (λ (b : Bool). (commit.cause == 0) || b) (shown_done commits)
+
+more_records : (events : List Event) (one : Event) → events_records (events ++ one ∷ []) ≡ events_records events ++ event_records one
+unfolding events_records
+more_records events one = flat_map-append event_records events (one ∷ []) ∙ ap (λ (rs : List Record). flat_map event_records events ++ rs) (append-nil (event_records one))
+
+module _ {B : Type 0} where
+  step_shown : (place : ℕ) (actors : List (Actor B)) (actor : Actor B) (earlier : List Reply) (reply : Reply) → slice_get actors place ≡ Some actor
+      → actor.replies.items ≡ earlier ++ reply ∷ [] → newest_of (slice_get actors place) ≡ rec.Repl (reply_shown reply) ∷ []
+  step_shown place actors actor earlier reply there replies = ap newest_of there ∙ ap newest_shown replies ∙ newest_is earlier reply
+
+  -- the actor at a place
+  pub actor_at : (actors : List (Actor B)) (place : ℕ) (actor : Actor B) → place < length actors → actor ≡ get_or actors place actor → newest_shown actor.replies.items ≡ newest_of (slice_get actors place)
+  actor_at actors place actor below is = sym (ap newest_of (slice_get_read actors (length actors) place actor refl below is))
+
+  -- what is shown of a vsync that commits something
+  told_is : (scene : SceneValue) (report : VsyncReport) (play : PlayOf B)
+      → play_shown scene report.number report.expected report.seen report.commits play.handler.tree ≡ told_with (picture_at scene.pictures) (plan_of scene) (rising_timelines scene) report play.handler.tree.layers
+  told_is scene report play = (λ i. record {
+    number = report.number;
+    expected = report.expected;
+    timelines = map (value_shown report.seen) (rising_timelines scene);
+    commits = map commit_shown report.commits;
+    shown = if shown_done report.commits i then shown_due (picture_at scene.pictures) (plan_of scene) play.handler.tree.layers else [];
+  })
+
+  vsync_is : (scene : SceneValue) (plan : Plan) (timelines : List ℕ) (report : VsyncReport) (play : PlayOf B) (so later : SoFar B) → plan ≡ plan_of scene → timelines ≡ rising_timelines scene
+      → (commits : List Decided) → report.commits ≡ commits → VsyncHappens scene (has_commits commits) report play so later
+      → events_records so.events ++ records_if commits (told_with (picture_at scene.pictures) plan timelines report play.handler.tree.layers) ≡ events_records later.events
+  vsync_is scene plan timelines report play so later planned rising [] is happens = append-nil (events_records so.events) ∙ sym (ap (λ (s : SoFar B). events_records s.events) happens)
+  vsync_is scene plan timelines report play so later planned rising (commit ∷ commits) is happens =
+      (λ i. events_records so.events ++ vsync_records (told_with (picture_at scene.pictures) (planned i) (rising i) report play.handler.tree.layers))
+      ∙ ap (λ (v : Told). events_records so.events ++ vsync_records v) (sym (told_is scene report play))
+      ∙ sym (more_records so.events (event.Vsync (play_shown scene report.number report.expected report.seen report.commits play.handler.tree)))
+      ∙ sym (ap (λ (s : SoFar B). events_records s.events) happens)
+
+  -- the records of a turn follow those of what was shown before
+  pub turn_records : (table : TableId) (scene : SceneValue) (plan : Plan) (timelines : List ℕ) (so : SoFar B) (came_to : Turn) (player : PlayerOf B) → plan ≡ plan_of scene → timelines ≡ rising_timelines scene
+      → (goes : GoesAlong table scene so came_to player)
+      → events_records so.events ++ turn_shown (picture_at scene.pictures) plan timelines player.play came_to ≡ events_records goes.later.events
+  turn_records table scene plan timelines so (turn.Step place) player planned rising goes =
+      let did = goes.happens in
+      ap (λ (rs : List Record). events_records so.events ++ rs) (step_shown place player.play.actor_set.actors did.actor did.earlier did.reply did.there did.replies)
+      ∙ sym (more_records so.events (event.Reply (reply_shown did.reply)))
+      ∙ sym (ap (λ (s : SoFar B). events_records s.events) did.is)
+  turn_records table scene plan timelines so (turn.Vsync report) player planned rising goes =
+      vsync_is scene plan timelines report player.play so goes.later planned rising report.commits refl goes.happens
+  turn_records table scene plan timelines so turn.Idle player planned rising goes = append-nil (events_records so.events) ∙ sym (ap (λ (s : SoFar B). events_records s.events) goes.happens)
+  turn_records table scene plan timelines so turn.End player planned rising goes = append-nil (events_records so.events) ∙ sym (ap (λ (s : SoFar B). events_records s.events) goes.happens)
+
+  pub may_show : (table : TableId) (scene : SceneValue) (so : SoFar B) (came_to : Turn) (player : PlayerOf B) → GoesAlong table scene so came_to player → MayShowTurn scene came_to player
+  may_show table scene so (turn.Step place) player goes = slice_get_within player.play.actor_set.actors place goes.happens.actor goes.happens.there
+  may_show table scene so (turn.Vsync report) player goes = goes.tells
+  may_show table scene so turn.Idle player goes = tt
+  may_show table scene so turn.End player goes = tt
+
+  -- a turn was written behind what was written before
+  pub goes_on : (table : TableId) (scene : SceneValue) (plan : Plan) (timelines : List ℕ) (start a b : Option (List ℕ)) (before screens : List OutputScreen) (old player : PlayerOf B) (came_to : Turn)
+      (w : IsWriting table scene plan timelines start a before old) → GoesAlong table scene w.so came_to player
+      → Writes a b (turn_shown (picture_at scene.pictures) plan timelines player.play came_to) → AreShown (picture_at scene.pictures) screens
+      → IsWriting table scene plan timelines start b screens player
+  goes_on table scene plan timelines start a b before screens old player came_to w goes now shown =
+      let records = turn_shown (picture_at scene.pictures) plan timelines player.play came_to in
+      record {
+        so = goes.later;
+        stands = goes.stands;
+        planned = w.planned;
+        rising = w.rising;
+        written = subst (Writes start b) (ap (λ (rs : List Record). opening scene ∷ rs) (turn_records table scene plan timelines w.so came_to player w.planned w.rising goes))
+            (writes_more start a b (opening scene ∷ events_records w.so.events) records w.written now);
+        shown = shown;
+      }
+
+  pub turns_on : (table : TableId) (scene : SceneValue) (plan : Plan) (timelines : List ℕ) (start a b : Option (List ℕ)) (before screens : List OutputScreen) (old player : PlayerOf B) (came_to : Turn)
+      (w : IsWriting table scene plan timelines start a before old) → GoesAlong table scene w.so came_to player
+      → Writes a b (turn_shown (picture_at scene.pictures) plan timelines player.play came_to) → AreShown (picture_at scene.pictures) screens
+      → TurnsOn (not (is_end came_to)) table scene plan timelines start b screens player
+  unfolding goes_on
+  turns_on table scene plan timelines start a b before screens old player turn.End w goes now shown =
+      let on = goes_on table scene plan timelines start a b before screens old player turn.End w goes now shown in
+      record { so = goes.later; stands = goes.stands; written = on.written; ends = goes.tells }
+  turns_on table scene plan timelines start a b before screens old player (turn.Step place) w goes now shown = goes_on table scene plan timelines start a b before screens old player (turn.Step place) w goes now shown
+  turns_on table scene plan timelines start a b before screens old player turn.Idle w goes now shown = goes_on table scene plan timelines start a b before screens old player turn.Idle w goes now shown
+  turns_on table scene plan timelines start a b before screens old player (turn.Vsync report) w goes now shown = goes_on table scene plan timelines start a b before screens old player (turn.Vsync report) w goes now shown
+
+  -- what was written of a turn begins the records of the play
+  pub cut_so_far : (table : TableId) (scene : SceneValue) (start now : Option (List ℕ)) (so : SoFar B) (player : PlayerOf B) → StandsAlong table scene so player
+      → WritesPart start now (opening scene ∷ events_records so.events) → CutRun scene start now
+  cut_so_far table scene start now so player stands part =
+      let along = stands.along in
+      let begins = has_records scene along.playing stands.in_run.stands.stands.of_scene.limits along.begun in
+      record {
+        records = begins.0;
+        is_play = begins.1;
+        written = subst (WritesPart start now) begins.2.joined
+            (part_front start now (opening scene ∷ events_records along.playing.events) begins.2.rest (subst (λ (es : List Event). WritesPart start now (opening scene ∷ events_records es)) (sym along.shows) part));
+      }
+
+  pub turn_cut : (table : TableId) (scene : SceneValue) (plan : Plan) (timelines : List ℕ) (start a b : Option (List ℕ)) (before : List OutputScreen) (old player : PlayerOf B) (came_to : Turn)
+      (w : IsWriting table scene plan timelines start a before old) → GoesAlong table scene w.so came_to player
+      → WritesPart a b (turn_shown (picture_at scene.pictures) plan timelines player.play came_to) → CutRun scene start b
+  turn_cut table scene plan timelines start a b before old player came_to w goes part =
+      let records = turn_shown (picture_at scene.pictures) plan timelines player.play came_to in
+      cut_so_far table scene start b goes.later player goes.stands
+      (subst (WritesPart start b) (ap (λ (rs : List Record). opening scene ∷ rs) (turn_records table scene plan timelines w.so came_to player w.planned w.rising goes))
+      (part_more start a b (opening scene ∷ events_records w.so.events) records w.written part))

@@ -1,0 +1,242 @@
+-- The records of a vsync, piece by piece.
+use Rattle.std.proofs.Common.{◌≡◌, ℕ, Bool, true, false, if◌then◌else◌, List, [], ◌∷◌, ◌++◌, drop, map, take, Option, Some, Result, Ok, Err, refl, ap, ◌∙◌, sym, subst, IfOk, OnErr, OnOk}
+use Rattle.std.specs.Prelude.{IfSome, pos}
+use Rattle.std.specs.List.{All, AllZip}
+use Rattle.std.proofs.lemmas.List.Elements.{All-cons, All-nil}
+use Rattle.byteorder.specs.Endian.{big_bytes}
+use Rattle.std.proofs.lemmas.Bool.{false≢true}
+use Rattle.std.proofs.lemmas.List.{drop_at, take_at}
+use Rattle.sf_commit.specs.declared.vsync.Commit.{Commit as Decided}
+use Rattle.sf_compose.proofs.RowLemmas.{frame_bytes-same}
+use Rattle.sf_compose.specs.Again.{ShowsView}
+use Rattle.sf_compose.specs.Frames.{frame_bytes}
+use Rattle.sf_layer.specs.declared.layer.Layer.{Layer}
+use Rattle.sf_output.specs.Outputs.{IsOutput, OfImage, map_output}
+use Rattle.sf_output.specs.declared.output.Output.{Output}
+use Rattle.sf_output.specs.declared.output.Output.TheVariants as out
+use Rattle.sf_picture.specs.declared.picture.Picture.{Picture}
+use Rattle.sf_output_plan.specs.Due.{ImageDue, outputs_due}
+use Rattle.sf_output_plan.specs.declared.plan.Plan.{Plan}
+use Rattle.sf_record.specs.Events.{output_record, vsync_records}
+use Rattle.sf_record.specs.Records.{BeginsImage, u32_bytes}
+use Rattle.sf_record.specs.Records.{image_in as record_in}
+use Rattle.sf_record.specs.declared.encode.RunFault.{RunFault}
+use Rattle.sf_record.specs.declared.event.VsyncReport.{VsyncReport as Told}
+use Rattle.sf_record.specs.declared.record.Record.{Record}
+use Rattle.sf_record.specs.declared.record.Record.TheVariants as rec
+use Rattle.sf_play_report.specs.Reports.{has_commits}
+use Rattle.sf_play_report.specs.Stages.{shows_frame}
+use Rattle.sf_play_report.specs.declared.report.VsyncReport.{VsyncReport}
+use Rattle.sf_play_report.specs.declared.sourced.SourcedView.{SourcedView}
+use Rattle.law_played.specs.Commits.{commit_shown}
+use Rattle.law_played.specs.Frames.{frame_of, shown_due}
+use Rattle.law_played.specs.Seeing.{value_shown}
+use Rattle.sf_output_screen.specs.ScreenLists.{AreShown}
+use Rattle.sf_output_screen.specs.declared.screens.OutputScreen.{OutputScreen}
+use Rattle.sf_output_screen.specs.Screens.{IsShown, IsWhole, ScreenOf, head_of, image_bytes, is_image}
+use Rattle.sf_output_screen.proofs.ScreenLemmas.{shown_bytes}
+use Rattle.sf_view.proofs.ImageLemmas.{view_image-order}
+use Rattle.sf_view.specs.Image.{image_in}
+use Rattle.sf_view.specs.Stacks.{view_image}
+use Rattle.sf_view.specs.Views.{ViewOf}
+use Rattle.sf_play_write.proofs.WritingLemmas.{part_front, part_more, writes_more}
+use Rattle.sf_play_write.specs.Vsyncs.{AreComposed, AreViewsDue, IsComposed, IsSame, IsViewDue, image_record, pixels_in, pixels_of, records_by, records_if, shown_record, told_by, vsync_shown}
+use Rattle.sf_play_write.specs.Writing.{Writes, WritesPart}
+use Rattle.sf_play_write.specs.declared.vsync.VsyncFacts.{VsyncFacts}
+
+pub with_more : (A B : Type 0) (r : Result (Unit {0}) RunFault) → OnOk r A → B → OnOk r (A × B)
+with_more A B (Ok u) a b = (a, b)
+with_more A B (Err e) a b = tt
+
+-- what a screen shows are the bytes of its view's image
+pub frame_bytes_are : (pictures : ℕ → Picture) (view : ViewOf) (screen : ScreenOf) → screen.view ≡ Some view → IsWhole view screen.frame → IsShown pictures screen → screen.frame ≡ image_bytes pictures view
+frame_bytes_are pictures view screen is whole shown =
+    shown_bytes pictures view screen.frame whole (subst (λ (o : Option ViewOf). IfSome o (λ v. ShowsView pictures v screen.frame)) is shown)
+
+-- a screen that has another number shows the same
+pub still_shown : (pictures : ℕ → Picture) (before after : ScreenOf) → after.view ≡ before.view → after.frame ≡ before.frame → IsShown pictures before → IsShown pictures after
+still_shown pictures before after view frame shown = subst (λ (s : Option ViewOf × List ℕ). IfSome s.0 (λ (v : ViewOf). ShowsView pictures v s.1)) (λ i. (sym view i, sym frame i)) shown
+
+-- the numbers with which the body of a record begins
+frame_head : (number : ℕ) → drop 4 (big_bytes 4 0 ++ big_bytes 4 number) ≡ big_bytes 4 number
+frame_head number = drop_at (big_bytes 4 0) (big_bytes 4 number) 4 refl
+
+pub image_begins : (of : Output (Unit {0})) (number : ℕ) (body frame : List ℕ) → is_image of ≡ true → body ≡ head_of of number ++ frame → BeginsImage of number body
+unfolding u32_bytes
+image_begins (out.Frame u) number body frame image is =
+    ap (take 4) (is ∙ ap (λ (head : List ℕ). head ++ frame) (frame_head number)) ∙ take_at (big_bytes 4 number) frame 4 refl
+image_begins (out.Display place u) number body frame image is = ap (take 8) is ∙ take_at (big_bytes 4 place ++ big_bytes 4 number) frame 8 refl
+image_begins (out.Capture place u) number body frame image is = ap (take 8) is ∙ take_at (big_bytes 4 place ++ big_bytes 4 number) frame 8 refl
+image_begins (out.Hit place layer) number body frame image is = absurd (false≢true image)
+
+-- the record of an image by its body
+pub image_is : (of : Output (Unit {0})) (number : ℕ) (body frame : List ℕ) → is_image of ≡ true → body ≡ head_of of number ++ frame → record_in of number body ≡ image_record of number frame
+image_is (out.Frame u) number body frame image is =
+    ap (λ (pixels : List ℕ). rec.Fram (record { number = number; pixels = pixels }))
+    (ap (drop 4) (is ∙ ap (λ (head : List ℕ). head ++ frame) (frame_head number)) ∙ drop_at (big_bytes 4 number) frame 4 refl)
+image_is (out.Display place u) number body frame image is =
+    ap (λ (pixels : List ℕ). rec.Frad (record { place = place; number = number; pixels = pixels })) (ap (drop 8) is ∙ drop_at (big_bytes 4 place ++ big_bytes 4 number) frame 8 refl)
+image_is (out.Capture place u) number body frame image is =
+    ap (λ (pixels : List ℕ). rec.Capt (record { place = place; number = number; pixels = pixels })) (ap (drop 8) is ∙ drop_at (big_bytes 4 place ++ big_bytes 4 number) frame 8 refl)
+image_is (out.Hit place layer) number body frame image is = absurd (false≢true image)
+
+-- one that commits something has its records, and one that commits nothing has none
+pub its_records : (commits : List Decided) (told : Told) → has_commits commits ≡ true → vsync_records told ≡ records_if commits told
+its_records [] told is = absurd (false≢true is)
+its_records (commit ∷ commits) told is = refl
+
+pub no_records : (commits : List Decided) (told : Told) → has_commits commits ≡ false → [] ≡ records_if commits told
+no_records [] told is = refl
+no_records (commit ∷ commits) told is = absurd (false≢true (sym is))
+
+-- what was written of its records, as they come
+pub head_cut : (a b : Option (List ℕ)) (head : Record) (rest all : List Record) → head ∷ rest ≡ all → WritesPart a b (head ∷ []) → WritesPart a b all
+head_cut a b head rest all is part = subst (WritesPart a b) is (part_front a b (head ∷ []) rest part)
+
+pub middle_cut : (a b c : Option (List ℕ)) (head : Record) (middle tail all : List Record) → head ∷ (middle ++ tail) ≡ all
+    → Writes a b (head ∷ []) → WritesPart b c middle → WritesPart a c all
+middle_cut a b c head middle tail all is first part = subst (WritesPart a c) is (part_more a b c (head ∷ []) (middle ++ tail) first (part_front b c middle tail part))
+
+pub tail_cut : (a b c d : Option (List ℕ)) (head : Record) (middle tail all : List Record) → head ∷ (middle ++ tail) ≡ all
+    → Writes a b (head ∷ []) → Writes b c middle → WritesPart c d tail → WritesPart a d all
+tail_cut a b c d head middle tail all is first second part = subst (WritesPart a d) is (part_more a c d (head ∷ middle) tail (writes_more a b c (head ∷ []) middle first second) part)
+
+pub all_written : (a b c d : Option (List ℕ)) (head : Record) (middle tail all : List Record) → head ∷ (middle ++ tail) ≡ all
+    → Writes a b (head ∷ []) → Writes b c middle → Writes c d tail → Writes a d all
+all_written a b c d head middle tail all is first second third = subst (Writes a d) is (writes_more a c d (head ∷ middle) tail (writes_more a b c (head ∷ []) middle first second) third)
+
+-- the first record of one that commits something
+abbrev pub head_by : List ℕ → VsyncFacts → Record
+head_by timelines facts = rec.Vsyn (record { number = facts.number; expected = facts.expected; timelines = map (value_shown facts.seen) timelines })
+
+-- the records of what is shown, one after another
+each_record : (number : ℕ) (images : List (Output ScreenOf)) → map (shown_record number) images ≡ map (output_record number) (pixels_in images)
+each_record number [] = refl
+each_record number (image ∷ images) = ap (λ (rs : List Record). shown_record number image ∷ rs) (each_record number images)
+
+-- all records of one that commits something
+pub all_records : (timelines : List ℕ) (facts : VsyncFacts) (images : List (Output ScreenOf)) → has_commits facts.commits ≡ true
+    → head_by timelines facts ∷ (map rec.Comm (map commit_shown facts.commits) ++ map (shown_record facts.number) images) ≡ records_by timelines facts (pixels_in images)
+all_records timelines facts images some =
+    ap (λ (rs : List Record). head_by timelines facts ∷ (map rec.Comm (map commit_shown facts.commits) ++ rs)) (each_record facts.number images)
+    ∙ its_records facts.commits (told_by timelines facts (pixels_in images)) some
+
+pub zip_push : {A B : Type 0} (R : A → B → Type 0) (xs : List A) (ys : List B) (x : A) (y : B) → AllZip R xs ys → R x y → AllZip R (xs ++ x ∷ []) (ys ++ y ∷ [])
+zip_push R [] [] x y zip r = (r, tt)
+zip_push R [] (b ∷ ys) x y zip r = absurd zip
+zip_push R (a ∷ xs) [] x y zip r = absurd zip
+zip_push R (a ∷ xs) (b ∷ ys) x y zip r = (zip.0, zip_push R xs ys x y zip.1 r)
+
+-- the pixels of images are those of the views that they are of
+composed_is : (pictures : ℕ → Picture) (view : Output SourcedView) (image : Output ScreenOf) → IsOutput (IsComposed pictures) view image
+    → map_output (λ (screen : ScreenOf). screen.frame) image ≡ map_output (pixels_of pictures) view
+composed_is pictures (out.Frame view) (out.Frame image) is = ap (λ (pixels : List ℕ). out.Frame pixels) is.frame
+composed_is pictures (out.Display n view) (out.Display m image) is = (λ i. out.Display (sym is.0 i) (is.1.frame i))
+composed_is pictures (out.Capture n view) (out.Capture m image) is = (λ i. out.Capture (sym is.0 i) (is.1.frame i))
+composed_is pictures (out.Hit n layer) (out.Hit m there) is = (λ i. out.Hit (sym is.0 i) (sym is.1 i))
+composed_is pictures _ _ is = absurd is
+
+composed_are : (pictures : ℕ → Picture) (views : List (Output SourcedView)) (images : List (Output ScreenOf)) → AreComposed pictures views images → pixels_in images ≡ map (map_output (pixels_of pictures)) views
+composed_are pictures [] [] are = refl
+composed_are pictures [] (image ∷ images) are = absurd are
+composed_are pictures (view ∷ views) [] are = absurd are
+composed_are pictures (view ∷ views) (image ∷ images) are = (λ i. composed_is pictures view image are.0 i ∷ composed_are pictures views images are.1 i)
+
+-- and their screens show images
+shown_is : (pictures : ℕ → Picture) (view : Output SourcedView) (image : Output ScreenOf) → IsOutput (IsComposed pictures) view image → OfImage (IsShown pictures) image
+shown_is pictures (out.Frame view) (out.Frame image) is = is.shown
+shown_is pictures (out.Display n view) (out.Display m image) is = is.1.shown
+shown_is pictures (out.Capture n view) (out.Capture m image) is = is.1.shown
+shown_is pictures (out.Hit n layer) (out.Hit m there) is = tt
+shown_is pictures _ _ is = absurd is
+
+pub composed_shown : (pictures : ℕ → Picture) (views : List (Output SourcedView)) (images : List (Output ScreenOf)) → AreComposed pictures views images → All (OfImage (IsShown pictures)) images
+composed_shown pictures [] [] are = All-nil (OfImage (IsShown pictures))
+composed_shown pictures [] (image ∷ images) are = absurd are
+composed_shown pictures (view ∷ views) [] are = absurd are
+composed_shown pictures (view ∷ views) (image ∷ images) are =
+    All-cons (OfImage (IsShown pictures)) image images (shown_is pictures view image are.0) (composed_shown pictures views images are.1)
+
+-- what is shown of a view that is due is what is due
+pixels_are : (pictures : ℕ → Picture) (due : ImageDue) (sourced : SourcedView) → IsViewDue due sourced → frame_of pictures due ≡ pixels_of pictures sourced
+unfolding frame_of image_bytes
+pixels_are pictures due sourced shows =
+    sym ((λ i. frame_bytes (λ x y. view_image pictures sourced.view (pos x) (pos y)) (shows.wide i) (shows.high i))
+    ∙ frame_bytes-same (λ x y. view_image pictures sourced.view (pos x) (pos y)) (λ x y. image_in pictures due.layers due.order (pos x) (pos y)) due.width due.height
+    (λ x y wide high. view_image-order pictures due.layers due.order due.width due.height sourced.view shows x y wide high))
+
+output_is : (pictures : ℕ → Picture) (due : Output ImageDue) (view : Output SourcedView) → IsOutput IsViewDue due view → map_output (frame_of pictures) due ≡ map_output (pixels_of pictures) view
+output_is pictures (out.Frame due) (out.Frame view) is = ap (λ (pixels : List ℕ). out.Frame pixels) (pixels_are pictures due view is)
+output_is pictures (out.Display n due) (out.Display m view) is = (λ i. out.Display (is.0 i) (pixels_are pictures due view is.1 i))
+output_is pictures (out.Capture n due) (out.Capture m view) is = (λ i. out.Capture (is.0 i) (pixels_are pictures due view is.1 i))
+output_is pictures (out.Hit n layer) (out.Hit m there) is = (λ i. out.Hit (is.0 i) (is.1 i))
+output_is pictures _ _ is = absurd is
+
+outputs_are : (pictures : ℕ → Picture) (dues : List (Output ImageDue)) (views : List (Output SourcedView)) → AllZip (IsOutput IsViewDue) dues views
+    → map (map_output (frame_of pictures)) dues ≡ map (map_output (pixels_of pictures)) views
+outputs_are pictures [] [] is = refl
+outputs_are pictures [] (view ∷ views) is = absurd is
+outputs_are pictures (due ∷ dues) [] is = absurd is
+outputs_are pictures (due ∷ dues) (view ∷ views) is = (λ i. output_is pictures due view is.0 i ∷ outputs_are pictures dues views is.1 i)
+
+shown_are : (pictures : ℕ → Picture) (plan : Plan) (layers : List Layer) (shows : Bool) (views : List (Output SourcedView)) → AllZip (IsOutput IsViewDue) (if shows then outputs_due plan layers else []) views
+    → map (map_output (pixels_of pictures)) views ≡ (if shows then shown_due pictures plan layers else [])
+unfolding shown_due
+shown_are pictures plan layers true views is = sym (outputs_are pictures (outputs_due plan layers) views is)
+shown_are pictures plan layers false views is = sym (outputs_are pictures [] views is)
+
+-- the records by images that are composed of its views are those of what is due
+pub records_are : (pictures : ℕ → Picture) (plan : Plan) (timelines : List ℕ) (report : VsyncReport) (layers : List Layer) (facts : VsyncFacts) (views : List (Output SourcedView))
+    (images : List (Output ScreenOf)) → IsSame report facts → AreViewsDue plan layers report.commits views → AreComposed pictures views images
+    → records_by timelines facts (pixels_in images) ≡ vsync_shown pictures plan timelines report layers
+records_are pictures plan timelines report layers facts views images same due composed =
+    let shown = composed_are pictures views images composed ∙ shown_are pictures plan layers (shows_frame report.commits) views due in
+    (λ i. records_if (same.commits i) (record {
+      number = same.number i;
+      expected = same.expected i;
+      timelines = map (value_shown (same.seen i)) timelines;
+      commits = map commit_shown (same.commits i);
+      shown = shown i;
+    }))
+
+pub tail_written : (r : Result (Unit {0}) RunFault) (a b c d : Option (List ℕ)) (head : Record) (middle tail all : List Record) → head ∷ (middle ++ tail) ≡ all
+    → Writes a b (head ∷ []) → Writes b c middle → OnOk r (Writes c d tail) → OnOk r (Writes a d all)
+tail_written (Ok u) a b c d head middle tail all is first second third = all_written a b c d head middle tail all is first second third
+tail_written (Err e) a b c d head middle tail all is first second third = tt
+
+pub tail_part : (r : Result (Unit {0}) RunFault) (a b c d : Option (List ℕ)) (head : Record) (middle tail all : List Record) → head ∷ (middle ++ tail) ≡ all
+    → Writes a b (head ∷ []) → Writes b c middle → OnErr r (WritesPart c d tail) → OnErr r (WritesPart a d all)
+tail_part (Ok u) a b c d head middle tail all is first second third = tt
+tail_part (Err e) a b c d head middle tail all is first second third = tail_cut a b c d head middle tail all is first second third
+
+-- a vsync of which the images are composed was written, for its report
+pub vsync_written : (r : Result (Unit {0}) RunFault) (a b : Option (List ℕ)) (pictures : ℕ → Picture) (plan : Plan) (timelines : List ℕ) (report : VsyncReport) (layers : List Layer) (facts : VsyncFacts)
+    (views : List (Output SourcedView)) (images : List (Output ScreenOf)) (screens shown : List OutputScreen) → IsSame report facts → AreViewsDue plan layers report.commits views → AreComposed pictures views images
+    → OnOk r (Writes a b (records_by timelines facts (pixels_in images)))
+    → (All (OfImage (IsShown pictures)) images → AreShown pictures screens → OnOk r (AreShown pictures shown)) → AreShown pictures screens
+    → OnOk r (Writes a b (vsync_shown pictures plan timelines report layers) × AreShown pictures shown)
+vsync_written (Ok u) a b pictures plan timelines report layers facts views images screens shown same due composed written still was = (
+  subst (Writes a b) (records_are pictures plan timelines report layers facts views images same due composed) written,
+  still (composed_shown pictures views images composed) was,
+)
+vsync_written (Err e) a b pictures plan timelines report layers facts views images screens shown same due composed written still was = tt
+
+pub vsync_cut : (r : Result (Unit {0}) RunFault) (a b : Option (List ℕ)) (pictures : ℕ → Picture) (plan : Plan) (timelines : List ℕ) (report : VsyncReport) (layers : List Layer) (facts : VsyncFacts)
+    (views : List (Output SourcedView)) (images : List (Output ScreenOf)) → IsSame report facts → AreViewsDue plan layers report.commits views → AreComposed pictures views images
+    → OnErr r (WritesPart a b (records_by timelines facts (pixels_in images))) → OnErr r (WritesPart a b (vsync_shown pictures plan timelines report layers))
+vsync_cut (Ok u) a b pictures plan timelines report layers facts views images same due composed part = tt
+vsync_cut (Err e) a b pictures plan timelines report layers facts views images same due composed part =
+    subst (WritesPart a b) (records_are pictures plan timelines report layers facts views images same due composed) part
+
+pub if_ok : {T E : Type 0} (P Q : T → Type 0) (r : Result T E) → ((x : T) → P x → Q x) → IfOk r P → IfOk r Q
+if_ok P Q (Ok x) f p = f x p
+if_ok P Q (Err e) f p = tt
+
+-- what is due where something was committed
+pub some_due : {A B : Type 0} (R : A → B → Type 0) (shows : Bool) (xs : List A) (ys : List B) → shows ≡ true → AllZip R xs ys → AllZip R (if shows then xs else []) ys
+some_due R true xs ys met zip = zip
+some_due R false xs ys met zip = absurd (false≢true met)
+
+pub none_due : {A B : Type 0} (R : A → B → Type 0) (shows : Bool) (xs : List A) → shows ≡ false → AllZip R (if shows then xs else []) []
+none_due R false xs unmet = tt
+none_due R true xs unmet = absurd (false≢true (sym unmet))

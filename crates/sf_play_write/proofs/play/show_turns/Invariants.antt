@@ -1,0 +1,16 @@
+use Rattle.std.proofs.Common.{ℕ, ◌≤◌, [], List, Option}
+use Rattle.sf_script_scene.specs.Scene.{SceneValue}
+use Rattle.sf_play.specs.Going.{fuel_of}
+use Rattle.sf_play_write.specs.Turns.{IsWriting}
+use Rattle.sf_play_write.proofs.play.show_turns.Given as goal
+
+-- what was shown is written behind what was there
+abbrev pub invariant-turns : goal.invariant-turns
+invariant-turns g l =
+    ((scene : SceneValue) (start : Option (List ℕ))
+    → IsWriting g.B.TableName.table scene l.plan l.timelines start (g.K.Sink.taken l.initial.sink) [] l.initial.player
+    → IsWriting g.B.TableName.table scene l.plan l.timelines start (g.K.Sink.taken l.sink) l.screens l.player)
+    × (g.K.Sink.faults l.initial.sink ≤ g.K.Sink.faults l.sink)
+
+abbrev pub decreases-turns : goal.decreases-turns
+decreases-turns g l = fuel_of l.player

@@ -1,0 +1,20 @@
+-- What is written of a whole play.
+use Rattle.std.specs.Prelude.{ℕ, List, Option}
+use Rattle.sf_script_scene.specs.Scene.{SceneValue}
+use Rattle.sf_record.specs.declared.record.Record.{Record}
+use Rattle.law_played.specs.Ends.{ArePlayRecords}
+use Rattle.law_played.specs.Played.{Played}
+use Rattle.sf_play_write.specs.Writing.{Writes, WritesPart}
+
+-- the records of a run were written: they are those of the scene's play, and they mean what a played run means
+pub record WroteRun (scene : SceneValue) (old new : Option (List ℕ)) : Type 0 where
+  pub records : List Record
+  pub is_play : ArePlayRecords scene records
+  pub means : Played scene records
+  pub written : Writes old new records
+
+-- a prefix of the records of the scene's play was written
+pub record CutRun (scene : SceneValue) (old new : Option (List ℕ)) : Type 0 where
+  pub records : List Record
+  pub is_play : ArePlayRecords scene records
+  pub written : WritesPart old new records

@@ -1,0 +1,82 @@
+-- What is written of the turns of a play.
+use Rattle.std.specs.Prelude.{◌≡◌, ℕ, ◌<◌, Bool, true, false, List, [], ◌∷◌, length, Option, None, Some, slice_get}
+use Rattle.atomic_table.specs.Seated.{TableId}
+use Rattle.sf_picture.specs.declared.picture.Picture.{Picture}
+use Rattle.sf_output_plan.specs.declared.plan.Plan.{Plan}
+use Rattle.sf_script_scene.specs.Scene.{SceneValue}
+use Rattle.sf_actor.specs.Scripts.{picture_at}
+use Rattle.sf_actor.specs.declared.tried.Reply.{Reply}
+use Rattle.sf_actor_steps.specs.declared.actor.Actor.{Actor}
+use Rattle.sf_record.specs.Events.{events_records}
+use Rattle.sf_record.specs.declared.record.Record.{Record}
+use Rattle.sf_record.specs.declared.record.Record.TheVariants as rec
+use Rattle.law_played.specs.Played.{opening}
+use Rattle.law_played.specs.Replies.{reply_shown}
+use Rattle.law_played.specs.Vsyncs.{rising_timelines}
+use Rattle.law_played.specs.Frames.{plan_of}
+use Rattle.sf_output_screen.specs.ScreenLists.{AreShown}
+use Rattle.sf_output_screen.specs.declared.screens.OutputScreen.{OutputScreen}
+use Rattle.sf_play.specs.Going.{EndsPlay, TellsStage}
+use Rattle.sf_play.specs.Players.{PlayOf, PlayerOf, SoFar}
+use Rattle.sf_play.specs.Standing.{Begins, StandsAlong}
+use Rattle.sf_play.specs.declared.turn.Turn.{Turn}
+use Rattle.sf_play.specs.declared.turn.Turn.TheVariants as turn
+use Rattle.sf_play_write.specs.Vsyncs.{vsync_shown}
+use Rattle.sf_play_write.specs.Writing.{Writes}
+
+-- the record of the newest reply, if there is one
+abbrev pub newest_shown : List Reply → List Record
+newest_shown [] = []
+newest_shown (reply ∷ []) = rec.Repl (reply_shown reply) ∷ []
+newest_shown (reply ∷ later) = newest_shown later
+
+abbrev pub is_end : Turn → Bool
+is_end turn.End = true
+is_end other = false
+
+module _ {B : Type 0} where
+  abbrev pub newest_of : Option (Actor B) → List Record
+  newest_of None = []
+  newest_of (Some actor) = newest_shown actor.replies.items
+
+  -- the records of a turn that a play of this plan comes to, after which it stands so
+  abbrev pub turn_shown : (ℕ → Picture) → Plan → List ℕ → PlayOf B → Turn → List Record
+  turn_shown pictures plan timelines play (turn.Step place) = newest_of (slice_get play.actor_set.actors place)
+  turn_shown pictures plan timelines play (turn.Vsync report) = vsync_shown pictures plan timelines report play.handler.tree.layers
+  turn_shown pictures plan timelines play other = []
+
+  -- a turn can be shown: its actor is there, and its vsync left what is to be shown
+  abbrev pub MayShowTurn : SceneValue → Turn → PlayerOf B → Type 0
+  MayShowTurn scene (turn.Step place) player = place < length player.play.actor_set.actors
+  MayShowTurn scene (turn.Vsync report) player = TellsStage scene report player.play
+  MayShowTurn scene other player = Unit {0}
+
+  -- What a play has shown so far is written behind what was there: the player stands along with the play of the scene, and each
+  -- screen has its last frame.
+  pub record IsWriting (table : TableId) (scene : SceneValue) (plan : Plan) (timelines : List ℕ) (start now : Option (List ℕ))
+      (screens : List OutputScreen) (player : PlayerOf B) : Type 0 where
+    pub so : SoFar B
+    pub stands : StandsAlong table scene so player
+    pub planned : plan ≡ plan_of scene
+    pub rising : timelines ≡ rising_timelines scene
+    pub written : Writes start now (opening scene ∷ events_records so.events)
+    pub shown : AreShown (picture_at scene.pictures) screens
+
+  -- the same at the end of the play, of whose records only the last ones are to come
+  pub record HasWritten (table : TableId) (scene : SceneValue) (start now : Option (List ℕ)) (player : PlayerOf B) : Type 0 where
+    pub so : SoFar B
+    pub stands : StandsAlong table scene so player
+    pub written : Writes start now (opening scene ∷ events_records so.events)
+    pub ends : EndsPlay scene so player
+
+  -- a play that is to begin, with its plan, its first record and the timelines by rising number
+  pub record IsReady (table : TableId) (scene : SceneValue) (plan : Plan) (first : Record) (timelines : List ℕ) (player : PlayerOf B) : Type 0 where
+    pub begins : Begins table scene player
+    pub planned : plan ≡ plan_of scene
+    pub opens : first ≡ opening scene
+    pub rising : timelines ≡ rising_timelines scene
+
+  -- a turn was written: there are more to come, or the play is at its end
+  abbrev pub TurnsOn : Bool → TableId → SceneValue → Plan → List ℕ → Option (List ℕ) → Option (List ℕ) → List OutputScreen → PlayerOf B → Type 0
+  TurnsOn true table scene plan timelines start now screens player = IsWriting table scene plan timelines start now screens player
+  TurnsOn false table scene plan timelines start now screens player = HasWritten table scene start now player

@@ -1,0 +1,115 @@
+-- What is written of a vsync.
+use Rattle.std.specs.Prelude.{◌≡◌, ℕ, true, if◌then◌else◌, is_some, List, [], map}
+use Rattle.std.specs.List.{All, AllZip}
+use Rattle.sf_picture.specs.declared.picture.Picture.{Picture}
+use Rattle.sf_commit.specs.declared.vsync.Commit.{Commit as Decided}
+use Rattle.sf_layer.specs.declared.layer.Layer.{Layer}
+use Rattle.sf_output.specs.Outputs.{IsOutput, OfImage, map_output}
+use Rattle.sf_output.specs.declared.output.Output.{Output}
+use Rattle.sf_output_plan.specs.Due.{ImageDue, ShowsDue, outputs_due}
+use Rattle.sf_output_plan.specs.declared.plan.Plan.{Plan}
+use Rattle.sf_record.specs.Events.{output_record, vsync_records}
+use Rattle.sf_record.specs.declared.event.VsyncReport.{VsyncReport as Told}
+use Rattle.sf_record.specs.declared.record.Record.{Record}
+use Rattle.sf_play_report.specs.Stages.{FindsPictures, IsReadableView, shows_frame}
+use Rattle.sf_play_report.specs.declared.report.VsyncReport.{VsyncReport}
+use Rattle.sf_play_report.specs.declared.sourced.SourcedView.{SourcedView}
+use Rattle.law_played.specs.Commits.{commit_shown}
+use Rattle.law_played.specs.Frames.{shown_due}
+use Rattle.law_played.specs.Seeing.{value_shown}
+use Rattle.sf_output_screen.specs.ScreenLists.{AreShown}
+use Rattle.sf_output_screen.specs.Screens.{IsShown, ScreenOf, image_bytes}
+use Rattle.sf_output_screen.specs.declared.screens.OutputScreen.{OutputScreen}
+use Rattle.sf_play_write.specs.declared.vsync.VsyncFacts.{VsyncFacts}
+
+-- what the records of a vsync show, which leaves these layers
+abbrev pub told_with : (ℕ → Picture) → Plan → List ℕ → VsyncReport → List Layer → Told
+told_with pictures plan timelines report layers = record {
+  number = report.number;
+  expected = report.expected;
+  timelines = map (value_shown report.seen) timelines;
+  commits = map commit_shown report.commits;
+  shown = if shows_frame report.commits then shown_due pictures plan layers else [];
+}
+
+-- the records of a vsync; one that commits nothing has none
+abbrev pub records_if : List Decided → Told → List Record
+records_if [] told = []
+records_if commits told = vsync_records told
+
+abbrev pub vsync_shown : (ℕ → Picture) → Plan → List ℕ → VsyncReport → List Layer → List Record
+vsync_shown pictures plan timelines report layers = records_if report.commits (told_with pictures plan timelines report layers)
+
+-- the record of an image, which has these pixels, in a vsync of this number
+abbrev pub image_record : Output (Unit {0}) → ℕ → List ℕ → Record
+image_record of number pixels = output_record number (map_output (λ _. pixels) of)
+
+-- a view with its sources as its pixels
+abbrev pub pixels_of : (ℕ → Picture) → SourcedView → List ℕ
+pixels_of pictures sourced = image_bytes pictures sourced.view
+
+-- each of the views finds its pictures
+abbrev pub FindPictures : (ℕ → Picture) → List Picture → List (Output SourcedView) → Type 0
+FindPictures pictures contents views = All (OfImage (FindsPictures pictures contents)) views
+
+-- the views are of what is due, place by place, where a transaction was committed and not rejected
+abbrev pub IsViewDue : ImageDue → SourcedView → Type 0
+IsViewDue due sourced = ShowsDue due sourced.view
+
+abbrev pub AreViewsDue : Plan → List Layer → List Decided → List (Output SourcedView) → Type 0
+AreViewsDue plan layers commits views =
+    AllZip (IsOutput IsViewDue) (if shows_frame commits then outputs_due plan layers else []) views
+
+-- the views can be composed from these contents
+abbrev pub AreReadableViews : List Picture → List (Output SourcedView) → Type 0
+AreReadableViews contents views = All (OfImage (IsReadableView contents)) views
+
+-- a screen showed a view
+abbrev pub HasView : ScreenOf → Type 0
+HasView screen = is_some screen.view ≡ true
+
+-- a view's image is on a screen
+pub record IsComposed (pictures : ℕ → Picture) (sourced : SourcedView) (screen : ScreenOf) : Type 0 where
+  pub frame : screen.frame ≡ pixels_of pictures sourced
+  pub shown : IsShown pictures screen
+
+abbrev pub AreComposed : (ℕ → Picture) → List (Output SourcedView) → List (Output ScreenOf) → Type 0
+AreComposed pictures views images = AllZip (IsOutput (IsComposed pictures)) views images
+
+-- These images came of views and contents, on screens among these: each screen showed a view, and where the views find their pictures among
+-- the contents, and what the screens showed were images, they are the images of the views.
+pub record AreImagesOf (contents : List Picture) (views : List (Output SourcedView)) (screens : List OutputScreen) (images : List (Output ScreenOf)) : Type 0 where
+  pub showed : All (OfImage HasView) images
+  pub composed : (pictures : ℕ → Picture) → FindPictures pictures contents views → AreShown pictures screens → AreComposed pictures views images
+
+-- screens that showed images show images still
+abbrev pub KeepsShown : List OutputScreen → List OutputScreen → Type 0
+KeepsShown screens shown = (pictures : ℕ → Picture) → AreShown pictures screens → AreShown pictures shown
+
+-- the record of something that is composed
+abbrev pub shown_record : ℕ → Output ScreenOf → Record
+shown_record number image = output_record number (map_output (λ (screen : ScreenOf). screen.frame) image)
+
+-- the pixels of what is composed
+abbrev pub pixels_in : List (Output ScreenOf) → List (Output (List ℕ))
+pixels_in images = map (map_output (λ (screen : ScreenOf). screen.frame)) images
+
+-- what the records of a vsync show, of which these are the pixels
+abbrev pub told_by : List ℕ → VsyncFacts → List (Output (List ℕ)) → Told
+told_by timelines facts shown = record {
+  number = facts.number;
+  expected = facts.expected;
+  timelines = map (value_shown facts.seen) timelines;
+  commits = map commit_shown facts.commits;
+  shown = shown;
+}
+
+abbrev pub records_by : List ℕ → VsyncFacts → List (Output (List ℕ)) → List Record
+records_by timelines facts shown = records_if facts.commits (told_by timelines facts shown)
+
+-- this is what the report tells of a vsync
+pub record IsSame (report : VsyncReport) (facts : VsyncFacts) : Type 0 where
+  pub number : facts.number ≡ report.number
+  pub expected : facts.expected ≡ report.expected
+  pub seen : facts.seen ≡ report.seen
+  pub commits : facts.commits ≡ report.commits

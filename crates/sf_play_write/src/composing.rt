@@ -1,0 +1,239 @@
+ghost use denote.Param.Send.{IsSync};
+ghost use Rattle.std.specs.Prelude.{◌≡◌, ◌≤◌, ℕ, IfOk, IfSome, is_some, map, true};
+ghost use Rattle.sf_output.specs.Outputs.{IsOutput, OfImage};
+ghost use Rattle.sf_picture.specs.declared.picture.Picture.{Picture};
+ghost use Rattle.sf_play_report.specs.Stages.{FindsPictures, IsReadableView};
+ghost use Rattle.sf_output_screen.specs.ScreenLists.{AreShown};
+ghost use Rattle.sf_play_write.specs.Vsyncs.{AreImagesOf, AreReadableViews, HasView, IsComposed, KeepsShown};
+
+use sf_base::NoMemory;
+use sf_compose::Pixels;
+use sf_output::Output;
+use sf_play_report::SourcedView;
+use sf_output_screen::{Screen, Screens};
+use sf_view::View;
+use std::alloc::Global;
+use std::thread;
+use std::thread::Threads;
+
+/// Where so many points of layers are painted, that takes some milliseconds, of which the begin of a
+/// thread is a small part. All that the thread saves is what the caller does beside it, and that
+/// mostly takes less than a thread takes to begin.
+const WORTH_A_THREAD: u64 = 4_194_304;
+
+/// Shows a view on the screen that is the output's, which at most so many workers compose. The screen
+/// is taken out.
+fn compose_on<R: Threads + Sync, C: Pixels + Sync>(
+    rt: &R,
+    workers: u32,
+    screens: &mut Screens,
+    contents: &[C],
+    of: &Output<()>,
+    sourced: SourcedView,
+) -> Result<Screen, NoMemory>
+    requires some { 1 ≤ workers }
+    requires few { workers ≤ 16 }
+    requires readable { IsReadableView (map C.picture contents.now) sourced }
+    ensures view { IfOk result HasView }
+    ensures image { (pictures : ℕ → Picture) → FindsPictures pictures (map C.picture contents.now) sourced → AreShown pictures screens.old
+        → IfOk result (IsComposed pictures sourced) }
+    ensures shown { KeepsShown screens.old screens.new }
+{
+    let SourcedView { view, sources } = sourced;
+    let mut screen = screens.take(of);
+    screen.show(rt, workers, view, contents, sources.as_slice())?;
+    Ok(screen)
+}
+
+/// Composes the image of one of the things that a vsync shows, if it has one.
+fn compose_output<R: Threads + Sync, C: Pixels + Sync>(
+    rt: &R,
+    workers: u32,
+    screens: &mut Screens,
+    contents: &[C],
+    output: Output<SourcedView>,
+) -> Result<Output<Screen>, NoMemory>
+    requires some { 1 ≤ workers }
+    requires few { workers ≤ 16 }
+    requires readable { OfImage (IsReadableView (map C.picture contents.now)) output }
+    ensures view { IfOk result (OfImage HasView) }
+    ensures image { (pictures : ℕ → Picture) → OfImage (FindsPictures pictures (map C.picture contents.now)) output → AreShown pictures screens.old
+        → IfOk result (IsOutput (IsComposed pictures) output) }
+    ensures shown { KeepsShown screens.old screens.new }
+{
+    match output {
+        Output::Frame(sourced) => {
+            let of = Output::Frame(());
+            let screen = compose_on(rt, workers, screens, contents, &of, sourced)?;
+            Ok(Output::Frame(screen))
+        }
+        Output::Display(place, sourced) => {
+            let of = Output::Display(place, ());
+            let screen = compose_on(rt, workers, screens, contents, &of, sourced)?;
+            Ok(Output::Display(place, screen))
+        }
+        Output::Capture(place, sourced) => {
+            let of = Output::Capture(place, ());
+            let screen = compose_on(rt, workers, screens, contents, &of, sourced)?;
+            Ok(Output::Capture(place, screen))
+        }
+        Output::Hit(place, layer) => Ok(Output::Hit(place, layer)),
+    }
+}
+
+/// Composes the images of views, one after another, each on the screen of its output, which is taken
+/// out; at most so many workers compose each.
+pub fn compose_views<R: Threads + Sync, C: Pixels + Sync>(
+    rt: &R,
+    alloc: Global,
+    workers: u32,
+    screens: &mut Screens,
+    contents: &[C],
+    views: Vec<Output<SourcedView>>,
+) -> Result<Vec<Output<Screen>>, NoMemory>
+    requires some { 1 ≤ workers }
+    requires few { workers ≤ 16 }
+    requires readable { AreReadableViews (map C.picture contents.now) views.items }
+    ensures images { IfOk result (λ images. AreImagesOf (map C.picture contents.now) views.items screens.old images.items) }
+    ensures shown { KeepsShown screens.old screens.new }
+{
+    let mut images = Vec::new(alloc);
+    for output in views {
+        let image = compose_output(rt, workers, screens, contents, output)?;
+        images.push(image)?;
+    }
+    Ok(images)
+}
+
+/// At most so many points of layers are painted to show a view as this output. What differs from the
+/// last one is looked for only where the whole is worth a thread.
+fn work_of(screens: &Screens, of: &Output<()>, view: &View) -> u64 {
+    let points = u64::from(view.width).saturating_mul(u64::from(view.height));
+    let whole = points.saturating_mul(view.drawn.len() as u64);
+    if whole < WORTH_A_THREAD {
+        return whole;
+    }
+    screens.work(of, view)
+}
+
+/// Whether so much is painted for views that it is worth a thread of its own.
+fn is_worth(screens: &Screens, views: &[Output<SourcedView>]) -> bool {
+    let mut work = 0u64;
+    for output in views {
+        work = work.saturating_add(match output {
+            Output::Frame(sourced) => work_of(screens, &Output::Frame(()), &sourced.view),
+            Output::Display(place, sourced) => {
+                work_of(screens, &Output::Display(*place, ()), &sourced.view)
+            }
+            Output::Capture(place, sourced) => {
+                work_of(screens, &Output::Capture(*place, ()), &sourced.view)
+            }
+            Output::Hit(_, _) => 0,
+        });
+    }
+    work >= WORTH_A_THREAD
+}
+
+/// Composes the images of the views that are there, and leaves none.
+fn compose_next<R: Threads + Sync, C: Pixels + Sync>(
+    rt: &R,
+    alloc: Global,
+    workers: u32,
+    screens: &mut Screens,
+    contents: &[C],
+    next: &mut Option<Vec<Output<SourcedView>>>,
+) -> Result<Vec<Output<Screen>>, NoMemory>
+    requires some { 1 ≤ workers }
+    requires few { workers ≤ 16 }
+    requires there { is_some next.old ≡ true }
+    requires readable { IfSome next.old (λ views. AreReadableViews (map C.picture contents.now) views.items) }
+    ensures images { IfSome next.old (λ views. IfOk result (λ images. AreImagesOf (map C.picture contents.now) views.items screens.old images.items)) }
+    ensures shown { KeepsShown screens.old screens.new }
+{
+    match next.take() {
+        Some(views) => compose_views(rt, alloc, workers, screens, contents, views),
+        None => unreachable!(),
+    }
+}
+
+/// What is done beside composing.
+pub trait Beside {
+    /// What comes of it.
+    type Done;
+
+    /// When it may be done.
+    ghost may: { Self → Type 0 };
+
+    /// What came of it, and what it left.
+    ghost does: { Self → Self.Done → Self → Type 0 };
+
+    /// Does it.
+    fn run(&mut self) -> Self::Done
+        requires may { may self.old }
+        ensures does { does self.old result self.new };
+}
+
+/// Composes the images of views in a thread of its own, while the caller runs `other`. The screens and
+/// the contents are lent to that thread, and are back once both are done. Where no thread can be
+/// started, the caller composes.
+fn compose_apart<R: Threads + Sync, C: Pixels + Sync, M: Beside>(
+    rt: &R,
+    alloc: Global,
+    workers: u32,
+    screens: &mut Screens,
+    contents: &[C],
+    views: Vec<Output<SourcedView>>,
+    other: &mut M,
+) -> (Result<Vec<Output<Screen>>, NoMemory>, M::Done)
+    requires some { 1 ≤ workers }
+    requires few { workers ≤ 16 }
+    requires readable { AreReadableViews (map C.picture contents.now) views.items }
+    requires may { M.may other.old }
+    ensures images { IfOk result.0 (λ images. AreImagesOf (map C.picture contents.now) views.items screens.old images.items) }
+    ensures shown { KeepsShown screens.old screens.new }
+    ensures does { M.does other.old result.1 other.new }
+{
+    let mut next = Some(views);
+    let mut composing = || -> Result<Vec<Output<Screen>>, NoMemory>
+        requires sync { IsSync R.row × IsSync C.row }
+        requires workers { (1 ≤ workers) × (workers ≤ 16) }
+        requires there { is_some next ≡ true }
+        requires readable { IfSome next (λ views. AreReadableViews (map C.picture contents.now) views.items) }
+        ensures images { IfSome next.entry (λ views. IfOk result (λ images. AreImagesOf (map C.picture contents.entry.now) views.items screens.entry.now images.items)) }
+        ensures shown { KeepsShown screens.entry.now screens.exit.now }
+    { compose_next(rt, alloc, workers, screens, contents, &mut next) };
+    let mut running = || -> M::Done
+        requires may { M.may other.now }
+        ensures does { M.does other.entry.now result other.exit.now }
+    { other.run() };
+    thread::join_mut(rt, &mut composing, &mut running)
+}
+
+/// Runs `other`, and composes the images of views as [`compose_views`] does: beside it, in a thread of
+/// its own, where that is worth its start, and else behind it.
+pub fn compose_beside<R: Threads + Sync, C: Pixels + Sync, M: Beside>(
+    rt: &R,
+    alloc: Global,
+    workers: u32,
+    screens: &mut Screens,
+    contents: &[C],
+    views: Vec<Output<SourcedView>>,
+    other: &mut M,
+) -> (Result<Vec<Output<Screen>>, NoMemory>, M::Done)
+    requires some { 1 ≤ workers }
+    requires few { workers ≤ 16 }
+    requires readable { AreReadableViews (map C.picture contents.now) views.items }
+    requires may { M.may other.old }
+    ensures images { IfOk result.0 (λ images. AreImagesOf (map C.picture contents.now) views.items screens.old images.items) }
+    ensures shown { KeepsShown screens.old screens.new }
+    ensures does { M.does other.old result.1 other.new }
+{
+    if is_worth(screens, &views) {
+        return compose_apart(rt, alloc, workers, screens, contents, views, other);
+    }
+    let done = other.run();
+    (
+        compose_views(rt, alloc, workers, screens, contents, views),
+        done,
+    )
+}

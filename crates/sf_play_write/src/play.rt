@@ -1,0 +1,278 @@
+ghost use Rattle.std.specs.Prelude.{◌≡◌, ◌∷◌, ◌+◌, ◌<◌, ◌≤◌, [], ℕ, All, IfErr, IfOk, IsErrOf, List, OnErr, OnOk, Option, true};
+ghost use Rattle.sf_actor.specs.Scripts.{picture_at};
+ghost use Rattle.sf_actor_set.specs.Opening.{IsSortedFrom};
+ghost use Rattle.sf_actor_set.specs.Scripts.{permits_of};
+ghost use Rattle.sf_io.specs.Causes.{Rose};
+ghost use Rattle.sf_play.specs.Going.{fuel_of};
+ghost use Rattle.law_played.specs.Frames.{plan_of};
+ghost use Rattle.law_played.specs.Played.{opening};
+ghost use Rattle.sf_script_scene.specs.Scene.{SceneValue};
+ghost use Rattle.sf_output_screen.specs.ScreenLists.{AreShown};
+ghost use Rattle.sf_play_write.specs.Runs.{CutRun, WroteRun};
+ghost use Rattle.sf_play_write.specs.Turns.{HasWritten, IsReady, IsWriting, MayShowTurn, TurnsOn, is_end, newest_shown, turn_shown};
+ghost use Rattle.sf_play_write.specs.Writing.{Writes, WritesPart};
+ghost use Rattle.sf_turns.specs.Counts.{range};
+
+use crate::closing::write_closing;
+use crate::vsync::show_vsync;
+use crate::writing::write_made;
+use sf_actor::Reply;
+use sf_base::NoMemory;
+use sf_io::Sink;
+use sf_picture::Painted;
+use sf_output_plan::Plan;
+use sf_play::{Player, Turn};
+use sf_record::{Record, RunFault, SceneHeader};
+use sf_play_report::{plan_of, reply_record};
+use sf_script_scene::Scene;
+use sf_output_screen::Screens;
+use sf_turns::{Stock, TableName, TurnSeat};
+use std::alloc::Global;
+use std::thread::Threads;
+
+/// The record that a play begins with.
+pub fn opening(scene: &Scene) -> Record
+    ensures { result ≡ opening scene.now }
+{
+    Record::Scen(SceneHeader {
+        version: scene.version,
+        width: scene.width,
+        height: scene.height,
+        period: scene.period,
+    })
+}
+
+/// Timelines by rising number.
+pub fn rising_timelines(alloc: Global, timelines: &[u32]) -> Result<Vec<u32>, NoMemory>
+    ensures { IfOk result (λ rising. IsSortedFrom (λ timeline. timeline) timelines.now rising.items) }
+{
+    let mut rising = Vec::new(alloc);
+    rising.extend_from_slice(timelines)?;
+    rising.sort_unstable();
+    Ok(rising)
+}
+
+/// Writes the record of the newest of these replies, if there is one.
+fn write_newest<K: Sink>(alloc: Global, sink: &mut K, replies: &[Reply]) -> Result<(), RunFault>
+    ensures ok { OnOk result (Writes (K.taken sink.old) (K.taken sink.new) (newest_shown replies.now)) }
+    ensures err { OnErr result (WritesPart (K.taken sink.old) (K.taken sink.new) (newest_shown replies.now)) }
+    ensures later { K.faults sink.old ≤ K.faults sink.new }
+    ensures failed { IsErrOf result RunFault.WriteFault → Rose (K.faults sink.old) (K.faults sink.new) }
+{
+    match replies {
+        [.., newest] => write_made(alloc, sink, reply_record(alloc, newest)),
+        [] => Ok(()),
+    }
+}
+
+fn is_end(turn: &Turn) -> bool
+    ensures { result ≡ is_end turn.now }
+{
+    match turn {
+        Turn::End => true,
+        _ => false,
+    }
+}
+
+/// Writes what a turn shows: the reply to a step, or what a vsync committed, with what it shows.
+fn write_turn<R: Threads + Sync, K: Sink, B: TableName>(
+    rt: &R,
+    alloc: Global,
+    workers: u32,
+    sink: &mut K,
+    timelines: &[u32],
+    plan: &Plan,
+    screens: &mut Screens,
+    player: &Player<B>,
+    turn: Turn,
+) -> Result<(), RunFault>
+    requires some { 1 ≤ workers }
+    requires few { workers ≤ 16 }
+    requires timelines { All (λ timeline. (1 ≤ timeline) × (timeline ≤ 64)) timelines.now }
+    requires may { (scene : SceneValue) × (plan.now ≡ plan_of scene) × MayShowTurn scene turn player.now }
+    ensures ok { (scene : SceneValue) → MayShowTurn scene turn player.now → AreShown (picture_at scene.pictures) screens.old → OnOk result
+        (Writes (K.taken sink.old) (K.taken sink.new) (turn_shown (picture_at scene.pictures) plan.now timelines.now player.now.play turn)
+        × AreShown (picture_at scene.pictures) screens.new) }
+    ensures err { (scene : SceneValue) → MayShowTurn scene turn player.now → AreShown (picture_at scene.pictures) screens.old → OnErr result
+        (WritesPart (K.taken sink.old) (K.taken sink.new) (turn_shown (picture_at scene.pictures) plan.now timelines.now player.now.play turn)) }
+    ensures later { K.faults sink.old ≤ K.faults sink.new }
+    ensures failed { IsErrOf result RunFault.WriteFault → Rose (K.faults sink.old) (K.faults sink.new) }
+{
+    match turn {
+        Turn::Step(place) => write_newest(
+            alloc,
+            sink,
+            player.actor_set().actors()[place].replies(),
+        ),
+        Turn::Vsync(report) => show_vsync(
+            rt,
+            alloc,
+            workers,
+            sink,
+            timelines,
+            plan,
+            screens,
+            player.handler(),
+            report.into_report(),
+        ),
+        Turn::Idle => Ok(()),
+        Turn::End => Ok(()),
+    }
+}
+
+/// Does the next turn of a play and writes what it shows; whether it was not the end.
+fn show_turn<R: Threads + Sync, K: Sink, B: TableName>(
+    rt: &R,
+    alloc: Global,
+    workers: u32,
+    sink: &mut K,
+    timelines: &[u32],
+    plan: &Plan,
+    screens: &mut Screens,
+    player: &mut Player<B>,
+) -> Result<bool, RunFault>
+    requires some { 1 ≤ workers }
+    requires few { workers ≤ 16 }
+    requires writing { (scene : SceneValue) × (start : Option (List ℕ)) × IsWriting B.table scene plan.now timelines.now start (K.taken sink.old) screens.old player.old }
+    ensures on { (scene : SceneValue) (start : Option (List ℕ)) → IsWriting B.table scene plan.now timelines.now start (K.taken sink.old) screens.old player.old
+        → IfOk result (λ goes_on. TurnsOn goes_on B.table scene plan.now timelines.now start (K.taken sink.new) screens.new player.new) }
+    ensures err { (scene : SceneValue) (start : Option (List ℕ)) → IsWriting B.table scene plan.now timelines.now start (K.taken sink.old) screens.old player.old
+        → OnErr result (CutRun scene start (K.taken sink.new)) }
+    ensures less { IfOk result (λ goes_on. goes_on ≡ true → fuel_of player.new < fuel_of player.old) }
+    ensures later { K.faults sink.old ≤ K.faults sink.new }
+    ensures failed { IsErrOf result RunFault.WriteFault → Rose (K.faults sink.old) (K.faults sink.new) }
+{
+    let turn = match player.next() {
+        Ok(turn) => turn,
+        Err(_) => return Err(RunFault::NoMemory),
+    };
+    let goes_on = !is_end(&turn);
+    match write_turn(
+        rt, alloc, workers, sink, timelines, plan, screens, player, turn,
+    ) {
+        Ok(()) => Ok(goes_on),
+        Err(fault) => Err(fault),
+    }
+}
+
+/// Does the turns of a play up to its end, and writes what they show.
+fn show_turns<R: Threads + Sync, K: Sink, B: TableName>(
+    rt: &R,
+    alloc: Global,
+    workers: u32,
+    sink: &mut K,
+    timelines: &[u32],
+    plan: &Plan,
+    player: &mut Player<B>,
+) -> Result<(), RunFault>
+    requires some { 1 ≤ workers }
+    requires few { workers ≤ 16 }
+    requires writing { (scene : SceneValue) × (start : Option (List ℕ)) × IsWriting B.table scene plan.now timelines.now start (K.taken sink.old) [] player.old }
+    ensures ok { (scene : SceneValue) (start : Option (List ℕ)) → IsWriting B.table scene plan.now timelines.now start (K.taken sink.old) [] player.old
+        → OnOk result (HasWritten B.table scene start (K.taken sink.new) player.new) }
+    ensures err { (scene : SceneValue) (start : Option (List ℕ)) → IsWriting B.table scene plan.now timelines.now start (K.taken sink.old) [] player.old
+        → OnErr result (CutRun scene start (K.taken sink.new)) }
+    ensures later { K.faults sink.old ≤ K.faults sink.new }
+    ensures failed { IsErrOf result RunFault.WriteFault → Rose (K.faults sink.old) (K.faults sink.new) }
+{
+    let mut screens = Screens::new(alloc);
+    'turns: loop {
+        match show_turn(
+            rt,
+            alloc,
+            workers,
+            sink,
+            timelines,
+            plan,
+            &mut screens,
+            player,
+        ) {
+            Ok(true) => {}
+            Ok(false) => return Ok(()),
+            Err(fault) => return Err(fault),
+        }
+    }
+}
+
+/// Writes the record that a play begins with, does its turns, and writes its closing records.
+fn write_play<R: Threads + Sync, K: Sink, B: TableName>(
+    rt: &R,
+    alloc: Global,
+    workers: u32,
+    sink: &mut K,
+    first: Record,
+    timelines: &[u32],
+    plan: &Plan,
+    player: &mut Player<B>,
+) -> Result<(), RunFault>
+    requires some { 1 ≤ workers }
+    requires few { workers ≤ 16 }
+    requires ready { (scene : SceneValue) × IsReady B.table scene plan.now first timelines.now player.old }
+    ensures ok { (scene : SceneValue) → IsReady B.table scene plan.now first timelines.now player.old → OnOk result (WroteRun scene (K.taken sink.old) (K.taken sink.new)) }
+    ensures err { (scene : SceneValue) → IsReady B.table scene plan.now first timelines.now player.old → OnErr result (CutRun scene (K.taken sink.old) (K.taken sink.new)) }
+    ensures later { K.faults sink.old ≤ K.faults sink.new }
+    ensures failed { IsErrOf result RunFault.WriteFault → Rose (K.faults sink.old) (K.faults sink.new) }
+{
+    match write_made(alloc, sink, Ok(first)) {
+        Ok(()) => {}
+        Err(fault) => return Err(fault),
+    }
+    match show_turns(rt, alloc, workers, sink, timelines, plan, player) {
+        Ok(()) => {}
+        Err(fault) => return Err(fault),
+    }
+    write_closing(alloc, sink, player)
+}
+
+/// Plays a scene over buffers of the table that B names, and writes the records of its play. So many
+/// workers, 1 to 16, compose each frame; the records are those of the scene, whatever the number of
+/// workers is. It takes the seat and the whole stock of the turns, with a permit for
+/// each dequeue. After a fault of the sink, or want of memory, the sink has a prefix of these records.
+pub fn show_play<R: Threads + Sync, K: Sink, B: TableName>(
+    rt: &R,
+    alloc: Global,
+    workers: u32,
+    sink: &mut K,
+    scene: Scene,
+    seat: TurnSeat<Painted>,
+    stock: Stock<Painted>,
+) -> Result<(), RunFault>
+    requires some { 1 ≤ workers }
+    requires few { workers ≤ 16 }
+    requires own { (seat.table ≡ B.table) × (stock.table ≡ B.table) }
+    requires first { (seat.is_first ≡ true) × (seat.out ≡ 0) }
+    requires fresh { seat.leaves ≡ [] }
+    requires whole { stock.buffers ≡ range 0 (permits_of scene.actors) }
+    requires sized { permits_of scene.actors ≤ B.table.slots }
+    ensures ok { OnOk result (WroteRun scene (K.taken sink.old) (K.taken sink.new)) }
+    ensures err { OnErr result (CutRun scene (K.taken sink.old) (K.taken sink.new)) }
+    ensures later { K.faults sink.old ≤ K.faults sink.new }
+    ensures failed { IsErrOf result RunFault.WriteFault → Rose (K.faults sink.old) (K.faults sink.new) }
+{
+    let timelines = match rising_timelines(alloc, scene.timelines.as_slice()) {
+        Ok(timelines) => timelines,
+        Err(_) => return Err(RunFault::NoMemory),
+    };
+    let plan = match plan_of(alloc, &scene) {
+        Ok(plan) => plan,
+        Err(_) => return Err(RunFault::NoMemory),
+    };
+    let first = opening(&scene);
+    match Player::<B>::new(alloc, scene, seat, stock) {
+        Ok(mut player) => {
+            let written = write_play(
+                rt,
+                alloc,
+                workers,
+                sink,
+                first,
+                &timelines,
+                &plan,
+                &mut player,
+            );
+            player.finish();
+            written
+        }
+        Err(_) => Err(RunFault::NoMemory),
+    }
+}

@@ -1,0 +1,330 @@
+ghost use Rattle.std.specs.List.{list_any};
+ghost use Rattle.std.specs.Prelude.{◌≡◌, ◌≤◌, ◌∷◌, [], ℕ, All, IfOk, IsErrOf, None, OnErr, OnOk, is_some, map, true};
+ghost use Rattle.sf_commit.specs.Handlers.{HandlerOf};
+ghost use Rattle.sf_io.specs.Causes.{Rose};
+ghost use Rattle.sf_output.specs.Outputs.{OfImage};
+ghost use Rattle.sf_picture.specs.declared.picture.Picture.{Picture};
+ghost use Rattle.sf_record.specs.Events.{output_record};
+ghost use Rattle.sf_record.specs.declared.record.Record.TheVariants as rec;
+ghost use Rattle.sf_play_report.specs.Reports.{has_commits};
+ghost use Rattle.sf_play_report.specs.Stages.{AreExpected, IsReadableView, IsStage, is_accepted};
+ghost use Rattle.law_played.specs.Commits.{commit_shown};
+ghost use Rattle.sf_output_screen.specs.ScreenLists.{AreShown};
+ghost use Rattle.sf_output_screen.specs.Screens.{IsShown, is_image};
+ghost use Rattle.sf_play_write.specs.Vsyncs.{AreViewsDue, FindPictures, HasView, IsSame, image_record, pixels_in, records_by, shown_record, vsync_shown};
+ghost use Rattle.sf_play_write.specs.Writing.{CutSome, Writes, WritesPart, WritesSome};
+
+use crate::composing::compose_views;
+use crate::writing::write_made;
+use sf_base::{Items, NoMemory, Seen};
+use sf_commit::{Commit, Handler};
+use sf_io::Sink;
+use sf_output::Output;
+use sf_output_plan::Plan;
+use sf_record::{Hit, Record, RunFault, write_image};
+use sf_play_report::{SourcedView, VsyncReport, commit_record, sourced_views, vsync_record};
+use sf_output_screen::{Screen, Screens};
+use sf_txn::Lease;
+use sf_view::View;
+use std::alloc::Global;
+use std::thread::Threads;
+
+/// Writes the records of commits, one after another.
+fn write_commits<K: Sink>(alloc: Global, sink: &mut K, commits: &[Commit]) -> Result<(), RunFault>
+    ensures ok { OnOk result (Writes (K.taken sink.old) (K.taken sink.new) (map rec.Comm (map commit_shown commits.now))) }
+    ensures err { OnErr result (WritesPart (K.taken sink.old) (K.taken sink.new) (map rec.Comm (map commit_shown commits.now))) }
+    ensures later { K.faults sink.old ≤ K.faults sink.new }
+    ensures failed { IsErrOf result RunFault.WriteFault → Rose (K.faults sink.old) (K.faults sink.new) }
+{
+    for commit in commits {
+        let made = commit_record(alloc, commit);
+        match write_made(alloc, sink, made) {
+            Ok(()) => {}
+            Err(fault) => return Err(fault),
+        }
+    }
+    Ok(())
+}
+
+fn is_accepted(commit: &Commit) -> bool
+    ensures { result ≡ is_accepted commit.now }
+{
+    commit.cause == 0
+}
+
+fn shows_frame(commits: &[Commit]) -> bool
+    ensures { result ≡ list_any is_accepted commits.now }
+{
+    commits.iter().any(is_accepted)
+}
+
+/// Whether a transaction was committed, or rejected as a whole.
+fn has_commits(commits: &[Commit]) -> bool
+    ensures { result ≡ has_commits commits.now }
+{
+    !commits.is_empty()
+}
+
+/// Writes the record of this output, of which the view that the screen showed last is.
+fn write_shown<K: Sink>(
+    sink: &mut K,
+    screen: &mut Screen,
+    of: &Output<()>,
+    number: u32,
+) -> Result<(), RunFault>
+    requires image { is_image of.now ≡ true }
+    requires shows { is_some screen.old.view ≡ true }
+    ensures ok { OnOk result (Writes (K.taken sink.old) (K.taken sink.new) (image_record of.now number screen.old.frame ∷ [])) }
+    ensures err { OnErr result (WritesPart (K.taken sink.old) (K.taken sink.new) (image_record of.now number screen.old.frame ∷ [])) }
+    ensures view { screen.new.view ≡ screen.old.view }
+    ensures frame { screen.new.frame ≡ screen.old.frame }
+    ensures later { K.faults sink.old ≤ K.faults sink.new }
+    ensures failed { IsErrOf result RunFault.WriteFault → Rose (K.faults sink.old) (K.faults sink.new) }
+{
+    screen.number(of, number);
+    write_image(sink, of, number, screen.body(of))
+}
+
+/// Writes the record of an image, of which the view is that this screen showed last, and puts the screen
+/// among the others.
+fn write_on<K: Sink>(
+    sink: &mut K,
+    screens: &mut Screens,
+    number: u32,
+    of: Output<()>,
+    screen: Screen,
+) -> Result<(), RunFault>
+    requires image { is_image of ≡ true }
+    requires shows { HasView screen }
+    ensures ok { OnOk result (Writes (K.taken sink.old) (K.taken sink.new) (image_record of number screen.frame ∷ [])) }
+    ensures err { OnErr result (WritesPart (K.taken sink.old) (K.taken sink.new) (image_record of number screen.frame ∷ [])) }
+    ensures shown { (pictures : ℕ → Picture) → IsShown pictures screen → AreShown pictures screens.old → OnOk result (AreShown pictures screens.new) }
+    ensures later { K.faults sink.old ≤ K.faults sink.new }
+    ensures failed { IsErrOf result RunFault.WriteFault → Rose (K.faults sink.old) (K.faults sink.new) }
+{
+    let mut screen = screen;
+    match write_shown(sink, &mut screen, &of, number) {
+        Ok(()) => {}
+        Err(fault) => return Err(fault),
+    }
+    match screens.put(of, screen) {
+        Ok(()) => Ok(()),
+        Err(_) => Err(RunFault::NoMemory),
+    }
+}
+
+/// Writes the record of one of the things that a vsync shows, whose image is composed.
+fn write_output<K: Sink>(
+    alloc: Global,
+    sink: &mut K,
+    screens: &mut Screens,
+    number: u32,
+    image: Output<Screen>,
+) -> Result<(), RunFault>
+    requires shows { OfImage HasView image }
+    ensures ok { OnOk result (Writes (K.taken sink.old) (K.taken sink.new) (shown_record number image ∷ [])) }
+    ensures err { OnErr result (WritesPart (K.taken sink.old) (K.taken sink.new) (shown_record number image ∷ [])) }
+    ensures shown { (pictures : ℕ → Picture) → OfImage (IsShown pictures) image → AreShown pictures screens.old → OnOk result (AreShown pictures screens.new) }
+    ensures later { K.faults sink.old ≤ K.faults sink.new }
+    ensures failed { IsErrOf result RunFault.WriteFault → Rose (K.faults sink.old) (K.faults sink.new) }
+{
+    match image {
+        Output::Frame(screen) => write_on(sink, screens, number, Output::Frame(()), screen),
+        Output::Display(place, screen) => {
+            let of = Output::Display(place, ());
+            write_on(sink, screens, number, of, screen)
+        }
+        Output::Capture(place, screen) => {
+            let of = Output::Capture(place, ());
+            write_on(sink, screens, number, of, screen)
+        }
+        Output::Hit(place, layer) => {
+            let hit = Hit {
+                place,
+                number,
+                layer,
+            };
+            write_made(alloc, sink, Ok(Record::Hits(hit)))
+        }
+    }
+}
+
+/// Writes the records of what a vsync shows, one after another.
+fn write_outputs<K: Sink>(
+    alloc: Global,
+    sink: &mut K,
+    screens: &mut Screens,
+    number: u32,
+    images: Vec<Output<Screen>>,
+) -> Result<(), RunFault>
+    requires shows { All (OfImage HasView) images.items }
+    ensures ok { OnOk result (Writes (K.taken sink.old) (K.taken sink.new) (map (shown_record number) images.items)) }
+    ensures err { OnErr result (WritesPart (K.taken sink.old) (K.taken sink.new) (map (shown_record number) images.items)) }
+    ensures shown { (pictures : ℕ → Picture) → All (OfImage (IsShown pictures)) images.items → AreShown pictures screens.old
+        → OnOk result (AreShown pictures screens.new) }
+    ensures later { K.faults sink.old ≤ K.faults sink.new }
+    ensures failed { IsErrOf result RunFault.WriteFault → Rose (K.faults sink.old) (K.faults sink.new) }
+{
+    for image in images {
+        match write_output(alloc, sink, screens, number, image) {
+            Ok(()) => {}
+            Err(fault) => return Err(fault),
+        }
+    }
+    Ok(())
+}
+
+/// What a vsync did, beside what it shows.
+#[derive(Drop)]
+pub struct VsyncFacts {
+    /// From 1.
+    pub number: u32,
+    /// When the frame is expected, in nanoseconds from the start of the run.
+    pub expected: u64,
+    /// What it saw of the timelines.
+    pub seen: Seen,
+    /// In the order in which they were made.
+    pub commits: Items<Commit>,
+}
+
+/// The views of what a vsync with these commits shows: of what is due where a transaction was committed
+/// and not rejected, and else of nothing.
+fn views_of<L: Lease + Drop>(
+    alloc: Global,
+    plan: &Plan,
+    handler: &Handler<L>,
+    commits: &[Commit],
+    view: View,
+    sources: Items<u32>,
+) -> Result<Vec<Output<SourcedView>>, NoMemory>
+where
+    L::Reading: Drop,
+    requires { IsStage (λ one. L.picture one.lease) plan.now handler.now view sources }
+    ensures due { IfOk result (λ views. AreViewsDue plan.now handler.now.tree.layers commits.now views.items) }
+    ensures readable { IfOk result (λ views. All (OfImage (IsReadableView (map (λ one. L.picture one.lease) handler.now.on))) views.items) }
+    ensures found { (pictures : ℕ → Picture) → AreExpected (λ one. L.picture one.lease) pictures handler.now
+        → IfOk result (λ views. FindPictures pictures (map (λ one. L.picture one.lease) handler.now.on) views.items) }
+{
+    if !shows_frame(commits) {
+        return Ok(Vec::new(alloc));
+    }
+    sourced_views(alloc, plan, handler, view, sources)
+}
+
+/// What a vsync did, and the views of what it shows, in order: nothing where no transaction was
+/// committed. It may be asked while the pixels are lent.
+pub fn vsync_views<L: Lease + Drop>(
+    alloc: Global,
+    plan: &Plan,
+    handler: &Handler<L>,
+    report: VsyncReport,
+) -> Result<(VsyncFacts, Vec<Output<SourcedView>>), NoMemory>
+where
+    L::Reading: Drop,
+    requires { IsStage (λ one. L.picture one.lease) plan.now handler.now report.view report.sources }
+    ensures same { IfOk result (λ told. IsSame report told.0) }
+    ensures due { IfOk result (λ told. AreViewsDue plan.now handler.now.tree.layers report.commits told.1.items) }
+    ensures readable { IfOk result (λ told. All (OfImage (IsReadableView (map (λ one. L.picture one.lease) handler.now.on))) told.1.items) }
+    ensures found { (pictures : ℕ → Picture) → AreExpected (λ one. L.picture one.lease) pictures handler.now
+        → IfOk result (λ told. FindPictures pictures (map (λ one. L.picture one.lease) handler.now.on) told.1.items) }
+{
+    let VsyncReport {
+        number,
+        expected,
+        seen,
+        commits,
+        view,
+        sources,
+    } = report;
+    let views = views_of(alloc, plan, handler, commits.as_slice(), view, sources)?;
+    let facts = VsyncFacts {
+        number,
+        expected,
+        seen,
+        commits,
+    };
+    Ok((facts, views))
+}
+
+/// Writes the records of a vsync, of which the images are composed, and puts their screens among the
+/// others. A vsync that commits nothing has no records.
+pub fn write_vsync<K: Sink>(
+    alloc: Global,
+    sink: &mut K,
+    timelines: &[u32],
+    screens: &mut Screens,
+    facts: VsyncFacts,
+    images: Vec<Output<Screen>>,
+) -> Result<(), RunFault>
+    requires timelines { All (λ timeline. (1 ≤ timeline) × (timeline ≤ 64)) timelines.now }
+    requires shows { All (OfImage HasView) images.items }
+    ensures ok { OnOk result (Writes (K.taken sink.old) (K.taken sink.new) (records_by timelines.now facts (pixels_in images.items))) }
+    ensures err { OnErr result (WritesPart (K.taken sink.old) (K.taken sink.new) (records_by timelines.now facts (pixels_in images.items))) }
+    ensures shown { (pictures : ℕ → Picture) → All (OfImage (IsShown pictures)) images.items → AreShown pictures screens.old
+        → OnOk result (AreShown pictures screens.new) }
+    ensures later { K.faults sink.old ≤ K.faults sink.new }
+    ensures failed { IsErrOf result RunFault.WriteFault → Rose (K.faults sink.old) (K.faults sink.new) }
+{
+    let VsyncFacts {
+        number,
+        expected,
+        seen,
+        commits,
+    } = facts;
+    if !has_commits(commits.as_slice()) {
+        return Ok(());
+    }
+    let head = vsync_record(alloc, number, expected, timelines, &seen);
+    match write_made(alloc, sink, head) {
+        Ok(()) => {}
+        Err(fault) => return Err(fault),
+    }
+    match write_commits(alloc, sink, commits.as_slice()) {
+        Ok(()) => {}
+        Err(fault) => return Err(fault),
+    }
+    write_outputs(alloc, sink, screens, number, images)
+}
+
+/// Writes the records of a vsync that left this handler, whose pixels are not lent, and shows what the
+/// plan asks for where a transaction was committed and not rejected; at most so many workers compose
+/// each frame. A vsync that commits nothing has no records.
+pub fn show_vsync<R: Threads + Sync, K: Sink, L: Lease + Drop>(
+    rt: &R,
+    alloc: Global,
+    workers: u32,
+    sink: &mut K,
+    timelines: &[u32],
+    plan: &Plan,
+    screens: &mut Screens,
+    handler: &Handler<L>,
+    report: VsyncReport,
+) -> Result<(), RunFault>
+where
+    L::Reading: Drop,
+    requires some { 1 ≤ workers }
+    requires few { workers ≤ 16 }
+    requires timelines { All (λ timeline. (1 ≤ timeline) × (timeline ≤ 64)) timelines.now }
+    requires unlent { handler.now.lent ≡ None }
+    requires stage { IsStage (λ one. L.picture one.lease) plan.now handler.now report.view report.sources }
+    ensures ok { (pictures : ℕ → Picture) → AreExpected (λ one. L.picture one.lease) pictures handler.now → AreShown pictures screens.old
+        → OnOk result (Writes (K.taken sink.old) (K.taken sink.new) (vsync_shown pictures plan.now timelines.now report handler.now.tree.layers)
+        × AreShown pictures screens.new) }
+    ensures err { (pictures : ℕ → Picture) → AreExpected (λ one. L.picture one.lease) pictures handler.now → AreShown pictures screens.old
+        → OnErr result (WritesPart (K.taken sink.old) (K.taken sink.new) (vsync_shown pictures plan.now timelines.now report handler.now.tree.layers)) }
+
+    // Whatever the pictures are, records are written, and where it fails whole ones before at most one that is cut.
+    ensures some { OnOk result (WritesSome (K.taken sink.old) (K.taken sink.new)) }
+    ensures cut { OnErr result (CutSome (K.taken sink.old) (K.taken sink.new)) }
+    ensures later { K.faults sink.old ≤ K.faults sink.new }
+    ensures failed { IsErrOf result RunFault.WriteFault → Rose (K.faults sink.old) (K.faults sink.new) }
+{
+    let (facts, views) = match vsync_views(alloc, plan, handler, report) {
+        Ok(told) => told,
+        Err(_) => return Err(RunFault::NoMemory),
+    };
+    match compose_views(rt, alloc, workers, screens, handler.contents(), views) {
+        Ok(images) => write_vsync(alloc, sink, timelines, screens, facts, images),
+        Err(_) => Err(RunFault::NoMemory),
+    }
+}

@@ -1,0 +1,26 @@
+ghost use Rattle.std.specs.Prelude.{◌≡◌, ◌≤◌, ◌∷◌, [], IfOk, IsErrOf, OnErr, OnOk};
+ghost use Rattle.sf_io.specs.Causes.{Rose};
+ghost use Rattle.sf_record.specs.declared.record.Record.{Record as RecordValue};
+ghost use Rattle.sf_play_write.specs.Writing.{Writes, WritesPart};
+
+use sf_base::NoMemory;
+use sf_io::Sink;
+use sf_record::{Record, RunFault, write_record};
+use std::alloc::Global;
+
+/// Writes a record that was made, if memory allowed.
+pub fn write_made<K: Sink>(
+    alloc: Global,
+    sink: &mut K,
+    made: Result<Record, NoMemory>,
+) -> Result<(), RunFault>
+    ensures ok { (shown : RecordValue) → IfOk made (λ it. it ≡ shown) → OnOk result (Writes (K.taken sink.old) (K.taken sink.new) (shown ∷ [])) }
+    ensures err { (shown : RecordValue) → IfOk made (λ it. it ≡ shown) → OnErr result (WritesPart (K.taken sink.old) (K.taken sink.new) (shown ∷ [])) }
+    ensures later { K.faults sink.old ≤ K.faults sink.new }
+    ensures failed { IsErrOf result RunFault.WriteFault → Rose (K.faults sink.old) (K.faults sink.new) }
+{
+    match made {
+        Ok(record) => write_record(alloc, sink, &record),
+        Err(_) => Err(RunFault::NoMemory),
+    }
+}

@@ -1,8 +1,0 @@
-use Rattle.sf_replay.specs.Cuts.{HasLedger, many_of, spot_of}
-use Rattle.sf_replay.proofs.Carrying.{carried}
-use Rattle.sf_replay.proofs.Ordering.{ordered}
-use Rattle.sf_replay.proofs.cuts.what_each_event_keeps_holds_at_the_end.Goals as goal
-
-pub returns : goal.returns
-returns g c whole heights stamp rest lasts rise cut turn parts is =
-    carried whole HasLedger heights rest (ordered spot_of (many_of whole) stamp rise heights rest cut turn) lasts cut parts is

@@ -1,6 +1,0 @@
-use Rattle.sf_replay.specs.Cuts.{HasLedger}
-use Rattle.sf_replay.proofs.Forwarding.{part_put}
-use Rattle.sf_replay.proofs.forwards.what_was_sent_may_arrive_later.Goals as goal
-
-pub returns : goal.returns
-returns g c whole one stamp at forward rest last behind part = part_put whole HasLedger one stamp at forward rest last behind part

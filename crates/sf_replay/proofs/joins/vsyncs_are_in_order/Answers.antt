@@ -1,5 +1,0 @@
-use Rattle.sf_replay.proofs.Bounding.{vsyncs_timed}
-use Rattle.sf_replay.proofs.joins.vsyncs_are_in_order.Goals as goal
-
-pub returns : goal.returns
-returns b c table locks period first start end log by_it stamped = vsyncs_timed _ table locks period first start end log by_it stamped

@@ -1,8 +1,0 @@
-use Rattle.sf_replay.specs.Cuts.{HasLedger}
-use Rattle.sf_replay.proofs.Closing.{ledger_goes}
-use Rattle.sf_replay.proofs.Lifting.{lifts_call}
-use Rattle.sf_replay.proofs.lifts.a_call_is_lifted.Goals as goal
-
-pub returns : goal.returns
-returns g c whole pictures home marks apart absent was is s before after old new status values tries on begins =
-    lifts_call whole pictures home marks apart absent was is s before after old new status values tries HasLedger (ledger_goes whole was is s before) on begins

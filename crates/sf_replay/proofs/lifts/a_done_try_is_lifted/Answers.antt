@@ -1,8 +1,0 @@
-use Rattle.sf_replay.specs.Cuts.{HasLedger}
-use Rattle.sf_replay.proofs.Closing.{ledger_gives, ledger_goes}
-use Rattle.sf_replay.proofs.Coming.{comes}
-use Rattle.sf_replay.proofs.lifts.a_done_try_is_lifted.Goals as goal
-
-pub returns : goal.returns
-returns g c whole pictures home marks apart absent legal was is s before after old new came_to tries begins =
-    comes whole pictures home marks apart absent legal was is before after old new begins HasLedger (λ next to does. ledger_goes whole was is next before) (ledger_gives whole) s came_to tries

@@ -1,5 +1,0 @@
-use Rattle.sf_replay.proofs.Ordering.{ordered}
-use Rattle.sf_replay.proofs.orders.calls_come_in_one_order.Goals as goal
-
-pub returns : goal.returns
-returns c many heights stamp rest rise cut turn = ordered (λ spot. spot) many stamp rise heights rest cut turn

@@ -1,6 +1,0 @@
-use Rattle.std.proofs.Common.{◌≡◌, map, take}
-use Rattle.sf_run.specs.Telling.{call_recorded}
-use Rattle.sf_report.proofs.closing.calls_of.Given as goal
-
-abbrev pub invariant-loop-entry : goal.invariant-loop-entry
-invariant-loop-entry l = l.list.items ≡ map call_recorded (take l.entry-index l.fn.entries)

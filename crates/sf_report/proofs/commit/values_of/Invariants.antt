@@ -1,6 +1,0 @@
-use Rattle.std.proofs.Common.{◌≡◌, map, take}
-use Rattle.sf_run.specs.Seeing.{value_shown}
-use Rattle.sf_report.proofs.commit.values_of.Given as goal
-
-abbrev pub invariant-loop-timeline : goal.invariant-loop-timeline
-invariant-loop-timeline l = l.values.items ≡ map (value_shown l.fn.seen) (take l.timeline-index l.fn.timelines)

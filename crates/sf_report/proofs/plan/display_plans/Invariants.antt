@@ -1,6 +1,0 @@
-use Rattle.std.proofs.Common.{◌≡◌, map, take}
-use Rattle.sf_run.specs.Frames.{display_plan}
-use Rattle.sf_report.proofs.plan.display_plans.Given as goal
-
-abbrev pub invariant-loop-display : goal.invariant-loop-display
-invariant-loop-display l = l.plans.items ≡ map display_plan (take l.display-index l.displays)

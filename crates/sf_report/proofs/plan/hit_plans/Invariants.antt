@@ -1,6 +1,0 @@
-use Rattle.std.proofs.Common.{◌≡◌, map, take}
-use Rattle.sf_run.specs.Frames.{hit_plan}
-use Rattle.sf_report.proofs.plan.hit_plans.Given as goal
-
-abbrev pub invariant-loop-hit : goal.invariant-loop-hit
-invariant-loop-hit l = l.plans.items ≡ map hit_plan (take l.hit-index l.hits)

@@ -1,5 +1,0 @@
-use Rattle.sf_rights.proofs.FirstLemmas.{tells_first}
-use Rattle.sf_rights.proofs.firsts.an_older_draw_has_not_left.Goals as goal
-
-pub returns : goal.returns
-returns g c = tells_first

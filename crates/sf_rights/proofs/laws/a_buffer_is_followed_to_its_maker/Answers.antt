@@ -1,5 +1,0 @@
-use Rattle.sf_rights.proofs.Following.{followed_back}
-use Rattle.sf_rights.proofs.laws.a_buffer_is_followed_to_its_maker.Goals as goal
-
-pub returns : goal.returns
-returns c = followed_back

@@ -1,5 +1,0 @@
-use Rattle.sf_rights.proofs.Stepping.{call_keeps}
-use Rattle.sf_rights.proofs.laws.a_call_keeps_the_ledger.Goals as goal
-
-pub returns : goal.returns
-returns g c = call_keeps

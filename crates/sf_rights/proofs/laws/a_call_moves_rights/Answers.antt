@@ -1,5 +1,0 @@
-use Rattle.sf_rights.proofs.Balancing.{call_moves}
-use Rattle.sf_rights.proofs.laws.a_call_moves_rights.Goals as goal
-
-pub returns : goal.returns
-returns g c = call_moves

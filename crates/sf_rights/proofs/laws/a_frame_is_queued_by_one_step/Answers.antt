@@ -1,5 +1,0 @@
-use Rattle.sf_rights.proofs.Queuing.{queued_by_one}
-use Rattle.sf_rights.proofs.laws.a_frame_is_queued_by_one_step.Goals as goal
-
-pub returns : goal.returns
-returns g c = queued_by_one

@@ -1,5 +1,0 @@
-use Rattle.sf_rights.proofs.Starting.{begins_standing}
-use Rattle.sf_rights.proofs.laws.a_ledger_stands_at_the_beginning.Goals as goal
-
-pub returns : goal.returns
-returns g c = begins_standing

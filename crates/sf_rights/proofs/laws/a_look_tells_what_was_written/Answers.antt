@@ -1,5 +1,0 @@
-use Rattle.sf_rights.proofs.Looking.{look_tells}
-use Rattle.sf_rights.proofs.laws.a_look_tells_what_was_written.Goals as goal
-
-pub returns : goal.returns
-returns c = look_tells

@@ -1,5 +1,0 @@
-use Rattle.sf_rights.proofs.Keeping.{move_keeps}
-use Rattle.sf_rights.proofs.laws.a_move_keeps_a_ledger.Goals as goal
-
-pub returns : goal.returns
-returns c = move_keeps

@@ -1,5 +1,0 @@
-use Rattle.sf_rights.proofs.Returning.{returns_keep}
-use Rattle.sf_rights.proofs.laws.a_release_keeps_the_ledger.Goals as goal
-
-pub returns : goal.returns
-returns g c = returns_keep

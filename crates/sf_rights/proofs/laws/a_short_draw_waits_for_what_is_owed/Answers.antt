@@ -1,5 +1,0 @@
-use Rattle.sf_rights.proofs.Waiting.{short_owed}
-use Rattle.sf_rights.proofs.laws.a_short_draw_waits_for_what_is_owed.Goals as goal
-
-pub returns : goal.returns
-returns g c = short_owed

@@ -1,6 +1,0 @@
-use Rattle.sf_rights.proofs.Played.{step_stands}
-use Rattle.sf_rights.proofs.laws.a_step_leaves_the_ledger_standing.Goals as goal
-
-pub returns : goal.returns
-returns g c table buffers place pictures ofs actors nows before after stepped handler steps keep plays same over stands =
-    step_stands table buffers place pictures ofs actors nows before after stepped handler steps keep plays same over stands

@@ -1,5 +1,0 @@
-use Rattle.sf_rights.proofs.Attempting.{try_keeps}
-use Rattle.sf_rights.proofs.laws.a_try_keeps_the_ledger.Goals as goal
-
-pub returns : goal.returns
-returns g c = try_keeps

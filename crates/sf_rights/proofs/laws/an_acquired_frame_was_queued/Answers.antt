@@ -1,5 +1,0 @@
-use Rattle.sf_rights.proofs.Taking.{acquired_queued}
-use Rattle.sf_rights.proofs.laws.an_acquired_frame_was_queued.Goals as goal
-
-pub returns : goal.returns
-returns g c = acquired_queued

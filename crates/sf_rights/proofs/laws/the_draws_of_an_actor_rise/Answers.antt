@@ -1,5 +1,0 @@
-use Rattle.sf_rights.proofs.Ordering.{draws_rise}
-use Rattle.sf_rights.proofs.laws.the_draws_of_an_actor_rise.Goals as goal
-
-pub returns : goal.returns
-returns g c = draws_rise

@@ -1,5 +1,0 @@
-use Rattle.sf_rights.proofs.Paying.{owed_was_paid}
-use Rattle.sf_rights.proofs.laws.what_was_owed_and_is_written_was_paid.Goals as goal
-
-pub returns : goal.returns
-returns g c = owed_was_paid

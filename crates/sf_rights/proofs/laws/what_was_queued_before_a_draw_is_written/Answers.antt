@@ -1,5 +1,0 @@
-use Rattle.sf_rights.proofs.Entering.{enters_last}
-use Rattle.sf_rights.proofs.laws.what_was_queued_before_a_draw_is_written.Goals as goal
-
-pub returns : goal.returns
-returns g c = enters_last

@@ -1,5 +1,0 @@
-use Rattle.sf_rights.proofs.MakersNumbering.{newly_made}
-use Rattle.sf_rights.proofs.makers.a_buffer_has_a_number_of_its_own.Goals as goal
-
-pub returns : goal.returns
-returns g c = newly_made

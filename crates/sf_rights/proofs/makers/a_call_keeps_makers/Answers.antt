@@ -1,5 +1,0 @@
-use Rattle.sf_rights.proofs.MakersForms.{form_keeps}
-use Rattle.sf_rights.proofs.makers.a_call_keeps_makers.Goals as goal
-
-pub returns : goal.returns
-returns g c = form_keeps

@@ -1,5 +1,0 @@
-use Rattle.sf_rights.proofs.MakersKeeping.{rest_keeps}
-use Rattle.sf_rights.proofs.makers.a_rest_keeps_makers.Goals as goal
-
-pub returns : goal.returns
-returns c = rest_keeps

@@ -1,5 +1,0 @@
-use Rattle.sf_rights.proofs.MakersKeeping.{run_keeps}
-use Rattle.sf_rights.proofs.makers.a_run_that_goes_on_keeps_makers.Goals as goal
-
-pub returns : goal.returns
-returns c = run_keeps

@@ -1,5 +1,0 @@
-use Rattle.sf_rights.proofs.Attempting.{try_places}
-use Rattle.sf_rights.proofs.makers.a_try_does_to_places_what_is_told.Goals as goal
-
-pub returns : goal.returns
-returns g c = try_places

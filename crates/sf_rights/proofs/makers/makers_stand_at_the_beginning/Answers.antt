@@ -1,5 +1,0 @@
-use Rattle.sf_rights.proofs.MakersBeginning.{makers_begin}
-use Rattle.sf_rights.proofs.makers.makers_stand_at_the_beginning.Goals as goal
-
-pub returns : goal.returns
-returns g c = makers_begin

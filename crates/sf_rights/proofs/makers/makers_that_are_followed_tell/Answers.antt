@@ -1,5 +1,0 @@
-use Rattle.sf_rights.proofs.MakersTelling.{makers_tell}
-use Rattle.sf_rights.proofs.makers.makers_that_are_followed_tell.Goals as goal
-
-pub returns : goal.returns
-returns g c = makers_tell

@@ -1,5 +1,0 @@
-use Rattle.sf_rights.proofs.MakersMoving.{moved_to}
-use Rattle.sf_rights.proofs.makers.the_right_of_a_buffer_moves.Goals as goal
-
-pub returns : goal.returns
-returns g c = moved_to

@@ -1,5 +1,0 @@
-use Rattle.sf_rights.proofs.InTurnDraws.{enters_in_turn}
-use Rattle.sf_rights.proofs.turns.a_draw_that_enters_is_in_turn.Goals as goal
-
-pub returns : goal.returns
-returns g c = enters_in_turn

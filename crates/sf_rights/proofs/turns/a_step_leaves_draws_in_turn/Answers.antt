@@ -1,5 +1,0 @@
-use Rattle.sf_rights.proofs.InTurnSteps.{step_in_turn}
-use Rattle.sf_rights.proofs.turns.a_step_leaves_draws_in_turn.Goals as goal
-
-pub returns : goal.returns
-returns g c = step_in_turn

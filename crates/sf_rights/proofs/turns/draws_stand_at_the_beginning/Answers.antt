@@ -1,5 +1,0 @@
-use Rattle.sf_rights.proofs.InTurnBeginning.{draws_begin}
-use Rattle.sf_rights.proofs.turns.draws_stand_at_the_beginning.Goals as goal
-
-pub returns : goal.returns
-returns g c = draws_begin

@@ -1,5 +1,0 @@
-use Rattle.sf_run.proofs.Taking.{was_queued}
-use Rattle.sf_run.proofs.actors.acquired_frames_were_queued.Goals as goal
-
-pub returns : goal.returns
-returns g c = was_queued

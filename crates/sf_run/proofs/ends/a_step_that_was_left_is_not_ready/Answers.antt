@@ -1,5 +1,0 @@
-use Rattle.sf_run.proofs.Stopping.{left_not_ready}
-use Rattle.sf_run.proofs.ends.a_step_that_was_left_is_not_ready.Goals as goal
-
-pub returns : goal.returns
-returns g c = left_not_ready

@@ -1,5 +1,0 @@
-use Rattle.sf_run.proofs.Stopping.{are_stuck}
-use Rattle.sf_run.proofs.ends.actors_that_are_not_ready_are_stuck.Goals as goal
-
-pub returns : goal.returns
-returns g c = are_stuck

@@ -1,5 +1,0 @@
-use Rattle.sf_run.proofs.KeepingLemmas.{none_played}
-use Rattle.sf_run.proofs.handlers.a_new_handler_has_played_nothing.Goals as goal
-
-pub returns : goal.returns
-returns g c = λ frame scene written width height. none_played frame scene written width height

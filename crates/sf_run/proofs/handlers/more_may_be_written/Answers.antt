@@ -1,5 +1,0 @@
-use Rattle.sf_run.proofs.KeepingLemmas.{played_too}
-use Rattle.sf_run.proofs.handlers.more_may_be_written.Goals as goal
-
-pub returns : goal.returns
-returns g c = λ frame scene written others arrivals vsyncs handler too played. played_too frame scene written others arrivals vsyncs handler too played

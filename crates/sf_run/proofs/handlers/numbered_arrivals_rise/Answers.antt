@@ -1,5 +1,0 @@
-use Rattle.sf_run.proofs.OrderLemmas.{numbered_behind}
-use Rattle.sf_run.proofs.handlers.numbered_arrivals_rise.Goals as goal
-
-pub returns : goal.returns
-returns g c = λ earlier arrived e. numbered_behind earlier arrived e

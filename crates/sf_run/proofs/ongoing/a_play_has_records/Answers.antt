@@ -1,8 +1,0 @@
-use Rattle.sf_run.proofs.Ending.{has_records, records_on}
-use Rattle.sf_run.proofs.ongoing.a_play_has_records.Goals as goal
-
-pub returns-clause-has : goal.returns-clause-has
-returns-clause-has c = has_records
-
-pub returns-clause-go_on : goal.returns-clause-go_on
-returns-clause-go_on c = records_on

@@ -1,5 +1,0 @@
-use Rattle.sf_run.proofs.PlayedLeast.{is_play, world_6}
-use Rattle.sf_run.proofs.plays.the_least_scene_has_a_play.Goals as goal
-
-pub returns : goal.returns
-returns c = (world_6, is_play)

@@ -1,5 +1,0 @@
-use Rattle.sf_run.proofs.Parts.{arrive_in_order}
-use Rattle.sf_run.proofs.telling.arrivals_come_in_order.Goals as goal
-
-pub returns : goal.returns
-returns g c = arrive_in_order

@@ -1,0 +1,5 @@
+use Rattle.sf_script_scene.proofs.LimitLemmas.{limits-hit}
+use Rattle.sf_script_scene.proofs.scene.Scene.with_hit.Goals as goal
+
+pub invariant_of-result : goal.invariant_of-result
+invariant_of-result c = rw c.in_ok-push.ensures.ok (limits-hit _ _ c.self.invariant c.requires.range (rw (← c.self.view_is) at c.requires.version) (rw (← c.self.view_is) at c.requires.first))

@@ -1,6 +1,0 @@
-use Rattle.std.specs.Vec.Iter.{into_iter_items}
-use Rattle.sf_shared.proofs.Opening.{CloseSoFar}
-use Rattle.sf_shared.proofs.locks.close_queues.Given as goal
-
-abbrev pub invariant-loop-lock : goal.invariant-loop-lock
-invariant-loop-lock g l = CloseSoFar l.fn.locks.items (into_iter_items l.lock-iterator) l.fn.passes.items (into_iter_items l.passes) l.objects.items

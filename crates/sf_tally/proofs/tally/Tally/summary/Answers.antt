@@ -1,6 +1,0 @@
-use Rattle.std.proofs.Common.{◌∙◌}
-use Rattle.sf_tally.proofs.TallyLemmas.{summed_up}
-use Rattle.sf_tally.proofs.tally.Tally.summary.Goals as goal
-
-pub returns : goal.returns
-returns c = λ records fit is. summed_up _ _ records c.self.invariant fit (c.self.view_is ∙ is)

@@ -1,5 +1,0 @@
-use Rattle.sf_versions.proofs.AlikeLemmas.{played_alike}
-use Rattle.sf_versions.proofs.versions_are_played_alike.Goals as goal
-
-pub returns : goal.returns
-returns c = played_alike

@@ -1,4 +1,0 @@
--- Sets of lemmas that functions name.
-use Rattle.sf_words.proofs.TextLemmas.{length-words_of}
-
-pub ruleset word_counts = length-words_of

@@ -1,0 +1,110 @@
+//! Regions on a stack, set operations on the upper two, and what is asked of the uppermost.
+ghost use Rattle.std.specs.Prelude.{IsTrue, pos, ◌+ℤ◌, ◌-ℤ◌, ◌≤ℤ◌};
+ghost use Rattle.sf_region.specs.Points.{IsInBounds, moved};
+
+use crate::answer::Answer;
+use crate::made::Made;
+use test_words::{coordinate, rect};
+use sf_base::{NoMemory, Rect};
+use sf_region::Region;
+use std::alloc::Global;
+use std::str::SplitWhitespace;
+
+const FAR: i64 = 33554432;
+
+impl Made {
+    /// Does what a line says of regions. None where it can't be done.
+    pub fn region(&mut self, form: &str, words: &mut SplitWhitespace<'_>) -> Option<Answer> {
+        let region = match form {
+            "empty" => Region::empty(self.alloc),
+            "rect" => bounded(self.alloc, rect(words)?)?,
+            "moved" => moved_rect(self.alloc, words)?,
+            "union" | "intersect" | "subtract" => self.combined(form)?,
+            _ => return self.ask_region(form, words),
+        };
+        self.regions.push(region).ok()?;
+        Some(Answer::Done)
+    }
+
+    // What comes of the upper two, which are taken.
+    fn combined(&mut self, form: &str) -> Option<Region> {
+        let second = self.regions.pop()?;
+        let first = self.regions.pop()?;
+        let region = match form {
+            "union" => first.union(&second),
+            "intersect" => first.intersect(&second),
+            _ => first.subtract(&second),
+        };
+        region.ok()
+    }
+
+    // Whether the upper two, which are taken, are the same; whether the uppermost has a point, or its
+    // rectangles.
+    fn ask_region(&mut self, form: &str, words: &mut SplitWhitespace<'_>) -> Option<Answer> {
+        match form {
+            "same" => {
+                let second = self.regions.pop()?;
+                Some(Answer::Is(self.regions.pop()?.is_same(&second)))
+            }
+            "point" => {
+                let (x, y) = (coordinate(words)?, coordinate(words)?);
+                Some(Answer::Is(self.regions.last()?.contains(x, y)))
+            }
+            "rects" => {
+                let rects = self.regions.last()?.rects();
+                Some(Answer::Rects(Vec::from_slice(self.alloc, rects).ok()?))
+            }
+            _ => None,
+        }
+    }
+}
+
+// Whether so many coordinates from a start on lie within 2^25 of 0.
+fn is_span_in_bounds(start: i64, extent: u32) -> bool
+    ensures { IsTrue result → ((pos 0 -ℤ pos 33554432) ≤ℤ start) × ((start +ℤ pos extent) ≤ℤ pos 33554432) }
+{
+    -FAR <= start && start <= FAR && start + i64::from(extent) <= FAR
+}
+
+fn is_in_bounds(rect: &Rect) -> bool
+    ensures { IsTrue result → IsInBounds rect.now }
+{
+    is_span_in_bounds(i64::from(rect.x), rect.width)
+        && is_span_in_bounds(i64::from(rect.y), rect.height)
+}
+
+#[tactic(auto, unfolding(sf_region::specs::Points::moved))]
+fn stays_in_bounds(rect: &Rect, dx: i32, dy: i32) -> bool
+    ensures { IsTrue result → IsInBounds (moved dx dy rect.now) }
+{
+    is_span_in_bounds(i64::from(rect.x) + i64::from(dx), rect.width)
+        && is_span_in_bounds(i64::from(rect.y) + i64::from(dy), rect.height)
+}
+
+/// The region of a rectangle, where its edges lie where a region's may.
+pub fn bounded(alloc: Global, rect: Rect) -> Option<Region> {
+    if is_in_bounds(&rect) {
+        Region::rect(alloc, rect).ok()
+    } else {
+        None
+    }
+}
+
+// The region of a rectangle, moved.
+fn translated(alloc: Global, rect: Rect, dx: i32, dy: i32) -> Result<Region, NoMemory>
+    requires near { IsInBounds rect }
+    requires moved { IsInBounds (moved dx dy rect) }
+{
+    Region::rect(alloc, rect)?.translate(dx, dy)
+}
+
+// The region of the rectangle that a line says, moved as it says.
+fn moved_rect(alloc: Global, words: &mut SplitWhitespace<'_>) -> Option<Region> {
+    let rect = rect(words)?;
+    let (dx, dy) = (coordinate(words)?, coordinate(words)?);
+    if is_in_bounds(&rect) && stays_in_bounds(&rect, dx, dy) {
+        translated(alloc, rect, dx, dy).ok()
+    } else {
+        None
+    }
+}

@@ -1,0 +1,51 @@
+ghost use Rattle.std.specs.Prelude.{true, false, OnOk};
+ghost use Rattle.sf_live.specs.Runs.{MayLive, WroteLive};
+
+use sf_io::{Gate, Sink};
+use sf_live::{live, live_queue};
+use sf_picture::Painted;
+use sf_record::RunFault;
+use sf_script_scene::Scene;
+use sf_turns::{Stock, TableName, TurnSeat};
+use std::alloc::Global;
+use std::sync::Wait;
+use std::thread::Threads;
+
+/// A live run that is whole has written records that mean what such a run of its scene means.
+pub fn live_means<R: Threads + Wait + Sync, K: Sink, G: Gate + Sync, B: TableName + Send + Sync>(
+    rt: &R,
+    alloc: Global,
+    workers: u32,
+    sink: &mut K,
+    gate: &G,
+    scene: Scene,
+    seat: TurnSeat<Painted>,
+    stock: Stock<Painted>,
+) -> Result<(), RunFault>
+    requires { MayLive B.table workers scene seat stock }
+    ensures ok { OnOk result (WroteLive true scene (K.taken sink.old) (K.taken sink.new)) }
+{
+    live::<R, K, G, B>(rt, alloc, workers, sink, gate, scene, seat, stock)
+}
+
+/// So has one whose transactions arrive through a queue, where no sender is told its place.
+pub fn live_queue_means<
+    R: Threads + Wait + Sync,
+    K: Sink,
+    G: Gate + Sync,
+    B: TableName + Send + Sync,
+>(
+    rt: &R,
+    alloc: Global,
+    workers: u32,
+    sink: &mut K,
+    gate: &G,
+    scene: Scene,
+    seat: TurnSeat<Painted>,
+    stock: Stock<Painted>,
+) -> Result<(), RunFault>
+    requires { MayLive B.table workers scene seat stock }
+    ensures ok { OnOk result (WroteLive false scene (K.taken sink.old) (K.taken sink.new)) }
+{
+    live_queue::<R, K, G, B>(rt, alloc, workers, sink, gate, scene, seat, stock)
+}

@@ -1,0 +1,305 @@
+//! Calls on a watch by one thread, and threads that wait for each other's news and sleep meanwhile.
+use crate::words::{number, words};
+use sf_live_watch::{Awaited, Effect, MOST_WATCHED, Watch};
+use std::sync::Wait;
+use std::sync::atomic::{AtomicUsize, Ordering};
+use std::thread::Threads;
+use std::{io, thread};
+
+/// Nothing that a thread waits for.
+const NOTHING: Effect = Effect {
+    slots: false,
+    points: false,
+    turns: false,
+};
+
+/// What brings only this.
+fn bringing(awaited: Awaited) -> Effect {
+    match awaited {
+        Awaited::Slot => Effect {
+            slots: true,
+            ..NOTHING
+        },
+        Awaited::Point => Effect {
+            points: true,
+            ..NOTHING
+        },
+        Awaited::Turn => Effect {
+            turns: true,
+            ..NOTHING
+        },
+    }
+}
+
+/// What the thread at a place waits for: threads that follow one another wait for different things.
+fn awaited_at(place: usize) -> Awaited {
+    match place % 3 {
+        0 => Awaited::Slot,
+        1 => Awaited::Point,
+        _ => Awaited::Turn,
+    }
+}
+
+/// Once the count is its place, a thread raises it, which brings what the next one waits for, and ends.
+/// Whether it did.
+fn raise_in_turn<R: Wait>(rt: &R, watch: &Watch, count: &AtomicUsize, place: usize) -> bool {
+    for _ in rt.forever() {
+        let seen = watch.news(rt);
+        if count.load(Ordering::SeqCst) == place {
+            let next = count.fetch_add(1, Ordering::SeqCst).wrapping_add(1);
+            watch.tell_done(rt, bringing(awaited_at(next)));
+            watch.tell_ended(rt);
+            return true;
+        }
+        if !watch.idle(rt, awaited_at(place), seen) {
+            return false;
+        }
+    }
+    unreachable!()
+}
+
+/// Waits for the same thing again and again, until all are to stop. How often it was let go on.
+fn count_wakes<R: Wait>(rt: &R, watch: &Watch, awaited: Awaited) -> usize {
+    let mut wakes = 0usize;
+    for _ in rt.forever() {
+        let seen = watch.news(rt);
+        if !watch.idle(rt, awaited, seen) {
+            return wakes;
+        }
+        wakes = wakes.saturating_add(1);
+    }
+    unreachable!()
+}
+
+/// Waits until all rest, where nothing is done any more.
+fn wait_for_rest<R: Wait>(rt: &R, watch: &Watch) {
+    let seen = watch.news(rt);
+    watch.next(rt, seen);
+}
+
+/// How often a thread that waits for this is let go on, while something is done so often that has this
+/// effect, each time once it is idle.
+fn wakes_of<R: Threads + Wait + Sync>(
+    rt: &R,
+    awaited: Awaited,
+    effect: Effect,
+    often: u64,
+) -> usize {
+    let watch = Watch::new(1);
+    let shared = &watch;
+    thread::scope(thread::scope_env(), rt, move |scope| {
+        let started = scope.spawn(move || count_wakes(rt, shared, awaited));
+        let Ok(waiting) = started else {
+            return usize::MAX;
+        };
+        for _ in 0..often {
+            wait_for_rest(rt, shared);
+            shared.tell_done(rt, effect);
+        }
+        wait_for_rest(rt, shared);
+        shared.stop(rt);
+        waiting.join(rt)
+    })
+}
+
+/// Looks whenever there is news, until all rest. Then all are to stop. Whether there was news.
+fn look<R: Wait>(rt: &R, watch: &Watch) -> bool {
+    let mut seen = 0;
+    for _ in rt.forever() {
+        match watch.next(rt, seen) {
+            Some(news) => seen = news,
+            None => break,
+        }
+    }
+    watch.stop(rt);
+    seen != 0
+}
+
+/// Threads for these places, the last one first, each of which waits for its turn: where the count
+/// came to in the end.
+fn count_to<R: Threads + Wait + Sync>(rt: &R, places: usize, start: usize) -> usize {
+    let watch = Watch::new(places);
+    let count = AtomicUsize::new(start);
+    let (shared, counted) = (&watch, &count);
+    let looked = thread::scope(thread::scope_env(), rt, move |scope| {
+        for i in 0..places {
+            let place = places - 1 - i;
+            if scope
+                .spawn(move || raise_in_turn(rt, shared, counted, place))
+                .is_err()
+            {
+                shared.tell_ended(rt);
+            }
+        }
+        look(rt, shared)
+    });
+    if looked {
+        count.load(Ordering::SeqCst)
+    } else {
+        0
+    }
+}
+
+/// Does something so often, and waits each time until it was looked at. Counts what was not seen
+/// before it went on.
+fn do_and_wait<R: Wait>(
+    rt: &R,
+    watch: &Watch,
+    done: &AtomicUsize,
+    seen: &AtomicUsize,
+    missed: &AtomicUsize,
+    often: usize,
+) {
+    for i in 0..often {
+        done.store(i + 1, Ordering::SeqCst);
+        watch.tell_done(rt, NOTHING);
+        if !watch.wait_for_look(rt) || seen.load(Ordering::SeqCst) <= i {
+            missed.fetch_add(1, Ordering::SeqCst);
+        }
+    }
+    watch.tell_ended(rt);
+}
+
+/// Looks whenever there is news, until all rest, at what was done.
+fn look_at<R: Wait>(rt: &R, watch: &Watch, done: &AtomicUsize, seen: &AtomicUsize) {
+    let mut latest = 0;
+    for _ in rt.forever() {
+        match watch.next(rt, latest) {
+            Some(news) => latest = news,
+            None => break,
+        }
+        seen.store(done.load(Ordering::SeqCst), Ordering::SeqCst);
+        watch.tell_looked(rt, latest);
+    }
+    watch.stop(rt);
+}
+
+/// How often a thread went on before what it did was looked at, and what was seen of it in the end.
+fn missed_of<R: Threads + Wait + Sync>(rt: &R, often: usize) -> (usize, usize) {
+    let watch = Watch::new(1);
+    let (done, seen, missed) = (
+        AtomicUsize::new(0),
+        AtomicUsize::new(0),
+        AtomicUsize::new(0),
+    );
+    let (shared, did, saw, lost) = (&watch, &done, &seen, &missed);
+    thread::scope(thread::scope_env(), rt, move |scope| {
+        let started = scope.spawn(move || do_and_wait(rt, shared, did, saw, lost, often));
+        if started.is_err() {
+            shared.tell_ended(rt);
+        }
+        look_at(rt, shared, did, saw)
+    });
+    (missed.load(Ordering::SeqCst), seen.load(Ordering::SeqCst))
+}
+
+/// Whether a thread that waits for a look goes on once none could be started for another place.
+fn goes_on_unseen<R: Threads + Wait + Sync>(rt: &R) -> bool {
+    let watch = Watch::new(2);
+    let shared = &watch;
+    thread::scope(thread::scope_env(), rt, move |scope| {
+        let started = scope.spawn(move || -> bool {
+            shared.tell_done(rt, NOTHING);
+            shared.wait_for_look(rt)
+        });
+        shared.turn_away(rt, 1);
+        match started {
+            Ok(waiting) => waiting.join(rt),
+            Err(_) => false,
+        }
+    })
+}
+
+/// The least and the greatest of what so many rounds counted to.
+fn counts_to<R: Threads + Wait + Sync>(
+    rt: &R,
+    places: usize,
+    start: usize,
+    rounds: u64,
+) -> (usize, usize) {
+    let mut least = usize::MAX;
+    let mut greatest = 0;
+    for _ in 0..rounds {
+        let count = count_to(rt, places, start);
+        least = least.min(count);
+        greatest = greatest.max(count);
+    }
+    (least, greatest)
+}
+
+/// What a word says that a thread waits for.
+fn awaited(word: &str) -> Option<Awaited> {
+    match word {
+        "slot" => Some(Awaited::Slot),
+        "point" => Some(Awaited::Point),
+        "turn" => Some(Awaited::Turn),
+        _ => None,
+    }
+}
+
+/// What brings only what a word says, if it says anything.
+fn effect(word: &str) -> Effect {
+    match awaited(word) {
+        Some(awaited) => bringing(awaited),
+        None => NOTHING,
+    }
+}
+
+/// Makes the call of a line, and writes what it answered.
+fn answer<R: Print + Threads + Wait + Sync>(rt: &R, watch: &Watch, line: &str) -> io::Result<()> {
+    let [word, first, second, third] = words(line);
+    let value = number(first).unwrap_or(0);
+    let place = value as usize;
+    match word {
+        "turn-away" if place < MOST_WATCHED => {
+            watch.turn_away(rt, place);
+            println!(rt; "{line}: turned away")
+        }
+        "is-turned-away" if place < MOST_WATCHED => {
+            println!(rt; "{line}: {}", watch.is_turned_away(rt, place))
+        }
+        "next" => match watch.next(rt, value) {
+            Some(news) => println!(rt; "{line}: {news}"),
+            None => println!(rt; "{line}: none"),
+        },
+        "looked" => {
+            watch.tell_looked(rt, value);
+            println!(rt; "{line}: told")
+        }
+        "done" => println!(rt; "{line}: {}", watch.tell_done(rt, effect(first))),
+        "is-stopped" => println!(rt; "{line}: {}", watch.is_stopped(rt)),
+        "wait" => println!(rt; "{line}: {}", watch.wait_for_look(rt)),
+        "unseen" => println!(rt; "{line}: {}", goes_on_unseen(rt)),
+        "stop" => {
+            watch.stop(rt);
+            println!(rt; "{line}: told")
+        }
+        "count" => {
+            let start = number(second).unwrap_or(0) as usize;
+            let rounds = number(third).unwrap_or(0);
+            let (least, greatest) = counts_to(rt, place, start, rounds);
+            println!(rt; "{line}: {least} to {greatest}")
+        }
+        "wakes" => match awaited(first) {
+            Some(awaited) => {
+                let often = number(third).unwrap_or(0);
+                let wakes = wakes_of(rt, awaited, effect(second), often);
+                println!(rt; "{line}: {wakes}")
+            }
+            None => println!(rt; "{line}: no call"),
+        },
+        "look" => {
+            let (missed, seen) = missed_of(rt, place);
+            println!(rt; "{line}: {missed} missed, {seen} seen")
+        }
+        _ => println!(rt; "{line}: no call"),
+    }
+}
+
+pub fn play<R: Print + Threads + Wait + Sync>(rt: &R, calls: &[String]) -> io::Result<()> {
+    let watch = Watch::new(2);
+    for line in calls {
+        answer(rt, &watch, line)?;
+    }
+    Ok(())
+}
