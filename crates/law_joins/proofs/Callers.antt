@@ -20,7 +20,7 @@ use Rattle.sf_txn.specs.declared.lease.Lease.{Ghosts}
 use Rattle.sf_actor.specs.Desks.{DeskView}
 use Rattle.sf_actor.specs.Known.{ArriveWithout, is_sent_by}
 use Rattle.sf_actor.specs.Tries.{ActorOf}
-use Rattle.law_played.proofs.Keeping.{of_all}
+use Rattle.law_played.proofs.StepKeepsTold.{of_all}
 use Rattle.law_played.proofs.Members.{has_cases, has_here, has_later, has_none, map_has}
 use Rattle.law_played.specs.Actors.{AreArrivals, IsCallBy, IsRelease, number_of}
 use Rattle.sf_live_seats.specs.declared.first.FirstSeats.{FirstSeats}
@@ -30,8 +30,8 @@ use Rattle.sf_live_seats.specs.Arriving.{ArrivalCalls, ArrivalEntry, Arrived, Ar
 use Rattle.sf_live_seats.specs.Closing.{HasNoEntry, IsOrdered}
 use Rattle.sf_live_seats.specs.First.{IsFirst, KnowsNothing, took_of}
 use Rattle.sf_live_seats.specs.Seats.{takes_in, view_of}
-use Rattle.sf_live_seats.proofs.Handing.{first_known, none_arrived}
-use Rattle.sf_play.proofs.Seeing.{any_has}
+use Rattle.sf_live_seats.proofs.IntakeHands.{first_known, none_arrived}
+use Rattle.sf_play.proofs.SeenTimelines.{any_has}
 use Rattle.law_joins.specs.Calls.{AreReleasesOn}
 use Rattle.law_joins.specs.Logs.{OnlyFirstTakes}
 use Rattle.law_joins.proofs.Fronts.{gives_same}

@@ -29,7 +29,7 @@ use Rattle.sf_actor_set.specs.ActorSets.{KeepAs, scripts_of}
 use Rattle.sf_actor_set.specs.Opening.{IsSortedFrom, new_actors}
 use Rattle.sf_actor_steps.specs.Playable.{IsPlayable, MayPlay}
 use Rattle.sf_live_threads.specs.Walks.{Begin, Moment, More, Walk}
-use Rattle.sf_live_threads.proofs.Doing.{walk_signals}
+use Rattle.sf_live_threads.proofs.ActorWalk.{walk_signals}
 use Rattle.law_played.specs.Actors.{AreActors, number_of, script_of}
 use Rattle.sf_live_seats.specs.declared.locks.Locks.{Locks}
 use Rattle.sf_live_seats.specs.declared.seats.Seats.{Seats}

@@ -27,15 +27,15 @@ use Rattle.sf_actor.specs.Known.{Call, call_after, frame_of, own_calls, told_by}
 use Rattle.sf_actor.specs.Names.{FrameOf}
 use Rattle.sf_actor.proofs.GoingOn.{own_same}
 use Rattle.law_rights.specs.Standing.{GiveAll, GivesOne}
-use Rattle.law_played.proofs.Advancing.{IsReleaseOf, released_token}
+use Rattle.law_played.proofs.RunGrowth.{IsReleaseOf, released_token}
 use Rattle.law_played.proofs.LeaseLemmas.{plain_frame}
-use Rattle.law_played.proofs.Tracing.{own_told}
+use Rattle.law_played.proofs.RunTraces.{own_told}
 use Rattle.law_played.specs.Actors.{IsRelease, mark_declared}
 use Rattle.law_played.specs.Framing.{framed_on}
 use Rattle.law_played.specs.Histories.{IsReleased, Released, released_on}
 use Rattle.law_played.specs.Runs.{calls_of}
 use Rattle.law_joins.specs.Calls.{AreReleasesOn, IsGivenOn, entries_of}
-use Rattle.sf_play.proofs.Leasing.{IsOnLent, OfFrames}
+use Rattle.sf_play.proofs.HandlerLeases.{IsOnLent, OfFrames}
 
 -- partners of two lists, with one more on each
 zip_more : {X Y : Type 0} (R : X → Y → Type 0) (xs : List X) (ys : List Y) (x : X) (y : Y) → AllZip R xs ys → R x y → AllZip R (xs ++ x ∷ []) (ys ++ y ∷ [])

@@ -9,7 +9,7 @@ use Rattle.sf_txn.specs.declared.lease.Lease.{Ghosts}
 use Rattle.sf_commit.specs.Handlers.{HandlerOf}
 use Rattle.sf_actor.specs.Desks.{DeskView}
 use Rattle.sf_live_seats.specs.declared.locks.Locks.{Locks}
-use Rattle.sf_play.proofs.Leasing.{IsArrivedLent, IsOnLent, OfFrames, gone_lent, looked_all, stays_lent, waits_lent}
+use Rattle.sf_play.proofs.HandlerLeases.{IsArrivedLent, IsOnLent, OfFrames, gone_lent, looked_all, stays_lent, waits_lent}
 use Rattle.law_joins.specs.Logs.{HoldsLent, taken_of}
 use Rattle.sf_live_compositor.specs.Vsyncs.{Begin, IsVsync, More, Sitting, Vsyncs}
 

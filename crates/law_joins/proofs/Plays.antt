@@ -39,7 +39,7 @@ use Rattle.sf_live_seats.specs.Arriving.{ArrivalCalls}
 use Rattle.sf_live_seats.specs.Seats.{home_of, view_of}
 use Rattle.sf_play.specs.Showing.{vsync_shown}
 use Rattle.sf_play.specs.Players.{IsBufferLent}
-use Rattle.sf_play.proofs.Leasing.{IsArrivedLent, OfFrames}
+use Rattle.sf_play.proofs.HandlerLeases.{IsArrivedLent, OfFrames}
 use Rattle.law_joins.specs.Calls.{AreReleasesOn, IsGivenOn, entries_of}
 use Rattle.law_joins.specs.Logs.{HasPlayedSo, HasTaken, HoldsLent, IsKnown, KnowsSteps, KnowsWritten, OnlyFirstTakes, reports_of, taken_of, told_in}
 use Rattle.law_joins.proofs.Fronts.{calls_took, known_before, turns_after}

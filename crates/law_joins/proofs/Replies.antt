@@ -17,9 +17,9 @@ use Rattle.sf_actor.specs.Values.{reply_at}
 use Rattle.sf_record.specs.declared.event.Event.TheVariants as event
 use Rattle.sf_record.specs.declared.event.VsyncReport.{VsyncReport}
 use Rattle.sf_record.specs.declared.record.Reply.{Reply}
-use Rattle.law_played.proofs.Keeping.{of_all}
+use Rattle.law_played.proofs.StepKeepsTold.{of_all}
 use Rattle.law_played.proofs.Members.{has_cases, has_here, has_later, has_map, has_none}
-use Rattle.law_played.proofs.Tracing.{head_apart, rising_later}
+use Rattle.law_played.proofs.RunTraces.{head_apart, rising_later}
 use Rattle.law_played.specs.Actors.{AreActors, number_of}
 use Rattle.law_played.specs.Replies.{replies_in, replies_to, reply_in, reply_shown}
 use Rattle.law_played.specs.Telling.{TellReplies}

@@ -28,7 +28,7 @@ use Rattle.law_played.specs.Vsyncs.{WasSignalled}
 use Rattle.sf_play_report.specs.Reports.{has_commits}
 use Rattle.sf_live_seats.specs.declared.locks.Locks.{Locks}
 use Rattle.sf_play.specs.Showing.{vsync_shown}
-use Rattle.sf_play.proofs.Seeing.{any_has}
+use Rattle.sf_play.proofs.SeenTimelines.{any_has}
 use Rattle.law_joins.specs.Logs.{HasSeenSo, KnowsSteps, reports_of}
 use Rattle.law_joins.proofs.Fronts.{times_after}
 use Rattle.sf_live_compositor.specs.Vsyncs.{Begin, IsVsync, More, Sitting, Vsyncs}

@@ -19,7 +19,7 @@ use Rattle.sf_live_seats.specs.Seats.{IsPassOf, QueuePass, is_at, mark_in}
 use Rattle.sf_live_threads.specs.Walks.{Moment}
 use Rattle.law_joins.specs.Fronts.{AllFronts}
 use Rattle.law_joins.proofs.Fronts.{begins_on}
-use Rattle.law_joins.proofs.Meeting.{meets_arrivals}
+use Rattle.law_joins.proofs.SeatsTakenIn.{meets_arrivals}
 use Rattle.law_threads.specs.Joining.{Joins, MeetsAll}
 use Rattle.law_threads.specs.Members.{seen_at}
 use Rattle.sf_live_compositor.specs.Vsyncs.{Begin, More, Sitting, Vsyncs}

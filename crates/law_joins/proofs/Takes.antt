@@ -21,7 +21,7 @@ use Rattle.sf_actor_set.proofs.ArrivalLemmas.{sent_is, waiting_last, waiting_man
 use Rattle.law_played.proofs.Members.{has_here, has_later}
 use Rattle.sf_live_seats.specs.declared.locks.Locks.{Locks}
 use Rattle.sf_live_seats.specs.Arriving.{ArrivalCalls, ArrivalsPass, Arrived, Arriving}
-use Rattle.sf_live_seats.proofs.Going.{none_later}
+use Rattle.sf_live_seats.proofs.CallsOfOthers.{none_later}
 use Rattle.law_joins.specs.Logs.{HasTaken, OnlyFirstTakes, taken_of}
 use Rattle.law_joins.proofs.Fronts.{arrivals_begin, arrivals_looked, begins_on}
 use Rattle.sf_live_compositor.specs.Vsyncs.{Begin, IsVsync, More, Sitting, Vsyncs}

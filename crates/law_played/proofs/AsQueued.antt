@@ -28,10 +28,10 @@ use Rattle.sf_record.specs.declared.record.CommittedBuffer.{CommittedBuffer}
 use Rattle.law_played.specs.Buffers.{HasOfStep, crop_in, crop_shown, step_in, step_of_entry}
 use Rattle.law_played.specs.Histories.{entry_shown}
 use Rattle.law_played.specs.Runs.{AreTraced, IsTraced, calls_of}
-use Rattle.law_played.proofs.Asking.{of_script}
+use Rattle.law_played.proofs.QueueCalls.{of_script}
 use Rattle.law_played.proofs.Members.{filter_has, has_filter, has_found, has_here, has_later, has_reverse, zip_has}
-use Rattle.law_played.proofs.Queueings.{IsQueued}
-use Rattle.law_played.proofs.Recorded.{was_accepted}
+use Rattle.law_played.proofs.QueuedFrames.{IsQueued}
+use Rattle.law_played.proofs.HistoryRecords.{was_accepted}
 
 -- the picture of a number that is there has this number
 numbered : (pictures : List Picture) (number : ℕ) → has_picture pictures number ≡ true → (picture_at pictures number).number ≡ number

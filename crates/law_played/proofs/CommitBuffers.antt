@@ -20,7 +20,7 @@ use Rattle.law_played.specs.Brought.{IsBrought, ShowBrought}
 use Rattle.law_played.specs.Commits.{SaysResults, buffer_shown, commit_shown}
 use Rattle.law_played.specs.Stages.{arrival_at, begun, ended, no_arrival, round_after, told_from}
 use Rattle.law_played.specs.Vsyncs.{commits_in, commits_of_vsync}
-use Rattle.law_played.proofs.Keeping.{of_all}
+use Rattle.law_played.proofs.StepKeepsTold.{of_all}
 use Rattle.law_played.proofs.Members.{has_first, has_later}
 
 -- what is found is there

@@ -61,13 +61,13 @@ use Rattle.law_played.specs.Telling.{AreNumbered, place_of}
 use Rattle.law_played.specs.Replies.{reply_shown}
 use Rattle.law_played.specs.Stuck.{draw_waits, has_older, has_open_point, holdings_at_end}
 use Rattle.law_played.specs.Worlds.{World, actor_turn, answer_tested, at_now, done_now, release_asked, reply_now, reply_on, with_call, with_list}
-use Rattle.law_played.proofs.Advancing.{released_token}
+use Rattle.law_played.proofs.RunGrowth.{released_token}
 use Rattle.law_played.proofs.AsQueued.{one_passes}
-use Rattle.law_played.proofs.Keeping.{got_has, set_has}
+use Rattle.law_played.proofs.StepKeepsTold.{got_has, set_has}
 use Rattle.law_played.proofs.Members.{has_cases, has_first, has_found, has_map, has_none}
 use Rattle.law_played.proofs.SteppingLemmas.{done_is, in_time, none_open, turn_is}
-use Rattle.law_played.proofs.Stopping.{final_is}
-use Rattle.law_played.proofs.Tracing.{are_traced, head_apart, played_by, rising_later, told_legal, trace_here}
+use Rattle.law_played.proofs.StuckActors.{final_is}
+use Rattle.law_played.proofs.RunTraces.{are_traced, head_apart, played_by, rising_later, told_legal, trace_here}
 
 module _ {B : Type 0} where
   -- the traces of all others stay

@@ -33,8 +33,8 @@ use Rattle.law_played.specs.Histories.{AreHistories, IsCaller, IsHistory, IsRele
 use Rattle.law_played.specs.Replies.{AnswerSteps, replies_due, replies_in, replies_to, reply_shown}
 use Rattle.law_played.specs.Runs.{calls_of}
 use Rattle.law_played.specs.Telling.{AreNumbered, AreReleases, TellReplies, arrival_recorded, call_recorded}
-use Rattle.law_played.proofs.Bringing.{is_actor}
-use Rattle.law_played.proofs.Tracing.{played_by, told_legal, trace_here}
+use Rattle.law_played.proofs.ArrivedFrames.{is_actor}
+use Rattle.law_played.proofs.RunTraces.{played_by, told_legal, trace_here}
 
 -- a map of a map
 pub map_twice : {X Y Z : Type 0} (f : X → Y) (g : Y → Z) (xs : List X) → map g (map f xs) ≡ map (λ x. g (f x)) xs

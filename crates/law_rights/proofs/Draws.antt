@@ -35,16 +35,16 @@ use Rattle.law_rights.specs.Makers.{RightAt, WriteAt, place_of, place_owed, plac
 use Rattle.law_rights.specs.Moves.{AreIn, Gets, HasAtMost}
 use Rattle.law_rights.specs.States.{State, ledger_of}
 use Rattle.law_rights.specs.Tries.{AnswersAs, TriesIn, WritesTry}
-use Rattle.law_rights.proofs.Acting.{held_sum, none_sent, owed_lose, owed_there, written_get}
-use Rattle.law_rights.proofs.Counting.{first, none_in}
-use Rattle.law_rights.proofs.Handling.{set_most, set_none, weight_is}
+use Rattle.law_rights.proofs.ActorChanges.{held_sum, none_sent, owed_lose, owed_there, written_get}
+use Rattle.law_rights.proofs.TurnCounts.{first, none_in}
+use Rattle.law_rights.proofs.BindingChanges.{set_most, set_none, weight_is}
 use Rattle.law_rights.proofs.MakersTurns.{write_at}
-use Rattle.law_rights.proofs.Marking.{in_all}
-use Rattle.law_rights.proofs.Owing.{gets_push, gets_same, gets_set, loses_set, bindings_owe, got_there}
-use Rattle.law_rights.proofs.Placing.{Went, owed_in, owed_writes, rest_turns, rests_went}
+use Rattle.law_rights.proofs.QueueCounts.{in_all}
+use Rattle.law_rights.proofs.OwedDrawings.{gets_push, gets_same, gets_set, loses_set, bindings_owe, got_there}
+use Rattle.law_rights.proofs.PlaceChanges.{Went, owed_in, owed_writes, rest_turns, rests_went}
 use Rattle.law_rights.proofs.Quiet.{bindings_only, rests_keeps, same_bindings}
-use Rattle.law_rights.proofs.Resting.{pay_keeps}
-use Rattle.law_rights.proofs.Trying.{bindings_weight}
+use Rattle.law_rights.proofs.SilentSteps.{pay_keeps}
+use Rattle.law_rights.proofs.CallTryLedger.{bindings_weight}
 
 -- a token is put back where it was
 put_back : {A : Type 0} (xs : List (Option A)) (i : ℕ) (y : A) → get_or xs i None ≡ Some y → set (set xs i None) i (Some y) ≡ xs

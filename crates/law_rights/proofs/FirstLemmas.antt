@@ -30,7 +30,7 @@ use Rattle.law_played.specs.Stuck.{has_older, holdings_at_end, owings_left, owin
 use Rattle.law_played.specs.Turns.{calls_in, maker_at}
 use Rattle.law_played.proofs.AsQueued.{one_passes}
 use Rattle.law_played.proofs.Members.{filter_has, has_here, has_joined, map_has}
-use Rattle.law_played.proofs.Tracing.{played_by, trace_here}
+use Rattle.law_played.proofs.RunTraces.{played_by, trace_here}
 use Rattle.law_rights.specs.Actors.{AreOver}
 use Rattle.law_rights.specs.Ledgers.{IsLedger, Write}
 use Rattle.law_rights.specs.Makers.{MakersStand, WriteAt, buffer_of, maker_in, places_of}
@@ -38,13 +38,13 @@ use Rattle.law_rights.specs.Older.{IsHeld}
 use Rattle.law_rights.specs.Owed.{MayDraw}
 use Rattle.law_rights.specs.Standing.{LedgerStands, state_of}
 use Rattle.law_rights.specs.States.{State, ledger_of, owed_of, write_owed}
-use Rattle.law_rights.proofs.Counting.{none_in, the_only}
-use Rattle.law_rights.proofs.Looking.{below_left}
+use Rattle.law_rights.proofs.TurnCounts.{none_in, the_only}
+use Rattle.law_rights.proofs.LookResults.{below_left}
 use Rattle.law_rights.proofs.MakersTelling.{held_told, traced_back, turn_there, write_there}
-use Rattle.law_rights.proofs.Marking.{in_some}
+use Rattle.law_rights.proofs.QueueCounts.{in_some}
 use Rattle.law_rights.proofs.OlderLemmas.{get_there}
 use Rattle.law_rights.proofs.OwedTraces.{owed_unwritten}
-use Rattle.law_rights.proofs.Stocking.{made_in_stocks}
+use Rattle.law_rights.proofs.PermitStock.{made_in_stocks}
 
 pub both_met : (a b : Bool) → (a && b) ≡ true → (a ≡ true) × (b ≡ true)
 both_met true b e = (refl, e)

@@ -25,13 +25,13 @@ use Rattle.law_rights.specs.Makers.{RightAt, place_owed, places_arrived, places_
 use Rattle.law_rights.specs.Moves.{Gets}
 use Rattle.law_rights.specs.States.{State, ledger_of}
 use Rattle.law_rights.specs.Tries.{AnswersAs, TriesIn}
-use Rattle.law_rights.proofs.Handling.{set_most, set_none}
-use Rattle.law_rights.proofs.Making.{dropped_less, dropped_owes, makes_keep}
-use Rattle.law_rights.proofs.Owing.{gets_same, bindings_owe}
-use Rattle.law_rights.proofs.Placing.{Went}
+use Rattle.law_rights.proofs.BindingChanges.{set_most, set_none}
+use Rattle.law_rights.proofs.CallTries.{dropped_less, dropped_owes, makes_keep}
+use Rattle.law_rights.proofs.OwedDrawings.{gets_same, bindings_owe}
+use Rattle.law_rights.proofs.PlaceChanges.{Went}
 use Rattle.law_rights.proofs.Quiet.{bindings_only, rests_keeps, same_bindings}
-use Rattle.law_rights.proofs.Summing.{sum-flat_map}
-use Rattle.law_rights.proofs.Trying.{FromHere, bindings_weight}
+use Rattle.law_rights.proofs.ListSums.{sum-flat_map}
+use Rattle.law_rights.proofs.CallTryLedger.{FromHere, bindings_weight}
 
 -- what is counted of the rights in transactions
 abbrev txn_weight : (RightAt → ℕ) → Option (Contents ReadLeaseOf) → ℕ

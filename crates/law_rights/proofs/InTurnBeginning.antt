@@ -15,8 +15,8 @@ use Rattle.law_played.specs.Runs.{rising_actors, steps_by}
 use Rattle.law_played.proofs.Members.{map_has}
 use Rattle.law_rights.specs.InTurn.{DrawsStand}
 use Rattle.law_rights.specs.Standing.{Begins, IsFresh}
-use Rattle.law_rights.proofs.Counting.{none_in}
-use Rattle.law_rights.proofs.Marking.{in_some}
+use Rattle.law_rights.proofs.TurnCounts.{none_in}
+use Rattle.law_rights.proofs.QueueCounts.{in_some}
 
 none_done : (trace : List Done) (at : DoneAt) → trace ≡ [] → Contains (places_of trace) at → ⊥
 unfolding places_from

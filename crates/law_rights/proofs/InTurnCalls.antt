@@ -36,14 +36,14 @@ use Rattle.law_rights.specs.MakerSteps.{PlaceStep, PlacesTold, RunGets, RunTold}
 use Rattle.law_rights.specs.Places.{WasAt}
 use Rattle.law_rights.specs.PlaceTries.{RestsIn, ReturnAll, ReturnsIn}
 use Rattle.law_rights.specs.States.{State, ledger_of}
-use Rattle.law_rights.proofs.Counting.{first, none_in, the_only}
-use Rattle.law_rights.proofs.Framing.{frame_is_next, frames_more}
+use Rattle.law_rights.proofs.TurnCounts.{first, none_in, the_only}
+use Rattle.law_rights.proofs.FrameNumbers.{frame_is_next, frames_more}
 use Rattle.law_rights.proofs.InTurnKeeping.{Arrives, IsNext, turn_stays}
 use Rattle.law_rights.proofs.MakersGoing.{run_told}
 use Rattle.law_rights.proofs.MakersRunning.{call_stands, calls_more, release_attaches, rests_stand, run_gets}
 use Rattle.law_rights.proofs.MakersStanding.{told_is}
 use Rattle.law_rights.proofs.MakersTurns.{turn_at, turns_of, write_at, write_told, writes_of}
-use Rattle.law_rights.proofs.Stepping.{call_keeps}
+use Rattle.law_rights.proofs.CallKeepsState.{call_keeps}
 
 -- a call that lends nothing to an actor before a step leaves what was queued at the lending
 abbrev counts_for : ℕ → ℕ → ℕ → Entry → Bool

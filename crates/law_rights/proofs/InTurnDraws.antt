@@ -39,8 +39,8 @@ use Rattle.law_played.specs.Actors.{AreActors, run_of, script_of, trace_among}
 use Rattle.law_played.specs.Runs.{StepBy, rising_actors, steps_by, steps_in}
 use Rattle.law_played.specs.Turns.{calls_in, frames_at_lending, is_queued, lends, maker_at, turn_frame}
 use Rattle.law_played.proofs.Members.{has_here, has_joined, has_map}
-use Rattle.law_played.proofs.Rising.{rising_actors_are}
-use Rattle.law_played.proofs.Tracing.{trace_here}
+use Rattle.law_played.proofs.RisingNumbers.{rising_actors_are}
+use Rattle.law_played.proofs.RunTraces.{trace_here}
 use Rattle.law_rights.specs.Actors.{AreOver}
 use Rattle.law_rights.specs.Calls.{write_of, writes_in}
 use Rattle.law_rights.specs.InTurn.{IsInTurn, WasWritten, frames_on}
@@ -50,16 +50,16 @@ use Rattle.law_rights.specs.Older.{IsHeld}
 use Rattle.law_rights.specs.Owed.{MayDraw}
 use Rattle.law_rights.specs.Standing.{LedgerStands, state_of}
 use Rattle.law_rights.specs.States.{State, ledger_of}
-use Rattle.law_rights.proofs.Counting.{first}
+use Rattle.law_rights.proofs.TurnCounts.{first}
 use Rattle.law_rights.proofs.FirstLemmas.{both_met, made_there, one_maker_is, queued_first}
-use Rattle.law_rights.proofs.Framing.{frame_counts, frames_below, frames_in, frames_more}
+use Rattle.law_rights.proofs.FrameNumbers.{frame_counts, frames_below, frames_in, frames_more}
 use Rattle.law_rights.proofs.InTurnCalls.{live_turn, write_known}
-use Rattle.law_rights.proofs.Looking.{below_left}
-use Rattle.law_rights.proofs.Lying.{events_more}
+use Rattle.law_rights.proofs.LookResults.{below_left}
+use Rattle.law_rights.proofs.SlotRights.{events_more}
 use Rattle.law_rights.proofs.MakersTelling.{right_there, traced_back, turn_there, write_there}
 use Rattle.law_rights.proofs.MakersTracing.{places_within}
-use Rattle.law_rights.proofs.Marking.{in_some, mark_only}
-use Rattle.law_rights.proofs.Stocking.{made_in_stocks}
+use Rattle.law_rights.proofs.QueueCounts.{in_some, mark_only}
+use Rattle.law_rights.proofs.PermitStock.{made_in_stocks}
 
 -- how many replies queued a frame
 abbrev queued_in : List Entry → ℕ

@@ -39,20 +39,20 @@ use Rattle.sf_actor.specs.Written.{FrameNumber, paid_at, written_at}
 use Rattle.law_played.specs.Actors.{AreActors, run_of, script_of}
 use Rattle.law_played.specs.Runs.{StepBy, rising_actors, steps_by, steps_in}
 use Rattle.law_played.specs.Turns.{ComesAfter, DrawAfterOwed, EntersAfter, Paid, entered_by, is_earlier, maker_at, owed_by_step, owed_if, owed_in, paid_by, payments_in, pays_before, turn_frame}
-use Rattle.law_played.proofs.Bringing.{any_passes}
+use Rattle.law_played.proofs.ArrivedFrames.{any_passes}
 use Rattle.law_played.proofs.Members.{has_joined, has_map, map_has}
-use Rattle.law_played.proofs.Rising.{rising_actors_are}
-use Rattle.law_played.proofs.Tracing.{own_told, trace_here}
+use Rattle.law_played.proofs.RisingNumbers.{rising_actors_are}
+use Rattle.law_played.proofs.RunTraces.{own_told, trace_here}
 use Rattle.law_rights.specs.InTurn.{DrawsStand, IsEarlier, IsInTurn, WasWritten}
 use Rattle.law_rights.specs.Makers.{WriteAt, buffer_of, place_written, places_of, places_written}
 use Rattle.law_rights.specs.Queuing.{QueuesFrame}
 use Rattle.law_rights.specs.Standing.{state_of}
 use Rattle.law_rights.specs.States.{is_queue}
-use Rattle.law_rights.proofs.Counting.{first, in_front, none_in, the_only}
-use Rattle.law_rights.proofs.Marking.{in_all, in_some, mark_there}
+use Rattle.law_rights.proofs.TurnCounts.{first, in_front, none_in, the_only}
+use Rattle.law_rights.proofs.QueueCounts.{in_all, in_some, mark_there}
 use Rattle.law_rights.proofs.OwedTraces.{OwedNow, owed_now}
-use Rattle.law_rights.proofs.Paying.{wrote_paid}
-use Rattle.law_rights.proofs.Queuing.{EntryOf, entry_of}
+use Rattle.law_rights.proofs.PaidDrawings.{wrote_paid}
+use Rattle.law_rights.proofs.QueueSteps.{EntryOf, entry_of}
 
 -- what a step left owed
 record LeftOwed (at : DoneAt) (token : Token) : Type 0 where

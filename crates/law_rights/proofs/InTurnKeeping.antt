@@ -11,7 +11,7 @@ use Rattle.law_rights.specs.Makers.{AreFollowed, AreMade, GoesOn, IsTraced, Plac
 use Rattle.law_rights.specs.Places.{WasAt}
 use Rattle.law_rights.specs.Stays.{AreStays, IsBefore, IsFirst, maker_of}
 use Rattle.law_rights.proofs.FirstLemmas.{before_means, both_met, one_maker_is}
-use Rattle.law_rights.proofs.Following.{followed_back}
+use Rattle.law_rights.proofs.BufferOrigins.{followed_back}
 use Rattle.law_rights.proofs.MakersComing.{first_made}
 use Rattle.law_rights.proofs.MakersKeeping.{made_on, stays_on}
 use Rattle.law_rights.proofs.MakersTelling.{one_made}

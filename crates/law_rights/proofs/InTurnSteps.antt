@@ -53,7 +53,7 @@ use Rattle.law_played.specs.Actors.{AreActors, trace_among}
 use Rattle.law_played.specs.Runs.{StepBy, rising_actors, steps_by, steps_in}
 use Rattle.law_played.specs.Turns.{calls_in, entered_by, token_in}
 use Rattle.law_played.proofs.Members.{has_joined, has_map, map_has}
-use Rattle.law_played.proofs.Tracing.{trace_here}
+use Rattle.law_played.proofs.RunTraces.{trace_here}
 use Rattle.law_rights.specs.Actors.{AreOver}
 use Rattle.law_rights.specs.InTurn.{AreInTurn, DrawsStand, IsInTurn}
 use Rattle.law_rights.specs.MakerRuns.{AreDeclared, MakersPlay, run_in}
@@ -62,18 +62,18 @@ use Rattle.law_rights.specs.Owed.{MayDraw}
 use Rattle.law_rights.specs.PlaceTries.{PlacesGo, TellsPlaces}
 use Rattle.law_rights.specs.Standing.{LedgerStands, VsyncIn, home_taken, state_of}
 use Rattle.law_rights.specs.States.{State}
-use Rattle.law_rights.proofs.Counting.{none_in, the_only}
+use Rattle.law_rights.proofs.TurnCounts.{none_in, the_only}
 use Rattle.law_rights.proofs.FirstLemmas.{both_met, the_some}
 use Rattle.law_rights.proofs.InTurnCalls.{late_in_turn, live_turn, returns_in_turn}
 use Rattle.law_rights.proofs.InTurnDraws.{enters_in_turn}
 use Rattle.law_rights.proofs.InTurnKeeping.{turn_stays}
 use Rattle.law_rights.proofs.MakersPlayed.{attached_is, by_it, called_once, grown, grows, kept, on, same_number, same_ofs}
 use Rattle.law_rights.proofs.MakersTracing.{places_within, trace_other}
-use Rattle.law_rights.proofs.Marking.{in_some}
+use Rattle.law_rights.proofs.QueueCounts.{in_some}
 use Rattle.law_rights.proofs.OlderLemmas.{get_there}
-use Rattle.law_rights.proofs.Played.{got_has, is_kept, next_done, step_goes}
-use Rattle.law_rights.proofs.Standing.{vsync_returns}
-use Rattle.law_rights.proofs.Telling.{at_end, places_with}
+use Rattle.law_rights.proofs.StepLedger.{got_has, is_kept, next_done, step_goes}
+use Rattle.law_rights.proofs.VsyncLedger.{vsync_returns}
+use Rattle.law_rights.proofs.StepMoves.{at_end, places_with}
 
 -- a step that enters what a name holds
 record EntersName (holdings : Holdings) (s : Step) (answer : Answered) (token : Token) : Type 0 where

@@ -18,9 +18,9 @@ use Rattle.law_rights.specs.Calls.{buffers_in}
 use Rattle.law_rights.specs.Makers.{MakersStand, RightAt, WriteAt, place_of, place_owed, places_arrived, places_held, places_in, places_lying, places_of, places_out, places_owed, places_written, right_read}
 use Rattle.law_rights.specs.Standing.{Begins, IsFresh, state_of}
 use Rattle.law_rights.specs.Vsyncs.{lease_on}
-use Rattle.law_rights.proofs.Counting.{none_in}
+use Rattle.law_rights.proofs.TurnCounts.{none_in}
 use Rattle.law_rights.proofs.MakersCalling.{LiesAt, lies_at}
-use Rattle.law_rights.proofs.Marking.{in_some}
+use Rattle.law_rights.proofs.QueueCounts.{in_some}
 
 drop_none : {A : Type 0} (n : ℕ) → drop {A = A} n [] ≡ []
 drop_none zero = refl

@@ -33,12 +33,12 @@ use Rattle.sf_actor.specs.Rights.{turn_by}
 use Rattle.law_rights.specs.MakerCalls.{IsNewAt, WasIn, brought_at, given_at, right_written}
 use Rattle.law_rights.specs.Makers.{RightAt, place_left, place_lying, places_lying, right_read}
 use Rattle.law_rights.specs.Slots.{is_home_after}
-use Rattle.law_rights.proofs.Answering.{acquired_waits, lent_again_home, lent_below, queued_below, released_below}
-use Rattle.law_rights.proofs.Balancing.{all_below, homes}
-use Rattle.law_rights.proofs.Counting.{first, later, none_in, the_only}
+use Rattle.law_rights.proofs.SlotAnswers.{acquired_waits, lent_again_home, lent_below, queued_below, released_below}
+use Rattle.law_rights.proofs.CallBalance.{all_below, homes}
+use Rattle.law_rights.proofs.TurnCounts.{first, later, none_in, the_only}
 use Rattle.law_rights.proofs.Homes.{ComeHome, StayHome, queued_home}
-use Rattle.law_rights.proofs.Homing.{HomesAfter, slot_filled}
-use Rattle.law_rights.proofs.Marking.{in_all, in_some}
+use Rattle.law_rights.proofs.RightPlaces.{HomesAfter, slot_filled}
+use Rattle.law_rights.proofs.QueueCounts.{in_all, in_some}
 
 in_range : (from many s : ℕ) → from ≤ s → s < from + many → Contains (range_with_len from many) s
 in_range from zero s low high = absurd (omega (arith, low, high))

@@ -6,7 +6,7 @@ use Rattle.sf_actor.specs.Makers.{BufferOf, Maker, Run}
 use Rattle.law_rights.specs.Makers.{AreFollowed, AreMade, GoesOn, IsStay, IsTraced, Places, RightAt, Stays, WasMade, WriteAt, buffer_of, maker_in}
 use Rattle.law_rights.specs.Places.{AttachesTo, ComesTo, MakesAt, WasAt}
 use Rattle.law_rights.specs.Stays.{AreStays, IsBefore, first_stay, maker_of}
-use Rattle.law_rights.proofs.Counting.{in_front}
+use Rattle.law_rights.proofs.TurnCounts.{in_front}
 use Rattle.law_rights.proofs.MakersKeeping.{traced_on}
 
 -- one buffer of a queue, or two

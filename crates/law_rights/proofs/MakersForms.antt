@@ -15,7 +15,7 @@ use Rattle.law_rights.specs.Makers.{AreFollowed, Places, RightAt, Stays, WriteAt
 use Rattle.law_rights.specs.MakerSteps.{PlacesTold, RunTold}
 use Rattle.law_rights.specs.Moves.{AreIn, Gets}
 use Rattle.law_rights.specs.Places.{AttachesTo, ComesTo, MakesAt, QueuesAt, WasAt}
-use Rattle.law_rights.proofs.Counting.{first}
+use Rattle.law_rights.proofs.TurnCounts.{first}
 use Rattle.law_rights.proofs.MakersComing.{attach_keeps, make_keeps}
 use Rattle.law_rights.proofs.MakersKeeping.{queue_keeps, rest_keeps, run_keeps}
 

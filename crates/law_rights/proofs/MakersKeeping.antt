@@ -5,7 +5,7 @@ use Rattle.sf_actor.specs.Makers.{BufferOf, Run}
 use Rattle.law_rights.specs.Makers.{AreFollowed, AreMade, GoesOn, IsStay, IsTraced, Places, RightAt, Rises, Stays, WriteAt, buffer_of, maker_in}
 use Rattle.law_rights.specs.Places.{QueuesAt, RestsAt, WasAt}
 use Rattle.law_rights.specs.Stays.{AreStays}
-use Rattle.law_rights.proofs.Counting.{first, in_front, later}
+use Rattle.law_rights.proofs.TurnCounts.{first, in_front, later}
 
 pub made_on : (old new : Run) → GoesOn old new → (stays : List BufferOf) → AreMade old stays → AreMade new stays
 made_on old new on [] all = tt

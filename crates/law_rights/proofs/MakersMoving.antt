@@ -22,7 +22,7 @@ use Rattle.law_rights.specs.MakerCalls.{brought_at, given_at}
 use Rattle.law_rights.specs.Makers.{RightAt, places_lying, places_of, places_out}
 use Rattle.law_rights.specs.MakerSteps.{PlaceStep}
 use Rattle.law_rights.specs.States.{State, ledger_of}
-use Rattle.law_rights.proofs.Counting.{at_least, count_at, first, is_at}
+use Rattle.law_rights.proofs.TurnCounts.{at_least, count_at, first, is_at}
 use Rattle.law_rights.proofs.MakersStepping.{counted_at, is_right, is_same, same_right, told_before, told_or_new}
 use Rattle.law_rights.proofs.MakersTurns.{turn_at, turns_of}
 

@@ -25,8 +25,8 @@ use Rattle.sf_surface.specs.Histories.{Made, caller, told, told_entry, told_repl
 use Rattle.sf_actor.specs.Makers.{making_of, makes}
 use Rattle.law_rights.specs.MakerCalls.{IsNewAt}
 use Rattle.law_rights.specs.Makers.{RightAt}
-use Rattle.law_rights.proofs.Answering.{given_then}
-use Rattle.law_rights.proofs.Lying.{events_more}
+use Rattle.law_rights.proofs.SlotAnswers.{given_then}
+use Rattle.law_rights.proofs.SlotRights.{events_more}
 
 -- events make no buffer fewer
 buffers_grow : (happens es : List Event) → buffers_made es ≤ buffers_made (happening happens es)

@@ -36,8 +36,8 @@ use Rattle.sf_actor_set.specs.ActorSets.{KeepAs, KeepsAs, StepsAt, scripts_of}
 use Rattle.law_played.specs.Actors.{AreActors, number_of, run_of, told_on, trace_among}
 use Rattle.law_played.specs.Stopping.{TellsOlder}
 use Rattle.law_played.specs.Turns.{calls_in, maker_at}
-use Rattle.law_played.proofs.Stopping.{run_stays}
-use Rattle.law_played.proofs.Tracing.{own_told, trace_here}
+use Rattle.law_played.proofs.StuckActors.{run_stays}
+use Rattle.law_played.proofs.RunTraces.{own_told, trace_here}
 use Rattle.law_rights.specs.Actors.{AreOver}
 use Rattle.law_rights.specs.MakerRuns.{AreDeclared, MakersPlay, run_in}
 use Rattle.law_rights.specs.Makers.{GoesOn, MakersStand, places_of as all_places}
@@ -50,8 +50,8 @@ use Rattle.law_rights.proofs.MakersRunning.{call_stands, returns_stand}
 use Rattle.law_rights.proofs.MakersTelling.{makers_tell}
 use Rattle.law_rights.proofs.MakersTracing.{AreDone, call_within, got_end, trace_now, trace_other, traces_go_on}
 use Rattle.law_rights.proofs.OlderLemmas.{tells_older}
-use Rattle.law_rights.proofs.Played.{got_has, is_kept, next_done, set_same, step_goes, was_kept}
-use Rattle.law_rights.proofs.Standing.{vsync_returns}
+use Rattle.law_rights.proofs.StepLedger.{got_has, is_kept, next_done, set_same, step_goes, was_kept}
+use Rattle.law_rights.proofs.VsyncLedger.{vsync_returns}
 
 pub called_once : {A : Type 0} (x : A) (xs : List A) → x ∷ xs ≡ xs → ⊥
 called_once x xs same = let e = ap length same in omega (arith, e)

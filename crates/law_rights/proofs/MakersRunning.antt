@@ -31,11 +31,11 @@ use Rattle.law_rights.specs.Makers.{MakersStand}
 use Rattle.law_rights.specs.MakerSteps.{PlaceStep, RunGets}
 use Rattle.law_rights.specs.PlaceTries.{RestsIn, ReturnAll, ReturnsIn}
 use Rattle.law_rights.specs.States.{State, ledger_of}
-use Rattle.law_rights.proofs.Counting.{in_front}
+use Rattle.law_rights.proofs.TurnCounts.{in_front}
 use Rattle.law_rights.proofs.MakersKeeping.{rest_keeps}
 use Rattle.law_rights.proofs.MakersStanding.{makers_stand}
-use Rattle.law_rights.proofs.Marking.{mark_there}
-use Rattle.law_rights.proofs.Stepping.{call_keeps}
+use Rattle.law_rights.proofs.QueueCounts.{mark_there}
+use Rattle.law_rights.proofs.CallKeepsState.{call_keeps}
 
 -- lists joined of others that are no shorter, one of which is longer
 module _ {X Y : Type 0} (f g : X → List Y) (grows : (x : X) → length (f x) ≤ length (g x)) where

@@ -21,8 +21,8 @@ use Rattle.law_rights.specs.MakerSteps.{PlaceStep, PlacesTold, RunGets}
 use Rattle.law_rights.specs.Moves.{made_by}
 use Rattle.law_rights.specs.Places.{WasAt}
 use Rattle.law_rights.specs.States.{State, ledger_of}
-use Rattle.law_rights.proofs.Balancing.{homes}
-use Rattle.law_rights.proofs.Counting.{first}
+use Rattle.law_rights.proofs.CallBalance.{homes}
+use Rattle.law_rights.proofs.TurnCounts.{first}
 use Rattle.law_rights.proofs.MakersCalling.{lies_at, lies_in, lies_still}
 use Rattle.law_rights.proofs.MakersForms.{form_keeps}
 use Rattle.law_rights.proofs.MakersGoing.{run_told}

@@ -20,10 +20,10 @@ use Rattle.law_rights.specs.MakerSteps.{PlaceStep}
 use Rattle.law_rights.specs.Moves.{Gets}
 use Rattle.law_rights.specs.Places.{WasAt}
 use Rattle.law_rights.specs.States.{CallsOnce, State, all_buffers, is_queue}
-use Rattle.law_rights.proofs.Calling.{buffers_move, move_makes}
-use Rattle.law_rights.proofs.Counting.{first, in_front, later, none_in}
+use Rattle.law_rights.proofs.CallEffects.{buffers_move, move_makes}
+use Rattle.law_rights.proofs.TurnCounts.{first, in_front, later, none_in}
 use Rattle.law_rights.proofs.MakersCalling.{call_places}
-use Rattle.law_rights.proofs.Marking.{in_all, in_some, mark_only, mark_there}
+use Rattle.law_rights.proofs.QueueCounts.{in_all, in_some, mark_only, mark_there}
 
 -- one right at one place, or two
 pub is_same : RightAt → RightAt → Bool

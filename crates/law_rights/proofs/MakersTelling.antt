@@ -19,7 +19,7 @@ use Rattle.law_rights.specs.Makers.{IsTraced, MakersStand, RightAt, Stays, Write
 use Rattle.law_rights.specs.Older.{IsHeld, MakersTell}
 use Rattle.law_rights.specs.Owed.{MayDraw}
 use Rattle.law_rights.specs.States.{State, all_lying, lease_turn, ledger_of, right_of, rights_arrived, rights_held, rights_in, rights_of}
-use Rattle.law_rights.proofs.Following.{followed_back}
+use Rattle.law_rights.proofs.BufferOrigins.{followed_back}
 
 -- what is traced is followed to its maker
 pub traced_back : (run : Run) (most : ℕ) (stays : Stays) (stay : BufferOf) → IsTraced run most stays stay → followed most run stay ≡ maker_in stays stay

@@ -24,14 +24,14 @@ use Rattle.law_rights.specs.Makers.{RightAt, WriteAt, place_written, places_lyin
 use Rattle.law_rights.specs.MakerSteps.{PlaceStep, PlacesTold}
 use Rattle.law_rights.specs.Moves.{AreIn}
 use Rattle.law_rights.specs.States.{State, ledger_of}
-use Rattle.law_rights.proofs.Answering.{queued_below}
-use Rattle.law_rights.proofs.Calling.{move_makes}
-use Rattle.law_rights.proofs.Counting.{first, none_in, the_only}
-use Rattle.law_rights.proofs.Framing.{frame_is_next, frames_below, frames_in}
+use Rattle.law_rights.proofs.SlotAnswers.{queued_below}
+use Rattle.law_rights.proofs.CallEffects.{move_makes}
+use Rattle.law_rights.proofs.TurnCounts.{first, none_in, the_only}
+use Rattle.law_rights.proofs.FrameNumbers.{frame_is_next, frames_below, frames_in}
 use Rattle.law_rights.proofs.MakersCalling.{own_queued}
 use Rattle.law_rights.proofs.MakersStepping.{live_from, made_get, queued_get}
 use Rattle.law_rights.proofs.MakersTurns.{turn_at, turns_of, write_at, write_told, writes_of}
-use Rattle.law_rights.proofs.Marking.{in_some, mark_only, mark_there}
+use Rattle.law_rights.proofs.QueueCounts.{in_some, mark_only, mark_there}
 
 module _ {B : Type 0} (old new : State B) (by queue step : ℕ) (asked : QCall B) (reply : QReply B) (from : BufferOf) (made : PlaceStep old new by queue step asked reply from) (is : IsLedger (ledger_of old)) where
   abbrev mark : QueueMark

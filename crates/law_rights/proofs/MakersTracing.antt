@@ -21,11 +21,11 @@ use Rattle.sf_actor.specs.Tries.{ActorOf}
 use Rattle.law_played.specs.Actors.{number_of, trace_among}
 use Rattle.law_played.specs.Runs.{calls_of}
 use Rattle.law_played.proofs.Members.{filter_has, has_filter, has_reverse, joined_has, map_has, zip_has}
-use Rattle.law_played.proofs.Tracing.{trace_here}
-use Rattle.law_rights.proofs.Counting.{first, in_front, later, none_in, the_only}
-use Rattle.law_rights.proofs.Ordering.{places_late}
-use Rattle.law_rights.proofs.Played.{got_has, got_set}
-use Rattle.law_rights.proofs.Telling.{at_end, places_with}
+use Rattle.law_played.proofs.RunTraces.{trace_here}
+use Rattle.law_rights.proofs.TurnCounts.{first, in_front, later, none_in, the_only}
+use Rattle.law_rights.proofs.DrawOrder.{places_late}
+use Rattle.law_rights.proofs.StepLedger.{got_has, got_set}
+use Rattle.law_rights.proofs.StepMoves.{at_end, places_with}
 use Rattle.law_rights.specs.Makers.{GoesOn}
 
 module _ {A : Type 0} where

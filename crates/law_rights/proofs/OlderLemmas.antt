@@ -24,14 +24,14 @@ use Rattle.sf_actor.specs.Rights.{Turn}
 use Rattle.sf_actor.specs.Scripts.{picture_at}
 use Rattle.sf_actor.specs.Traces.{past_after}
 use Rattle.sf_actor.specs.Tries.{ActorOf, Keeps}
-use Rattle.law_played.proofs.Bringing.{any_passes}
+use Rattle.law_played.proofs.ArrivedFrames.{any_passes}
 use Rattle.law_played.proofs.Members.{has_filter, has_first, has_here, has_joined, has_later, has_map}
-use Rattle.law_played.proofs.Tracing.{trace_here}
+use Rattle.law_played.proofs.RunTraces.{trace_here}
 use Rattle.law_played.specs.Actors.{AreActors, run_of, script_of}
 use Rattle.law_played.specs.Stopping.{TellsOlder}
 use Rattle.law_played.specs.Stuck.{holdings_at_end, owings_left, owings_of}
 use Rattle.law_played.specs.Turns.{maker_at}
-use Rattle.law_rights.proofs.Waiting.{short_owed}
+use Rattle.law_rights.proofs.WaitingDraws.{short_owed}
 use Rattle.law_rights.specs.Actors.{AreOver}
 use Rattle.law_rights.specs.Older.{IsHeld, MakersTell}
 use Rattle.law_rights.specs.Owed.{MayDraw}

@@ -27,12 +27,12 @@ use Rattle.sf_actor.specs.Tries.{ActorOf, Keeps}
 use Rattle.sf_actor.specs.Written.{FrameNumber, paid_by, paid_frame, written_in}
 use Rattle.law_played.specs.Actors.{number_of, trace_among}
 use Rattle.law_played.proofs.Members.{has_map}
-use Rattle.law_played.proofs.Tracing.{trace_here}
+use Rattle.law_played.proofs.RunTraces.{trace_here}
 use Rattle.law_rights.specs.Queuing.{QueuesFrame}
-use Rattle.law_rights.proofs.Counting.{first, in_front, later, none_in, the_only}
-use Rattle.law_rights.proofs.Ordering.{places_late}
-use Rattle.law_rights.proofs.Paying.{name_queued, owed_was_paid, same_place}
-use Rattle.law_rights.proofs.Queuing.{queued_by_one}
+use Rattle.law_rights.proofs.TurnCounts.{first, in_front, later, none_in, the_only}
+use Rattle.law_rights.proofs.DrawOrder.{places_late}
+use Rattle.law_rights.proofs.PaidDrawings.{name_queued, owed_was_paid, same_place}
+use Rattle.law_rights.proofs.QueueSteps.{queued_by_one}
 
 -- what is in a place after one was set
 set_found : {X : Type 0} (xs : List (Option X)) (i j : ℕ) (y : Option X) (x : X) → get_or (set xs i y) j None ≡ Some x → ((j ≡ i) × (y ≡ Some x)) ⊎ (get_or xs j None ≡ Some x)

@@ -26,14 +26,14 @@ use Rattle.law_rights.specs.Makers.{RightAt, places_arrived, places_held, places
 use Rattle.law_rights.specs.Moves.{Gets, HasAtMost}
 use Rattle.law_rights.specs.States.{State, ledger_of}
 use Rattle.law_rights.specs.Tries.{AnswersAs, TriesIn, WritesTry}
-use Rattle.law_rights.proofs.Acting.{held_sum, none_sent, owed_get, written_get}
-use Rattle.law_rights.proofs.Fitting.{brought_back, brought_owes_none, fits_back}
-use Rattle.law_rights.proofs.Freeing.{forms_free, forms_owe}
-use Rattle.law_rights.proofs.Owing.{gets_more, gets_same, given_owes, bindings_owe, nothing_owes, owes_at}
-use Rattle.law_rights.proofs.Handling.{from_of}
-use Rattle.law_rights.proofs.Placing.{Went, owed_gets, rest_turns, rests_went}
-use Rattle.law_rights.proofs.Resting.{quiet_keeps}
-use Rattle.law_rights.proofs.Trying.{FromHere, forms_then}
+use Rattle.law_rights.proofs.ActorChanges.{held_sum, none_sent, owed_get, written_get}
+use Rattle.law_rights.proofs.ReplyFits.{brought_back, brought_owes_none, fits_back}
+use Rattle.law_rights.proofs.FreeNames.{forms_free, forms_owe}
+use Rattle.law_rights.proofs.OwedDrawings.{gets_more, gets_same, given_owes, bindings_owe, nothing_owes, owes_at}
+use Rattle.law_rights.proofs.BindingChanges.{from_of}
+use Rattle.law_rights.proofs.PlaceChanges.{Went, owed_gets, rest_turns, rests_went}
+use Rattle.law_rights.proofs.SilentSteps.{quiet_keeps}
+use Rattle.law_rights.proofs.CallTryLedger.{FromHere, forms_then}
 
 module _ {B : Type 0} (pictures : ℕ → Picture) (home : DeskHome) (place : ℕ) (s : Step) (came_to : Tried) (before after : Bindings B) (old new : State B) (tries : TriesIn pictures home place s came_to before after old new) where
   abbrev number : ℕ

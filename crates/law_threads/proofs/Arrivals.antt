@@ -14,7 +14,7 @@ use Rattle.sf_txn.specs.Transactions.{Contents}
 use Rattle.sf_actor.specs.Known.{ArriveWithout, arrivals_told, is_sent_by}
 use Rattle.sf_actor.proofs.GoingOn.{own_arrivals}
 use Rattle.sf_live_seats.specs.Arriving.{ArrivalCalls, Arrived, Arriving}
-use Rattle.law_threads.proofs.Counting.{mine_more, others_mine}
+use Rattle.law_threads.proofs.CallCounts.{mine_more, others_mine}
 use Rattle.law_threads.specs.Members.{bit, mine}
 
 -- what a caller sent of these, in order, without their places

@@ -5,15 +5,15 @@ use Rattle.std.proofs.lemmas.List.Elements.{Contains-append_cases}
 use Rattle.sf_surface.specs.Tokens.{ReadLeaseOf}
 use Rattle.sf_token.specs.Pending.{Arrival}
 use Rattle.law_rights.specs.States.{State}
-use Rattle.law_rights.proofs.Counting.{in_front, none_in, the_only}
+use Rattle.law_rights.proofs.TurnCounts.{in_front, none_in, the_only}
 use Rattle.law_threads.specs.Cuts.{AllGoBack, AreUnspent, Event, Forwards, GoesBack, GoesForward, IsPart, Lifts, Local, MakesAt, Moves, Returns, Whole, before, now, spot_of, stock_in, with_sent}
 use Rattle.law_threads.specs.Delays.{delayed}
 use Rattle.law_threads.specs.Orders.{ComesFirst, IsInTurn, Spot, events_in, is_spot, times_at}
 use Rattle.law_threads.specs.Sends.{meanwhile}
-use Rattle.law_threads.proofs.Carrying.{back_block, unspent}
-use Rattle.law_threads.proofs.Delaying.{Was, in_delayed, spot_was, times_delayed, times_there, turn_delayed}
-use Rattle.law_threads.proofs.Forwarding.{forward_was, part_put, same_spot}
-use Rattle.law_threads.proofs.Ordering.{times_joined}
+use Rattle.law_threads.proofs.EventLaws.{back_block, unspent}
+use Rattle.law_threads.proofs.DelayedCalls.{Was, in_delayed, spot_was, times_delayed, times_there, turn_delayed}
+use Rattle.law_threads.proofs.SentOnTheirWay.{forward_was, part_put, same_spot}
+use Rattle.law_threads.proofs.LeastStamp.{times_joined}
 
 same_some : {A : Type 0} (x y : A) → Some x ≡ Some y → x ≡ y
 same_some x y same = cc

@@ -20,9 +20,9 @@ use Rattle.law_threads.specs.Lifts.{AllGiven, Comes, Given, GivesAll, LearnsOnly
 use Rattle.law_threads.specs.Lifts.Comes.{Calling, Giving, Quietly, Sending}
 use Rattle.law_threads.specs.Orders.{Spot}
 use Rattle.law_threads.proofs.Arrivals.{IsOwn, NoTakes, find_own, firsts, own_first, own_known, own_more, own_without, sent_own}
-use Rattle.law_threads.proofs.Arriving.{SendsGoForward}
-use Rattle.law_threads.proofs.Coming.{all_begin}
-use Rattle.law_threads.proofs.Counting.{IsAt, mine_beyond, mine_more, mine_without}
+use Rattle.law_threads.proofs.ArrivalEvents.{SendsGoForward}
+use Rattle.law_threads.proofs.TryOutcomes.{all_begin}
+use Rattle.law_threads.proofs.CallCounts.{IsAt, mine_beyond, mine_more, mine_without}
 use Rattle.law_threads.proofs.Lines.{AllAt, AllBack, AnyPiece, Back, Piece, Post, SendPiece, backs_at, leases_of, spot_at}
 use Rattle.law_threads.proofs.Locals.{got_at}
 use Rattle.law_threads.specs.Members.{bit, mine, total_in}

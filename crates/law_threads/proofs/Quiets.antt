@@ -33,15 +33,15 @@ use Rattle.sf_actor_steps.specs.Forming.{FormsCall, Takes}
 use Rattle.sf_actor_steps.specs.Bindings.{holdings_of}
 use Rattle.law_rights.specs.Makers.{RightAt, WriteAt, place_of, place_owed, places_held, places_sent, right_read}
 use Rattle.law_rights.specs.Moves.{AreIn, Gets}
-use Rattle.law_rights.proofs.Counting.{first, none_in}
-use Rattle.law_rights.proofs.Fitting.{brought_back, brought_owes_none, fits_back}
+use Rattle.law_rights.proofs.TurnCounts.{first, none_in}
+use Rattle.law_rights.proofs.ReplyFits.{brought_back, brought_owes_none, fits_back}
 use Rattle.law_rights.proofs.Forms.{edits_names, edits_sum, names_owe, put_txn, take_txn}
-use Rattle.law_rights.proofs.Freeing.{forms_free, forms_owe, takes_owes}
-use Rattle.law_rights.proofs.Handling.{from_of, set_most, set_none, weight_is}
-use Rattle.law_rights.proofs.Marking.{in_all}
-use Rattle.law_rights.proofs.Owing.{gets_more, gets_push, gets_same, gets_set, given_owes, got_there, bindings_owe, loses_set, nothing_owes, owes_at}
-use Rattle.law_rights.proofs.Releasing.{buffers_weight, lease_of, on_sum, with_sum, withs_sum}
-use Rattle.law_rights.proofs.Trying.{forms_then, bindings_weight}
+use Rattle.law_rights.proofs.FreeNames.{forms_free, forms_owe, takes_owes}
+use Rattle.law_rights.proofs.BindingChanges.{from_of, set_most, set_none, weight_is}
+use Rattle.law_rights.proofs.QueueCounts.{in_all}
+use Rattle.law_rights.proofs.OwedDrawings.{gets_more, gets_push, gets_same, gets_set, given_owes, got_there, bindings_owe, loses_set, nothing_owes, owes_at}
+use Rattle.law_rights.proofs.ReleasedFrames.{buffers_weight, lease_of, on_sum, with_sum, withs_sum}
+use Rattle.law_rights.proofs.CallTryLedger.{forms_then, bindings_weight}
 
 -- a token is put back where it was, and another one in its place
 put_back : {A : Type 0} (xs : List (Option A)) (i : ℕ) (y : A) → get_or xs i None ≡ Some y → set (set xs i None) i (Some y) ≡ xs

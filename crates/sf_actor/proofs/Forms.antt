@@ -25,11 +25,11 @@ use Rattle.sf_actor.specs.Tests.{refusal_of}
 use Rattle.sf_actor.specs.Traces.{AnswersCall, AnswersTests, DoneAt, HasNotWaited, IsAnswered, IsPassed, PassesFence, since_next, since_with, source_in}
 use Rattle.sf_actor.specs.Tries.{ActorKept, ActorOf, next_step, past_of}
 use Rattle.sf_actor.specs.Written.{FrameNumber, paid_at, signal_of}
-use Rattle.sf_actor.proofs.Adding.{at_end}
+use Rattle.sf_actor.proofs.TraceGrowth.{at_end}
 use Rattle.sf_actor.proofs.GoingOn.{signalled_on}
-use Rattle.sf_actor.proofs.Making.{CallsOnce, OneMore, call_adds, joined, only, only_one}
-use Rattle.sf_actor.proofs.Moving.{CallsNone, actor_with, none_adds, own_unmade, stays, stepped}
-use Rattle.sf_actor.proofs.Reaching.{merged_reached, none_reached}
+use Rattle.sf_actor.proofs.CallShare.{CallsOnce, OneMore, call_adds, joined, only, only_one}
+use Rattle.sf_actor.proofs.StepKeepsActor.{CallsNone, actor_with, none_adds, own_unmade, stays, stepped}
+use Rattle.sf_actor.proofs.SignalledFences.{merged_reached, none_reached}
 
 -- no signal is made, no owing is paid, and no pixels are entered
 pub record IsQuiet (at : DoneAt) : Type 0 where

@@ -40,7 +40,7 @@ use Rattle.sf_actor.specs.Known.{GoesOn}
 use Rattle.sf_actor.specs.Plain.{PlainOf, calls_among, home_of, is_queue, taken_in, view_of}
 use Rattle.sf_actor.specs.Scripts.{picture_at}
 use Rattle.sf_actor.specs.Tries.{ActorOf}
-use Rattle.sf_actor.proofs.Growing.{call_alone, goes_same, memory_goes, see_goes}
+use Rattle.sf_actor.proofs.CallGrowth.{call_alone, goes_same, memory_goes, see_goes}
 use Rattle.sf_actor_steps.specs.Playable.{MayPlay}
 use Rattle.sf_actor_steps.specs.declared.actor.Actor.{Actor}
 use Rattle.sf_actor_set.specs.ActorSets.{ActorSetOf, IsActorSet, KeepAs, scripts_of}

@@ -30,14 +30,14 @@ use Rattle.sf_actor.specs.Tests.{bad_value}
 use Rattle.sf_actor.specs.Tries.{ActorKept, ActorOf, AreThere, Sees, ended_by, held_in, past_of, turn_ended}
 use Rattle.sf_actor.specs.Values.{reply_at}
 use Rattle.sf_actor.specs.Written.{signal_of}
-use Rattle.sf_actor.proofs.Adding.{at_end}
-use Rattle.sf_actor.proofs.Filling.{KeepsWith, moved_held}
+use Rattle.sf_actor.proofs.TraceGrowth.{at_end}
+use Rattle.sf_actor.proofs.FilledNames.{KeepsWith, moved_held}
 use Rattle.sf_actor.proofs.GoingOn.{share_on}
-use Rattle.sf_actor.proofs.Growing.{call_alone, end_goes, goes_same, goes_twice, see_goes}
-use Rattle.sf_actor.proofs.Moving.{stepped}
-use Rattle.sf_actor.proofs.Naming.{held_case}
-use Rattle.sf_actor.proofs.Naming.{with_held as parts_with}
-use Rattle.sf_actor.proofs.Telling.{Tells}
+use Rattle.sf_actor.proofs.CallGrowth.{call_alone, end_goes, goes_same, goes_twice, see_goes}
+use Rattle.sf_actor.proofs.StepKeepsActor.{stepped}
+use Rattle.sf_actor.proofs.NameChanges.{held_case}
+use Rattle.sf_actor.proofs.NameChanges.{with_held as parts_with}
+use Rattle.sf_actor.proofs.ReplyRecords.{Tells}
 use Rattle.sf_actor_steps.specs.Actors.{parts_of}
 use Rattle.sf_actor_steps.specs.Calling.{Ends, TriesCall, received, with_held}
 use Rattle.sf_actor_steps.specs.Coming.{Comes, IsReady, reply_with}

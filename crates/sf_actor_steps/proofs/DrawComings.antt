@@ -27,13 +27,13 @@ use Rattle.sf_actor.specs.Parts.{PartsOf, drawn_picture, queue_held, token_of, t
 use Rattle.sf_actor.specs.Points.{undrawn_fence, waited_fence}
 use Rattle.sf_actor.specs.Tests.{refusal_of}
 use Rattle.sf_actor.specs.Tries.{ActorKept, ActorOf, AreThere, DrawsHeld, DrawsIn, EntersInTurn, EarlierTurn, Open, Sees, held_in, owed_turn, past_of}
-use Rattle.sf_actor.proofs.Bringing.{names_told}
-use Rattle.sf_actor.proofs.Drawing.{draw_lease_keeps, draw_owing_keeps, enters_goes}
+use Rattle.sf_actor.proofs.BroughtTokens.{names_told}
+use Rattle.sf_actor.proofs.DrawStep.{draw_lease_keeps, draw_owing_keeps, enters_goes}
 use Rattle.sf_actor.proofs.GoingOn.{keeps_on}
-use Rattle.sf_actor.proofs.Growing.{end_goes, goes_twice, look_goes, see_goes}
-use Rattle.sf_actor.proofs.Looking.{look_keeps, seen_reached}
-use Rattle.sf_actor.proofs.Naming.{held_case}
-use Rattle.sf_actor.proofs.Naming.{with_held as parts_with}
+use Rattle.sf_actor.proofs.CallGrowth.{end_goes, goes_twice, look_goes, see_goes}
+use Rattle.sf_actor.proofs.LookStep.{look_keeps, seen_reached}
+use Rattle.sf_actor.proofs.NameChanges.{held_case}
+use Rattle.sf_actor.proofs.NameChanges.{with_held as parts_with}
 use Rattle.sf_actor_steps.specs.Actors.{parts_of}
 use Rattle.sf_actor_steps.specs.Calling.{with_held}
 use Rattle.sf_actor_steps.specs.Coming.{Comes, IsReady, LeftWith, reply_with}

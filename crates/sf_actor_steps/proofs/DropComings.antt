@@ -17,9 +17,9 @@ use Rattle.sf_actor.specs.Parts.{PartsOf}
 use Rattle.sf_actor.specs.Scripts.{queue_of}
 use Rattle.sf_actor.specs.Tests.{refusal_of}
 use Rattle.sf_actor.specs.Tries.{ActorOf, AreThere, held_in, past_of}
-use Rattle.sf_actor.proofs.Disconnecting.{disconnect_keeps}
-use Rattle.sf_actor.proofs.Disconnecting.{let_go_of as let_go_held, without_lent as parts_without}
-use Rattle.sf_actor.proofs.Telling.{disconnect_tells}
+use Rattle.sf_actor.proofs.DisconnectStep.{disconnect_keeps}
+use Rattle.sf_actor.proofs.DisconnectStep.{let_go_of as let_go_held, without_lent as parts_without}
+use Rattle.sf_actor.proofs.ReplyRecords.{disconnect_tells}
 use Rattle.sf_actor_steps.specs.Acting.{Acts}
 use Rattle.sf_actor_steps.specs.Actors.{parts_of}
 use Rattle.sf_actor_steps.specs.Calling.{received}

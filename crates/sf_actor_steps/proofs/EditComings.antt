@@ -30,18 +30,18 @@ use Rattle.sf_actor.specs.Parts.{PartsOf, token_of}
 use Rattle.sf_actor.specs.Scripts.{layer_of, op_of}
 use Rattle.sf_actor.specs.Tests.{refusal_of}
 use Rattle.sf_actor.specs.Tries.{ActorKept, ActorOf, AreThere, contents_in, held_in, past_of}
-use Rattle.sf_actor.proofs.Bringing.{names_told}
-use Rattle.sf_actor.proofs.Editing.{barrier_keeps, begin_keeps, desire_keeps, set_keeps}
-use Rattle.sf_actor.proofs.Growing.{call_alone, goes_same, goes_twice, send_alone}
-use Rattle.sf_actor.proofs.Making.{answer_told, made_call}
-use Rattle.sf_actor.proofs.Marking.{marked}
-use Rattle.sf_actor.proofs.Moving.{stepped}
-use Rattle.sf_actor.proofs.Naming.{with_held as parts_with}
-use Rattle.sf_actor.proofs.Numbering.{contents_case, transactions_told, with_contents}
-use Rattle.sf_actor.proofs.Overtaking.{all_with_all, right_of, with_all}
-use Rattle.sf_actor.proofs.Sending.{send_keeps}
-use Rattle.sf_actor.proofs.Showing.{merge_keeps, show_keeps}
-use Rattle.sf_actor.proofs.Yielding.{GivesBack, IsMarked, no_end}
+use Rattle.sf_actor.proofs.BroughtTokens.{names_told}
+use Rattle.sf_actor.proofs.EditSteps.{barrier_keeps, begin_keeps, desire_keeps, set_keeps}
+use Rattle.sf_actor.proofs.CallGrowth.{call_alone, goes_same, goes_twice, send_alone}
+use Rattle.sf_actor.proofs.CallShare.{answer_told, made_call}
+use Rattle.sf_actor.proofs.QueueMarks.{marked}
+use Rattle.sf_actor.proofs.StepKeepsActor.{stepped}
+use Rattle.sf_actor.proofs.NameChanges.{with_held as parts_with}
+use Rattle.sf_actor.proofs.NumberChanges.{contents_case, transactions_told, with_contents}
+use Rattle.sf_actor.proofs.TransactionsAlike.{all_with_all, right_of, with_all}
+use Rattle.sf_actor.proofs.ApplyStep.{send_keeps}
+use Rattle.sf_actor.proofs.BufferAndMergeSteps.{merge_keeps, show_keeps}
+use Rattle.sf_actor.proofs.OvertakenReleases.{GivesBack, IsMarked, no_end}
 use Rattle.sf_actor_steps.specs.Acting.{Changes}
 use Rattle.sf_actor_steps.specs.Actors.{parts_of}
 use Rattle.sf_actor_steps.specs.Calling.{Ends}

@@ -26,15 +26,15 @@ use Rattle.sf_actor.specs.Parts.{PartsOf, drawn_picture, queue_held, token_of}
 use Rattle.sf_actor.specs.Scripts.{crop_of, fence_of}
 use Rattle.sf_actor.specs.Tests.{refusal_of}
 use Rattle.sf_actor.specs.Tries.{ActorOf, drawn_turn, ended_by, held_in, past_of}
-use Rattle.sf_actor.proofs.Bringing.{names_told}
-use Rattle.sf_actor.proofs.Cancelling.{cancel_keeps}
-use Rattle.sf_actor.proofs.Cancelling.{cancel_fence as fence_of_cancel}
-use Rattle.sf_actor.proofs.Marking.{marked}
-use Rattle.sf_actor.proofs.Naming.{with_held as parts_with}
-use Rattle.sf_actor.proofs.Queueing.{left_owed, queue_call, queue_keeps}
-use Rattle.sf_actor.proofs.Releasing.{release_keeps}
-use Rattle.sf_actor.proofs.Requesting.{request_keeps}
-use Rattle.sf_actor.proofs.Telling.{cancel_tells, queue_tells, release_tells, request_tells}
+use Rattle.sf_actor.proofs.BroughtTokens.{names_told}
+use Rattle.sf_actor.proofs.CancelStep.{cancel_keeps}
+use Rattle.sf_actor.proofs.CancelStep.{cancel_fence as fence_of_cancel}
+use Rattle.sf_actor.proofs.QueueMarks.{marked}
+use Rattle.sf_actor.proofs.NameChanges.{with_held as parts_with}
+use Rattle.sf_actor.proofs.QueueStep.{left_owed, queue_call, queue_keeps}
+use Rattle.sf_actor.proofs.ReleaseStep.{release_keeps}
+use Rattle.sf_actor.proofs.RequestStep.{request_keeps}
+use Rattle.sf_actor.proofs.ReplyRecords.{cancel_tells, queue_tells, release_tells, request_tells}
 use Rattle.sf_actor_steps.specs.Acting.{Acts}
 use Rattle.sf_actor_steps.specs.Actors.{parts_of}
 use Rattle.sf_actor_steps.specs.Calling.{placed, received, with_held}

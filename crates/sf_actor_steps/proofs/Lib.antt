@@ -17,6 +17,6 @@ pub mod TakeComings
 pub mod HoldComings
 pub mod MoveComings
 pub mod DropComings
-pub mod Joining
+pub mod StepOutcomes
 pub mod TryingLemmas
 pub mod NewLemmas

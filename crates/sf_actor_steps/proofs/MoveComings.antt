@@ -27,15 +27,15 @@ use Rattle.sf_actor.specs.Points.{detached_fence, frame_fence, or_none, requeste
 use Rattle.sf_actor.specs.Scripts.{queue_of}
 use Rattle.sf_actor.specs.Tests.{bad_value, refusal_of}
 use Rattle.sf_actor.specs.Tries.{ActorKept, ActorOf, SeesOpen, drawn_turn, ended_by, held_in, past_of}
-use Rattle.sf_actor.proofs.Adding.{at_end}
-use Rattle.sf_actor.proofs.Attaching.{attach_keeps, attach_read_keeps}
-use Rattle.sf_actor.proofs.Detaching.{detach_keeps, detach_read_keeps, loose_of, loose_read}
-use Rattle.sf_actor.proofs.Filling.{moved_held}
+use Rattle.sf_actor.proofs.TraceGrowth.{at_end}
+use Rattle.sf_actor.proofs.AttachStep.{attach_keeps, attach_read_keeps}
+use Rattle.sf_actor.proofs.DetachStep.{detach_keeps, detach_read_keeps, loose_of, loose_read}
+use Rattle.sf_actor.proofs.FilledNames.{moved_held}
 use Rattle.sf_actor.proofs.Forms.{IsQuiet}
-use Rattle.sf_actor.proofs.Looking.{look_keeps, open_keeps, seen_reached}
-use Rattle.sf_actor.proofs.Marking.{marked}
-use Rattle.sf_actor.proofs.Reaching.{none_reached}
-use Rattle.sf_actor.proofs.Telling.{attach_read_tells, attach_tells, detach_read_tells, detach_tells}
+use Rattle.sf_actor.proofs.LookStep.{look_keeps, open_keeps, seen_reached}
+use Rattle.sf_actor.proofs.QueueMarks.{marked}
+use Rattle.sf_actor.proofs.SignalledFences.{none_reached}
+use Rattle.sf_actor.proofs.ReplyRecords.{attach_read_tells, attach_tells, detach_read_tells, detach_tells}
 use Rattle.sf_actor_steps.specs.Acting.{Acts}
 use Rattle.sf_actor_steps.specs.Actors.{parts_of}
 use Rattle.sf_actor_steps.specs.Calling.{received, with_held}

@@ -16,7 +16,7 @@ use Rattle.sf_actor.specs.Rights.{BringsGiven, SendsAcquired}
 use Rattle.sf_actor.specs.Tales.{IsMade, sent_as}
 use Rattle.sf_actor.specs.Traces.{IsAnswered, past_from, places_from}
 use Rattle.sf_actor.specs.Tries.{Keeps, held_in}
-use Rattle.sf_actor.proofs.Reaching.{none_reached}
+use Rattle.sf_actor.proofs.SignalledFences.{none_reached}
 use Rattle.sf_actor_steps.specs.Actors.{IsNew, new_actor}
 
 none_some : {A : Type 0} (a : A) → None ≡ Some a → ⊥

@@ -21,11 +21,11 @@ use Rattle.sf_actor.specs.Tests.{refusal_of}
 use Rattle.sf_actor.specs.Tries.{ActorKept, ActorOf, AreThere, EntersInTurn, IsRefusedByFence, Sees, Open, ended_by, past_of}
 use Rattle.sf_actor.specs.Values.{reply_at}
 use Rattle.sf_actor.specs.Written.{signal_of}
-use Rattle.sf_actor.proofs.Adding.{at_end}
-use Rattle.sf_actor.proofs.Growing.{see_goes, signal_goes}
-use Rattle.sf_actor.proofs.Looking.{look_keeps}
-use Rattle.sf_actor.proofs.Moving.{stepped}
-use Rattle.sf_actor.proofs.Timing.{point_reached, signal_keeps, wait_keeps}
+use Rattle.sf_actor.proofs.TraceGrowth.{at_end}
+use Rattle.sf_actor.proofs.CallGrowth.{see_goes, signal_goes}
+use Rattle.sf_actor.proofs.LookStep.{look_keeps}
+use Rattle.sf_actor.proofs.StepKeepsActor.{stepped}
+use Rattle.sf_actor.proofs.TimelineSteps.{point_reached, signal_keeps, wait_keeps}
 use Rattle.sf_actor_steps.specs.Acting.{Signals, Waits}
 use Rattle.sf_actor_steps.specs.Actors.{parts_of}
 use Rattle.sf_actor_steps.specs.Coming.{Comes, DoneWith, IsReady, after_step, reply_with}

@@ -17,8 +17,8 @@ use Rattle.sf_actor.specs.Traces.{Past}
 use Rattle.sf_actor.specs.Tries.{ActorKept, ActorOf, AreThere, ended_by, past_of}
 use Rattle.sf_actor.specs.Known.{share_of}
 use Rattle.sf_actor.proofs.Forms.{IsQuiet, refused_keeps}
-use Rattle.sf_actor.proofs.Growing.{goes_same}
-use Rattle.sf_actor.proofs.Moving.{stepped}
+use Rattle.sf_actor.proofs.CallGrowth.{goes_same}
+use Rattle.sf_actor.proofs.StepKeepsActor.{stepped}
 use Rattle.sf_actor_steps.specs.Coming.{DoneWith, IsReady, after_step, reply_with}
 use Rattle.sf_actor_steps.specs.declared.bindings.Bindings.{Bindings}
 

@@ -16,10 +16,10 @@ use Rattle.sf_actor.specs.Known.{share_of}
 use Rattle.sf_actor.specs.Scripts.{queue_of}
 use Rattle.sf_actor.specs.Tests.{refusal_of}
 use Rattle.sf_actor.specs.Tries.{ActorKept, ActorOf, past_of, turn_ended}
-use Rattle.sf_actor.proofs.Making.{answer_told, made_call}
-use Rattle.sf_actor.proofs.Moving.{stepped}
-use Rattle.sf_actor.proofs.Setting.{abandon_keeps, async_keeps, connect_keeps, most_acquired_keeps, most_dequeued_keeps}
-use Rattle.sf_actor.proofs.Telling.{Tells, abandon_tells, async_tells, connect_tells, most_acquired_tells, most_dequeued_tells}
+use Rattle.sf_actor.proofs.CallShare.{answer_told, made_call}
+use Rattle.sf_actor.proofs.StepKeepsActor.{stepped}
+use Rattle.sf_actor.proofs.SettingSteps.{abandon_keeps, async_keeps, connect_keeps, most_acquired_keeps, most_dequeued_keeps}
+use Rattle.sf_actor.proofs.ReplyRecords.{Tells, abandon_tells, async_tells, connect_tells, most_acquired_tells, most_dequeued_tells}
 use Rattle.sf_actor_steps.specs.Acting.{Acts}
 use Rattle.sf_actor_steps.specs.Actors.{parts_of}
 use Rattle.sf_actor_steps.specs.Calling.{Ends, placed, received, with_spare}

@@ -25,13 +25,13 @@ use Rattle.sf_actor.specs.Parts.{PartsOf}
 use Rattle.sf_actor.specs.Scripts.{queue_of}
 use Rattle.sf_actor.specs.Tests.{refusal_of}
 use Rattle.sf_actor.specs.Tries.{ActorOf, NoSlot, past_of, turn_ended}
-use Rattle.sf_actor.proofs.Acquiring.{acquire_keeps}
-use Rattle.sf_actor.proofs.Dequeuing.{dequeue_call, dequeue_keeps, dequeuing, stock_after}
+use Rattle.sf_actor.proofs.AcquireStep.{acquire_keeps}
+use Rattle.sf_actor.proofs.DequeueStep.{dequeue_call, dequeue_keeps, dequeuing, stock_after}
 use Rattle.sf_actor.proofs.GoingOn.{keeps_on}
-use Rattle.sf_actor.proofs.Growing.{wait_alone, wait_goes}
-use Rattle.sf_actor.proofs.Marking.{marked}
-use Rattle.sf_actor.proofs.Naming.{with_held as parts_with}
-use Rattle.sf_actor.proofs.Telling.{acquire_tells, dequeue_tells}
+use Rattle.sf_actor.proofs.CallGrowth.{wait_alone, wait_goes}
+use Rattle.sf_actor.proofs.QueueMarks.{marked}
+use Rattle.sf_actor.proofs.NameChanges.{with_held as parts_with}
+use Rattle.sf_actor.proofs.ReplyRecords.{acquire_tells, dequeue_tells}
 use Rattle.sf_actor_steps.specs.Acting.{Acts}
 use Rattle.sf_actor_steps.specs.Actors.{parts_of}
 use Rattle.sf_actor_steps.specs.Calling.{Ends, TriesCall, WaitsToCall, received, with_held, with_spare}

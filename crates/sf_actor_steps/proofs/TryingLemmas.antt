@@ -27,7 +27,7 @@ use Rattle.sf_actor_steps.specs.declared.actor.Actor.{Actor}
 use Rattle.sf_actor_steps.specs.declared.bindings.Bindings.{Bindings}
 use Rattle.sf_actor_steps.specs.declared.tried.Tried.{Tried}
 use Rattle.sf_actor_steps.specs.declared.tried.Tried.TheVariants as tried
-use Rattle.sf_actor_steps.proofs.Joining.{acts_comes}
+use Rattle.sf_actor_steps.proofs.StepOutcomes.{acts_comes}
 use Rattle.sf_actor_steps.proofs.ReadyLemmas.{holds_told, may_try}
 use Rattle.sf_actor_steps.proofs.RefusedLemmas.{refused_done}
 use Rattle.sf_actor_steps.proofs.StayingLemmas.{Stays, attempt_stays}

@@ -20,7 +20,7 @@ use Rattle.sf_record.specs.Fitting.{RecordFits}
 use Rattle.sf_record.specs.declared.encode.RunFault.{RunFault}
 use Rattle.sf_record.specs.declared.encode.RunFault.TheVariants as run_fault
 use Rattle.sf_record.specs.declared.record.Record.TheVariants as rec
-use Rattle.law_played.proofs.Ending.{timed_records}
+use Rattle.law_played.proofs.PlayEnds.{timed_records}
 use Rattle.sf_play_write.proofs.WritingLemmas.{cut_none as none_cut, cut_part, one_part, one_written, part_none as none_of, part_whole as all_as_part, some_cut}
 use Rattle.sf_play_write.specs.Runs.{CutRun}
 use Rattle.sf_play_write.specs.Writing.{CutSome}

@@ -1,4 +1,4 @@
 pub mod Histories
 pub mod Keeps
-pub mod Calling
+pub mod CallSteps
 pub mod Taken

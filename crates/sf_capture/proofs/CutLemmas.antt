@@ -11,7 +11,7 @@ use Rattle.sf_layer.specs.declared.parent.Parent.{Parent}
 use Rattle.sf_layer.specs.declared.parent.Parent.TheVariants as parent
 use Rattle.sf_tree.specs.Kept.{IsLayerInRange, IsOfKind, IsRanked, IsTied, IsTree}
 use Rattle.sf_tree.specs.Layers.{has_layer, has_parent, is_numbered, layer_of, parent_layer}
-use Rattle.sf_tree.proofs.Keeping.{IsDistinct-filter, IsDistinct-map}
+use Rattle.sf_tree.proofs.TreeKept.{IsDistinct-filter, IsDistinct-map}
 use Rattle.sf_tree.proofs.ShowLemmas.{Outranks-tree}
 use Rattle.sf_view.specs.Ancestry.{ancestry, and_above}
 use Rattle.sf_view.proofs.AncestryLemmas.{ancestry-is}

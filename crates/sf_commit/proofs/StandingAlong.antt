@@ -19,7 +19,7 @@ use Rattle.sf_tree.specs.Kept.{IsDistinct}
 use Rattle.sf_tree.specs.Layers.{has_layer, has_parent, is_numbered, layer_of}
 use Rattle.sf_tree.specs.Steps.{all_steps, parent_steps, reaches_itself}
 use Rattle.sf_tree.specs.Trees.{TreeOf}
-use Rattle.sf_tree.proofs.Keeping.{found_itself}
+use Rattle.sf_tree.proofs.TreeKept.{found_itself}
 use Rattle.sf_txn.specs.Buffers.{Buffer}
 use Rattle.sf_txn.specs.Transactions.{shown_by, shows}
 use Rattle.sf_commit.proofs.StandingLemmas.{stands_edited, stands_last, stands_read, stands_shown, stands_without}

@@ -12,7 +12,7 @@ use Rattle.sf_token.specs.Arrivals.{HoldsAll}
 use Rattle.sf_intake.specs.declared.protocol.Knows.{Knows}
 use Rattle.sf_intake.specs.Posts.{Post, Begins, posts_by}
 use Rattle.sf_intake.specs.Rule.{Fits, Kept, opened, spent, giving, given, posted, drawn, note, hearing, tale, told, Sends, Takes, FindsNone, Compares}
-use Rattle.sf_intake.proofs.Posting.{begins_refl, begins_more, begins_nil, snoc_cases, posts_by-own, posts_by-other, posts_by-append, posts_by-none, bounded}
+use Rattle.sf_intake.proofs.SentLists.{begins_refl, begins_more, begins_nil, snoc_cases, posts_by-own, posts_by-other, posts_by-append, posts_by-none, bounded}
 
 module _ {L : Type 0} where
   abbrev AllViews : (ℕ → Knows (Post L) → Type 0) → List (Knows (Post L)) → Type 0

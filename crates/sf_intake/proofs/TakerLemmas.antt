@@ -12,7 +12,7 @@ use Rattle.sf_intake.specs.Posts.{Post, Begins, before, arrivals, newest_of, num
 use Rattle.sf_intake.specs.Rule.{opened, giving, hearing, Takes, IsDry}
 use Rattle.atomic_blocks.specs.Laid.{WebId}
 use Rattle.sf_intake.specs.Views.{IsTaker, TakerView, SenderView, taker_view, HasAllHeard, HasPopped, IsSameTaker, IsBeginningOf, AreGiven, HasHanded, HasTaken, FoundEmpty, HasGrown, HasHeard, HasTakenRest, AreSenders, hearing_of}
-use Rattle.sf_intake.proofs.Posting.{begins_both}
+use Rattle.sf_intake.proofs.SentLists.{begins_both}
 
 module _ {A : Type 0} where
   take_all : (xs : List A) → take (length xs) xs ≡ xs

@@ -29,7 +29,7 @@ use Rattle.sf_live_compositor.specs.Vsyncs.{Sitting}
 use Rattle.law_threads.specs.Joining.{actor_at, of_at}
 use Rattle.law_joins.specs.Joined.{IsJoined, actor_set_joined}
 use Rattle.law_joins.proofs.Ends.{all_play}
-use Rattle.law_joins.proofs.Standing.{actors, kept_as}
+use Rattle.law_joins.proofs.PlayerAtJoin.{actors, kept_as}
 use Rattle.sf_live.specs.Threads.{returned_actor, returned_gates}
 
 module _ {B : Type 0} (table : TableId) (pictures : ℕ → Picture) (home : DeskHome) (view : DeskView B) where

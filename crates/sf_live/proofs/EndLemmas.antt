@@ -22,8 +22,8 @@ use Rattle.sf_record.specs.declared.record.Record.{Record}
 use Rattle.sf_record.specs.declared.record.Record.TheVariants as rec
 use Rattle.sf_record.specs.declared.record.Reply.{Reply}
 use Rattle.law_played.proofs.Members.{has_here, has_later}
-use Rattle.law_played.proofs.Rising.{rising_actors_are}
-use Rattle.law_played.proofs.Tracing.{trace_here}
+use Rattle.law_played.proofs.RisingNumbers.{rising_actors_are}
+use Rattle.law_played.proofs.RunTraces.{trace_here}
 use Rattle.law_played.specs.Actors.{script_of}
 use Rattle.law_played.specs.Played.{opening, records_of, reply_events}
 use Rattle.law_played.specs.Replies.{replies_due, reply_shown}

@@ -27,7 +27,7 @@ use Rattle.sf_live_compositor.specs.Vsyncs.{Begin, IsVsync, More, Sitting, Vsync
 use Rattle.law_joins.specs.Frames.{AllFind}
 use Rattle.law_joins.specs.Logs.{reports_of, shown_of}
 use Rattle.sf_live.proofs.RoundLemmas.{records_more}
-use Rattle.sf_live.proofs.Telling.{told_is}
+use Rattle.sf_live.proofs.VsyncReports.{told_is}
 
 -- a vsync that commits nothing has no records
 records_told : (commits : List Decided) (told shown : Told) → shown ≡ told → records_if commits told ≡ events_records (map event.Vsync (if has_commits commits then shown ∷ [] else []))

@@ -1,13 +1,13 @@
 pub mod Newcomers
-pub mod Openings
-pub mod Joining
-pub mod Telling
+pub mod OpenedScenes
+pub mod JoinedRun
+pub mod VsyncReports
 pub mod Frames
 pub mod ActorSetLemmas
 pub mod Together
 pub mod GoingOn
 pub mod RunLemmas
-pub mod Starting
+pub mod StartOfRun
 pub mod GateLemmas
 pub mod RoundLemmas
 pub mod EndLemmas

@@ -27,14 +27,14 @@ use Rattle.sf_actor_set.specs.ActorSets.{KeepAs, KeepsAs, scripts_of}
 use Rattle.sf_actor_set.specs.Opening.{OpensQueues, new_actors, new_queue}
 use Rattle.sf_token.specs.Pending.{Arrival}
 use Rattle.sf_calls_stamped.specs.Stamps.{unstamped}
-use Rattle.sf_live_seats.proofs.Handing.{none_arrived}
+use Rattle.sf_live_seats.proofs.IntakeHands.{none_arrived}
 use Rattle.sf_live_seats.specs.Closing.{HasNoCalls}
 use Rattle.sf_live_seats.specs.First.{KnowsNothing}
 use Rattle.sf_live_seats.specs.Seats.{QueuePass, calls_known, is_at, marks_of, tells_of}
 use Rattle.sf_live_seats.specs.declared.locks.Locks.{Locks}
 use Rattle.sf_live_seats.specs.declared.seats.Seats.{Seats}
 use Rattle.sf_live_threads.specs.Seating.{IsNewcomer, home_for, number_of}
-use Rattle.sf_play.proofs.Lasting.{many_below}
+use Rattle.sf_play.proofs.PlayFuel.{many_below}
 
 -- a script that may be played over a desk may be over another one with the same queues that serves its actor
 playable_over : (home other : DeskHome) (s : Step) → other.marks ≡ home.marks → IsPlayable home s → IsPlayable other s

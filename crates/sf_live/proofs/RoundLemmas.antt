@@ -39,7 +39,7 @@ use Rattle.sf_play_write.specs.Vsyncs.{records_if, told_with}
 use Rattle.sf_play_write.specs.Writing.{CutSome, Writes, WritesPart}
 use Rattle.sf_play_write.proofs.WritingLemmas.{cut_part, part_more, part_whole, writes_more}
 use Rattle.sf_live.specs.Rounds.{HasShown, MayWriteTurn, ShowsOn, turn_written, vsyncs_alone}
-use Rattle.sf_live.proofs.Telling.{told_is}
+use Rattle.sf_live.proofs.VsyncReports.{told_is}
 
 vsyncs_more : (events : List Event) (one : Event) → vsyncs_in (events ++ one ∷ []) ≡ vsyncs_in events ++ vsync_in one
 unfolding vsyncs_in

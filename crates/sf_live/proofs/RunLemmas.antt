@@ -52,7 +52,7 @@ use Rattle.sf_live.specs.Running.{CameTogether, MayRun, Starts, WasCut, run_by}
 use Rattle.sf_live.specs.Resuming.{GoesFrom, HasCome}
 use Rattle.sf_live.specs.Runs.{LiveEnded}
 use Rattle.sf_live.specs.Threads.{HasRun, IsTogether, RunOf}
-use Rattle.sf_live.proofs.Joining.{has_given, has_run}
+use Rattle.sf_live.proofs.JoinedRun.{has_given, has_run}
 
 pub of_err : {X E : Type 0} (P : E → Type 0) (rest : Result X E) (e : E) → rest ≡ Err e → IfErr rest P → P e
 of_err P rest e is p = subst (λ r. IfErr r P) is p

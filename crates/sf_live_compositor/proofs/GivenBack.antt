@@ -24,11 +24,11 @@ use Rattle.sf_live_seats.specs.declared.seats.Seats.{Seats}
 use Rattle.sf_live_seats.specs.Eyes.{SeatGoesOn}
 use Rattle.sf_live_seats.specs.Moves.{ChangesArrivals, MadeLater, Stays, Takes}
 use Rattle.sf_live_seats.specs.Seats.{AreSeats, home_of, moments_of, view_of}
-use Rattle.sf_live_seats.proofs.Staying.{stays_looked}
+use Rattle.sf_live_seats.proofs.FirstSeatsKept.{stays_looked}
 use Rattle.sf_live_compositor.specs.Sitting.{HasAll, HasLent, MakesLent, MakesVsync}
 use Rattle.sf_live_compositor.specs.Vsyncs.{Sitting}
 use Rattle.sf_live_compositor.specs.declared.vsync.Made.{Made}
-use Rattle.sf_live_compositor.proofs.Going.{stays_on}
+use Rattle.sf_live_compositor.proofs.SeatGrowth.{stays_on}
 use Rattle.sf_live_compositor.proofs.Lent.{decides_behind, hand_twice}
 
 module _ {B : Type 0} (home : DeskHome) (turns : SeatView) where

@@ -1,10 +1,10 @@
-pub mod Giving
-pub mod Going
-pub mod Taking
+pub mod ReturnedFrame
+pub mod SeatGrowth
+pub mod TakenNumbers
 pub mod Limits
 pub mod Shown
 pub mod Sits
-pub mod Rising
+pub mod FaultCounts
 pub mod Lent
 pub mod GivenBack
 pub mod Due

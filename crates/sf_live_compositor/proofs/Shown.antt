@@ -17,7 +17,7 @@ use Rattle.sf_txn.specs.declared.lease.Lease.{Ghosts}
 use Rattle.sf_view.specs.Views.{Views}
 use Rattle.sf_actor.specs.Plain.{taken_in}
 use Rattle.sf_live_seats.specs.declared.locks.Locks.{Locks}
-use Rattle.sf_play.proofs.Composing.{sources_told, views_told}
+use Rattle.sf_play.proofs.StageAndContents.{sources_told, views_told}
 use Rattle.sf_play.specs.Playing.{expected_by}
 use Rattle.sf_play_write.specs.Vsyncs.{vsync_shown}
 use Rattle.sf_play_write.specs.Writing.{Writes}

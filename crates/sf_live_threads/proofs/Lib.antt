@@ -10,7 +10,7 @@ pub mod CrossingSends
 pub mod CrossingSlots
 pub mod CrossingTokens
 pub mod CrossingTurns
-pub mod Doing
+pub mod ActorWalk
 pub mod TaskLemmas
 pub mod MeetLemmas
 pub mod WalkLemmas

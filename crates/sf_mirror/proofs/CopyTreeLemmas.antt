@@ -14,7 +14,7 @@ use Rattle.sf_layer.specs.declared.parent.Parent.TheVariants as parent
 use Rattle.sf_tree.specs.Kept.{HasNoCycle, IsDistinct, IsLayerInRange, IsOfKind, IsRanked, IsTied, IsTree}
 use Rattle.sf_tree.specs.Known.{IsBounded}
 use Rattle.sf_tree.specs.Layers.{has_layer, has_parent, index_of, is_numbered, layer_of}
-use Rattle.sf_tree.proofs.Keeping.{IsDistinct-filter, IsTied-stays, found_itself, pairs_from_distinct}
+use Rattle.sf_tree.proofs.TreeKept.{IsDistinct-filter, IsTied-stays, found_itself, pairs_from_distinct}
 use Rattle.sf_tree.proofs.Lookups.{index_of-absent}
 use Rattle.sf_tree.proofs.Places.{IsDistinct-push}
 use Rattle.sf_tree.proofs.Ranks.{bounded_rank}

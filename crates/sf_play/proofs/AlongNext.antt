@@ -39,15 +39,15 @@ use Rattle.law_played.specs.Stepping.{TellsFirst}
 use Rattle.law_played.specs.Stopping.{TellsOlder}
 use Rattle.law_rights.specs.Vsyncs.{IsOfTurns}
 use Rattle.law_played.proofs.AsQueued.{one_passes}
-use Rattle.law_played.proofs.Keeping.{got_has}
+use Rattle.law_played.proofs.StepKeepsTold.{got_has}
 use Rattle.law_played.proofs.Members.{has_cases, has_found, has_here, has_later, has_none, map_has}
 use Rattle.sf_play.proofs.AlongLemmas.{plays_settled}
 use Rattle.sf_play.proofs.AlongTurns.{pick_done, pick_ended, pick_waits, round_done, round_ended, round_waits}
 use Rattle.sf_play.proofs.AlongVsyncs.{all_had, holds_silent, pick_shown, pick_silent, round_shown, round_silent}
-use Rattle.sf_play.proofs.Composing.{are_expected, is_stage}
-use Rattle.sf_play.proofs.Lasting.{settled_has}
-use Rattle.sf_play.proofs.Leasing.{OfFrames}
-use Rattle.sf_play.proofs.Ledging.{TellsAll}
+use Rattle.sf_play.proofs.StageAndContents.{are_expected, is_stage}
+use Rattle.sf_play.proofs.PlayFuel.{settled_has}
+use Rattle.sf_play.proofs.HandlerLeases.{OfFrames}
+use Rattle.sf_play.proofs.PlayLedger.{TellsAll}
 use Rattle.sf_play.proofs.Makers.{first_told, older_told}
 use Rattle.sf_play.proofs.Together.{StandsWith, done_with, ended_with, left_with, nothing_with, shown_with, shows_written, silent_with}
 use Rattle.sf_play.specs.Alongs.{DeskKnows, PlaysSo, behind_round, world_so}

@@ -33,18 +33,18 @@ use Rattle.law_played.specs.Stopping.{TellsOlder}
 use Rattle.law_played.specs.Stuck.{IsNotReady, next_step}
 use Rattle.law_played.specs.Vsyncs.{vsync_in, vsyncs_in}
 use Rattle.law_played.specs.Worlds.{Turn, World, actor_turn, idle, with_list}
-use Rattle.law_played.proofs.Advancing.{not_none}
+use Rattle.law_played.proofs.RunGrowth.{not_none}
 use Rattle.law_played.proofs.AsQueued.{one_passes}
-use Rattle.law_played.proofs.Desking.{desk_called, sent_numbered}
-use Rattle.law_played.proofs.Keeping.{got_has}
+use Rattle.law_played.proofs.DeskOfOneThread.{desk_called, sent_numbered}
+use Rattle.law_played.proofs.StepKeepsTold.{got_has}
 use Rattle.law_played.proofs.Members.{has_map}
 use Rattle.law_played.proofs.NextStep.{desk_turn, script_of_number, traces}
-use Rattle.law_played.proofs.Rising.{rising_actors_are}
+use Rattle.law_played.proofs.RisingNumbers.{rising_actors_are}
 use Rattle.law_played.proofs.SteppingLemmas.{idle_ended, idle_waits}
-use Rattle.law_played.proofs.Stopping.{left_not_ready, run_stays}
-use Rattle.law_played.proofs.Tracing.{trace_here}
+use Rattle.law_played.proofs.StuckActors.{left_not_ready, run_stays}
+use Rattle.law_played.proofs.RunTraces.{trace_here}
 use Rattle.sf_play.proofs.AlongLemmas.{plays_idle, plays_pick, plays_step}
-use Rattle.sf_play.proofs.Stepping.{stands_done, stands_waiting}
+use Rattle.sf_play.proofs.StepKeepsPlayer.{stands_done, stands_waiting}
 use Rattle.sf_play.specs.Alongs.{DeskKnows, PlaysSo, PlaysTo, world_so}
 use Rattle.sf_play.specs.Players.{PlayOf, SoFar, Stands}
 use Rattle.sf_play.specs.declared.place.Place.TheVariants as at

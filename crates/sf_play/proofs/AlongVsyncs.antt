@@ -53,13 +53,13 @@ use Rattle.law_played.specs.Worlds.{IsPlaysVsync, Turn, World, after_vsync, rele
 use Rattle.law_played.proofs.LeaseLemmas.{plain_arrivals, plain_frame}
 use Rattle.law_played.proofs.NextStep.{desk_release}
 use Rattle.law_played.proofs.ProgressLemmas.{vsync_of_play}
-use Rattle.law_played.proofs.Rising.{rising_actors_are}
-use Rattle.law_played.proofs.Stopping.{final_is}
+use Rattle.law_played.proofs.RisingNumbers.{rising_actors_are}
+use Rattle.law_played.proofs.StuckActors.{final_is}
 use Rattle.sf_play.proofs.AlongLemmas.{plays_pick, plays_round}
 use Rattle.sf_play.proofs.AlongTurns.{calls_declared}
-use Rattle.sf_play.proofs.Compositing.{arrived_is, arrivals_now, calls_same, gives_now, goes, home_now, plain, rises, vsyncs_in_more}
-use Rattle.sf_play.proofs.Holding.{held_bare}
-use Rattle.sf_play.proofs.Leasing.{IsOnLent, OfFrames}
+use Rattle.sf_play.proofs.VsyncKeepsPlayer.{arrived_is, arrivals_now, calls_same, gives_now, goes, home_now, plain, rises, vsyncs_in_more}
+use Rattle.sf_play.proofs.LastHolds.{held_bare}
+use Rattle.sf_play.proofs.HandlerLeases.{IsOnLent, OfFrames}
 use Rattle.sf_play.specs.Alongs.{PlaysSo, PlaysTo, behind_round, world_so}
 use Rattle.sf_play.specs.Giving.{GivesFrame, GivesFrames}
 use Rattle.sf_play.specs.Players.{PlayOf, SoFar, Stands, arrived_at, run_so, taken_at, written_so}

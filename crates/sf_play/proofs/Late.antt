@@ -21,11 +21,11 @@ use Rattle.sf_record.specs.declared.event.Event.{Event}
 use Rattle.sf_record.specs.declared.event.Event.TheVariants as event
 use Rattle.sf_record.specs.declared.event.VsyncReport.{VsyncReport}
 use Rattle.sf_record.specs.declared.record.Reply.{Reply}
-use Rattle.law_played.proofs.Bringing.{is_actor}
-use Rattle.law_played.proofs.Keeping.{of_all}
+use Rattle.law_played.proofs.ArrivedFrames.{is_actor}
+use Rattle.law_played.proofs.StepKeepsTold.{of_all}
 use Rattle.law_played.proofs.Members.{has_cases, has_here, has_later, has_map, has_none, map_has}
 use Rattle.law_played.proofs.Parts.{map_twice}
-use Rattle.law_played.proofs.Rising.{above, later_rises, rising_actors_are}
+use Rattle.law_played.proofs.RisingNumbers.{above, later_rises, rising_actors_are}
 use Rattle.law_played.specs.Actors.{number_of, script_of}
 use Rattle.law_played.specs.Buffers.{ShowAsQueued}
 use Rattle.law_played.specs.Commits.{CommitInOrder}

@@ -29,8 +29,8 @@ use Rattle.law_rights.specs.InTurn.{DrawsStand}
 use Rattle.law_rights.specs.MakerRuns.{MakersPlay}
 use Rattle.law_rights.specs.Standing.{state_of}
 use Rattle.law_rights.specs.Vsyncs.{IsOfTurns}
-use Rattle.sf_play.proofs.Leasing.{OfFrames}
-use Rattle.sf_play.proofs.Ledging.{IsLegalDesk, TellsAll, are_over, home_then, none_absent, vsync_in}
+use Rattle.sf_play.proofs.HandlerLeases.{OfFrames}
+use Rattle.sf_play.proofs.PlayLedger.{IsLegalDesk, TellsAll, are_over, home_then, none_absent, vsync_in}
 use Rattle.sf_play.specs.Players.{PlayOf, SoFar, Stands, home_in, run_so, view_in}
 use Rattle.sf_play.specs.Playing.{KeepsRights}
 use Rattle.sf_play.specs.Vsyncing.{MakesVsync}

@@ -29,19 +29,19 @@ use Rattle.sf_actor_set.specs.ActorSets.{ActorSetOf, KeepAs, Opens}
 use Rattle.sf_actor_set.specs.Opening.{new_actors, new_queue}
 use Rattle.sf_actor_set.specs.Scripts.{permits_of}
 use Rattle.law_played.proofs.Parts.{map_twice}
-use Rattle.law_played.proofs.Rising.{rising_queues_are}
+use Rattle.law_played.proofs.RisingNumbers.{rising_queues_are}
 use Rattle.law_played.specs.Actors.{mark_declared}
 use Rattle.law_played.specs.Histories.{queue_number, rising_queues}
 use Rattle.law_played.specs.Turns.{calls_in}
 use Rattle.law_rights.proofs.InTurnBeginning.{draws_begin}
 use Rattle.law_rights.proofs.MakersBeginning.{makers_begin}
-use Rattle.law_rights.proofs.Starting.{begins_standing}
+use Rattle.law_rights.proofs.EmptyLedger.{begins_standing}
 use Rattle.law_rights.specs.Standing.{stock_of}
 use Rattle.law_rights.specs.Standing.{Begins as RightsBegin}
 use Rattle.law_rights.specs.States.{AreApart}
 use Rattle.sf_play.proofs.AlongEnds.{begins_along}
-use Rattle.sf_play.proofs.Beginning.{arrivals_none, calls_none, nothing, stands_at_first}
-use Rattle.sf_play.proofs.Happening.{begins_stand}
+use Rattle.sf_play.proofs.FirstTurn.{arrivals_none, calls_none, nothing, stands_at_first}
+use Rattle.sf_play.proofs.TurnKeepsPlayer.{begins_stand}
 use Rattle.sf_play.proofs.Stocks.{all_fresh, dealt_below, dealt_once, marks_apart}
 use Rattle.sf_play.specs.Alongs.{PlaysSo}
 use Rattle.sf_play.specs.Players.{PlayOf, PlayerOf, SoFar, home_in, run_so, view_in}

@@ -28,16 +28,16 @@ use Rattle.sf_actor_set.proofs.CompositingLemmas.{taken_plays}
 use Rattle.sf_actor_set.specs.ActorSets.{ActorSetOf, IsSameActorSet, KeepAs, StepsAt, scripts_of}
 use Rattle.sf_record.specs.declared.event.Event.TheVariants as event
 use Rattle.law_played.specs.Progress.{ShowsWhatIsWritten, WroteWhatShows}
-use Rattle.law_rights.proofs.Played.{step_stands}
+use Rattle.law_rights.proofs.StepLedger.{step_stands}
 use Rattle.law_rights.specs.InTurn.{DrawsStand}
 use Rattle.law_rights.specs.MakerRuns.{MakersPlay}
 use Rattle.law_rights.specs.Standing.{LedgerStands}
 use Rattle.law_rights.specs.Vsyncs.{IsOfTurns}
-use Rattle.sf_play.proofs.Compositing.{home_now, shown, stands_shown, stands_silent, whole}
-use Rattle.sf_play.proofs.Leasing.{OfFrames}
-use Rattle.sf_play.proofs.Ledging.{IsLegalDesk, TellsAll, are_over, ledger_vsync, looks_written}
+use Rattle.sf_play.proofs.VsyncKeepsPlayer.{home_now, shown, stands_shown, stands_silent, whole}
+use Rattle.sf_play.proofs.HandlerLeases.{OfFrames}
+use Rattle.sf_play.proofs.PlayLedger.{IsLegalDesk, TellsAll, are_over, ledger_vsync, looks_written}
 use Rattle.sf_play.proofs.Makers.{draws_tried, draws_vsync, makers_tried, makers_vsync}
-use Rattle.sf_play.proofs.Stepping.{later_so, same_ended, same_left, stands_done, stands_ended, stands_waiting}
+use Rattle.sf_play.proofs.StepKeepsPlayer.{later_so, same_ended, same_left, stands_done, stands_ended, stands_waiting}
 use Rattle.sf_play_report.specs.Reports.{has_commits}
 use Rattle.sf_play_report.specs.declared.report.VsyncReport.{VsyncReport}
 use Rattle.sf_play.specs.Happening.{Happens, VsyncHappens}

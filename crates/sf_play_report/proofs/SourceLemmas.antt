@@ -14,7 +14,7 @@ use Rattle.sf_layer.specs.declared.layer.Layer.{Layer}
 use Rattle.sf_layer.specs.declared.shown.Shown.{Shown}
 use Rattle.sf_tree.specs.Kept.{IsDistinct}
 use Rattle.sf_tree.specs.Layers.{is_numbered, layer_of}
-use Rattle.sf_tree.proofs.Keeping.{found_itself}
+use Rattle.sf_tree.proofs.TreeKept.{found_itself}
 use Rattle.sf_view.specs.Contents.{content_of, has_content}
 use Rattle.sf_view.specs.Image.{drawn_in}
 use Rattle.sf_view.specs.Views.{Draws, ViewOf, ViewsInOrder}

@@ -26,7 +26,7 @@ use Rattle.sf_record.specs.Events.{closing}
 use Rattle.sf_record.specs.declared.record.Record.{Record}
 use Rattle.sf_record.specs.declared.record.Record.TheVariants as rec
 use Rattle.sf_record.specs.declared.record.StuckEntry.{StuckEntry}
-use Rattle.law_played.proofs.Keeping.{of_all}
+use Rattle.law_played.proofs.StepKeepsTold.{of_all}
 use Rattle.law_played.proofs.Members.{filter_has, has_cases, has_first, has_later, has_map, has_none, joined_has, map_has}
 use Rattle.law_played.proofs.Parts.{arrivals_recorded, calls_recorded, map_twice}
 use Rattle.law_played.specs.Actors.{mark_declared}

@@ -13,7 +13,7 @@ use Rattle.sf_record.specs.Events.{events_records}
 use Rattle.sf_record.specs.declared.encode.RunFault.{RunFault}
 use Rattle.sf_record.specs.declared.event.Event.{Event}
 use Rattle.sf_record.specs.declared.record.Record.{Record}
-use Rattle.law_played.proofs.Ending.{has_records}
+use Rattle.law_played.proofs.PlayEnds.{has_records}
 use Rattle.law_played.specs.Frames.{plan_of}
 use Rattle.law_played.specs.Played.{opening}
 use Rattle.law_played.specs.Plays.{first_playing, stays}

@@ -26,10 +26,10 @@ use Rattle.sf_output_plan.specs.declared.plan.Plan.{Plan}
 use Rattle.sf_play_report.specs.Reports.{has_commits}
 use Rattle.sf_play_report.specs.Stages.{is_accepted}
 use Rattle.sf_play_report.specs.declared.report.VsyncReport.{VsyncReport}
-use Rattle.law_played.proofs.Ending.{has_records}
-use Rattle.law_played.proofs.Keeping.{of_all}
+use Rattle.law_played.proofs.PlayEnds.{has_records}
+use Rattle.law_played.proofs.StepKeepsTold.{of_all}
 use Rattle.law_played.proofs.Members.{filter_has, joined_has}
-use Rattle.law_played.proofs.Rising.{rising_is}
+use Rattle.law_played.proofs.RisingNumbers.{rising_is}
 use Rattle.law_played.specs.Commits.{commit_shown}
 use Rattle.law_played.specs.Frames.{is_done, plan_of, shown_due}
 use Rattle.law_played.specs.Played.{opening}

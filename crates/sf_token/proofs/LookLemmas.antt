@@ -11,7 +11,7 @@ use Rattle.std.proofs.lemmas.Slice.Zip.{all_zipped_more}
 use Rattle.sf_txn.specs.Buffers.{Buffer}
 use Rattle.sf_txn.specs.Leases.{IsEyeAfter, IsShownTo}
 use Rattle.sf_txn.specs.declared.lease.Lease.{Ghosts}
-use Rattle.sf_txn.proofs.Looking.{eye_then, shown_earlier, shown_later}
+use Rattle.sf_txn.proofs.BufferLooks.{eye_then, shown_earlier, shown_later}
 use Rattle.sf_token.specs.Looking.{AllLeases, IsLookedArrival, looks_at, looks_of}
 use Rattle.sf_token.specs.Pending.{Arrival, IsRisingFrom}
 use Rattle.sf_token.specs.Rooms.{AreLooked, Fits, IsLookedSlot}

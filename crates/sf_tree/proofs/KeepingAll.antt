@@ -20,7 +20,7 @@ use Rattle.sf_tree.specs.Changes.{after, after_from, changed, created, destroyed
 use Rattle.sf_tree.specs.Kept.{IsTree}
 use Rattle.sf_tree.specs.Layers.{layer_of, index_of, has_layer, has_parent}
 use Rattle.sf_tree.specs.Steps.{all_steps, parent_steps, reaches_itself}
-use Rattle.sf_tree.proofs.Keeping.{IsTree-created, IsTree-destroyed, IsTree-edited}
+use Rattle.sf_tree.proofs.TreeKept.{IsTree-created, IsTree-destroyed, IsTree-edited}
 use Rattle.sf_tree.proofs.KeepingMoves.{IsTree-reparented, IsTree-related}
 use Rattle.sf_tree.proofs.Lookups.{has_layer-place, layer_of-place, with_layer-place}
 use Rattle.sf_tree.proofs.Places.{index_of_inside}

@@ -15,9 +15,9 @@ use Rattle.sf_tree.specs.Kept.{IsLayerInRange, IsOfKind, IsRanked, IsTied, IsTre
 use Rattle.sf_tree.specs.Known.{IsBounded}
 use Rattle.sf_tree.specs.Layers.{is_numbered, layer_of, index_of, has_layer, has_parent}
 use Rattle.sf_tree.specs.Steps.{all_steps, reaches_itself, to_parent}
-use Rattle.sf_tree.proofs.Keeping.{IsTree-set, found_itself, index_of-set}
+use Rattle.sf_tree.proofs.TreeKept.{IsTree-set, found_itself, index_of-set}
 use Rattle.sf_tree.proofs.Lookups.{is_numbered-place, layer_of-place}
-use Rattle.sf_tree.proofs.Moving.{HasNoCycle-moved, StepsTo, in_last, not_under}
+use Rattle.sf_tree.proofs.RankingChanges.{HasNoCycle-moved, StepsTo, in_last, not_under}
 use Rattle.sf_tree.proofs.Places.{index_of_inside}
 use Rattle.sf_tree.proofs.Ranks.{bounded_rank, is_there}
 

@@ -10,7 +10,7 @@ use Rattle.sf_layer.specs.declared.parent.Parent.TheVariants as parent
 use Rattle.sf_tree.specs.Kept.{HasNoCycle, IsRanked, IsTree}
 use Rattle.sf_tree.specs.Layers.{layer_of}
 use Rattle.sf_tree.specs.Steps.{all_steps, parent_steps, reaches, reaches_itself, steps_of, to_parent}
-use Rattle.sf_tree.proofs.Moving.{step_rank}
+use Rattle.sf_tree.proofs.RankingChanges.{step_rank}
 use Rattle.sf_tree.proofs.Ranks.{All-layer_of, layer_of-number}
 
 to_right : (p q : Bool) → q ≡ true → (p || q) ≡ true

@@ -13,7 +13,7 @@ use Rattle.sf_tree.specs.Kept.{HasNoCycle, IsDistinct, IsRanked, IsTied}
 use Rattle.sf_tree.specs.Known.{IsBounded, IsKnown, Outranks}
 use Rattle.sf_tree.specs.Layers.{layer_of, index_of}
 use Rattle.sf_tree.specs.Showing.{parent_passes, passes, relative_passes, shows, shows_within}
-use Rattle.sf_tree.proofs.Keeping.{found_itself}
+use Rattle.sf_tree.proofs.TreeKept.{found_itself}
 use Rattle.sf_tree.proofs.Lookups.{has_layer-place, layer_of-place}
 use Rattle.sf_tree.proofs.Ranks.{All-layer_of, bounded_rank, is_there, layer_of-number}
 

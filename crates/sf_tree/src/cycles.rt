@@ -39,7 +39,7 @@ fn relative_step(layer: &Layer, along: Along) -> Option<LayerId>
 }
 
 // Whether there is a step from a layer.
-#[tactic(auto, using(crate::proofs::Unreached::no_step))]
+#[tactic(auto, using(crate::proofs::UnreachedLayers::no_step))]
 fn has_step(layer: &Layer, along: Along) -> bool
     ensures { result ≡ false → steps_along along layer.now ≡ [] }
 {
@@ -60,7 +60,7 @@ fn is_step_to(next: Option<LayerId>, id: LayerId) -> bool
 }
 
 // Whether a step from a layer does.
-#[tactic(auto, using(crate::proofs::Unreached::led_by_no_step))]
+#[tactic(auto, using(crate::proofs::UnreachedLayers::led_by_no_step))]
 fn leads_to(layer: &Layer, along: Along, id: LayerId) -> bool
     ensures { result ≡ false → leads_to along id layer.now ≡ false }
 {

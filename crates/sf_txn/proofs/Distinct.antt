@@ -13,7 +13,7 @@ use Rattle.sf_txn.specs.Buffers.{Buffer}
 use Rattle.sf_txn.specs.Places.{AreApart}
 use Rattle.sf_txn.specs.Transactions.{Contents, IsTransaction, Stays, all_replaced, is_for, replaces, shown_by, shows, with_buffers, without_first}
 use Rattle.sf_txn.proofs.Apart.{pairs-head, pairs-tail}
-use Rattle.sf_txn.proofs.Showing.{is_plain, shows_none, shows_one}
+use Rattle.sf_txn.proofs.ShownBuffers.{is_plain, shows_none, shows_one}
 
 none_pairs : {X : Type 0} (R : X → X → Type 0) → AllPairs R []
 none_pairs R = λ i j d before inside. absurd (omega (arith, inside))

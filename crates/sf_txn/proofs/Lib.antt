@@ -1,9 +1,9 @@
 pub mod Firsts
 pub mod Apart
-pub mod Showing
-pub mod Keeping
-pub mod Looking
+pub mod ShownBuffers
+pub mod TransactionKept
+pub mod BufferLooks
 pub mod Places
-pub mod Merging
+pub mod MergedOperations
 pub mod Fronts
 pub mod Distinct

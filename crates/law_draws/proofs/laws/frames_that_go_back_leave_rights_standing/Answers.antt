@@ -1,4 +1,4 @@
-use Rattle.law_draws.proofs.Standing.{return_keeps, returns_keep}
+use Rattle.law_draws.proofs.RightsAtRest.{return_keeps, returns_keep}
 use Rattle.law_draws.proofs.laws.frames_that_go_back_leave_rights_standing.Goals as goal
 
 pub returns-clause-all : goal.returns-clause-all

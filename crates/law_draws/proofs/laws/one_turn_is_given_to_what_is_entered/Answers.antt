@@ -1,4 +1,4 @@
-use Rattle.law_draws.proofs.Giving.{given_once}
+use Rattle.law_draws.proofs.TurnsGiven.{given_once}
 use Rattle.law_draws.proofs.laws.one_turn_is_given_to_what_is_entered.Goals as goal
 
 pub returns : goal.returns

@@ -1,4 +1,4 @@
-use Rattle.law_draws.proofs.Ending.{draws_stand}
+use Rattle.law_draws.proofs.JoinedDraws.{draws_stand}
 use Rattle.law_draws.proofs.laws.rights_that_stand_in_the_end_tell.Goals as goal
 
 pub returns-clause-draws : goal.returns-clause-draws

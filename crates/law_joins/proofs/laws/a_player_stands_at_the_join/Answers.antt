@@ -1,5 +1,5 @@
 use Rattle.std.proofs.Common.{ℕ, ap}
-use Rattle.law_joins.proofs.Standing.{is_standing, stands_in_run}
+use Rattle.law_joins.proofs.PlayerAtJoin.{is_standing, stands_in_run}
 use Rattle.law_joins.proofs.laws.a_player_stands_at_the_join.Goals as goal
 
 pub returns-clause-in_run : goal.returns-clause-in_run

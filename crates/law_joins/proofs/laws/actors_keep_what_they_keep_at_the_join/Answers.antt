@@ -1,4 +1,4 @@
-use Rattle.law_joins.proofs.Standing.{actors, called, exact, over}
+use Rattle.law_joins.proofs.PlayerAtJoin.{actors, called, exact, over}
 use Rattle.law_joins.proofs.laws.actors_keep_what_they_keep_at_the_join.Goals as goal
 
 pub returns-clause-actors : goal.returns-clause-actors

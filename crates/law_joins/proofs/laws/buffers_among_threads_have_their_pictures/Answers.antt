@@ -1,5 +1,5 @@
 use Rattle.std.proofs.Common.{ℕ, ap}
-use Rattle.law_joins.proofs.Finding.{all_find}
+use Rattle.law_joins.proofs.BufferPictures.{all_find}
 use Rattle.law_joins.proofs.laws.buffers_among_threads_have_their_pictures.Goals as goal
 
 pub returns : goal.returns

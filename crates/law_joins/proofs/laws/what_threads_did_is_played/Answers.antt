@@ -1,5 +1,5 @@
 use Rattle.std.proofs.Common.{ℕ, ap}
-use Rattle.law_joins.proofs.Standing.{reports_are, stands}
+use Rattle.law_joins.proofs.PlayerAtJoin.{reports_are, stands}
 use Rattle.law_joins.proofs.laws.what_threads_did_is_played.Goals as goal
 
 pub returns-clause-stands : goal.returns-clause-stands

@@ -1,7 +1,7 @@
 use Rattle.std.proofs.Common.{ℕ, ap, refl}
 use Rattle.sf_surface.specs.Reading.{PlainLease}
 use Rattle.sf_actor.specs.Makers.{BufferOf}
-use Rattle.law_joins.proofs.Tied.{tied_in_run, tied_standing}
+use Rattle.law_joins.proofs.KnownBeginnings.{tied_in_run, tied_standing}
 use Rattle.law_joins.proofs.rights.a_run_in_threads_goes_on.Goals as goal
 
 abbrev at : PlainLease → BufferOf

@@ -1,4 +1,4 @@
-use Rattle.law_played.proofs.Tracing.{are_traced}
+use Rattle.law_played.proofs.RunTraces.{are_traced}
 use Rattle.law_played.proofs.actors.actors_are_traced.Goals as goal
 
 pub returns : goal.returns

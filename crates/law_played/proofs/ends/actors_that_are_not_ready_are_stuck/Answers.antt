@@ -1,4 +1,4 @@
-use Rattle.law_played.proofs.Stopping.{are_stuck}
+use Rattle.law_played.proofs.StuckActors.{are_stuck}
 use Rattle.law_played.proofs.ends.actors_that_are_not_ready_are_stuck.Goals as goal
 
 pub returns : goal.returns

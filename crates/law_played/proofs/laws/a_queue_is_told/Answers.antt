@@ -1,4 +1,4 @@
-use Rattle.law_played.proofs.Computed.{history_is, legal, replies_are, written_are}
+use Rattle.law_played.proofs.Examples.{history_is, legal, replies_are, written_are}
 use Rattle.law_played.proofs.laws.a_queue_is_told.Goals as goal
 
 pub returns-clause-replies : goal.returns-clause-replies

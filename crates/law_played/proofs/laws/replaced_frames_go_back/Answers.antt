@@ -1,4 +1,4 @@
-use Rattle.law_played.proofs.Computed.{commits_are, held_are, releases_are}
+use Rattle.law_played.proofs.Examples.{commits_are, held_are, releases_are}
 use Rattle.law_played.proofs.laws.replaced_frames_go_back.Goals as goal
 
 pub returns-clause-commits : goal.returns-clause-commits

@@ -1,4 +1,4 @@
-use Rattle.law_played.proofs.Ending.{play_ends}
+use Rattle.law_played.proofs.PlayEnds.{play_ends}
 use Rattle.law_played.proofs.ongoing.a_play_ends.Goals as goal
 
 pub returns : goal.returns

@@ -1,4 +1,4 @@
-use Rattle.law_played.proofs.Ending.{has_records, records_on}
+use Rattle.law_played.proofs.PlayEnds.{has_records, records_on}
 use Rattle.law_played.proofs.ongoing.a_play_has_records.Goals as goal
 
 pub returns-clause-has : goal.returns-clause-has

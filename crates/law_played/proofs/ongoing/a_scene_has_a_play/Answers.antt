@@ -1,4 +1,4 @@
-use Rattle.law_played.proofs.Ending.{timed_records}
+use Rattle.law_played.proofs.PlayEnds.{timed_records}
 use Rattle.law_played.proofs.ongoing.a_scene_has_a_play.Goals as goal
 
 pub returns : goal.returns

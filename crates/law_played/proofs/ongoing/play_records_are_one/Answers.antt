@@ -1,4 +1,4 @@
-use Rattle.law_played.proofs.Ending.{begin_so, one_records}
+use Rattle.law_played.proofs.PlayEnds.{begin_so, one_records}
 use Rattle.law_played.proofs.ongoing.play_records_are_one.Goals as goal
 
 pub returns-clause-one : goal.returns-clause-one

@@ -1,4 +1,4 @@
-use Rattle.law_played.proofs.Fitting.{fits}
+use Rattle.law_played.proofs.ShownFits.{fits}
 use Rattle.law_played.proofs.telling.what_actors_tell_fits.Goals as goal
 
 pub returns : goal.returns

@@ -1,4 +1,4 @@
-use Rattle.law_rights.proofs.Balancing.{call_moves}
+use Rattle.law_rights.proofs.CallBalance.{call_moves}
 use Rattle.law_rights.proofs.laws.a_call_moves_rights.Goals as goal
 
 pub returns : goal.returns

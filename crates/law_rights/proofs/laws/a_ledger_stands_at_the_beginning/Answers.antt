@@ -1,4 +1,4 @@
-use Rattle.law_rights.proofs.Starting.{begins_standing}
+use Rattle.law_rights.proofs.EmptyLedger.{begins_standing}
 use Rattle.law_rights.proofs.laws.a_ledger_stands_at_the_beginning.Goals as goal
 
 pub returns : goal.returns

@@ -1,4 +1,4 @@
-use Rattle.law_rights.proofs.Recording.{all_written_is, look_is_written}
+use Rattle.law_rights.proofs.WrittenFrames.{all_written_is, look_is_written}
 use Rattle.law_rights.proofs.laws.a_look_tells_what_a_run_has_written.Goals as goal
 
 pub returns-clause-same : goal.returns-clause-same

@@ -1,4 +1,4 @@
-use Rattle.law_rights.proofs.Looking.{look_tells}
+use Rattle.law_rights.proofs.LookResults.{look_tells}
 use Rattle.law_rights.proofs.laws.a_look_tells_what_was_written.Goals as goal
 
 pub returns : goal.returns

@@ -1,4 +1,4 @@
-use Rattle.law_rights.proofs.Keeping.{move_keeps}
+use Rattle.law_rights.proofs.MoveKeepsLedger.{move_keeps}
 use Rattle.law_rights.proofs.laws.a_move_keeps_a_ledger.Goals as goal
 
 pub returns : goal.returns

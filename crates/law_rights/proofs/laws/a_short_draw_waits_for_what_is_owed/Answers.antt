@@ -1,4 +1,4 @@
-use Rattle.law_rights.proofs.Waiting.{short_owed}
+use Rattle.law_rights.proofs.WaitingDraws.{short_owed}
 use Rattle.law_rights.proofs.laws.a_short_draw_waits_for_what_is_owed.Goals as goal
 
 pub returns : goal.returns

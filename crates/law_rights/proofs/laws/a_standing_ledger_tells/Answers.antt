@@ -1,4 +1,4 @@
-use Rattle.law_rights.proofs.Stocking.{permits_unmade, stands_look}
+use Rattle.law_rights.proofs.PermitStock.{permits_unmade, stands_look}
 use Rattle.law_rights.proofs.laws.a_standing_ledger_tells.Goals as goal
 
 pub returns-clause-unmade : goal.returns-clause-unmade

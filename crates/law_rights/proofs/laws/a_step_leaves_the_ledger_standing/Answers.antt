@@ -1,4 +1,4 @@
-use Rattle.law_rights.proofs.Played.{step_stands}
+use Rattle.law_rights.proofs.StepLedger.{step_stands}
 use Rattle.law_rights.proofs.laws.a_step_leaves_the_ledger_standing.Goals as goal
 
 pub returns : goal.returns

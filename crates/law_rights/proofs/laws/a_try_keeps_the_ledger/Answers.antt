@@ -1,4 +1,4 @@
-use Rattle.law_rights.proofs.Attempting.{try_keeps}
+use Rattle.law_rights.proofs.TryKeepsLedger.{try_keeps}
 use Rattle.law_rights.proofs.laws.a_try_keeps_the_ledger.Goals as goal
 
 pub returns : goal.returns

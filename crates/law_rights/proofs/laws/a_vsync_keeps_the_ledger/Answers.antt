@@ -1,5 +1,5 @@
 use Rattle.std.proofs.Common.{refl}
-use Rattle.law_rights.proofs.Reading.{vsync_keeps}
+use Rattle.law_rights.proofs.ReadLeases.{vsync_keeps}
 use Rattle.law_rights.proofs.laws.a_vsync_keeps_the_ledger.Goals as goal
 
 pub returns-clause-turns : goal.returns-clause-turns

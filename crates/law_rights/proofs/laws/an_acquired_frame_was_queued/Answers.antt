@@ -1,4 +1,4 @@
-use Rattle.law_rights.proofs.Taking.{acquired_queued}
+use Rattle.law_rights.proofs.AcquiredRights.{acquired_queued}
 use Rattle.law_rights.proofs.laws.an_acquired_frame_was_queued.Goals as goal
 
 pub returns : goal.returns

@@ -1,4 +1,4 @@
-use Rattle.law_rights.proofs.Ordering.{draws_rise}
+use Rattle.law_rights.proofs.DrawOrder.{draws_rise}
 use Rattle.law_rights.proofs.laws.the_draws_of_an_actor_rise.Goals as goal
 
 pub returns : goal.returns

@@ -1,4 +1,4 @@
-use Rattle.law_rights.proofs.Paying.{owed_was_paid}
+use Rattle.law_rights.proofs.PaidDrawings.{owed_was_paid}
 use Rattle.law_rights.proofs.laws.what_was_owed_and_is_written_was_paid.Goals as goal
 
 pub returns : goal.returns

@@ -1,4 +1,4 @@
-use Rattle.law_rights.proofs.Attempting.{try_places}
+use Rattle.law_rights.proofs.TryKeepsLedger.{try_places}
 use Rattle.law_rights.proofs.makers.a_try_does_to_places_what_is_told.Goals as goal
 
 pub returns : goal.returns

@@ -1,7 +1,7 @@
 use Rattle.std.proofs.Common.{ap}
 use Rattle.sf_actor.specs.Makers.{BufferOf}
 use Rattle.sf_surface.specs.Reading.{PlainLease}
-use Rattle.law_rights.proofs.Standing.{vsync_returns}
+use Rattle.law_rights.proofs.VsyncLedger.{vsync_returns}
 use Rattle.law_rights.proofs.makers.a_vsync_does_to_places_what_is_told.Goals as goal
 
 abbrev at : PlainLease → BufferOf

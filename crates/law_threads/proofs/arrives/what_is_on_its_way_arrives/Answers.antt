@@ -1,5 +1,5 @@
 use Rattle.law_threads.specs.Cuts.{HasLedger}
-use Rattle.law_threads.proofs.Arriving.{goes_forward}
+use Rattle.law_threads.proofs.ArrivalEvents.{goes_forward}
 use Rattle.law_threads.proofs.arrives.what_is_on_its_way_arrives.Goals as goal
 
 pub returns : goal.returns

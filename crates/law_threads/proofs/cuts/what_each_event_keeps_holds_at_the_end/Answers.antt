@@ -1,6 +1,6 @@
 use Rattle.law_threads.specs.Cuts.{HasLedger, many_of, spot_of}
-use Rattle.law_threads.proofs.Carrying.{carried}
-use Rattle.law_threads.proofs.Ordering.{ordered}
+use Rattle.law_threads.proofs.EventLaws.{carried}
+use Rattle.law_threads.proofs.LeastStamp.{ordered}
 use Rattle.law_threads.proofs.cuts.what_each_event_keeps_holds_at_the_end.Goals as goal
 
 pub returns : goal.returns

@@ -1,5 +1,5 @@
 use Rattle.law_threads.specs.Cuts.{HasLedger}
-use Rattle.law_threads.proofs.Forwarding.{part_put}
+use Rattle.law_threads.proofs.SentOnTheirWay.{part_put}
 use Rattle.law_threads.proofs.forwards.what_was_sent_may_arrive_later.Goals as goal
 
 pub returns : goal.returns

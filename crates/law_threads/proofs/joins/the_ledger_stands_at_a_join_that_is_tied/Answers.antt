@@ -1,13 +1,13 @@
 use Rattle.sf_actor.specs.Scripts.{picture_at}
-use Rattle.law_rights.proofs.Starting.{begins_standing}
+use Rattle.law_rights.proofs.EmptyLedger.{begins_standing}
 use Rattle.law_threads.specs.Cuts.{HasLedger}
 use Rattle.std.proofs.Common.{ap, refl}
 use Rattle.sf_actor.specs.Makers.{BufferOf}
 use Rattle.sf_surface.specs.Reading.{PlainLease}
 use Rattle.law_threads.specs.Members.{whole_of}
-use Rattle.law_threads.proofs.Closing.{close_keeps, ledger_gives, ledger_rests}
-use Rattle.law_threads.proofs.Tied.{own_apart, tied_close, tied_holds, tied_stands}
-use Rattle.law_threads.proofs.Tying.{ledger_lifted}
+use Rattle.law_threads.proofs.LedgerViews.{close_keeps, ledger_gives, ledger_rests}
+use Rattle.law_threads.proofs.LedgerAtTiedJoin.{own_apart, tied_close, tied_holds, tied_stands}
+use Rattle.law_threads.proofs.ActorAsCaller.{ledger_lifted}
 use Rattle.law_threads.proofs.joins.the_ledger_stands_at_a_join_that_is_tied.Goals as goal
 
 abbrev at : PlainLease → BufferOf

@@ -1,4 +1,4 @@
-use Rattle.law_threads.proofs.Bounding.{vsyncs_timed}
+use Rattle.law_threads.proofs.StampBounds.{vsyncs_timed}
 use Rattle.law_threads.proofs.joins.vsyncs_are_in_order.Goals as goal
 
 pub returns : goal.returns

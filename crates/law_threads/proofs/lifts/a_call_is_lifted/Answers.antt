@@ -1,6 +1,6 @@
 use Rattle.law_threads.specs.Cuts.{HasLedger}
-use Rattle.law_threads.proofs.Closing.{ledger_goes}
-use Rattle.law_threads.proofs.Lifting.{lifts_call}
+use Rattle.law_threads.proofs.LedgerViews.{ledger_goes}
+use Rattle.law_threads.proofs.CallLift.{lifts_call}
 use Rattle.law_threads.proofs.lifts.a_call_is_lifted.Goals as goal
 
 pub returns : goal.returns

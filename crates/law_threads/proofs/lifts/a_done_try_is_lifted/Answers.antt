@@ -1,6 +1,6 @@
 use Rattle.law_threads.specs.Cuts.{HasLedger}
-use Rattle.law_threads.proofs.Closing.{ledger_gives, ledger_goes}
-use Rattle.law_threads.proofs.Coming.{comes}
+use Rattle.law_threads.proofs.LedgerViews.{ledger_gives, ledger_goes}
+use Rattle.law_threads.proofs.TryOutcomes.{comes}
 use Rattle.law_threads.proofs.lifts.a_done_try_is_lifted.Goals as goal
 
 pub returns : goal.returns

@@ -1,4 +1,4 @@
-use Rattle.law_threads.proofs.Ordering.{ordered}
+use Rattle.law_threads.proofs.LeastStamp.{ordered}
 use Rattle.law_threads.proofs.orders.calls_come_in_one_order.Goals as goal
 
 pub returns : goal.returns

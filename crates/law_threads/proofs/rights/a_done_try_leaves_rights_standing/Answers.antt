@@ -1,4 +1,4 @@
-use Rattle.law_threads.proofs.Righting.{comes_rights}
+use Rattle.law_threads.proofs.RightsOfEvents.{comes_rights}
 use Rattle.law_threads.proofs.rights.a_done_try_leaves_rights_standing.Goals as goal
 
 pub returns : goal.returns

@@ -16,7 +16,7 @@ use Rattle.sf_actor_set.specs.Scripts.{permits_of}
 use Rattle.sf_live_seats.specs.Closing.{HasNoCalls}
 use Rattle.sf_live_threads.specs.Seating.{IsNewcomer, number_of}
 use Rattle.sf_live.proofs.Newcomers.{few_opened, newcomers, numbers_same, opened_bare, rise_behind}
-use Rattle.sf_live.proofs.Openings.{are_actors, marks_opened, stock_below, stock_once}
+use Rattle.sf_live.proofs.OpenedScenes.{are_actors, marks_opened, stock_below, stock_once}
 use Rattle.sf_live.proofs.opening.open.Goals as goal
 
 pub share-requires : goal.share-requires

@@ -1,5 +1,5 @@
 use Rattle.std.proofs.Common.{ap, arith, rules, ◌∙◌, subst, [], ◌∷◌}
-use Rattle.sf_live_compositor.proofs.Rising.{rose_since}
+use Rattle.sf_live_compositor.proofs.FaultCounts.{rose_since}
 use Rattle.law_played.specs.Played.{opening}
 use Rattle.sf_script_scene.specs.Limits.{IsWithinLimits}
 use Rattle.sf_script_scene.specs.Scene.{SceneValue}

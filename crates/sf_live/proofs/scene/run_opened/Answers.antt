@@ -1,6 +1,6 @@
 use Rattle.std.proofs.Common.{◌≤◌, ◌∷◌, [], arith, refl, rules, subst, sym, OnErr, OnOk}
 use Rattle.sf_io.specs.Causes.{Rose}
-use Rattle.sf_live_compositor.proofs.Rising.{rose_since}
+use Rattle.sf_live_compositor.proofs.FaultCounts.{rose_since}
 use Rattle.sf_play_write.specs.Writing.{CutSome}
 use Rattle.sf_live_threads.proofs.AttendLemmas.{of_ok}
 use Rattle.law_played.specs.Played.{opening}

@@ -3,7 +3,7 @@ use Rattle.law_played.proofs.LimitLemmas.{few_layers}
 use Rattle.sf_script_scene.specs.Scene.{SceneValue}
 use Rattle.sf_actor_set.specs.Scripts.{permits_of}
 use Rattle.sf_live.specs.Runs.{LiveEnded}
-use Rattle.sf_live.proofs.Starting.{may_run, of_scene}
+use Rattle.sf_live.proofs.StartOfRun.{may_run, of_scene}
 use Rattle.sf_live.proofs.RunLemmas.{ended_early}
 use Rattle.sf_live.proofs.scene.run_scene.Goals as goal
 

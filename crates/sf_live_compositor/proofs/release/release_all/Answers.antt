@@ -6,7 +6,7 @@ use Rattle.sf_commit.specs.Releases.{ReleaseOf}
 use Rattle.sf_surface.specs.Tokens.{ReadLeaseOf}
 use Rattle.law_rights.specs.Standing.{GiveAll}
 use Rattle.sf_live_seats.specs.Seats.{home_of, view_of}
-use Rattle.sf_live_compositor.proofs.Going.{gave_more, gave_none, map_same}
+use Rattle.sf_live_compositor.proofs.SeatGrowth.{gave_more, gave_none, map_same}
 use Rattle.sf_live_compositor.proofs.release.release_all.Goals as goal
 
 pub loop-release-init : goal.loop-release-init

@@ -1,5 +1,5 @@
 use Rattle.std.proofs.Common.{◌≡◌}
-use Rattle.sf_live_compositor.proofs.Going.{Gave}
+use Rattle.sf_live_compositor.proofs.SeatGrowth.{Gave}
 use Rattle.sf_live_compositor.proofs.release.release_all.Given as goal
 
 abbrev pub invariant-loop-release : goal.invariant-loop-release

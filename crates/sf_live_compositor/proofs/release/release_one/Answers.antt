@@ -6,7 +6,7 @@ use Rattle.sf_surface.specs.declared.call.QReply.{QReply}
 use Rattle.sf_surface.specs.Tokens.{ReadLeaseOf}
 use Rattle.sf_actor.specs.Desks.{MadeCall}
 use Rattle.sf_live_seats.specs.Seats.{home_of, view_of}
-use Rattle.sf_live_compositor.proofs.Giving.{ends_given, given, gives_it, step_given}
+use Rattle.sf_live_compositor.proofs.ReturnedFrame.{ends_given, given, gives_it, step_given}
 use Rattle.sf_live_compositor.proofs.release.release_one.Goals as goal
 
 pub settle-requires-clause-ends : goal.settle-requires-clause-ends

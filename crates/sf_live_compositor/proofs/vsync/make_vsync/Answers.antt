@@ -8,11 +8,11 @@ use Rattle.law_rights.specs.Standing.{GiveAll}
 use Rattle.sf_live_seats.specs.declared.seats.Seats.{Seats}
 use Rattle.sf_live_seats.specs.Arriving.{ArrivalsPass}
 use Rattle.sf_live_seats.specs.Seats.{home_of, view_of}
-use Rattle.sf_live_seats.proofs.Staying.{stays_looked, stays_sent}
+use Rattle.sf_live_seats.proofs.FirstSeatsKept.{stays_looked, stays_sent}
 use Rattle.sf_live_seats.specs.Moves.{MadeLater}
 use Rattle.sf_live_compositor.proofs.GivenBack.{makes_lent}
-use Rattle.sf_live_compositor.proofs.Going.{reported, stays_on}
-use Rattle.sf_live_compositor.proofs.Taking.{take_rises}
+use Rattle.sf_live_compositor.proofs.SeatGrowth.{reported, stays_on}
+use Rattle.sf_live_compositor.proofs.TakenNumbers.{take_rises}
 use Rattle.sf_live_compositor.proofs.vsync.make_vsync.Goals as goal
 
 pub vsync-requires-clause-rising : goal.vsync-requires-clause-rising

@@ -1,4 +1,4 @@
-use Rattle.sf_live_seats.proofs.Sending.{sent_one}
+use Rattle.sf_live_seats.proofs.PassSend.{sent_one}
 use Rattle.sf_live_seats.proofs.calls.send_one.Goals as goal
 
 pub returns-in-Ok-default-Number-clause-sent : goal.returns-in-Ok-default-Number-clause-sent

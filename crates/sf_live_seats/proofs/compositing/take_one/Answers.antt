@@ -2,7 +2,7 @@ use Rattle.std.proofs.Common.{◌∙◌, List, ap, sym}
 use Rattle.sf_surface.specs.Tokens.{ReadLeaseOf}
 use Rattle.sf_token.specs.Pending.{Arrival}
 use Rattle.sf_token.specs.declared.arrivals.ArriveReply.TheVariants as reply
-use Rattle.sf_live_seats.proofs.Taking.{newest_took, rose_took, took_one}
+use Rattle.sf_live_seats.proofs.PassTake.{newest_took, rose_took, took_one}
 use Rattle.sf_live_seats.proofs.compositing.take_one.Goals as goal
 
 pub returns-in-Ok-default-Batch-clause-took : goal.returns-in-Ok-default-Batch-clause-took

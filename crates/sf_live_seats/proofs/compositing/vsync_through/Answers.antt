@@ -1,4 +1,4 @@
-use Rattle.sf_live_seats.proofs.Watching.{seat_goes_on, vsync_ends}
+use Rattle.sf_live_seats.proofs.VsyncKnowledge.{seat_goes_on, vsync_ends}
 use Rattle.sf_live_seats.proofs.compositing.vsync_through.Goals as goal
 
 pub returns-clause-goes : goal.returns-clause-goes

@@ -3,7 +3,7 @@ use Rattle.sf_intake.specs.Views.{SenderView, new_sender}
 use Rattle.sf_surface.specs.Tokens.{ReadLeaseOf}
 use Rattle.sf_live_seats.specs.declared.at_intake.AtIntake.TheVariants as at
 use Rattle.sf_live_seats.specs.First.{HandsOut, MayHandOut}
-use Rattle.sf_live_seats.proofs.Reuniting.{some_same}
+use Rattle.sf_live_seats.proofs.ReunitedPass.{some_same}
 use Rattle.sf_live_seats.proofs.first.hand_out.Goals as goal
 
 pub unreachable-requires : goal.unreachable-requires

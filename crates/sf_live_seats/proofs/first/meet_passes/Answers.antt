@@ -4,9 +4,9 @@ use Rattle.std.specs.Vec.Iter.{into_iter_items}
 use Rattle.sf_live_seats.specs.declared.locks.QueueLock.{QueueLock}
 use Rattle.sf_live_seats.specs.Passes.{IsAt, IsFirstPass}
 use Rattle.sf_live_seats.specs.Seats.{QueuePass}
-use Rattle.sf_live_seats.proofs.Meeting.{meet_ends, meet_goes_on, meet_more, meet_starts, met_there, note_own}
-use Rattle.sf_live_seats.proofs.Passing.{zip_at}
-use Rattle.sf_live_seats.proofs.Splitting.{by_place}
+use Rattle.sf_live_seats.proofs.SeatsTakenIn.{meet_ends, meet_goes_on, meet_more, meet_starts, met_there, note_own}
+use Rattle.sf_live_seats.proofs.QueuePass.{zip_at}
+use Rattle.sf_live_seats.proofs.GivenPasses.{by_place}
 use Rattle.sf_live_seats.proofs.first.meet_passes.Goals as goal
 
 pub loop-place-init : goal.loop-place-init

@@ -4,8 +4,8 @@ use Rattle.sf_calls.specs.Passes.{given, giving}
 use Rattle.sf_live_seats.specs.declared.locks.QueueLock.{QueueLock}
 use Rattle.sf_live_seats.specs.Passes.{IsAt, MayGive}
 use Rattle.sf_live_seats.specs.Seats.{QueuePass}
-use Rattle.sf_live_seats.proofs.Passing.{zip_at}
-use Rattle.sf_live_seats.proofs.Splitting.{by_place, ends, goes_on, same_there, starts}
+use Rattle.sf_live_seats.proofs.QueuePass.{zip_at}
+use Rattle.sf_live_seats.proofs.GivenPasses.{by_place, ends, goes_on, same_there, starts}
 use Rattle.sf_live_seats.proofs.first.split_passes.Goals as goal
 
 pub loop-place-init : goal.loop-place-init

@@ -1,5 +1,5 @@
 use Rattle.sf_calls.specs.Passes.{given, giving}
-use Rattle.sf_live_seats.proofs.Splitting.{SoFar}
+use Rattle.sf_live_seats.proofs.GivenPasses.{SoFar}
 use Rattle.sf_live_seats.proofs.first.split_passes.Given as goal
 
 abbrev pub invariant-loop-place : goal.invariant-loop-place

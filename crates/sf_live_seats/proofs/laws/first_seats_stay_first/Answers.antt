@@ -1,4 +1,4 @@
-use Rattle.sf_live_seats.proofs.Staying.{stays_called, stays_first, stays_looked, stays_sent}
+use Rattle.sf_live_seats.proofs.FirstSeatsKept.{stays_called, stays_first, stays_looked, stays_sent}
 use Rattle.sf_live_seats.proofs.laws.first_seats_stay_first.Goals as goal
 
 pub returns-clause-stays : goal.returns-clause-stays

@@ -5,7 +5,7 @@ use Rattle.std.specs.List.{AllZip}
 use Rattle.sf_live_seats.specs.declared.locks.QueueLock.{QueueLock}
 use Rattle.sf_live_seats.specs.Closing.{IsLast}
 use Rattle.sf_live_seats.specs.Seats.{QueuePass}
-use Rattle.sf_live_seats.proofs.Opening.{CloseSoFar, close_ends, close_goes_on, close_starts, has_pass}
+use Rattle.sf_live_seats.proofs.OpenedLocks.{CloseSoFar, close_ends, close_goes_on, close_starts, has_pass}
 use Rattle.sf_live_seats.proofs.locks.close_queues.Goals as goal
 
 pub loop-lock-init : goal.loop-lock-init

@@ -1,5 +1,5 @@
 use Rattle.std.specs.Vec.Iter.{into_iter_items}
-use Rattle.sf_live_seats.proofs.Opening.{CloseSoFar}
+use Rattle.sf_live_seats.proofs.OpenedLocks.{CloseSoFar}
 use Rattle.sf_live_seats.proofs.locks.close_queues.Given as goal
 
 abbrev pub invariant-loop-lock : goal.invariant-loop-lock

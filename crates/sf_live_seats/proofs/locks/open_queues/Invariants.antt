@@ -1,5 +1,5 @@
 use Rattle.std.specs.Vec.Iter.{into_iter_items}
-use Rattle.sf_live_seats.proofs.Opening.{OpenSoFar}
+use Rattle.sf_live_seats.proofs.OpenedLocks.{OpenSoFar}
 use Rattle.sf_live_seats.proofs.locks.open_queues.Given as goal
 
 abbrev pub invariant-loop-object : goal.invariant-loop-object

@@ -1,4 +1,4 @@
-use Rattle.sf_live_threads.proofs.Doing.{walk_leaves, walk_signals}
+use Rattle.sf_live_threads.proofs.ActorWalk.{walk_leaves, walk_signals}
 use Rattle.sf_live_threads.proofs.laws.seats_do_what_steps_do.Goals as goal
 
 pub returns : goal.returns

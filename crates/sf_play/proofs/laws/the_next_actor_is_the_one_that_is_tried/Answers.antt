@@ -1,4 +1,4 @@
-use Rattle.sf_play.proofs.Trying.{next_is_tried, no_other_steps}
+use Rattle.sf_play.proofs.NextActor.{next_is_tried, no_other_steps}
 use Rattle.sf_play.proofs.laws.the_next_actor_is_the_one_that_is_tried.Goals as goal
 
 pub returns-clause-tried : goal.returns-clause-tried

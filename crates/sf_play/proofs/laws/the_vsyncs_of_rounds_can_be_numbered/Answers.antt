@@ -1,4 +1,4 @@
-use Rattle.sf_play.proofs.Numbering.{rounds_numbered}
+use Rattle.sf_play.proofs.VsyncNumbers.{rounds_numbered}
 use Rattle.sf_play.proofs.laws.the_vsyncs_of_rounds_can_be_numbered.Goals as goal
 
 pub returns : goal.returns

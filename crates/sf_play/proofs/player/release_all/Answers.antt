@@ -1,7 +1,7 @@
 use Rattle.std.proofs.Common.{rules}
 use Rattle.std.proofs.lemmas.Iterator.Adapters.{YieldsList-from_vec}
 use Rattle.std.proofs.lemmas.Iterator.Consumers.{YieldsList-end, YieldsList-turn}
-use Rattle.sf_play.proofs.Turning.{giving_all, giving_more, giving_none, next_there}
+use Rattle.sf_play.proofs.VsyncParts.{giving_all, giving_more, giving_none, next_there}
 use Rattle.sf_play.proofs.player.release_all.Goals as goal
 
 pub loop-release-init : goal.loop-release-init

@@ -1,4 +1,4 @@
-use Rattle.sf_play.proofs.Turning.{IsGiving}
+use Rattle.sf_play.proofs.VsyncParts.{IsGiving}
 use Rattle.sf_play.proofs.player.release_all.Given as goal
 
 abbrev pub invariant-loop-release : goal.invariant-loop-release

@@ -1,6 +1,6 @@
 use Rattle.std.proofs.Common.{◌≡◌, false, refl, arith}
 use Rattle.sf_tree.specs.Search.{leads_to}
-use Rattle.sf_tree.proofs.Unreached.{all_more, all_passed}
+use Rattle.sf_tree.proofs.UnreachedLayers.{all_more, all_passed}
 use Rattle.sf_tree.proofs.cycles.any_leads_to.Goals as goal
 
 pub loop-layer-preserved : goal.loop-layer-preserved

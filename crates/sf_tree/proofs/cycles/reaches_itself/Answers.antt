@@ -3,10 +3,10 @@ use Rattle.std.specs.List.{All}
 use Rattle.sf_layer.specs.declared.layer.Layer.{Layer}
 use Rattle.sf_tree.specs.Search.{leads_to, steps_along, Grows}
 use Rattle.sf_tree.specs.Steps.{reaches_itself}
-use Rattle.sf_tree.proofs.Reaching.{reaches-unknown, reaches-explored, reaches-le}
-use Rattle.sf_tree.proofs.Unreached.{reaches-stepless, reaches-unled}
+use Rattle.sf_tree.proofs.LayerPaths.{reaches-unknown, reaches-explored, reaches-le}
+use Rattle.sf_tree.proofs.UnreachedLayers.{reaches-stepless, reaches-unled}
 use Rattle.sf_tree.proofs.Lookups.{layer_of-place}
-use Rattle.sf_tree.proofs.Exploring.{explored_more, Contains-grows, found-le}
+use Rattle.sf_tree.proofs.SearchSteps.{explored_more, Contains-grows, found-le}
 use Rattle.sf_tree.proofs.cycles.reaches_itself.Goals as goal
 
 pub returns-in_default : goal.returns-in_default

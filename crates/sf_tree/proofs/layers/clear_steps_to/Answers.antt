@@ -1,5 +1,5 @@
 use Rattle.std.proofs.Common.{arith}
-use Rattle.sf_tree.proofs.Removing.{cleared_more}
+use Rattle.sf_tree.proofs.RemovedLayer.{cleared_more}
 use Rattle.sf_tree.proofs.layers.clear_steps_to.Goals as goal
 
 pub loop-layer-preserved : goal.loop-layer-preserved

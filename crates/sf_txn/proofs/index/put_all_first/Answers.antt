@@ -5,7 +5,7 @@ use Rattle.sf_base.specs.declared.ids.LayerId.{LayerId}
 use Rattle.sf_layer.specs.declared.op.Op.{Op}
 use Rattle.sf_txn.specs.Places.{kept}
 use Rattle.sf_txn.specs.Transactions.{Stays, with_ops}
-use Rattle.sf_txn.proofs.Merging.{none-of, pairs-init, with_ops-none}
+use Rattle.sf_txn.proofs.MergedOperations.{none-of, pairs-init, with_ops-none}
 use Rattle.sf_txn.proofs.Places.{apart-kept}
 use Rattle.sf_txn.proofs.index.put_all_first.Goals as goal
 

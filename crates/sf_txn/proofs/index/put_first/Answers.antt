@@ -4,7 +4,7 @@ use Rattle.std.proofs.lemmas.Grind.{common_steps}
 use Rattle.sf_txn.specs.Places.{is_kept, kept}
 use Rattle.sf_txn.specs.Transactions.{replaces, with_ops}
 use Rattle.sf_txn.proofs.Fronts.{first-indexed, front-inside, kept-first}
-use Rattle.sf_txn.proofs.Merging.{found-none, found-replaces, merged-first, merged-gone, merged-replaced, room-any, room-kept}
+use Rattle.sf_txn.proofs.MergedOperations.{found-none, found-replaces, merged-first, merged-gone, merged-replaced, room-any, room-kept}
 use Rattle.sf_txn.proofs.Places.{apart-kept}
 use Rattle.sf_txn.proofs.index.put_first.Goals as goal
 

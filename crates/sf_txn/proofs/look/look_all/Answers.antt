@@ -1,6 +1,6 @@
 use Rattle.std.proofs.Common.{◌≡◌, ◌+◌, ◌++◌, ◌≤◌, ◌<◌, ◌∷◌, [], ◌∙◌, Bool, List, length, ap, arith, append_assoc, vec_capacity, vec_len}
 use Rattle.std.proofs.lemmas.Grind.{common_steps}
-use Rattle.sf_txn.proofs.Looking.{LookedBelow-more, next-fits}
+use Rattle.sf_txn.proofs.BufferLooks.{LookedBelow-more, next-fits}
 use Rattle.sf_txn.proofs.look.look_all.Goals as goal
 
 pub look-is_drawn-requires : goal.look-is_drawn-requires

@@ -1,5 +1,5 @@
 use Rattle.std.proofs.Common.{◌≡◌, ◌+◌, ◌-◌, ◌++◌, ◌≤◌, Bool, List, length, vec_capacity, vec_len}
-use Rattle.sf_txn.proofs.Looking.{LookedBelow}
+use Rattle.sf_txn.proofs.BufferLooks.{LookedBelow}
 use Rattle.sf_txn.proofs.look.look_all.Given as goal
 
 abbrev pub invariant-loop-index : goal.invariant-loop-index

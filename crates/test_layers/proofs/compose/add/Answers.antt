@@ -1,6 +1,6 @@
 use Rattle.std.proofs.Common.{◌∙◌, ap}
 use Rattle.sf_view.specs.Views.{ViewOf}
-use Rattle.test_layers.proofs.Reading.{readable}
+use Rattle.test_layers.proofs.DrawnPictures.{readable}
 use Rattle.test_layers.proofs.compose.add.Goals as goal
 
 pub compose_one-requires-clause-readable : goal.compose_one-requires-clause-readable

@@ -1,4 +1,4 @@
-use Rattle.test_layers.proofs.Reading.{sources-more}
+use Rattle.test_layers.proofs.DrawnPictures.{sources-more}
 use Rattle.test_layers.proofs.compose.sources.Goals as goal
 
 pub loop-layer-preserved : goal.loop-layer-preserved

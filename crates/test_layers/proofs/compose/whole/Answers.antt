@@ -1,6 +1,6 @@
 use Rattle.std.proofs.Common.{◌∙◌, ap}
 use Rattle.sf_view.specs.Views.{ViewOf}
-use Rattle.test_layers.proofs.Reading.{readable}
+use Rattle.test_layers.proofs.DrawnPictures.{readable}
 use Rattle.test_layers.proofs.compose.whole.Goals as goal
 
 pub compose_frame-requires : goal.compose_frame-requires

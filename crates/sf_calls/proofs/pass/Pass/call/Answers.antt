@@ -5,7 +5,7 @@ use Rattle.sf_calls.specs.declared.object.Entry.{Entry}
 use Rattle.sf_calls.specs.Histories.{IsLegal, entry}
 use Rattle.sf_calls.specs.Views.{PassView, pass_view}
 use Rattle.sf_calls.specs.Calling.{Made, Waited}
-use Rattle.sf_calls.proofs.Calling.{made, waited, unchanged, other_calls}
+use Rattle.sf_calls.proofs.CallSteps.{made, waited, unchanged, other_calls}
 use Rattle.sf_calls.proofs.pass.Pass.call.Goals as goal
 
 pub pass_on-requires-clause-legal : goal.pass_on-requires-clause-legal

@@ -3,7 +3,7 @@ use Rattle.sf_record.specs.declared.encode.RunFault.{RunFault}
 use Rattle.sf_play_write.proofs.WritingLemmas.{cut_more, some_more}
 use Rattle.sf_live_compositor.specs.Vsyncs.{Sitting}
 use Rattle.sf_live_compositor.proofs.Due.{sits_all, sits_then, written_by}
-use Rattle.sf_live_compositor.proofs.Rising.{rose_since, same_fault}
+use Rattle.sf_live_compositor.proofs.FaultCounts.{rose_since, same_fault}
 use Rattle.sf_live_compositor.proofs.compositor.Compositor.settle.Goals as goal
 
 pub returns-in-Ok-clause-kept : goal.returns-in-Ok-clause-kept

@@ -5,11 +5,11 @@ use Rattle.sf_record.specs.declared.encode.RunFault.{RunFault}
 use Rattle.sf_play_report.specs.Stages.{IsStage}
 use Rattle.sf_play_report.specs.declared.report.VsyncReport.{VsyncReport}
 use Rattle.sf_live_seats.specs.declared.first.FirstSeats.{FirstSeats}
-use Rattle.sf_live_seats.proofs.Staying.{stays_first}
+use Rattle.sf_live_seats.proofs.FirstSeatsKept.{stays_first}
 use Rattle.sf_play_write.proofs.WritingLemmas.{cut_more, some_more}
 use Rattle.sf_live_compositor.specs.Vsyncs.{Sitting}
 use Rattle.sf_live_compositor.proofs.Due.{sits_behind, stage_due, written_by}
-use Rattle.sf_live_compositor.proofs.Rising.{rose_since, same_fault}
+use Rattle.sf_live_compositor.proofs.FaultCounts.{rose_since, same_fault}
 use Rattle.sf_live_compositor.proofs.compositor.CompositorVisit.visit.Goals as goal
 
 pub show_next-requires-sync-R : goal.show_next-requires-sync-R

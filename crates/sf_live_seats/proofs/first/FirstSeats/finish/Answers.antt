@@ -2,10 +2,10 @@ use Rattle.std.proofs.Common.{◌∙◌, refl, sym}
 use Rattle.sf_live_seats.specs.declared.at_intake.AtIntake.TheVariants as at
 use Rattle.sf_live_seats.specs.declared.first.FirstSeats.{FirstSeats}
 use Rattle.sf_live_seats.specs.declared.seats.Seats.{Seats}
-use Rattle.sf_live_seats.proofs.Forwarding.{later_none}
-use Rattle.sf_live_seats.proofs.Reuniting.{reunite_locked, some_same, whole_locked}
-use Rattle.sf_live_seats.proofs.Staying.{stays_first, stays_sent}
-use Rattle.sf_live_seats.proofs.Taking.{brings_change, finished, finished_own, taker_there}
+use Rattle.sf_live_seats.proofs.IntakeArrivals.{later_none}
+use Rattle.sf_live_seats.proofs.ReunitedPass.{reunite_locked, some_same, whole_locked}
+use Rattle.sf_live_seats.proofs.FirstSeatsKept.{stays_first, stays_sent}
+use Rattle.sf_live_seats.proofs.PassTake.{brings_change, finished, finished_own, taker_there}
 use Rattle.sf_live_seats.proofs.first.FirstSeats.finish.Goals as goal
 
 pub returns-in_default-clause-finishes : goal.returns-in_default-clause-finishes

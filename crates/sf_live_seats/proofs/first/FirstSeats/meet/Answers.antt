@@ -12,11 +12,11 @@ use Rattle.sf_live_seats.specs.Arriving.{ArrivalsPass}
 use Rattle.sf_live_seats.specs.Passes.{IsAt, IsFirstPass, KeepsOwn, all_met}
 use Rattle.sf_live_seats.specs.Seats.{AreWhole, IsPassOf, QueuePass}
 use Rattle.sf_live_seats.specs.declared.seats.Seats.{Seats}
-use Rattle.sf_live_seats.proofs.Giving.{at_locks}
-use Rattle.sf_live_seats.proofs.Meeting.{IsMet, first_after, first_passes, meets_after, met_long, one_longer, took_one}
-use Rattle.sf_live_seats.proofs.Passing.{as_long}
-use Rattle.sf_live_seats.proofs.Reuniting.{some_same}
-use Rattle.sf_live_seats.proofs.Taking.{there_first}
+use Rattle.sf_live_seats.proofs.GivenSeats.{at_locks}
+use Rattle.sf_live_seats.proofs.SeatsTakenIn.{IsMet, first_after, first_passes, meets_after, met_long, one_longer, took_one}
+use Rattle.sf_live_seats.proofs.QueuePass.{as_long}
+use Rattle.sf_live_seats.proofs.ReunitedPass.{some_same}
+use Rattle.sf_live_seats.proofs.PassTake.{there_first}
 use Rattle.sf_live_seats.proofs.first.FirstSeats.meet.Goals as goal
 
 pub meet_passes-requires-clause-own : goal.meet_passes-requires-clause-own

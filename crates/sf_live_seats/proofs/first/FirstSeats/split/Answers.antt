@@ -11,11 +11,11 @@ use Rattle.sf_live_seats.specs.Arriving.{ArrivalsPass}
 use Rattle.sf_live_seats.specs.First.{HandsOut, gave_of}
 use Rattle.sf_live_seats.specs.Passes.{IsAt, MayGive}
 use Rattle.sf_live_seats.specs.Seats.{IsPassOf, QueuePass}
-use Rattle.sf_live_seats.proofs.Giving.{IsSplit, at_locks, first_after, given_is, gives_after, may_give, seats_given}
-use Rattle.sf_live_seats.proofs.Handing.{may_hand}
-use Rattle.sf_live_seats.proofs.Passing.{as_long}
-use Rattle.sf_live_seats.proofs.Reuniting.{some_same}
-use Rattle.sf_live_seats.proofs.Taking.{there_first}
+use Rattle.sf_live_seats.proofs.GivenSeats.{IsSplit, at_locks, first_after, given_is, gives_after, may_give, seats_given}
+use Rattle.sf_live_seats.proofs.IntakeHands.{may_hand}
+use Rattle.sf_live_seats.proofs.QueuePass.{as_long}
+use Rattle.sf_live_seats.proofs.ReunitedPass.{some_same}
+use Rattle.sf_live_seats.proofs.PassTake.{there_first}
 use Rattle.sf_live_seats.proofs.first.FirstSeats.split.Goals as goal
 
 pub split_passes-requires-clause-own : goal.split_passes-requires-clause-own

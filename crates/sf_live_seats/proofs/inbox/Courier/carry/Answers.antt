@@ -1,4 +1,4 @@
-use Rattle.sf_live_seats.proofs.Forwarding.{carried}
+use Rattle.sf_live_seats.proofs.IntakeArrivals.{carried}
 use Rattle.sf_live_seats.proofs.inbox.Courier.carry.Goals as goal
 
 pub returns-in-Ok-clause-carried : goal.returns-in-Ok-clause-carried

@@ -4,7 +4,7 @@ use Rattle.std.specs.Vec.Iter.{into_iter_items}
 use Rattle.std.proofs.lemmas.Bool.Decides.{nat_tests}
 use Rattle.sf_live_seats.specs.declared.inbox.Inbox.{Inbox}
 use Rattle.sf_live_seats.specs.Inboxes.{HasAll}
-use Rattle.sf_live_seats.proofs.Forwarding.{has_all, later_on, left_new, popped_inbox, same_couriers, same_inbox, same_on, same_popped, same_taken, taken_inbox}
+use Rattle.sf_live_seats.proofs.IntakeArrivals.{has_all, later_on, left_new, popped_inbox, same_couriers, same_inbox, same_on, same_popped, same_taken, taken_inbox}
 use Rattle.sf_live_seats.proofs.inbox.Inbox.bring.Goals as goal
 
 pub returns-in_err-forward_left-clause-same : goal.returns-in_err-forward_left-clause-same

@@ -1,5 +1,5 @@
 use Rattle.std.proofs.Common.{rules, ◌∙◌, refl}
-use Rattle.sf_live_seats.proofs.Forwarding.{later_none, later_on, same_inbox, same_on}
+use Rattle.sf_live_seats.proofs.IntakeArrivals.{later_none, later_on, same_inbox, same_on}
 use Rattle.sf_live_seats.proofs.inbox.Inbox.drain.Goals as goal
 
 pub loop-init : goal.loop-init

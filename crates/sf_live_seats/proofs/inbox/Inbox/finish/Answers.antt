@@ -4,8 +4,8 @@ use Rattle.std.specs.List.{AllByRecursion}
 use Rattle.sf_live_seats.specs.declared.seats.Seats.{Seats}
 use Rattle.sf_live_seats.specs.Inboxes.{number_of}
 use Rattle.sf_live_seats.specs.Seats.{IsHeard}
-use Rattle.sf_live_seats.proofs.Forwarding.{hears_inbox, same_couriers}
-use Rattle.sf_live_seats.proofs.Reuniting.{all_heard}
+use Rattle.sf_live_seats.proofs.IntakeArrivals.{hears_inbox, same_couriers}
+use Rattle.sf_live_seats.proofs.ReunitedPass.{all_heard}
 use Rattle.sf_live_seats.proofs.inbox.Inbox.finish.Goals as goal
 
 pub drain-requires : goal.drain-requires

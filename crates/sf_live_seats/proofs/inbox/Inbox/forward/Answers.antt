@@ -11,7 +11,7 @@ use Rattle.sf_token.specs.Pending.{Arrival}
 use Rattle.sf_live_seats.specs.declared.inbox.Courier.{Courier}
 use Rattle.sf_live_seats.specs.declared.inbox.Inbox.{Inbox}
 use Rattle.sf_live_seats.specs.Inboxes.{IsAbleTo, is_courier, left_of}
-use Rattle.sf_live_seats.proofs.Forwarding.{courier_able, courier_low, forwards, left_courier, left_gone, left_one, put_couriers, stays_inbox}
+use Rattle.sf_live_seats.proofs.IntakeArrivals.{courier_able, courier_low, forwards, left_courier, left_gone, left_one, put_couriers, stays_inbox}
 use Rattle.sf_live_seats.proofs.inbox.Inbox.forward.Goals as goal
 
 pub returns-in_default-clause-own : goal.returns-in_default-clause-own

@@ -1,4 +1,4 @@
-use Rattle.sf_live_seats.proofs.Forwarding.{hears_one}
+use Rattle.sf_live_seats.proofs.IntakeArrivals.{hears_one}
 use Rattle.sf_live_seats.proofs.inbox.Inbox.hear.Goals as goal
 
 pub returns-in-Sends-clause-hears : goal.returns-in-Sends-clause-hears

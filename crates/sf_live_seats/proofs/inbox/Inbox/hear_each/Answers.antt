@@ -2,9 +2,9 @@ use Rattle.std.proofs.Common.{List, get_or, set, arith, ap, ◌∙◌, sym, refl
 use Rattle.std.proofs.lemmas.List.{set-get_or}
 use Rattle.sf_live_seats.specs.declared.seats.Seats.{Seats}
 use Rattle.sf_live_seats.specs.Seats.{IsHeard, MaySend}
-use Rattle.sf_live_seats.proofs.Forwarding.{hears_none, hears_on}
-use Rattle.sf_live_seats.proofs.Reuniting.{all_places, heard_next}
-use Rattle.sf_live_seats.proofs.Splitting.{by_place}
+use Rattle.sf_live_seats.proofs.IntakeArrivals.{hears_none, hears_on}
+use Rattle.sf_live_seats.proofs.ReunitedPass.{all_places, heard_next}
+use Rattle.sf_live_seats.proofs.GivenPasses.{by_place}
 use Rattle.sf_live_seats.proofs.inbox.Inbox.hear_each.Goals as goal
 
 pub loop-place-init : goal.loop-place-init

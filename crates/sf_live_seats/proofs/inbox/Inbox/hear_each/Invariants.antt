@@ -1,6 +1,6 @@
 use Rattle.std.proofs.Common.{◌≡◌}
 use Rattle.sf_live_seats.specs.Inboxes.{Hears}
-use Rattle.sf_live_seats.proofs.Reuniting.{AreHeard}
+use Rattle.sf_live_seats.proofs.ReunitedPass.{AreHeard}
 use Rattle.sf_live_seats.proofs.inbox.Inbox.hear_each.Given as goal
 
 abbrev pub invariant-loop-place : goal.invariant-loop-place

@@ -7,8 +7,8 @@ use Rattle.sf_live_seats.specs.Arriving.{ArrivalsPass}
 use Rattle.sf_live_seats.specs.Inboxes.{is_courier}
 use Rattle.sf_live_seats.specs.Reuniting.{Reunites}
 use Rattle.sf_live_seats.specs.Seats.{AreWhole, IsAtIntake, IsHeard}
-use Rattle.sf_live_seats.proofs.Forwarding.{courier_low, stays_inbox}
-use Rattle.sf_live_seats.proofs.Reuniting.{removed_inbox, reunites_sent, some_same, whole_reunited}
+use Rattle.sf_live_seats.proofs.IntakeArrivals.{courier_low, stays_inbox}
+use Rattle.sf_live_seats.proofs.ReunitedPass.{removed_inbox, reunites_sent, some_same, whole_reunited}
 use Rattle.sf_live_seats.proofs.inbox.Inbox.reunite.Goals as goal
 
 pub compare-requires-clause-theirs : goal.compare-requires-clause-theirs

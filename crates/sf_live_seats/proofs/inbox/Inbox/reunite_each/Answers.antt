@@ -3,8 +3,8 @@ use Rattle.sf_live_seats.specs.declared.seats.Seats.{Seats}
 use Rattle.sf_live_seats.specs.Inboxes.{HasAll}
 use Rattle.sf_live_seats.specs.Reuniting.{Reunites}
 use Rattle.sf_live_seats.specs.Seats.{AreWhole, IsHeard, MaySend}
-use Rattle.sf_live_seats.proofs.Reuniting.{all_places, none_reunited, one_reunited, zip_places}
-use Rattle.sf_live_seats.proofs.Splitting.{by_place}
+use Rattle.sf_live_seats.proofs.ReunitedPass.{all_places, none_reunited, one_reunited, zip_places}
+use Rattle.sf_live_seats.proofs.GivenPasses.{by_place}
 use Rattle.sf_live_seats.proofs.inbox.Inbox.reunite_each.Goals as goal
 
 pub loop-place-init : goal.loop-place-init

@@ -1,6 +1,6 @@
 use Rattle.std.proofs.Common.{◌≡◌, []}
 use Rattle.sf_live_seats.specs.Inboxes.{IsInbox, left_of}
-use Rattle.sf_live_seats.proofs.Reuniting.{AreReunited}
+use Rattle.sf_live_seats.proofs.ReunitedPass.{AreReunited}
 use Rattle.sf_live_seats.proofs.inbox.Inbox.reunite_each.Given as goal
 
 abbrev pub invariant-loop-place : goal.invariant-loop-place

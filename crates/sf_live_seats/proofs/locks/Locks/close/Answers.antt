@@ -11,9 +11,9 @@ use Rattle.sf_live_seats.specs.Closing.{AreClosed, Closes, IsOrdered}
 use Rattle.sf_live_seats.specs.First.{HasAll, IsFirst, gave_of}
 use Rattle.sf_live_seats.specs.declared.first.FirstSeats.{FirstSeats}
 use Rattle.sf_live_seats.specs.declared.seats.Seats.{Seats}
-use Rattle.sf_live_seats.proofs.Ending.{IsLeft, all_last, closes, goes, last_arrivals, nobody, ordered, told_none}
-use Rattle.sf_live_seats.proofs.Reuniting.{some_same}
-use Rattle.sf_live_seats.proofs.Taking.{there_first}
+use Rattle.sf_live_seats.proofs.ClosedLocks.{IsLeft, all_last, closes, goes, last_arrivals, nobody, ordered, told_none}
+use Rattle.sf_live_seats.proofs.ReunitedPass.{some_same}
+use Rattle.sf_live_seats.proofs.PassTake.{there_first}
 use Rattle.sf_live_seats.proofs.locks.Locks.close.Goals as goal
 
 pub close_queues-requires : goal.close_queues-requires

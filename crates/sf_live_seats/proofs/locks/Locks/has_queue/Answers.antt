@@ -1,7 +1,7 @@
 use Rattle.std.proofs.Common.{◌∙◌, ap, sym}
 use Rattle.std.specs.List.{list_any}
 use Rattle.sf_live_seats.specs.Seats.{is_lock}
-use Rattle.sf_live_seats.proofs.Passing.{has_as}
+use Rattle.sf_live_seats.proofs.QueuePass.{has_as}
 use Rattle.sf_live_seats.proofs.locks.Locks.has_queue.Goals as goal
 
 pub returns : goal.returns

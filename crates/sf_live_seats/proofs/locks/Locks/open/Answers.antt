@@ -4,7 +4,7 @@ use Rattle.sf_live_seats.specs.declared.locks.Locks.{Locks}
 use Rattle.sf_live_seats.specs.declared.seats.Seats.{Seats}
 use Rattle.sf_live_seats.specs.Arriving.{ArrivalEntry, ArrivalsPass}
 use Rattle.sf_live_seats.specs.Closing.{AreOpened, OpensIntake}
-use Rattle.sf_live_seats.proofs.Opening.{IsMade, first_made, opens_made}
+use Rattle.sf_live_seats.proofs.OpenedLocks.{IsMade, first_made, opens_made}
 use Rattle.sf_live_seats.proofs.locks.Locks.open.Goals as goal
 
 pub returns : goal.returns

@@ -1,6 +1,6 @@
 use Rattle.std.proofs.Common.{◌∙◌, sym}
-use Rattle.sf_live_seats.proofs.Reuniting.{some_same}
-use Rattle.sf_live_seats.proofs.Taking.{brings_none, brought, brought_own, taker_there}
+use Rattle.sf_live_seats.proofs.ReunitedPass.{some_same}
+use Rattle.sf_live_seats.proofs.PassTake.{brings_none, brought, brought_own, taker_there}
 use Rattle.sf_live_seats.proofs.seats.Seats.bring_in.Goals as goal
 
 pub returns-in_default-clause-brings : goal.returns-in_default-clause-brings

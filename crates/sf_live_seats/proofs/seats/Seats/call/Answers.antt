@@ -2,9 +2,9 @@ use Rattle.std.proofs.Common.{◌++◌, ◌∙◌, sym, refl, arith}
 use Rattle.std.specs.Prelude.{map}
 use Rattle.sf_calls.specs.Histories.{calls_by}
 use Rattle.sf_live_seats.specs.Seats.{arrivals_known, home_of, post_moment, posts_of, sent_in}
-use Rattle.sf_live_seats.proofs.Handing.{way_later}
-use Rattle.sf_live_seats.proofs.Ordering.{later_called, order_called, stamp_rises}
-use Rattle.sf_live_seats.proofs.Passing.{IsAfter, if_made, if_waits, low_place, moves, no_queue, of_own, own_after, to_own, was_at}
+use Rattle.sf_live_seats.proofs.IntakeHands.{way_later}
+use Rattle.sf_live_seats.proofs.CallOrder.{later_called, order_called, stamp_rises}
+use Rattle.sf_live_seats.proofs.QueuePass.{IsAfter, if_made, if_waits, low_place, moves, no_queue, of_own, own_after, to_own, was_at}
 use Rattle.sf_live_seats.proofs.seats.Seats.call.Goals as goal
 
 pub unreachable-requires : goal.unreachable-requires

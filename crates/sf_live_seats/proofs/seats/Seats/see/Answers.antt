@@ -1,7 +1,7 @@
 use Rattle.std.proofs.Common.{refl}
 use Rattle.sf_base.specs.Points.{points_from}
 use Rattle.sf_live_seats.specs.declared.seats.Seats.{Seats}
-use Rattle.sf_live_seats.proofs.Staying.{stays_seen}
+use Rattle.sf_live_seats.proofs.FirstSeatsKept.{stays_seen}
 use Rattle.sf_live_seats.proofs.seats.Seats.see.Goals as goal
 
 pub returns-clause-stays : goal.returns-clause-stays

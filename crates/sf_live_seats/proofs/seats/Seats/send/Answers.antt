@@ -1,8 +1,8 @@
 use Rattle.std.proofs.Common.{◌≡◌, ◌∙◌, subst, sym}
 use Rattle.sf_live_seats.specs.Arriving.{ArrivalsPass}
-use Rattle.sf_live_seats.proofs.Posting.{sends_change, sends_made, sends_own, tries}
-use Rattle.sf_live_seats.proofs.Reuniting.{some_same}
-use Rattle.sf_live_seats.proofs.Sending.{PassSends, locked_changes, locked_own, there_locked}
+use Rattle.sf_live_seats.proofs.SentThroughIntake.{sends_change, sends_made, sends_own, tries}
+use Rattle.sf_live_seats.proofs.ReunitedPass.{some_same}
+use Rattle.sf_live_seats.proofs.PassSend.{PassSends, locked_changes, locked_own, there_locked}
 use Rattle.sf_live_seats.proofs.seats.Seats.send.Goals as goal
 
 pub returns-in-Sends-clause-own : goal.returns-in-Sends-clause-own

@@ -3,8 +3,8 @@ use Rattle.std.specs.Prelude.{IfErr, IfOk}
 use Rattle.sf_live_seats.specs.declared.seats.Seats.{Seats}
 use Rattle.sf_live_seats.specs.Arriving.{ArrivalsPass}
 use Rattle.sf_live_seats.specs.Calls.{TookOne}
-use Rattle.sf_live_seats.proofs.Reuniting.{some_same}
-use Rattle.sf_live_seats.proofs.Taking.{PassTakes, as_before_on, brings_as_before, brings_change, changes_on, if_both, if_not, if_refused, takes_on, there_first, waiting_changes, waiting_own, waiting_stays, waiting_took}
+use Rattle.sf_live_seats.proofs.ReunitedPass.{some_same}
+use Rattle.sf_live_seats.proofs.PassTake.{PassTakes, as_before_on, brings_as_before, brings_change, changes_on, if_both, if_not, if_refused, takes_on, there_first, waiting_changes, waiting_own, waiting_stays, waiting_took}
 use Rattle.sf_live_seats.proofs.seats.Seats.take.Goals as goal
 
 pub returns-in_err-bring_in-clause-changes : goal.returns-in_err-bring_in-clause-changes

@@ -1,6 +1,6 @@
 use Rattle.std.proofs.Common.{subst, sym}
 use Rattle.sf_live_seats.specs.Shared.{IsHome, SharedOf, home_of}
-use Rattle.sf_live_seats.proofs.Homing.{at_home}
+use Rattle.sf_live_seats.proofs.DeskHomes.{at_home}
 use Rattle.sf_live_seats.proofs.shared.SharedDesk.into_seats.Goals as goal
 
 pub returns-clause-own : goal.returns-clause-own

@@ -1,4 +1,4 @@
-use Rattle.sf_live_seats.proofs.Homing.{home_made}
+use Rattle.sf_live_seats.proofs.DeskHomes.{home_made}
 use Rattle.sf_live_seats.proofs.shared.SharedDesk.new.Goals as goal
 
 pub returns-clause-home : goal.returns-clause-home

@@ -1,7 +1,7 @@
 use Rattle.std.proofs.Common.{◌∙◌, ap, refl, subst, sym, ℕ}
 use Rattle.sf_surface.specs.Reading.{PlainLease}
 use Rattle.sf_actor.specs.Makers.{BufferOf}
-use Rattle.sf_play.proofs.Nexting.{goes, goes_with, keeps_as, less, may_make, stays, told, turned}
+use Rattle.sf_play.proofs.NextTurn.{goes, goes_with, keeps_as, less, may_make, stays, told, turned}
 use Rattle.sf_play.specs.Places.{settled}
 use Rattle.sf_play.specs.Players.{PlayOf, PlayerOf}
 use Rattle.sf_play.specs.Standing.{StandsAlong, StandsInRun}

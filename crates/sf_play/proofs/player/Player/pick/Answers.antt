@@ -3,7 +3,7 @@ use Rattle.std.specs.List.{position}
 use Rattle.sf_actor_steps.specs.declared.actor.Actor.{Actor}
 use Rattle.sf_actor_set.specs.ActorSets.{number_of}
 use Rattle.sf_play.specs.Players.{PlayerOf}
-use Rattle.sf_play.proofs.Picking.{picks_step}
+use Rattle.sf_play.proofs.TurnParts.{picks_step}
 use Rattle.sf_play.proofs.player.Player.pick.Goals as goal
 
 pub returns-in-Some-clause-picks : goal.returns-in-Some-clause-picks

@@ -1,7 +1,7 @@
 use Rattle.std.proofs.Common.{◌∙◌, ap}
 use Rattle.sf_play.specs.Players.{PlayerOf}
 use Rattle.sf_play.specs.Turning.{picked_place}
-use Rattle.sf_play.proofs.Picking.{picked_there}
+use Rattle.sf_play.proofs.TurnParts.{picked_there}
 use Rattle.sf_play.proofs.player.Player.picked_place.Goals as goal
 
 pub returns-clause-names : goal.returns-clause-names

@@ -1,7 +1,7 @@
 use Rattle.std.proofs.Common.{◌<◌, ◌∙◌, length, subst, sym}
 use Rattle.sf_play.specs.Players.{PlayOf, PlayerOf}
 use Rattle.sf_play.specs.Turning.{KeepsActorSet}
-use Rattle.sf_play.proofs.Picking.{settled_there, takes_pick}
+use Rattle.sf_play.proofs.TurnParts.{settled_there, takes_pick}
 use Rattle.sf_play.proofs.player.Player.turn_at.Goals as goal
 
 pub returns-in-Order-clause-turns : goal.returns-in-Order-clause-turns

@@ -6,7 +6,7 @@ use Rattle.sf_actor.specs.Desks.{DeskHome, has_queue}
 use Rattle.sf_actor.specs.Plain.{home_of, taken_in, view_of}
 use Rattle.sf_play.specs.Giving.{GivesFrames}
 use Rattle.sf_play.specs.Players.{PlayOf, PlayerOf, Stands}
-use Rattle.sf_play.proofs.Turning.{queues_there, rises_then}
+use Rattle.sf_play.proofs.VsyncParts.{queues_there, rises_then}
 use Rattle.sf_play.proofs.player.Player.vsync.Goals as goal
 
 pub vsync-requires : goal.vsync-requires

@@ -1,7 +1,7 @@
 use Rattle.std.proofs.Common.{◌≡◌, sym, arith, false}
 use Rattle.std.proofs.lemmas.Grind.{common_steps}
 use Rattle.std.specs.Prelude.{eqb, slice_index_or}
-use Rattle.sf_tree.proofs.Searching.{GoesOn-new}
+use Rattle.sf_tree.proofs.SearchKnowledge.{GoesOn-new}
 use Rattle.sf_tree.proofs.cycles.Search.follow.Goals as goal
 
 pub returns-clause-on : goal.returns-clause-on

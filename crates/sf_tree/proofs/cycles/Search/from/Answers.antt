@@ -1,4 +1,4 @@
-use Rattle.sf_tree.proofs.Searching.{IsSearch-start}
+use Rattle.sf_tree.proofs.SearchKnowledge.{IsSearch-start}
 use Rattle.sf_tree.proofs.cycles.Search.from.Goals as goal
 
 pub returns-clause-search : goal.returns-clause-search

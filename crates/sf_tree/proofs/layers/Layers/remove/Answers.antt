@@ -2,7 +2,7 @@ use Rattle.std.proofs.Common.{◌≡◌, ◌++◌, ◌∙◌, ap, drop, length, 
 use Rattle.sf_layer.specs.declared.layer.Layer.{Layer}
 use Rattle.sf_tree.specs.Changes.{without}
 use Rattle.sf_tree.specs.Index.{IsIndexed}
-use Rattle.sf_tree.proofs.Removing.{IsIndexed-without, removed-is}
+use Rattle.sf_tree.proofs.RemovedLayer.{IsIndexed-without, removed-is}
 use Rattle.sf_tree.proofs.layers.Layers.remove.Goals as goal
 
 pub invariant_of-self : goal.invariant_of-self

@@ -1,4 +1,4 @@
-use Rattle.sf_tree.proofs.Keeping.{IsTree_nil}
+use Rattle.sf_tree.proofs.TreeKept.{IsTree_nil}
 use Rattle.sf_tree.proofs.tree.Tree.with_limit.Goals as goal
 
 pub invariant_of-result : goal.invariant_of-result

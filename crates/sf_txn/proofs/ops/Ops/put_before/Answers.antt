@@ -2,7 +2,7 @@ use Rattle.std.proofs.Common.{◌≡◌, ◌∙◌, ap, refl, subst, sym, arith}
 use Rattle.std.specs.List.{AllPairs}
 use Rattle.sf_txn.specs.Places.{Listed, front_of, kept}
 use Rattle.sf_txn.specs.Transactions.{Stays}
-use Rattle.sf_txn.proofs.Merging.{none-of, with_ops-none}
+use Rattle.sf_txn.proofs.MergedOperations.{none-of, with_ops-none}
 use Rattle.sf_txn.proofs.Places.{apart-kept}
 use Rattle.sf_txn.proofs.ops.Ops.put_before.Goals as goal
 

@@ -2,7 +2,7 @@ use Rattle.std.proofs.Common.{◌≡◌, ◌++◌, ◌∙◌, length, take, drop
 use Rattle.std.specs.List.{AllZip}
 use Rattle.std.proofs.lemmas.List.{take_at}
 use Rattle.sf_txn.specs.Leases.{IsLookedBuffer}
-use Rattle.sf_txn.proofs.Looking.{IsTransaction-looked}
+use Rattle.sf_txn.proofs.BufferLooks.{IsTransaction-looked}
 use Rattle.sf_txn.proofs.transaction.Transaction.look.Goals as goal
 
 pub invariant_of-self : goal.invariant_of-self

@@ -1,7 +1,7 @@
 use Rattle.std.proofs.Common.{◌≡◌, ◌+◌, ◌≤◌, true, length, is_ok, refl, sym, arith}
 use Rattle.std.proofs.lemmas.Grind.{common_steps}
 use Rattle.sf_txn.proofs.Distinct.{apart-buffers}
-use Rattle.sf_txn.proofs.Keeping.{IsTransaction-merged}
+use Rattle.sf_txn.proofs.TransactionKept.{IsTransaction-merged}
 use Rattle.sf_txn.proofs.transaction.Transaction.merge.Goals as goal
 
 pub invariant_of-self-2 : goal.invariant_of-self-2

@@ -1,6 +1,6 @@
 use Rattle.std.proofs.Common.{◌+◌, ◌≤◌, length, arith}
 use Rattle.std.proofs.lemmas.Grind.{common_steps}
-use Rattle.sf_txn.proofs.Keeping.{IsTransaction-set}
+use Rattle.sf_txn.proofs.TransactionKept.{IsTransaction-set}
 use Rattle.sf_txn.proofs.transaction.Transaction.set.Goals as goal
 
 pub invariant_of-self-2 : goal.invariant_of-self-2

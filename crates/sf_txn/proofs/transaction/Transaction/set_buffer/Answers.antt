@@ -2,7 +2,7 @@ use Rattle.std.proofs.Common.{◌+◌, ◌≤◌, length, sym, arith}
 use Rattle.sf_layer.specs.Ranges.{IsOperation}
 use Rattle.sf_layer.specs.declared.op.Op.TheVariants as op
 use Rattle.std.proofs.lemmas.Grind.{common_steps}
-use Rattle.sf_txn.proofs.Keeping.{within_greatest, IsTransaction-set_buffer}
+use Rattle.sf_txn.proofs.TransactionKept.{within_greatest, IsTransaction-set_buffer}
 use Rattle.sf_txn.proofs.transaction.Transaction.set_buffer.Goals as goal
 
 pub invariant_of-self-2 : goal.invariant_of-self-2

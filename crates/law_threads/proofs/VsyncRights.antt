@@ -1,0 +1,269 @@
+-- What a compositor decides in a vsync leaves rights where they are, wherever its take is the next call on the arrivals.
+use Rattle.std.proofs.Common.{◌≡◌, ℕ, suc, ◌+◌, ◌==◌, false, List, [], ◌∷◌, ◌++◌, arith, ap, ◌∙◌, sym, refl, inl, inr, subst, length, map, Some, None}
+use Rattle.std.specs.List.{flat_map, sum_by}
+use Rattle.std.proofs.lemmas.Bool.{cases_Bool, eqb-true}
+use Rattle.std.proofs.lemmas.List.{append-nil}
+use Rattle.std.proofs.lemmas.List.Concat.{flat_map-append}
+use Rattle.std.proofs.lemmas.List.Sums.{sum_by-append, sum_by-cons}
+use Rattle.sf_base.specs.declared.fences.Seen.{Seen}
+use Rattle.sf_calls.specs.declared.object.Entry.{Entry}
+use Rattle.sf_script_scene.specs.declared.step.ActorScript.{ActorScript}
+use Rattle.sf_surface.specs.Tokens.{Issued, ReadLeaseOf}
+use Rattle.sf_token.specs.Arrivals.{waiting}
+use Rattle.sf_token.specs.declared.arrivals.ArriveCall.TheVariants as arrive
+use Rattle.sf_token.specs.Pending.{Arrival}
+use Rattle.sf_turns.specs.Views.{SeatView}
+use Rattle.sf_txn.specs.Transactions.{Contents, empty}
+use Rattle.sf_txn.specs.declared.lease.Lease.{Ghosts}
+use Rattle.sf_commit.specs.Handlers.{Decides, HandlerOf}
+use Rattle.sf_commit.specs.Lending.{ends_of, left_if, reads_of}
+use Rattle.sf_commit.specs.Releases.{VsyncOf}
+use Rattle.sf_actor.specs.Desks.{DeskView}
+use Rattle.sf_actor.specs.Rights.{Turn}
+use Rattle.sf_actor.specs.Tries.{ActorOf}
+use Rattle.sf_actor_steps.specs.Editing.{buffer_with}
+use Rattle.sf_live_seats.specs.Arriving.{ArrivalCalls, Arrived, Arriving}
+use Rattle.law_rights.specs.Moves.{HasAtMost}
+use Rattle.law_rights.specs.States.{State}
+use Rattle.law_rights.specs.Vsyncs.{DecidesIn, IsOfTurns, lease_back, lease_on}
+use Rattle.law_rights.proofs.PlaceChanges.{sum_read}
+use Rattle.law_threads.specs.Cuts.{HasLedger, Local, Whole, front, state_at}
+use Rattle.law_threads.specs.Orders.{raised}
+use Rattle.law_threads.proofs.CallLift.{front_after, front_before}
+use Rattle.law_threads.proofs.Locals.{parted, same_at}
+use Rattle.law_threads.specs.Members.{sitting_at}
+use Rattle.law_rights.specs.Makers.{Places, RightAt, WriteAt, places_arrived, places_held, places_in, places_of, places_out, places_owed, right_read}
+use Rattle.law_rights.specs.Moves.{AreIn}
+use Rattle.law_rights.specs.Places.{RestsAt}
+use Rattle.law_rights.specs.PlaceTries.{RestsIn, TellsPlaces}
+use Rattle.law_rights.proofs.VsyncRights.{decides_rests}
+use Rattle.law_rights.proofs.PlaceChanges.{most_rests}
+use Rattle.law_threads.proofs.LedgerViews.{RestsKept}
+use Rattle.law_threads.proofs.VsyncLift.{decides_keeps}
+
+suc_apart : (queue : ℕ) → (suc queue == 0) ≡ false
+suc_apart queue = elim (cases_Bool (suc queue == 0)) [
+  | inl met ↦ let same = eqb-true (suc queue) 0 met in absurd (omega (arith, same))
+  | inr unmet ↦ unmet
+]
+
+-- where rights rest twice, they rest
+rests_joined : (old mid new : Places) → RestsAt old mid → RestsAt mid new → RestsAt old new
+rests_joined old mid new first second = record {
+  live = λ right there.
+      let now = second.live right there in
+      let was = first.live now.0 now.1 in
+      (was.0, was.1, was.2 ∙ now.2, was.3 ∙ now.3);
+  owed = λ write there. first.owed write (second.owed write there);
+  queued = record { no_others = λ write there. first.queued.no_others write (second.queued.no_others write there); all = λ write there. second.queued.all write (first.queued.all write there) };
+  made = λ buffer there. first.made buffer (second.made buffer there);
+}
+
+abbrev held_txn : List ReadLeaseOf → Contents ReadLeaseOf
+held_txn leases = record empty { buffers = map (buffer_with 1) leases }
+
+pending_rights : (w : RightAt → ℕ) (pending : List (Arrival ReadLeaseOf)) → sum_by w (flat_map places_in (map (λ (a : Arrival ReadLeaseOf). Some a.txn) pending)) ≡ sum_by w (flat_map places_arrived pending)
+pending_rights w [] = refl
+pending_rights w (a ∷ pending) =
+    let rest = pending_rights w pending in
+    let x = sum_by-append w (places_arrived a) (flat_map places_in (map (λ (b : Arrival ReadLeaseOf). Some b.txn) pending)) in
+    let y = sum_by-append w (places_arrived a) (flat_map places_arrived pending) in
+    omega (arith, rest, x, y)
+
+leases_rights : (w : RightAt → ℕ) (leases : List ReadLeaseOf) → sum_by w (places_in (Some (held_txn leases))) ≡ sum_by w (map right_read leases)
+leases_rights w [] = refl
+leases_rights w (l ∷ leases) =
+    let rest = leases_rights w leases in
+    let x = sum_by-cons w (right_read l) (map right_read leases) in
+    let y = sum_by-cons w (right_read l) (places_in (Some (held_txn leases))) in
+    omega (arith, rest, x, y)
+
+waiting_sum : (w : RightAt → ℕ) (xs ys : List (Arrival ReadLeaseOf)) → sum_by w (flat_map places_arrived (xs ++ ys)) ≡ sum_by w (flat_map places_arrived xs) + sum_by w (flat_map places_arrived ys)
+waiting_sum w xs ys = let a = ap (sum_by w) (flat_map-append places_arrived xs ys) in let b = sum_by-append w (flat_map places_arrived xs) (flat_map places_arrived ys) in omega (arith, a, b)
+
+on_sum : (w : RightAt → ℕ) (xs ys : List ReadLeaseOf) → sum_by w (map right_read (xs ++ ys)) ≡ sum_by w (map right_read xs) + sum_by w (map right_read ys)
+on_sum w xs ys =
+    let a = sum_read right_read w (xs ++ ys) in
+    let b = sum_by-append (λ (l : ReadLeaseOf). w (right_read l)) xs ys in
+    let c = sum_read right_read w xs in
+    let d = sum_read right_read w ys in
+    omega (arith, a, b, c, d)
+
+-- rights that others hold meanwhile, as those of one actor more
+module _ {B : Type 0} where
+  abbrev nobody : ActorScript → List (Arrival ReadLeaseOf) → List ReadLeaseOf → ActorOf B
+  nobody script pending leases = record {
+    script = script;
+    stock = [];
+    parts = record { names = []; transactions = map (λ (a : Arrival ReadLeaseOf). Some a.txn) pending ++ Some (held_txn leases) ∷ []; stock = [] };
+    trace = [];
+    replies = [];
+    spent = false;
+  }
+
+module _ (B : Type 0) where
+  nobody_rights : (w : RightAt → ℕ) (script : ActorScript) (pending : List (Arrival ReadLeaseOf)) (leases : List ReadLeaseOf)
+      → sum_by w (places_held (nobody {B = B} script pending leases).parts) ≡ sum_by w (flat_map places_arrived pending) + sum_by w (map right_read leases)
+  nobody_rights w script pending leases =
+      let txns = map (λ (a : Arrival ReadLeaseOf). Some a.txn) pending in
+      let a = ap (sum_by w) (flat_map-append places_in (map (λ (a : Arrival ReadLeaseOf). Some a.txn) pending) (Some (held_txn leases) ∷ [])) in
+      let b = sum_by-append w (flat_map places_in (map (λ (a : Arrival ReadLeaseOf). Some a.txn) pending)) (flat_map places_in (Some (held_txn leases) ∷ [])) in
+      let c = pending_rights w pending in
+      let d = leases_rights w leases in
+      let e = ap (sum_by w) (append-nil (places_in (Some (held_txn leases)))) in
+      omega (arith, a, b, c, d, e)
+
+module _ {B : Type 0} where
+  -- what is counted of where a state's rights are
+  state_sum : (w : RightAt → ℕ) (state : State B) → sum_by w (places_out state)
+      ≡ (sum_by w (flat_map (λ (actor : ActorOf B). places_held actor.parts) state.actors) + sum_by w (flat_map places_arrived state.waiting)) + sum_by w (map right_read state.on)
+  state_sum w state =
+      let a = sum_by-append w (flat_map (λ (actor : ActorOf B). places_held actor.parts) state.actors ++ flat_map places_arrived state.waiting) (map right_read state.on) in
+      let b = sum_by-append w (flat_map (λ (actor : ActorOf B). places_held actor.parts) state.actors) (flat_map places_arrived state.waiting) in
+      omega (arith, a, b)
+
+  module _ (lease : Ghosts ReadLeaseOf SeatView ReadLeaseOf Issued) (of_turns : IsOfTurns lease) (tells : TellsPlaces lease) (whole : Whole B) (script : ActorScript) (handler after : HandlerOf ReadLeaseOf) (eye next_eye : SeatView) (arrived : List (Arrival ReadLeaseOf)) (seen : Seen) (expected : ℕ)
+      (told : VsyncOf ReadLeaseOf) (decides : Decides lease handler eye arrived seen expected told after next_eye) (unlent : handler.lent ≡ None)
+      (more history : ArrivalCalls) (e : Entry Arriving Arrived) (whole_is : whole.arriving ≡ more ++ e ∷ history) (takes : e.call ≡ arrive.Take) (took : arrived ≡ waiting history)
+      (others later : List (Local B)) (heights : ℕ → ℕ) (next : length history ≡ heights 0) where
+    abbrev was : Local B
+    was = sitting_at handler.pending (map lease_on handler.on) eye.leaves
+
+    abbrev is : Local B
+    is = sitting_at after.pending (map lease_back told.releases ++ map lease_on after.on) next_eye.leaves
+
+    abbrev risen : ℕ → ℕ
+    risen = raised heights 0
+
+    abbrev old : State B
+    old = state_at whole heights (others ++ was ∷ later)
+
+    abbrev new : State B
+    new = state_at whole risen (others ++ is ∷ later)
+
+    -- what others hold beside the actors
+    abbrev pending_beside : List (Arrival ReadLeaseOf)
+    pending_beside = flat_map (λ (l : Local B). l.pending) others ++ flat_map (λ (l : Local B). l.pending) later
+
+    abbrev on_beside : List ReadLeaseOf
+    on_beside = flat_map (λ (l : Local B). l.on) others ++ flat_map (λ (l : Local B). l.on) later
+
+    abbrev aside : ActorOf B
+    aside = nobody script pending_beside on_beside
+
+    abbrev left_now : List Turn
+    left_now = ends_of lease (left_if handler.lent (reads_of decides.end.stage.gone))
+
+    abbrev from_state : State B
+    from_state = record old { actors = old.actors ++ aside ∷ []; waiting = handler.pending ++ arrived; on = map lease_on handler.on }
+
+    abbrev to_view : DeskView B
+    to_view = record old.view { turns = record old.view.turns { leaves = old.view.turns.leaves ++ left_now } }
+
+    abbrev to_state : State B
+    to_state = record from_state { view = to_view; waiting = after.pending; on = map lease_back told.releases ++ map lease_on after.on }
+
+    decides_in : DecidesIn lease from_state to_state
+    decides_in = record {
+      of_turns = of_turns;
+      handler = handler;
+      after = after;
+      arrived = arrived;
+      seen = seen;
+      expected = expected;
+      told = told;
+      unlent = unlent;
+      eye = eye;
+      next_eye = next_eye;
+      decides = decides;
+      leaves = refl;
+      same = refl;
+      calls = refl;
+      waiting_old = refl;
+      waiting_new = refl;
+      on_old = refl;
+      on_new = refl;
+    }
+
+    same_calls : new.view.calls ≡ old.view.calls
+    same_calls = λ i queue. front (stays queue i) (whole.view.calls queue)
+      where
+        stays : (queue : ℕ) → risen (suc queue) ≡ heights (suc queue)
+        stays queue = rw (suc_apart queue) refl
+
+    waits_was : waiting (front (heights 0) whole.arriving) ≡ arrived
+    waits_was = ap waiting (front_before heights 0 whole.arriving more history e whole_is next) ∙ sym took
+
+    waits_is : waiting (front (risen 0) whole.arriving) ≡ []
+    waits_is = ap waiting (front_after heights 0 whole.arriving more history e whole_is next) ∙ (λ i. waiting (record { by = e.by; call = takes i; reply = e.reply } ∷ history))
+
+    same_actors : new.actors ≡ old.actors
+    same_actors = same_at (λ (l : Local B). l.actors) others later was is refl
+
+    aside_sum : (w : RightAt → ℕ) (actors : List (ActorOf B)) → sum_by w (flat_map (λ (actor : ActorOf B). places_held actor.parts) (actors ++ aside ∷ []))
+        ≡ sum_by w (flat_map (λ (actor : ActorOf B). places_held actor.parts) actors) + (sum_by w (flat_map places_arrived pending_beside) + sum_by w (map right_read on_beside))
+    aside_sum w actors =
+        let a = ap (sum_by w) (flat_map-append (λ (actor : ActorOf B). places_held actor.parts) actors (aside ∷ [])) in
+        let b = sum_by-append w (flat_map (λ (actor : ActorOf B). places_held actor.parts) actors) (places_held aside.parts ++ []) in
+        let c = sum_by-append w (places_held aside.parts) [] in
+        let d = nobody_rights B w script pending_beside on_beside in
+        omega (arith, a, b, c, d)
+
+    held_from : HasAtMost (places_out old) [] [] (places_out from_state)
+    held_from w =
+        let a = state_sum w old in
+        let b = state_sum w from_state in
+        let c = aside_sum w old.actors in
+        let d = ap (λ (xs : List (Arrival ReadLeaseOf)). sum_by w (flat_map places_arrived xs)) (ap (λ xs. flat_map (λ (l : Local B). l.pending) (others ++ was ∷ later) ++ xs) waits_was ∙ ap (λ xs. xs ++ arrived) (parted (λ (l : Local B). l.pending) others later was)) in
+        let f = waiting_sum w (flat_map (λ (l : Local B). l.pending) others ++ (handler.pending ++ flat_map (λ (l : Local B). l.pending) later)) arrived in
+        let g = waiting_sum w (flat_map (λ (l : Local B). l.pending) others) (handler.pending ++ flat_map (λ (l : Local B). l.pending) later) in
+        let h = waiting_sum w handler.pending (flat_map (λ (l : Local B). l.pending) later) in
+        let i = waiting_sum w (flat_map (λ (l : Local B). l.pending) others) (flat_map (λ (l : Local B). l.pending) later) in
+        let j = waiting_sum w handler.pending arrived in
+        let k = ap (λ (xs : List ReadLeaseOf). sum_by w (map right_read xs)) (parted (λ (l : Local B). l.on) others later was) in
+        let l = on_sum w (flat_map (λ (l : Local B). l.on) others) (map lease_on handler.on ++ flat_map (λ (l : Local B). l.on) later) in
+        let m = on_sum w (map lease_on handler.on) (flat_map (λ (l : Local B). l.on) later) in
+        let n = on_sum w (flat_map (λ (l : Local B). l.on) others) (flat_map (λ (l : Local B). l.on) later) in
+        omega (arith, a, b, c, d, f, g, h, i, j, k, l, m, n)
+
+    held_to : HasAtMost (places_out to_state) [] [] (places_out new)
+    held_to w =
+        let a = state_sum w new in
+        let b = state_sum w to_state in
+        let c = aside_sum w old.actors in
+        let o = ap (λ (xs : List (ActorOf B)). sum_by w (flat_map (λ (actor : ActorOf B). places_held actor.parts) xs)) same_actors in
+        let d = ap (λ (xs : List (Arrival ReadLeaseOf)). sum_by w (flat_map places_arrived xs)) (ap (λ xs. flat_map (λ (l : Local B). l.pending) (others ++ is ∷ later) ++ xs) waits_is ∙ append-nil (flat_map (λ (l : Local B). l.pending) (others ++ is ∷ later)) ∙ parted (λ (l : Local B). l.pending) others later is) in
+        let g = waiting_sum w (flat_map (λ (l : Local B). l.pending) others) (after.pending ++ flat_map (λ (l : Local B). l.pending) later) in
+        let h = waiting_sum w after.pending (flat_map (λ (l : Local B). l.pending) later) in
+        let i = waiting_sum w (flat_map (λ (l : Local B). l.pending) others) (flat_map (λ (l : Local B). l.pending) later) in
+        let k = ap (λ (xs : List ReadLeaseOf). sum_by w (map right_read xs)) (parted (λ (l : Local B). l.on) others later is) in
+        let l = on_sum w (flat_map (λ (l : Local B). l.on) others) ((map lease_back told.releases ++ map lease_on after.on) ++ flat_map (λ (l : Local B). l.on) later) in
+        let m = on_sum w (map lease_back told.releases ++ map lease_on after.on) (flat_map (λ (l : Local B). l.on) later) in
+        let n = on_sum w (flat_map (λ (l : Local B). l.on) others) (flat_map (λ (l : Local B). l.on) later) in
+        omega (arith, a, b, c, o, d, g, h, i, k, l, m, n)
+
+    -- nothing of it is owed or written
+    aside_gets : {A : Type 0} (f : ActorOf B → List A) → f aside ≡ [] → (actors : List (ActorOf B)) → flat_map f (actors ++ aside ∷ []) ≡ flat_map f actors
+    aside_gets f none actors =
+        flat_map-append f actors (aside ∷ []) ∙ ap (λ xs. flat_map f actors ++ (xs ++ [])) none ∙ append-nil (flat_map f actors)
+
+    owed_from : AreIn (places_of from_state).owed (places_of old).owed
+    owed_from = subst (λ (xs : List WriteAt). AreIn xs (places_of old).owed) (sym (aside_gets (λ (actor : ActorOf B). places_owed actor.parts) refl old.actors)) (λ write there. there)
+
+    owed_to : AreIn (places_of new).owed (places_of to_state).owed
+    owed_to = subst (λ (xs : List WriteAt). AreIn (places_of new).owed xs) (sym (aside_gets (λ (actor : ActorOf B). places_owed actor.parts) refl old.actors))
+        (subst (λ (ofs : List (ActorOf B)). AreIn (flat_map (λ (actor : ActorOf B). places_owed actor.parts) ofs) (places_of old).owed) (sym same_actors) (λ write there. there))
+
+    -- rights rest where they were, or are handed on there
+    decides_rest : HasLedger old → RestsIn old new
+    decides_rest is_one = record {
+      marks = refl;
+      calls = same_calls;
+      places = rests_joined (places_of old) (places_of from_state) (places_of new) (most_rests old from_state refl refl held_from owed_from)
+          (rests_joined (places_of from_state) (places_of to_state) (places_of new) (decides_rests lease tells from_state to_state decides_in)
+          (most_rests to_state new refl same_calls held_to owed_to));
+      ledger = decides_keeps lease of_turns whole script handler after eye next_eye arrived seen expected told decides unlent more history e whole_is takes took others later heights next is_one;
+    }
+
+    pub decides_kept : (Holds : State B → Type 0) → RestsKept whole Holds → Holds old → Holds new
+    decides_kept Holds rests holds = rests old new refl same_actors decides_rest holds

@@ -1,0 +1,73 @@
+-- What the next turn of a player tells, from what its parts ensure.
+use Rattle.std.proofs.Common.{◌≡◌, true, false, List, sym, subst, arith}
+use Rattle.atomic_table.specs.Seated.{TableId}
+use Rattle.sf_picture.specs.declared.picture.Picture.{Picture}
+use Rattle.sf_surface.specs.Tokens.{Issued, ReadLeaseOf}
+use Rattle.sf_turns.specs.Views.{SeatView}
+use Rattle.sf_txn.specs.declared.lease.Lease.{Ghosts}
+use Rattle.sf_script_scene.specs.Scene.{SceneValue}
+use Rattle.sf_actor.specs.Plain.{home_of, view_of}
+use Rattle.sf_actor.specs.Scripts.{picture_at}
+use Rattle.sf_actor.specs.Tries.{ActorOf}
+use Rattle.sf_actor_set.specs.ActorSets.{KeepAs}
+use Rattle.law_rights.specs.Vsyncs.{IsOfTurns}
+use Rattle.sf_play.proofs.TurnGrowth.{goes_along, goes_on, leaves_less, same_order}
+use Rattle.sf_play.proofs.PlacesTold.{tells_on}
+use Rattle.sf_play.proofs.HandlerLeases.{OfFrames}
+use Rattle.sf_play.proofs.PlayLedger.{TellsAll}
+use Rattle.sf_play.proofs.TurnParts.{turns_freed}
+use Rattle.sf_play.specs.Going.{GoesAlong, GoesOn, LeavesLess}
+use Rattle.sf_play.specs.Places.{settled}
+use Rattle.sf_play.specs.Players.{PlayerOf, SoFar, home_in}
+use Rattle.sf_play.specs.Playing.{KeepsItself, MayMakeVsync}
+use Rattle.sf_play.specs.Standing.{IsPlayer, IsStanding, StandsAlong, StandsInRun}
+use Rattle.sf_play.specs.Turning.{KeepsActorSet, Turns, TurnsAt}
+use Rattle.sf_play.specs.declared.place.Place.{Place}
+use Rattle.sf_play.specs.declared.turn.Turn.{Turn}
+
+module _ {B : Type 0} {R C : Type 0} (lease : Ghosts ReadLeaseOf SeatView R C) (table : TableId) where
+  -- what the parts of one player keep, those of the same one do
+  pub keeps_as : (one other : PlayerOf B) → one ≡ other → KeepsItself lease table other.play → KeepsItself lease table one.play
+  keeps_as one other same keeps = subst (λ (p : PlayerOf B). KeepsItself lease table p.play) (sym same) keeps
+
+module _ {B : Type 0} (table : TableId) (player : PlayerOf B) where
+  -- the number of its next vsync fits
+  pub may_make : IsStanding table player → MayMakeVsync table player.play
+  may_make is = record { scene = is.scene; so = is.so; stands = is.stands.stands.stands; early = (let early = is.stands.stands.early in omega (arith, early)) }
+
+module _ {B : Type 0} (lease : Ghosts ReadLeaseOf SeatView ReadLeaseOf Issued) (table : TableId) (inside later : PlayerOf B) (came_to : Turn) (place : Place) (there : place ≡ settled inside.play.order inside.place) (free : inside.is_spent ≡ false)
+    (turns : (ofs : List (ActorOf B)) → KeepsActorSet table inside.play ofs → TurnsAt lease table ofs place (record inside { is_spent = true }) later came_to) where
+  abbrev pub freed : PlayerOf B
+  freed = record later { is_spent = false }
+
+  -- it was not spent, and is not
+  pub turned : (ofs : List (ActorOf B)) → KeepsActorSet table inside.play ofs → Turns lease table ofs inside freed came_to
+  turned ofs keep =
+      turns_freed lease table ofs (settled inside.play.order inside.place) inside later true false came_to free
+      (subst (λ (p : Place). TurnsAt lease table ofs p (record inside { is_spent = true }) later came_to) there (turns ofs keep))
+
+  module _ (frames : OfFrames lease) (of_turns : IsOfTurns lease) (tells : TellsAll lease) (keeps : KeepsItself lease table inside.play) (keeps_now : KeepsItself lease table later.play) where
+    turn_of : (scene : SceneValue) (so : SoFar B) → StandsInRun table scene so inside → Turns lease table so.actors inside freed came_to
+    turn_of scene so was =
+        turned so.actors (subst (λ (pictures : List Picture). KeepAs table (picture_at pictures) (home_of inside.play.actor_set.desk) (view_of inside.play.actor_set.desk) inside.play.actor_set.actors so.actors)
+        (sym was.stands.stands.of_scene.pictures) was.stands.stands.keep)
+
+    pub goes : (scene : SceneValue) (so : SoFar B) → StandsInRun table scene so inside → GoesOn table scene so came_to freed
+    goes scene so was = goes_on lease frames of_turns tells table scene so inside freed came_to keeps keeps_now (turn_of scene so was) was
+
+    pub goes_with : (scene : SceneValue) (so : SoFar B) → StandsAlong table scene so inside → GoesAlong table scene so came_to freed
+    goes_with scene so was = goes_along lease frames of_turns tells table scene so inside freed came_to keeps keeps_now (turn_of scene so was.in_run) was
+
+    pub less : IsStanding table inside → LeavesLess came_to inside freed
+    less is =
+        let turn = turn_of is.scene is.so is.stands in
+        leaves_less lease table is.scene is.so inside freed is.stands.stands.stands
+        (same_order lease frames of_turns tells table is.scene is.so inside freed came_to keeps keeps_now turn is.stands) came_to turn
+
+    pub told : IsStanding table inside → (home_in freed.play).tells ≡ (home_in inside.play).tells
+    told is = tells_on lease table is.so.actors came_to inside freed (turn_of is.scene is.so is.stands)
+
+    pub stays : IsStanding table inside → IsPlayer table freed
+    stays is =
+        let on = goes is.scene is.so is.stands in
+        record { unlent = on.stands.stands.stands.of_scene.unlent; stands = λ unspent. record { scene = is.scene; so = on.later; stands = on.stands } }

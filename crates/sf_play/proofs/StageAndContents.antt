@@ -1,0 +1,132 @@
+-- What a vsync leaves to whoever shows it: the stage, and for each drawn layer of its view the place of its buffer.
+use Rattle.std.proofs.Common.{◌≡◌, ℕ, ◌+◌, ◌≤◌, ◌==◌, List, [], ◌∷◌, length, map, cond, None, Some, refl, ap, sym, ◌∙◌, subst, inl, inr, arith}
+use Rattle.std.specs.Prelude.{nat_lt, true}
+use Rattle.std.specs.List.{position_or_len}
+use Rattle.std.specs.Option.{unwrap_or}
+use Rattle.std.proofs.lemmas.Bool.{cases_Bool, eqb-true}
+use Rattle.std.proofs.lemmas.List.Elements.{All-contains, All-weaker}
+use Rattle.std.proofs.lemmas.List.{length-map}
+use Rattle.atomic_table.specs.Seated.{TableId}
+use Rattle.sf_base.specs.declared.fences.Seen.{Seen}
+use Rattle.sf_base.specs.declared.ids.LayerId.{LayerId}
+use Rattle.sf_layer.specs.declared.shown.Shown.{Shown}
+use Rattle.sf_tree.specs.Trees.{TreeOf}
+use Rattle.sf_view.specs.Views.{ViewOf, Views}
+use Rattle.sf_view.specs.declared.drawn.Drawn.{Drawn}
+use Rattle.sf_calls.specs.Histories.{IsLegal}
+use Rattle.sf_surface.specs.Histories.{Answers}
+use Rattle.sf_surface.specs.Reading.{PlainLease}
+use Rattle.sf_surface.specs.Tokens.{ReadLeaseOf}
+use Rattle.sf_surface.specs.declared.mark.QueueMark.{QueueMark}
+use Rattle.sf_token.specs.Pending.{Arrival}
+use Rattle.sf_turns.specs.Views.{SeatView}
+use Rattle.sf_txn.specs.Buffers.{Shows}
+use Rattle.sf_txn.specs.declared.lease.Lease.{Ghosts}
+use Rattle.sf_commit.specs.Handlers.{Decides, HandlerOf, source_of}
+use Rattle.sf_commit.specs.Leases.{ShowsLease}
+use Rattle.sf_commit.specs.OnLayers.{OnLayer, is_on, shown_on}
+use Rattle.sf_commit.specs.Releases.{VsyncOf}
+use Rattle.sf_script_scene.specs.Scene.{SceneValue, has_queue}
+use Rattle.sf_actor.specs.Desks.{mark_among}
+use Rattle.sf_actor.specs.Known.{frame_of}
+use Rattle.sf_actor.specs.Scripts.{picture_at}
+use Rattle.law_played.proofs.DeskOfOneThread.{desk_called}
+use Rattle.law_played.proofs.FrameLemmas.{is_plan}
+use Rattle.law_played.proofs.LimitLemmas.{few_layers, most_played}
+use Rattle.law_played.proofs.AcquiredFrames.{shows_picture}
+use Rattle.law_played.specs.Actors.{AreCalls}
+use Rattle.law_played.specs.Frames.{plan_of}
+use Rattle.law_played.specs.Vsyncs.{vsyncs_in}
+use Rattle.sf_play_report.specs.Stages.{AreExpected, IsStage}
+use Rattle.sf_play.proofs.SeenTimelines.{one_passes}
+use Rattle.sf_play.specs.Players.{IsBufferLent, PlayOf, SoFar, home_in, taken_at, view_in, written_so}
+use Rattle.sf_play.specs.Players.{Stands as PlayStands}
+use Rattle.sf_play.specs.Playing.{KeepsItself, expected_by}
+
+-- the place of a layer's buffer does not change where what shows is read
+place_read : (layer : LayerId) (on : List (OnLayer ReadLeaseOf)) → position_or_len (is_on layer) (map shown_on on) ≡ position_or_len (is_on layer) on
+place_read layer [] = refl
+place_read layer (one ∷ on) = elim (cases_Bool (is_on layer one)) [
+  | inl met ↦ rw met refl
+  | inr unmet ↦ rw unmet (ap (λ (n : ℕ). 1 + n) (place_read layer on))
+]
+
+source_read : (on : List (OnLayer ReadLeaseOf)) (drawn : Drawn) → source_of on drawn ≡ source_of (map shown_on on) drawn
+source_read on drawn =
+    let place = place_read drawn.layer on in
+    let many = length-map on shown_on in
+    (λ i. unwrap_or (cond (nat_lt (sym place i) (sym many i)) (Some (sym place i)) None) 0)
+
+-- what a vsync tells of its view and its sources is of the handler that it leaves
+module _ {R C : Type 0} (lease : Ghosts ReadLeaseOf SeatView R C) (old new : HandlerOf ReadLeaseOf) (eye after : SeatView) (arrived : List (Arrival ReadLeaseOf)) (seen : Seen) (expected : ℕ) (told : VsyncOf ReadLeaseOf)
+    (d : Decides lease old eye arrived seen expected told new after) where
+  pub views_told : Views new.tree.layers old.width old.height told.view
+  views_told = subst (λ (t : TreeOf). Views t.layers old.width old.height told.view) (sym (ap (λ (h : HandlerOf ReadLeaseOf). h.tree) d.settled.state)) d.settled.view
+
+  pub sources_told : told.sources ≡ map (source_of new.on) told.view.drawn
+  sources_told =
+      d.settled.sources
+      ∙ each_read told.view.drawn
+      ∙ ap (λ (h : HandlerOf ReadLeaseOf). map (source_of h.on) told.view.drawn) (sym d.settled.state)
+    where
+      each_read : (ds : List Drawn) → map (source_of d.end.stage.on) ds ≡ map (source_of (map shown_on d.end.stage.on)) ds
+      each_read [] = refl
+      each_read (drawn ∷ ds) = (λ i. source_read d.end.stage.on drawn i ∷ each_read ds i)
+
+module _ {B : Type 0} where
+  -- the calls on the desk are those of the scene, where they are legal
+  pub calls_are : (table : TableId) (scene : SceneValue) (so : SoFar B) (play : PlayOf B) → PlayStands table scene so play → ((queue : ℕ) → IsLegal (Answers (mark_among (home_in play).marks queue)) ((view_in play).calls queue))
+      → AreCalls scene so.actors (home_in play) (view_in play)
+  calls_are table scene so play stands legal = record {
+    marks = stands.desk.marks;
+    declared = λ queue made there.
+        let mark = one_passes (λ (mark : QueueMark). mark.queue.0 == queue) (home_in play).marks (desk_called play.actor_set.desk queue made there) in
+        subst (λ (q : ℕ). has_queue scene.queues q ≡ true) (eqb-true mark.0.queue.0 queue mark.2) (All-contains (λ (m : QueueMark). has_queue scene.queues m.queue.0 ≡ true) (home_in play).marks mark.0 stands.desk.declared mark.1);
+    legal = legal;
+    callers = stands.tell.callers;
+  }
+
+  -- a buffer on a layer expects the scene's picture of its number
+  buffer_expects : (table : TableId) (scene : SceneValue) (so : SoFar B) (play : PlayOf B) (stands : PlayStands table scene so play) → AreCalls scene so.actors (home_in play) (view_in play) → (one : OnLayer ReadLeaseOf)
+      → IsBufferLent (view_in play) one.shown one.lease → one.lease.turn.expects ≡ picture_at scene.pictures one.shown.picture
+  buffer_expects table scene so play stands calls one is =
+      is.lent.expects
+      ∙ shows_picture scene so.actors (home_in play) (view_in play) one.lease.queue.0 is.lent.made is.lent.first stands.tell.actors calls is.lent.there is.lent.takes
+      ∙ ap (λ (l : PlainLease). picture_at scene.pictures l.picture) (sym is.lent.plain)
+      ∙ ap (λ (s : Shown). picture_at scene.pictures s.picture) (sym is.shows)
+
+  pub are_expected : (table : TableId) (scene : SceneValue) (so : SoFar B) (play : PlayOf B) → PlayStands table scene so play → ((queue : ℕ) → IsLegal (Answers (mark_among (home_in play).marks queue)) ((view_in play).calls queue))
+      → AreExpected expected_by (picture_at scene.pictures) play.handler
+  are_expected table scene so play stands legal =
+      All-weaker (λ (one : OnLayer ReadLeaseOf). IsBufferLent (view_in play) one.shown one.lease) (λ (one : OnLayer ReadLeaseOf). expected_by one ≡ picture_at scene.pictures one.shown.picture)
+      (λ (one : OnLayer ReadLeaseOf). buffer_expects table scene so play stands (calls_are table scene so play stands legal) one) play.handler.on stands.leases.on
+
+  -- after a vsync there is a stage for the scene's plan
+  module _ {R C : Type 0} (lease : Ghosts ReadLeaseOf SeatView R C) (table : TableId) (scene : SceneValue) (so : SoFar B) (old new : PlayOf B) (stands : PlayStands table scene so new) (keeps : KeepsItself lease table new)
+      (eye after : SeatView) (arrived : List (Arrival ReadLeaseOf)) (seen : Seen) (expected : ℕ) (told : VsyncOf ReadLeaseOf) (d : Decides lease old.handler eye arrived seen expected told new.handler after)
+      (shows : (one : OnLayer ReadLeaseOf) → ShowsLease lease one → Shows one.shown one.lease.turn.expects) where
+    few : length new.handler.tree.layers ≤ 1024
+    few =
+        let room = keeps.few in
+        let most = most_played frame_of scene (written_so scene so new) (taken_at new) (vsyncs_in so.events) new.handler stands.vsyncs.played in
+        let low = few_layers scene.version in
+        omega (arith, room, most, low)
+
+    views : Views new.handler.tree.layers scene.width scene.height told.view
+    views =
+        subst (λ (h : ℕ). Views new.handler.tree.layers scene.width h told.view) (sym (ap (λ (h : HandlerOf ReadLeaseOf). h.height) d.settled.state) ∙ stands.of_scene.height)
+        (subst (λ (w : ℕ). Views new.handler.tree.layers w old.handler.height told.view) (sym (ap (λ (h : HandlerOf ReadLeaseOf). h.width) d.settled.state) ∙ stands.of_scene.width)
+        (views_told lease old.handler new.handler eye after arrived seen expected told d))
+
+    pub is_stage : (view : ViewOf) (sources : List ℕ) → view ≡ told.view → sources ≡ told.sources → IsStage expected_by (plan_of scene) new.handler view sources
+    unfolding plan_of
+    is_stage view sources same is =
+        let handler = keeps.handler stands.of_scene.decides in
+        record {
+          planned = is_plan scene stands.of_scene.limits;
+          few = few;
+          stands = handler.stands;
+          crops = All-weaker (ShowsLease lease) (λ (one : OnLayer ReadLeaseOf). Shows one.shown (expected_by one)) shows new.handler.on handler.crops;
+          view = subst (Views new.handler.tree.layers scene.width scene.height) (sym same) views;
+          sources = is ∙ sources_told lease old.handler new.handler eye after arrived seen expected told d ∙ ap (λ (w : ViewOf). map (source_of new.handler.on) w.drawn) (sym same);
+        }

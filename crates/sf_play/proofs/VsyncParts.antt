@@ -1,0 +1,108 @@
+-- A player's vsync, part by part.
+use Rattle.std.proofs.Common.{◌≡◌, ℕ, ◌<◌, ◌==◌, true, List, [], ◌∷◌, ◌++◌, length, get_or, map, refl, ap, sym, ◌∙◌, subst, inl, inr}
+use Rattle.std.specs.Prelude.{Contains}
+use Rattle.std.specs.List.{All, AllZip, list_any}
+use Rattle.std.proofs.lemmas.Bool.{cases_Bool}
+use Rattle.std.proofs.lemmas.List.Elements.{All-cons, All-head, All-nil, All-tail}
+use Rattle.atomic_table.specs.Seated.{TableId}
+use Rattle.sf_base.specs.declared.fences.Seen.{Seen}
+use Rattle.sf_base.specs.declared.ids.QueueId.{QueueId}
+use Rattle.sf_layer.specs.declared.shown.Shown.{Shown}
+use Rattle.sf_surface.specs.Histories.{Made}
+use Rattle.sf_surface.specs.Objects.{ObjectOf, mark_of}
+use Rattle.sf_surface.specs.Tokens.{Issued, ReadLeaseOf}
+use Rattle.sf_surface.specs.declared.call.QCall.TheVariants as call
+use Rattle.sf_surface.specs.declared.call.QReply.{QReply}
+use Rattle.sf_surface.specs.declared.mark.QueueMark.{QueueMark}
+use Rattle.sf_token.specs.Arrivals.{Calls, waiting}
+use Rattle.sf_token.specs.Pending.{Arrival, IsRisingFrom}
+use Rattle.sf_turns.specs.Views.{SeatView}
+use Rattle.sf_txn.specs.declared.lease.Lease.{Ghosts}
+use Rattle.sf_commit.specs.Handlers.{Decides, HandlerOf, last_of}
+use Rattle.sf_commit.specs.Leases.{IsReleaseOf}
+use Rattle.sf_commit.specs.OnLayers.{OnLayer}
+use Rattle.sf_commit.specs.Releases.{ReleaseOf, VsyncOf}
+use Rattle.sf_script_scene.specs.Scene.{SceneValue}
+use Rattle.sf_actor.specs.Desks.{DeskHome, MadeCall, has_queue}
+use Rattle.sf_actor.specs.Plain.{PlainOf, calls_among, home_of, taken_in, view_of}
+use Rattle.sf_actor_set.specs.ActorSets.{ActorSetOf}
+use Rattle.sf_actor_set.specs.Compositing.{OnlyDesk, Takes}
+use Rattle.law_played.proofs.Members.{has_none}
+use Rattle.sf_play.specs.Giving.{GivesFrames}
+use Rattle.sf_play.specs.Players.{PlayOf, SoFar, Stands}
+use Rattle.sf_play.proofs.VsyncKeepsPlayer.{arrived_lent, arrived_rises, only_twice}
+use Rattle.sf_play.proofs.HandlerLeases.{IsOnLent, OfFrames, gone_lent}
+use Rattle.sf_play.proofs.CompositorReleases.{gives_more}
+
+pub map_same : {X : Type 0} (xs : List X) → map (λ x. x) xs ≡ xs
+map_same [] = refl
+map_same (x ∷ xs) = ap (λ ys. x ∷ ys) (map_same xs)
+
+module _ {B : Type 0} where
+  -- frames that went back so far
+  pub record IsGiving (table : TableId) (number : ℕ) (releases : List (ReleaseOf ReadLeaseOf)) (old now : ActorSetOf B) : Type 0 where
+    pub gives : GivesFrames (home_of old.desk) number releases (view_of old.desk) (view_of now.desk)
+    pub only : OnlyDesk table (taken_in old.desk.arrivals) old now
+
+  pub giving_none : (table : TableId) (number : ℕ) (actor_set : ActorSetOf B) → IsGiving table number [] actor_set actor_set
+  giving_none table number actor_set = record { gives = refl; only = record { same = refl; home = refl; keep = λ ofs keep. keep } }
+
+  -- the desk has the queue of the next one
+  pub next_there : (table : TableId) (number : ℕ) (all : List (ReleaseOf ReadLeaseOf)) (done : List (ReleaseOf ReadLeaseOf)) (old now : ActorSetOf B) (release : ReleaseOf ReadLeaseOf)
+      → All (λ (r : ReleaseOf ReadLeaseOf). has_queue (home_of old.desk) r.queue.0 ≡ true) all → (length done < length all) × (release ≡ get_or all (length done) release) → IsGiving table number done old now
+      → has_queue (home_of now.desk) release.queue.0 ≡ true
+  next_there table number all done old now release there at is =
+      subst (λ (h : DeskHome). has_queue h release.queue.0 ≡ true) (sym is.only.home)
+      (subst (λ (r : ReleaseOf ReadLeaseOf). has_queue (home_of old.desk) r.queue.0 ≡ true) (sym at.1) (there (length done) release at.0))
+
+  pub giving_more : (table : TableId) (number : ℕ) (done : List (ReleaseOf ReadLeaseOf)) (old now next : ActorSetOf B) (release : ReleaseOf ReadLeaseOf) → IsGiving table number done old now
+      → (reply : QReply B) × MadeCall (home_of now.desk) (view_of now.desk) (view_of next.desk) 0 release.queue.0 (number, call.Release release.lease release.fence) reply → OnlyDesk table (taken_in now.desk.arrivals) now next
+      → IsGiving table number (done ++ release ∷ []) old next
+  giving_more table number done old now next release is made only =
+      let home : home_of now.desk ≡ home_of old.desk = is.only.home in
+      record {
+        gives = gives_more (home_of old.desk) number done release (view_of old.desk) (view_of now.desk) (view_of next.desk) is.gives
+            (record { reply = made.0; made = subst (λ (h : DeskHome). MadeCall h (view_of now.desk) (view_of next.desk) 0 release.queue.0 (number, call.Release release.lease release.fence) made.0) home made.1 });
+        only = subst (λ (taken : ℕ). OnlyDesk table taken old next) (ap (λ (h : DeskHome). h.taken) home) (only_twice table (taken_in old.desk.arrivals) (taken_in now.desk.arrivals) old now next is.only only);
+      }
+
+  pub giving_all : (table : TableId) (number : ℕ) (all done : List (ReleaseOf ReadLeaseOf)) (old now : ActorSetOf B) → map (λ (r : ReleaseOf ReadLeaseOf). r) done ≡ all → IsGiving table number done old now → IsGiving table number all old now
+  giving_all table number all done old now same is = subst (λ (rs : List (ReleaseOf ReadLeaseOf)). IsGiving table number rs old now) (sym (map_same done) ∙ same) is
+
+  -- a desk has each queue that was called
+  called_there : (queues : List (ObjectOf B)) (queue : ℕ) (made : Made B) → Contains (calls_among queues queue) made → list_any (λ (mark : QueueMark). mark.queue.0 == queue) (map mark_of queues) ≡ true
+  called_there [] queue made there = has_none made there
+  called_there (object ∷ objects) queue made there = elim (cases_Bool (object.queue.number.0 == queue)) [
+    | inl met ↦ rw met refl
+    | inr unmet ↦ rw unmet (called_there objects queue made (rw unmet at there))
+  ]
+
+  module _ (table : TableId) (scene : SceneValue) (so : SoFar B) (play : PlayOf B) (stands : Stands table scene so play) (looked : ActorSetOf B) (times : looked.desk ≡ record play.actor_set.desk { times = looked.desk.times })
+      (arrived : List (Arrival ReadLeaseOf)) (took : Calls ReadLeaseOf SeatView ReadLeaseOf Issued) (takes : Takes looked.desk.arrivals took arrived) where
+    all_taken : arrived ≡ waiting play.actor_set.desk.arrivals
+    all_taken = takes.all ∙ ap (λ (d : PlainOf B). waiting d.arrivals) times
+
+    -- what arrived rises behind what was taken before
+    pub rises_then : IsRisingFrom play.handler.last arrived (last_of play.handler.last arrived)
+    rises_then = arrived_rises table scene so play stands arrived all_taken
+
+    module _ {R C : Type 0} (lease : Ghosts ReadLeaseOf SeatView R C) (handler : HandlerOf ReadLeaseOf) (eye after : SeatView) (seen : Seen) (expected : ℕ) (told : VsyncOf ReadLeaseOf)
+        (d : Decides lease play.handler eye arrived seen expected told handler after) (frames : OfFrames lease) where
+      goes : All (IsOnLent (view_of play.actor_set.desk)) d.end.stage.gone
+      goes = gone_lent lease frames (view_of play.actor_set.desk) play.handler handler eye after arrived seen expected told d stands.leases.pending (arrived_lent table scene so play stands arrived all_taken) stands.leases.on
+
+      -- the desk has the queue of each frame that goes
+      releases_there : (gone : List (OnLayer ReadLeaseOf)) (releases : List (ReleaseOf ReadLeaseOf)) → AllZip (IsReleaseOf lease) gone releases → All (IsOnLent (view_of play.actor_set.desk)) gone
+          → All (λ (r : ReleaseOf ReadLeaseOf). has_queue (home_of play.actor_set.desk) r.queue.0 ≡ true) releases
+      releases_there [] [] zip lent = All-nil (λ (r : ReleaseOf ReadLeaseOf). has_queue (home_of play.actor_set.desk) r.queue.0 ≡ true)
+      releases_there [] (release ∷ releases) zip lent = absurd zip
+      releases_there (on ∷ gone) [] zip lent = absurd zip
+      releases_there (on ∷ gone) (release ∷ releases) zip lent =
+          let is = All-head (IsOnLent (view_of play.actor_set.desk)) on gone lent in
+          let same : release.queue.0 ≡ on.lease.queue.0 = ap (λ (q : QueueId). q.0) zip.0.queue ∙ ap (λ (s : Shown). s.queue.0) is.shows in
+          All-cons (λ (r : ReleaseOf ReadLeaseOf). has_queue (home_of play.actor_set.desk) r.queue.0 ≡ true) release releases
+          (subst (λ (q : ℕ). has_queue (home_of play.actor_set.desk) q ≡ true) (sym same) (called_there play.actor_set.desk.queues on.lease.queue.0 is.lent.made is.lent.there))
+          (releases_there gone releases zip.1 (All-tail (IsOnLent (view_of play.actor_set.desk)) on gone lent))
+
+      pub queues_there : (taken : ℕ) (home : DeskHome) → home ≡ record (home_of play.actor_set.desk) { taken = taken } → All (λ (r : ReleaseOf ReadLeaseOf). has_queue home r.queue.0 ≡ true) told.releases
+      queues_there taken home same = subst (λ (h : DeskHome). All (λ (r : ReleaseOf ReadLeaseOf). has_queue h r.queue.0 ≡ true) told.releases) (sym same) (releases_there d.end.stage.gone told.releases d.settled.releases goes)
