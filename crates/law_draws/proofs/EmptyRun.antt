@@ -4,20 +4,20 @@ use Rattle.std.specs.Prelude.{All, Contains}
 use Rattle.std.specs.List.Sorted.{IsStrictlyIncreasing}
 use Rattle.std.proofs.lemmas.Bool.{cases_Bool}
 use Rattle.std.proofs.lemmas.List.Elements.{All-head, All-tail}
-use Rattle.sf_commit.specs.Handlers.{HandlerOf}
-use Rattle.sf_script_scene.specs.Scene.{SceneValue}
+use Rattle.law_rights.specs.sf_commit.Handlers.{HandlerOf}
+use Rattle.law_rights.specs.sf_script_scene.Scene.{SceneValue}
 use Rattle.sf_slots.specs.declared.calls.Entry.{Entry}
-use Rattle.sf_surface.specs.Histories.{Made, told}
-use Rattle.sf_surface.specs.Tokens.{ReadLeaseOf}
-use Rattle.sf_actor.specs.declared.done.Done.{Done}
-use Rattle.sf_actor.specs.Desks.{DeskHome, DeskView, mark_among}
-use Rattle.sf_actor.specs.Known.{Call}
-use Rattle.sf_actor.specs.Traces.{DoneAt, places_from, places_of}
-use Rattle.sf_actor.specs.Tries.{ActorOf}
-use Rattle.law_played.specs.Actors.{number_of, run_of, trace_among}
-use Rattle.law_played.specs.Runs.{rising_actors, steps_by}
-use Rattle.law_played.specs.Turns.{calls_in}
-use Rattle.law_played.proofs.Members.{map_has}
+use Rattle.law_rights.specs.sf_surface.Histories.{Made, told}
+use Rattle.law_rights.specs.sf_surface.Tokens.{ReadLeaseOf}
+use Rattle.law_rights.specs.sf_actor.declared.done.Done.{Done}
+use Rattle.law_rights.specs.sf_actor.Desks.{DeskHome, DeskView, mark_among}
+use Rattle.law_rights.specs.sf_actor.Known.{Call}
+use Rattle.law_rights.specs.sf_actor.Traces.{DoneAt, places_from, places_of}
+use Rattle.law_rights.specs.sf_actor.Tries.{ActorOf}
+use Rattle.law_rights.specs.law_played.Actors.{number_of, run_of, trace_among}
+use Rattle.law_rights.specs.law_played.Runs.{rising_actors, steps_by}
+use Rattle.law_rights.specs.law_played.Turns.{calls_in}
+use Rattle.law_rights.proofs.law_played_lemmas.Members.{map_has}
 use Rattle.law_rights.specs.Standing.{Begins, IsFresh, state_of}
 use Rattle.law_rights.proofs.TurnCounts.{none_in}
 use Rattle.law_rights.proofs.MakersBeginning.{makers_begin}

@@ -3,30 +3,30 @@ use Rattle.std.proofs.Common.{◌≡◌, ℕ, ◌+◌, ◌<◌, ◌≤◌, ◌�
 use Rattle.std.specs.Prelude.{Contains, filter}
 use Rattle.std.proofs.lemmas.Bool.{cases_Bool, false≢true}
 use Rattle.sf_base.specs.declared.ids.QueueId.{QueueId}
-use Rattle.sf_calls.specs.Histories.{IsLegal}
-use Rattle.sf_script_scene.specs.Scene.{SceneValue}
+use Rattle.law_rights.specs.sf_calls.Histories.{IsLegal}
+use Rattle.law_rights.specs.sf_script_scene.Scene.{SceneValue}
 use Rattle.sf_slots.specs.declared.calls.Entry.{Entry}
 use Rattle.sf_slots.specs.declared.calls.PlainReply.{PlainReply}
 use Rattle.sf_slots.specs.declared.calls.PlainReply.TheVariants as plain
 use Rattle.sf_slots.specs.Events.{Event, frames_queued}
-use Rattle.sf_surface.specs.declared.call.QCall.{QCall}
-use Rattle.sf_surface.specs.declared.call.QCall.TheVariants as call
-use Rattle.sf_surface.specs.declared.call.QReply.{QReply}
-use Rattle.sf_surface.specs.declared.mark.QueueMark.{QueueMark}
-use Rattle.sf_surface.specs.Calls.{write_token}
-use Rattle.sf_surface.specs.Hands.{IsReply}
-use Rattle.sf_surface.specs.Histories.{Answers, Made, told, told_entry, told_reply}
-use Rattle.sf_actor.specs.declared.done.Done.{Done}
-use Rattle.sf_actor.specs.declared.holding.Holding.{Holding}
-use Rattle.sf_actor.specs.declared.holding.Holding.TheVariants as holding
-use Rattle.sf_actor.specs.Desks.{mark_among}
-use Rattle.sf_actor.specs.Makers.{BufferOf, Maker, Run, buffer_in, followed, is_before, same_maker}
-use Rattle.sf_actor.specs.Parts.{token_of, turn_held}
-use Rattle.sf_actor.specs.Rights.{issued_turn}
-use Rattle.sf_actor.specs.Written.{FrameNumber, paid_frame}
-use Rattle.law_played.specs.Runs.{StepBy}
-use Rattle.law_played.specs.Turns.{calls_in, frames_at_lending, is_queued, lends, maker_at, turn_frame}
-use Rattle.law_played.proofs.Members.{has_here}
+use Rattle.law_rights.specs.sf_surface.declared.call.QCall.{QCall}
+use Rattle.law_rights.specs.sf_surface.declared.call.QCall.TheVariants as call
+use Rattle.law_rights.specs.sf_surface.declared.call.QReply.{QReply}
+use Rattle.law_rights.specs.sf_surface.declared.mark.QueueMark.{QueueMark}
+use Rattle.law_rights.specs.sf_surface.Calls.{write_token}
+use Rattle.law_rights.specs.sf_surface.Hands.{IsReply}
+use Rattle.law_rights.specs.sf_surface.Histories.{Answers, Made, told, told_entry, told_reply}
+use Rattle.law_rights.specs.sf_actor.declared.done.Done.{Done}
+use Rattle.law_rights.specs.sf_actor.declared.holding.Holding.{Holding}
+use Rattle.law_rights.specs.sf_actor.declared.holding.Holding.TheVariants as holding
+use Rattle.law_rights.specs.sf_actor.Desks.{mark_among}
+use Rattle.law_rights.specs.sf_actor.Makers.{BufferOf, Maker, Run, buffer_in, followed, is_before, same_maker}
+use Rattle.law_rights.specs.sf_actor.Parts.{token_of, turn_held}
+use Rattle.law_rights.specs.sf_actor.Rights.{issued_turn}
+use Rattle.law_rights.specs.sf_actor.Written.{FrameNumber, paid_frame}
+use Rattle.law_rights.specs.law_played.Runs.{StepBy}
+use Rattle.law_rights.specs.law_played.Turns.{calls_in, frames_at_lending, is_queued, lends, maker_at, turn_frame}
+use Rattle.law_rights.proofs.law_played_lemmas.Members.{has_here}
 use Rattle.law_rights.specs.Calls.{write_of, writes_in}
 use Rattle.law_rights.specs.InTurn.{frames_on}
 use Rattle.law_rights.specs.Ledgers.{IsLedger, Write}

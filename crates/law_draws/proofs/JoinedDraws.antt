@@ -5,40 +5,40 @@ use Rattle.std.specs.List.{AllZip, flat_map}
 use Rattle.std.proofs.lemmas.Bool.{cases_Bool, cases_lt, eqb-true}
 use Rattle.std.proofs.lemmas.List.Elements.{All-contains}
 use Rattle.sf_base.specs.declared.ids.QueueId.{QueueId}
-use Rattle.sf_commit.specs.Handlers.{HandlerOf}
-use Rattle.sf_picture.specs.declared.picture.Picture.{Picture}
-use Rattle.sf_script_scene.specs.Limits.{IsWithinLimits}
-use Rattle.sf_script_scene.specs.Scene.{SceneValue}
-use Rattle.sf_script_scene.specs.declared.step.ActorScript.{ActorScript}
-use Rattle.sf_script_scene.specs.declared.step.Step.{Step}
-use Rattle.sf_script_scene.specs.declared.step.Step.TheVariants as step
+use Rattle.law_rights.specs.sf_commit.Handlers.{HandlerOf}
+use Rattle.law_rights.specs.sf_picture.declared.picture.Picture.{Picture}
+use Rattle.law_rights.specs.sf_script_scene.Limits.{IsWithinLimits}
+use Rattle.law_rights.specs.sf_script_scene.Scene.{SceneValue}
+use Rattle.law_rights.specs.sf_script_scene.declared.step.ActorScript.{ActorScript}
+use Rattle.law_rights.specs.sf_script_scene.declared.step.Step.{Step}
+use Rattle.law_rights.specs.sf_script_scene.declared.step.Step.TheVariants as step
 use Rattle.sf_slots.specs.declared.calls.Entry.{Entry}
 use Rattle.sf_slots.specs.declared.calls.PlainReply.TheVariants as reply
 use Rattle.sf_slots.specs.declared.calls.WriteToken.{WriteToken}
-use Rattle.sf_surface.specs.Histories.{told}
-use Rattle.sf_surface.specs.Tokens.{ReadLeaseOf}
-use Rattle.sf_surface.specs.declared.mark.QueueMark.{QueueMark}
-use Rattle.sf_turns.specs.Counts.{IsExact}
-use Rattle.sf_actor.specs.declared.done.Answered.{Answered}
-use Rattle.sf_actor.specs.declared.done.Answered.TheVariants as answered
-use Rattle.sf_actor.specs.declared.done.Done.{Done}
-use Rattle.sf_actor.specs.Desks.{DeskHome, DeskView, known_of, mark_among}
-use Rattle.sf_actor.specs.Draws.{entered_at, entered_in, entered_name}
-use Rattle.sf_actor.specs.Known.{share_of}
-use Rattle.sf_actor.specs.Makers.{Run}
-use Rattle.sf_actor.specs.Names.{Holdings, Lent, Owing, Token, name_in}
-use Rattle.sf_actor.specs.Points.{undrawn_fence}
-use Rattle.sf_actor.specs.Rights.{Turn, WasGivenAt}
-use Rattle.sf_actor.specs.Tales.{IsMade, made_on}
-use Rattle.sf_actor.specs.Traces.{DoneAt, made_by, no_past, places_of as steps_of}
-use Rattle.sf_actor.specs.Tries.{ActorOf, Keeps}
-use Rattle.sf_actor.specs.Written.{FrameNumber, drawn_frame, paid_frame, written_at, written_by, written_in}
-use Rattle.law_played.specs.Actors.{AreActors, run_of, script_of, trace_among}
-use Rattle.law_played.specs.Runs.{StepBy, rising_actors, steps_by, steps_in}
-use Rattle.law_played.specs.Turns.{token_in}
-use Rattle.law_played.proofs.Members.{has_here, has_joined, has_map, map_has}
-use Rattle.law_played.proofs.RisingNumbers.{rising_actors_are}
-use Rattle.law_played.proofs.RunTraces.{own_told, trace_here}
+use Rattle.law_rights.specs.sf_surface.Histories.{told}
+use Rattle.law_rights.specs.sf_surface.Tokens.{ReadLeaseOf}
+use Rattle.law_rights.specs.sf_surface.declared.mark.QueueMark.{QueueMark}
+use Rattle.law_rights.specs.sf_turns.Counts.{IsExact}
+use Rattle.law_rights.specs.sf_actor.declared.done.Answered.{Answered}
+use Rattle.law_rights.specs.sf_actor.declared.done.Answered.TheVariants as answered
+use Rattle.law_rights.specs.sf_actor.declared.done.Done.{Done}
+use Rattle.law_rights.specs.sf_actor.Desks.{DeskHome, DeskView, known_of, mark_among}
+use Rattle.law_rights.specs.sf_actor.Draws.{entered_at, entered_in, entered_name}
+use Rattle.law_rights.specs.sf_actor.Known.{share_of}
+use Rattle.law_rights.specs.sf_actor.Makers.{Run}
+use Rattle.law_rights.specs.sf_actor.Names.{Holdings, Lent, Owing, Token, name_in}
+use Rattle.law_rights.specs.sf_actor.Points.{undrawn_fence}
+use Rattle.law_rights.specs.sf_actor.Rights.{Turn, WasGivenAt}
+use Rattle.law_rights.specs.sf_actor.Tales.{IsMade, made_on}
+use Rattle.law_rights.specs.sf_actor.Traces.{DoneAt, made_by, no_past, places_of as steps_of}
+use Rattle.law_rights.specs.sf_actor.Tries.{ActorOf, Keeps}
+use Rattle.law_rights.specs.sf_actor.Written.{FrameNumber, drawn_frame, paid_frame, written_at, written_by, written_in}
+use Rattle.law_rights.specs.law_played.Actors.{AreActors, run_of, script_of, trace_among}
+use Rattle.law_rights.specs.law_played.Runs.{StepBy, rising_actors, steps_by, steps_in}
+use Rattle.law_rights.specs.law_played.Turns.{token_in}
+use Rattle.law_rights.proofs.law_played_lemmas.Members.{has_here, has_joined, has_map, map_has}
+use Rattle.law_rights.proofs.law_played_lemmas.RisingNumbers.{rising_actors_are}
+use Rattle.law_rights.proofs.law_played_lemmas.RunTraces.{own_told, trace_here}
 use Rattle.law_rights.specs.Actors.{AreOver}
 use Rattle.law_rights.specs.InTurn.{DrawsStand, IsInTurn, IsNoLater, WasWritten}
 use Rattle.law_rights.specs.Ledgers.{Write}

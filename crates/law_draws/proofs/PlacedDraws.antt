@@ -1,14 +1,14 @@
 -- What draws entered stays placed while a run goes on.
 use Rattle.std.proofs.Common.{◌≡◌, ℕ, ◌<◌, ◌≤◌, ◌⊎◌, ◌&&◌, true, List, [], ◌∷◌, length, arith, refl, ap, sym, ◌∙◌, subst, inl, inr}
 use Rattle.std.specs.Prelude.{Contains}
-use Rattle.sf_script_scene.specs.Scene.{SceneValue}
+use Rattle.law_rights.specs.sf_script_scene.Scene.{SceneValue}
 use Rattle.sf_slots.specs.declared.calls.Entry.{Entry}
 use Rattle.sf_slots.specs.declared.calls.PlainReply.TheVariants as plain
-use Rattle.sf_actor.specs.Makers.{BufferOf, Maker, Run, buffer_in, is_before, same_maker}
-use Rattle.sf_actor.specs.Names.{Token}
-use Rattle.sf_actor.specs.Rights.{Turn}
-use Rattle.law_played.specs.Runs.{StepBy}
-use Rattle.law_played.specs.Turns.{calls_in, maker_at, turn_frame}
+use Rattle.law_rights.specs.sf_actor.Makers.{BufferOf, Maker, Run, buffer_in, is_before, same_maker}
+use Rattle.law_rights.specs.sf_actor.Names.{Token}
+use Rattle.law_rights.specs.sf_actor.Rights.{Turn}
+use Rattle.law_rights.specs.law_played.Runs.{StepBy}
+use Rattle.law_rights.specs.law_played.Turns.{calls_in, maker_at, turn_frame}
 use Rattle.law_rights.specs.InTurn.{IsEarlier, frames_on}
 use Rattle.law_rights.specs.Makers.{AreFollowed, AreMade, GoesOn, IsTraced, Places, RightAt, Stays, WasMade, WriteAt, buffer_of}
 use Rattle.law_rights.specs.Places.{WasAt}

@@ -5,23 +5,23 @@ use Rattle.std.specs.List.Sorted.{IsStrictlyIncreasing}
 use Rattle.std.proofs.lemmas.Bool.{cases_eq, false≢true}
 use Rattle.sf_base.specs.Fences.{Fence}
 use Rattle.sf_base.specs.declared.ids.QueueId.{QueueId}
-use Rattle.sf_calls.specs.Histories.{entry}
-use Rattle.sf_script_scene.specs.Scene.{SceneValue}
+use Rattle.law_rights.specs.sf_calls.Histories.{entry}
+use Rattle.law_rights.specs.sf_script_scene.Scene.{SceneValue}
 use Rattle.sf_slots.specs.declared.calls.Entry.{Entry}
 use Rattle.sf_slots.specs.declared.calls.PlainReply.{PlainReply}
 use Rattle.sf_slots.specs.declared.calls.PlainReply.TheVariants as plain
-use Rattle.sf_surface.specs.declared.call.QCall.{QCall}
-use Rattle.sf_surface.specs.declared.call.QCall.TheVariants as call
-use Rattle.sf_surface.specs.declared.call.QReply.{QReply}
-use Rattle.sf_surface.specs.declared.mark.QueueMark.{QueueMark}
-use Rattle.sf_surface.specs.Hands.{IsReply}
-use Rattle.sf_surface.specs.Histories.{Made, told, told_entry, told_reply}
-use Rattle.sf_surface.specs.Tokens.{ReadLeaseOf}
-use Rattle.sf_actor.specs.Desks.{mark_among}
-use Rattle.sf_actor.specs.Known.{Call}
-use Rattle.sf_actor.specs.Tries.{ActorOf}
-use Rattle.law_played.specs.Actors.{number_of, trace_among}
-use Rattle.law_played.specs.Turns.{calls_in}
+use Rattle.law_rights.specs.sf_surface.declared.call.QCall.{QCall}
+use Rattle.law_rights.specs.sf_surface.declared.call.QCall.TheVariants as call
+use Rattle.law_rights.specs.sf_surface.declared.call.QReply.{QReply}
+use Rattle.law_rights.specs.sf_surface.declared.mark.QueueMark.{QueueMark}
+use Rattle.law_rights.specs.sf_surface.Hands.{IsReply}
+use Rattle.law_rights.specs.sf_surface.Histories.{Made, told, told_entry, told_reply}
+use Rattle.law_rights.specs.sf_surface.Tokens.{ReadLeaseOf}
+use Rattle.law_rights.specs.sf_actor.Desks.{mark_among}
+use Rattle.law_rights.specs.sf_actor.Known.{Call}
+use Rattle.law_rights.specs.sf_actor.Tries.{ActorOf}
+use Rattle.law_rights.specs.law_played.Actors.{number_of, trace_among}
+use Rattle.law_rights.specs.law_played.Turns.{calls_in}
 use Rattle.law_rights.specs.Ledgers.{IsLedger}
 use Rattle.law_rights.specs.MakerRuns.{AreDeclared, run_in}
 use Rattle.law_rights.specs.Makers.{MakersStand, places_of}

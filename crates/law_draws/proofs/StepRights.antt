@@ -5,29 +5,29 @@ use Rattle.std.specs.List.Sorted.{IsStrictlyIncreasing}
 use Rattle.std.specs.Option.{option_map, option_map_or}
 use Rattle.std.proofs.lemmas.Bool.{cases_Bool, false≢true}
 use Rattle.std.proofs.lemmas.List.{length-append}
-use Rattle.sf_calls.specs.Histories.{IsLegal}
-use Rattle.sf_script_scene.specs.Scene.{SceneValue}
-use Rattle.sf_script_scene.specs.declared.step.Step.{Step}
-use Rattle.sf_script_scene.specs.declared.step.Step.TheVariants as step
-use Rattle.sf_surface.specs.Histories.{Answers, told}
-use Rattle.sf_actor.specs.declared.done.Answered.{Answered}
-use Rattle.sf_actor.specs.declared.done.Answered.TheVariants as answered
-use Rattle.sf_actor.specs.declared.done.Done.{Done}
-use Rattle.sf_actor.specs.declared.holding.Holding.{Holding}
-use Rattle.sf_actor.specs.declared.holding.Holding.TheVariants as holding
-use Rattle.sf_actor.specs.Desks.{mark_among}
-use Rattle.sf_actor.specs.Draws.{entered_name}
-use Rattle.sf_actor.specs.Known.{Call}
-use Rattle.sf_actor.specs.Makers.{BufferOf, Run, attached_at, is_attached}
-use Rattle.sf_actor.specs.Names.{Holdings, Token, name_in}
-use Rattle.sf_actor.specs.Parts.{token_of, turn_held}
-use Rattle.sf_actor.specs.Points.{undrawn_fence}
-use Rattle.sf_actor.specs.Traces.{DoneAt, places_of as steps_of}
-use Rattle.sf_actor.specs.Tries.{ActorOf, past_of}
-use Rattle.law_played.specs.Actors.{number_of, trace_among}
-use Rattle.law_played.specs.Runs.{StepBy, steps_in}
-use Rattle.law_played.specs.Turns.{calls_in, entered_by, is_queued, token_in}
-use Rattle.law_played.proofs.RunTraces.{trace_here}
+use Rattle.law_rights.specs.sf_calls.Histories.{IsLegal}
+use Rattle.law_rights.specs.sf_script_scene.Scene.{SceneValue}
+use Rattle.law_rights.specs.sf_script_scene.declared.step.Step.{Step}
+use Rattle.law_rights.specs.sf_script_scene.declared.step.Step.TheVariants as step
+use Rattle.law_rights.specs.sf_surface.Histories.{Answers, told}
+use Rattle.law_rights.specs.sf_actor.declared.done.Answered.{Answered}
+use Rattle.law_rights.specs.sf_actor.declared.done.Answered.TheVariants as answered
+use Rattle.law_rights.specs.sf_actor.declared.done.Done.{Done}
+use Rattle.law_rights.specs.sf_actor.declared.holding.Holding.{Holding}
+use Rattle.law_rights.specs.sf_actor.declared.holding.Holding.TheVariants as holding
+use Rattle.law_rights.specs.sf_actor.Desks.{mark_among}
+use Rattle.law_rights.specs.sf_actor.Draws.{entered_name}
+use Rattle.law_rights.specs.sf_actor.Known.{Call}
+use Rattle.law_rights.specs.sf_actor.Makers.{BufferOf, Run, attached_at, is_attached}
+use Rattle.law_rights.specs.sf_actor.Names.{Holdings, Token, name_in}
+use Rattle.law_rights.specs.sf_actor.Parts.{token_of, turn_held}
+use Rattle.law_rights.specs.sf_actor.Points.{undrawn_fence}
+use Rattle.law_rights.specs.sf_actor.Traces.{DoneAt, places_of as steps_of}
+use Rattle.law_rights.specs.sf_actor.Tries.{ActorOf, past_of}
+use Rattle.law_rights.specs.law_played.Actors.{number_of, trace_among}
+use Rattle.law_rights.specs.law_played.Runs.{StepBy, steps_in}
+use Rattle.law_rights.specs.law_played.Turns.{calls_in, entered_by, is_queued, token_in}
+use Rattle.law_rights.proofs.law_played_lemmas.RunTraces.{trace_here}
 use Rattle.law_rights.specs.MakerRuns.{AreDeclared, run_in}
 use Rattle.law_rights.specs.Makers.{GoesOn, MakersStand, RightAt, places_of}
 use Rattle.law_rights.specs.Older.{IsHeld}

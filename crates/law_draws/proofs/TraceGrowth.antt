@@ -5,11 +5,11 @@ use Rattle.std.specs.List.{find}
 use Rattle.std.specs.Option.{option_map_or}
 use Rattle.std.proofs.lemmas.Bool.{cases_Bool, cases_eq}
 use Rattle.sf_slots.specs.declared.calls.Entry.{Entry}
-use Rattle.sf_actor.specs.declared.done.Done.{Done}
-use Rattle.sf_actor.specs.Makers.{BufferOf, Run, attached_at, before_attach, is_attached, making_of, makes}
-use Rattle.sf_actor.specs.Traces.{DoneAt, Past, next, no_past, places_from, places_of}
-use Rattle.sf_actor.specs.Tries.{ActorOf}
-use Rattle.law_played.specs.Actors.{number_of}
+use Rattle.law_rights.specs.sf_actor.declared.done.Done.{Done}
+use Rattle.law_rights.specs.sf_actor.Makers.{BufferOf, Run, attached_at, before_attach, is_attached, making_of, makes}
+use Rattle.law_rights.specs.sf_actor.Traces.{DoneAt, Past, next, no_past, places_from, places_of}
+use Rattle.law_rights.specs.sf_actor.Tries.{ActorOf}
+use Rattle.law_rights.specs.law_played.Actors.{number_of}
 use Rattle.law_rights.proofs.TurnCounts.{first, later}
 use Rattle.law_rights.proofs.StepMoves.{at_end, places_with}
 use Rattle.law_rights.specs.Makers.{GoesOn}

@@ -5,25 +5,25 @@ use Rattle.std.specs.List.{AllZip, flat_map}
 use Rattle.std.specs.Option.{option_map}
 use Rattle.std.proofs.lemmas.Bool.{cases_Bool, cases_eq, eqb-true}
 use Rattle.std.proofs.lemmas.List.Elements.{Contains-append_cases}
-use Rattle.sf_picture.specs.declared.picture.Picture.{Picture}
-use Rattle.sf_script_scene.specs.declared.step.Step.{Step}
-use Rattle.sf_script_scene.specs.declared.step.Step.TheVariants as step
-use Rattle.sf_surface.specs.Histories.{Made}
-use Rattle.sf_surface.specs.declared.mark.QueueMark.{QueueMark}
-use Rattle.sf_actor.specs.declared.done.Answered.{Answered}
-use Rattle.sf_actor.specs.declared.done.Answered.TheVariants as answered
-use Rattle.sf_actor.specs.declared.done.Done.{Done}
-use Rattle.sf_actor.specs.Asking.{Asked, call_of, overtaken_by}
-use Rattle.sf_actor.specs.Desks.{DeskHome, DeskView, known_of, mark_among}
-use Rattle.sf_actor.specs.Draws.{entered_at, entered_name}
-use Rattle.sf_actor.specs.Known.{Call, call_after, own_calls, share_of, told_by}
-use Rattle.sf_actor.specs.Names.{FrameOf, Holdings}
-use Rattle.sf_actor.specs.Rights.{Turn, WasGivenAt, given_turn}
-use Rattle.sf_actor.specs.Steps.{filled_by, used_by, was_done}
-use Rattle.sf_actor.specs.Tales.{IsMade, made_on}
-use Rattle.sf_actor.specs.Traces.{DoneAt, MadeStep, Past, Source, made_at, made_by, next, no_past, overtaken, own_call, places_from, places_of, release_at, since_next, since_with, source_in}
-use Rattle.sf_actor.specs.Tries.{ActorOf, Keeps}
-use Rattle.law_played.proofs.Members.{filter_has, has_map, joined_has, map_has, zip_has}
+use Rattle.law_rights.specs.sf_picture.declared.picture.Picture.{Picture}
+use Rattle.law_rights.specs.sf_script_scene.declared.step.Step.{Step}
+use Rattle.law_rights.specs.sf_script_scene.declared.step.Step.TheVariants as step
+use Rattle.law_rights.specs.sf_surface.Histories.{Made}
+use Rattle.law_rights.specs.sf_surface.declared.mark.QueueMark.{QueueMark}
+use Rattle.law_rights.specs.sf_actor.declared.done.Answered.{Answered}
+use Rattle.law_rights.specs.sf_actor.declared.done.Answered.TheVariants as answered
+use Rattle.law_rights.specs.sf_actor.declared.done.Done.{Done}
+use Rattle.law_rights.specs.sf_actor.Asking.{Asked, call_of, overtaken_by}
+use Rattle.law_rights.specs.sf_actor.Desks.{DeskHome, DeskView, known_of, mark_among}
+use Rattle.law_rights.specs.sf_actor.Draws.{entered_at, entered_name}
+use Rattle.law_rights.specs.sf_actor.Known.{Call, call_after, own_calls, share_of, told_by}
+use Rattle.law_rights.specs.sf_actor.Names.{FrameOf, Holdings}
+use Rattle.law_rights.specs.sf_actor.Rights.{Turn, WasGivenAt, given_turn}
+use Rattle.law_rights.specs.sf_actor.Steps.{filled_by, used_by, was_done}
+use Rattle.law_rights.specs.sf_actor.Tales.{IsMade, made_on}
+use Rattle.law_rights.specs.sf_actor.Traces.{DoneAt, MadeStep, Past, Source, made_at, made_by, next, no_past, overtaken, own_call, places_from, places_of, release_at, since_next, since_with, source_in}
+use Rattle.law_rights.specs.sf_actor.Tries.{ActorOf, Keeps}
+use Rattle.law_rights.proofs.law_played_lemmas.Members.{filter_has, has_map, joined_has, map_has, zip_has}
 use Rattle.law_rights.proofs.TurnCounts.{first, in_front, later, none_in, the_only}
 use Rattle.law_rights.proofs.DrawOrder.{places_late}
 use Rattle.law_rights.proofs.PaidDrawings.{same_place}

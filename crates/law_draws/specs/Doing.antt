@@ -1,11 +1,11 @@
 -- A step that an actor did, in a state of all callers.
 use Rattle.std.specs.Prelude.{◌≡◌, ℕ, ◌+◌, List, [], ◌∷◌, ◌++◌, length, get_or, Some, slice_get, slice_set}
-use Rattle.sf_actor.specs.declared.done.Done.{Done}
-use Rattle.sf_actor.specs.declared.holding.Holding.{Holding}
-use Rattle.sf_actor.specs.Known.{Call}
-use Rattle.sf_actor.specs.Parts.{plain_of, turn_held}
-use Rattle.sf_actor.specs.Rights.{WasGivenAt}
-use Rattle.sf_actor.specs.Tries.{ActorOf, held_in, past_of}
+use Rattle.law_rights.specs.sf_actor.declared.done.Done.{Done}
+use Rattle.law_rights.specs.sf_actor.declared.holding.Holding.{Holding}
+use Rattle.law_rights.specs.sf_actor.Known.{Call}
+use Rattle.law_rights.specs.sf_actor.Parts.{plain_of, turn_held}
+use Rattle.law_rights.specs.sf_actor.Rights.{WasGivenAt}
+use Rattle.law_rights.specs.sf_actor.Tries.{ActorOf, held_in, past_of}
 use Rattle.law_rights.specs.Ledgers.{IsLedger}
 use Rattle.law_rights.specs.PlaceTries.{PlacesGo}
 use Rattle.law_rights.specs.States.{State, ledger_of}

@@ -1,21 +1,21 @@
 -- Draws that entered pixels, by where these are, in which turn, and what was queued before: of which no count of leaves has to tell.
 use Rattle.std.specs.Prelude.{◌≡◌, ℕ, ◌+◌, ◌<◌, ◌≤◌, ◌⊎◌, true, List, ◌∷◌, length, Contains, Some}
-use Rattle.sf_commit.specs.Handlers.{HandlerOf}
-use Rattle.sf_script_scene.specs.Scene.{SceneValue}
+use Rattle.law_rights.specs.sf_commit.Handlers.{HandlerOf}
+use Rattle.law_rights.specs.sf_script_scene.Scene.{SceneValue}
 use Rattle.sf_slots.specs.declared.calls.Entry.{Entry}
 use Rattle.sf_slots.specs.declared.calls.PlainReply.TheVariants as plain
-use Rattle.sf_surface.specs.Tokens.{ReadLeaseOf}
-use Rattle.sf_actor.specs.Desks.{DeskHome, DeskView, known_of}
-use Rattle.sf_actor.specs.Draws.{entered_at}
-use Rattle.sf_actor.specs.Known.{Call, share_of}
-use Rattle.sf_actor.specs.Makers.{BufferOf, Run, buffer_in, same_maker}
-use Rattle.sf_actor.specs.Names.{Token}
-use Rattle.sf_actor.specs.Rights.{Turn, WasGivenAt}
-use Rattle.sf_actor.specs.Tries.{ActorOf}
-use Rattle.sf_actor.specs.Written.{FrameNumber, paid_frame}
-use Rattle.law_played.specs.Actors.{run_of}
-use Rattle.law_played.specs.Runs.{StepBy, steps_in}
-use Rattle.law_played.specs.Turns.{calls_in, entered_by, maker_at, turn_frame}
+use Rattle.law_rights.specs.sf_surface.Tokens.{ReadLeaseOf}
+use Rattle.law_rights.specs.sf_actor.Desks.{DeskHome, DeskView, known_of}
+use Rattle.law_rights.specs.sf_actor.Draws.{entered_at}
+use Rattle.law_rights.specs.sf_actor.Known.{Call, share_of}
+use Rattle.law_rights.specs.sf_actor.Makers.{BufferOf, Run, buffer_in, same_maker}
+use Rattle.law_rights.specs.sf_actor.Names.{Token}
+use Rattle.law_rights.specs.sf_actor.Rights.{Turn, WasGivenAt}
+use Rattle.law_rights.specs.sf_actor.Tries.{ActorOf}
+use Rattle.law_rights.specs.sf_actor.Written.{FrameNumber, paid_frame}
+use Rattle.law_rights.specs.law_played.Actors.{run_of}
+use Rattle.law_rights.specs.law_played.Runs.{StepBy, steps_in}
+use Rattle.law_rights.specs.law_played.Turns.{calls_in, entered_by, maker_at, turn_frame}
 use Rattle.law_rights.specs.InTurn.{IsEarlier, frames_on}
 use Rattle.law_rights.specs.Makers.{AreMade, Places, RightAt, WriteAt, places_of}
 use Rattle.law_rights.specs.Standing.{state_of}

@@ -1,17 +1,17 @@
 -- What stands of the rights of a run between two events of its callers: the ledger, the makers, and where draws are placed.
 use Rattle.std.specs.Prelude.{◌≡◌, ℕ, ◌≤◌, ◌||◌, Bool, true, List, length, map, Contains}
 use Rattle.std.specs.List.Sorted.{IsStrictlyIncreasing}
-use Rattle.sf_script_scene.specs.Scene.{SceneValue}
+use Rattle.law_rights.specs.sf_script_scene.Scene.{SceneValue}
 use Rattle.sf_slots.specs.declared.calls.Entry.{Entry}
 use Rattle.sf_slots.specs.declared.calls.PlainReply.{PlainReply}
-use Rattle.sf_surface.specs.declared.mark.QueueMark.{QueueMark}
-use Rattle.sf_surface.specs.Histories.{Made, told}
-use Rattle.sf_actor.specs.Desks.{mark_among}
-use Rattle.sf_actor.specs.Known.{Call}
-use Rattle.sf_actor.specs.Makers.{Run, is_attached}
-use Rattle.sf_actor.specs.Tries.{ActorOf}
-use Rattle.law_played.specs.Actors.{number_of, trace_among}
-use Rattle.law_played.specs.Turns.{calls_in, is_queued}
+use Rattle.law_rights.specs.sf_surface.declared.mark.QueueMark.{QueueMark}
+use Rattle.law_rights.specs.sf_surface.Histories.{Made, told}
+use Rattle.law_rights.specs.sf_actor.Desks.{mark_among}
+use Rattle.law_rights.specs.sf_actor.Known.{Call}
+use Rattle.law_rights.specs.sf_actor.Makers.{Run, is_attached}
+use Rattle.law_rights.specs.sf_actor.Tries.{ActorOf}
+use Rattle.law_rights.specs.law_played.Actors.{number_of, trace_among}
+use Rattle.law_rights.specs.law_played.Turns.{calls_in, is_queued}
 use Rattle.law_rights.specs.Ledgers.{IsLedger}
 use Rattle.law_rights.specs.MakerRuns.{run_in}
 use Rattle.law_rights.specs.Makers.{MakersStand, places_of}

@@ -1,20 +1,20 @@
 ghost use Rattle.std.specs.Prelude.{◌≡◌, ℕ, List, Contains, Some, map};
 ghost use Rattle.std.specs.List.Sorted.{IsStrictlyIncreasing};
-ghost use Rattle.sf_calls.specs.Histories.{IsLegal};
-ghost use Rattle.sf_picture.specs.declared.picture.Picture.{Picture};
-ghost use Rattle.sf_script_scene.specs.Limits.{IsWithinLimits};
-ghost use Rattle.sf_script_scene.specs.Scene.{SceneValue};
-ghost use Rattle.sf_turns.specs.Counts.{IsExact};
-ghost use Rattle.sf_surface.specs.Histories.{Answers};
-ghost use Rattle.sf_surface.specs.Tokens.{ReadLeaseOf};
-ghost use Rattle.sf_commit.specs.Handlers.{HandlerOf};
-ghost use Rattle.sf_actor.specs.Desks.{DeskHome, DeskView, mark_among};
-ghost use Rattle.sf_actor.specs.Draws.{entered_at};
-ghost use Rattle.sf_actor.specs.Known.{Call};
-ghost use Rattle.sf_actor.specs.Rights.{Turn, WasGivenAt};
-ghost use Rattle.sf_actor.specs.Traces.{DoneAt, places_of};
-ghost use Rattle.sf_actor.specs.Tries.{ActorOf, Keeps};
-ghost use Rattle.law_played.specs.Actors.{AreActors, number_of};
+ghost use Rattle.law_rights.specs.sf_calls.Histories.{IsLegal};
+ghost use Rattle.law_rights.specs.sf_picture.declared.picture.Picture.{Picture};
+ghost use Rattle.law_rights.specs.sf_script_scene.Limits.{IsWithinLimits};
+ghost use Rattle.law_rights.specs.sf_script_scene.Scene.{SceneValue};
+ghost use Rattle.law_rights.specs.sf_turns.Counts.{IsExact};
+ghost use Rattle.law_rights.specs.sf_surface.Histories.{Answers};
+ghost use Rattle.law_rights.specs.sf_surface.Tokens.{ReadLeaseOf};
+ghost use Rattle.law_rights.specs.sf_commit.Handlers.{HandlerOf};
+ghost use Rattle.law_rights.specs.sf_actor.Desks.{DeskHome, DeskView, mark_among};
+ghost use Rattle.law_rights.specs.sf_actor.Draws.{entered_at};
+ghost use Rattle.law_rights.specs.sf_actor.Known.{Call};
+ghost use Rattle.law_rights.specs.sf_actor.Rights.{Turn, WasGivenAt};
+ghost use Rattle.law_rights.specs.sf_actor.Traces.{DoneAt, places_of};
+ghost use Rattle.law_rights.specs.sf_actor.Tries.{ActorOf, Keeps};
+ghost use Rattle.law_rights.specs.law_played.Actors.{AreActors, number_of};
 ghost use Rattle.law_rights.specs.Actors.{AreOver};
 ghost use Rattle.law_rights.specs.InTurn.{DrawsStand};
 ghost use Rattle.law_rights.specs.MakerRuns.{AreDeclared, MakersPlay};
@@ -25,7 +25,7 @@ ghost use Rattle.law_draws.specs.Doing.{DoesIn};
 ghost use Rattle.law_draws.specs.Placed.{DrawsPlaced, calls_of};
 ghost use Rattle.law_draws.specs.Standing.{RightsStand};
 
-use sf_turns::TableName;
+use law_rights::sf_turns::TableName;
 
 /// What a draw enters was given by one call, so with one turn.
 pub fn one_turn_is_given_to_what_is_entered<B: TableName>()

@@ -6,12 +6,12 @@ use Rattle.std.specs.Fmt.{decimal, digit_glyph}
 use Rattle.std.proofs.lemmas.Bool.Decides.{nat_tests}
 use Rattle.std.proofs.lemmas.List.{append_assoc, length-append}
 use Rattle.sf_base.specs.declared.format.Format.TheVariants as format
-use Rattle.sf_picture.specs.declared.fill.Fill.{Fill}
-use Rattle.sf_picture.specs.declared.picture.Picture.{Picture}
+use Rattle.sf_script.specs.sf_picture.declared.fill.Fill.{Fill}
+use Rattle.sf_script.specs.sf_picture.declared.picture.Picture.{Picture}
 use Rattle.sf_script_words.specs.Text.{Text, is_blank, words_of}
 use Rattle.sf_script_words.specs.Numbers.{decimal_of, digits_after}
 use Rattle.sf_script_words.specs.Reading.{end_at, number_at, word_at}
-use Rattle.sf_script_scene.specs.Scene.{fills_so_far, has_picture, last_of, with_fill}
+use Rattle.sf_script.specs.sf_script_scene.Scene.{fills_so_far, has_picture, last_of, with_fill}
 use Rattle.sf_script.specs.Declarations.{fill_at, new_picture_at}
 use Rattle.sf_script.specs.Draft.{DraftValue, draft_after, is_any, may_follow_rank}
 use Rattle.sf_script.specs.Keywords.{keyword_of, plain_keyword_of}

@@ -5,8 +5,8 @@ use Rattle.std.specs.List.{list_any}
 use Rattle.std.specs.Fmt.{decimal}
 use Rattle.sf_script_words.specs.Text.{Text}
 use Rattle.sf_script_words.specs.Reading.{end_at}
-use Rattle.sf_script_scene.specs.Scene.{has_actor, last_of, steps_so_far}
-use Rattle.sf_script_scene.specs.declared.step.ActorScript.{ActorScript}
+use Rattle.sf_script.specs.sf_script_scene.Scene.{has_actor, last_of, steps_so_far}
+use Rattle.sf_script.specs.sf_script_scene.declared.step.ActorScript.{ActorScript}
 use Rattle.sf_script.specs.Declarations.{new_actor_at}
 use Rattle.sf_script.specs.Draft.{DraftValue, draft_after, is_any}
 use Rattle.sf_script.specs.Keywords.{keyword_of, plain_keyword_of}

@@ -4,9 +4,9 @@ use Rattle.std.specs.Prelude.{nat_lt, option_to_list}
 use Rattle.std.proofs.lemmas.Bool.Decides.{nat_tests}
 use Rattle.std.proofs.lemmas.List.{length-append}
 use Rattle.sf_script_words.specs.Text.{Text, words_of}
-use Rattle.sf_script_scene.specs.Scene.{last_of, on_last, steps_so_far, with_step}
-use Rattle.sf_script_scene.specs.declared.step.ActorScript.{ActorScript}
-use Rattle.sf_script_scene.specs.declared.step.Step.{Step}
+use Rattle.sf_script.specs.sf_script_scene.Scene.{last_of, on_last, steps_so_far, with_step}
+use Rattle.sf_script.specs.sf_script_scene.declared.step.ActorScript.{ActorScript}
+use Rattle.sf_script.specs.sf_script_scene.declared.step.Step.{Step}
 use Rattle.sf_script.specs.Draft.{DraftValue, draft_after, is_any}
 use Rattle.sf_script.specs.Keywords.{keyword_of}
 use Rattle.sf_script.specs.Script.{form_at, is_skipped}

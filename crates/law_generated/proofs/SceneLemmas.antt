@@ -8,8 +8,8 @@ use Rattle.std.proofs.lemmas.List.{append-nil}
 use Rattle.sf_script_words.specs.Text.{Text, lines_of as cut_lines}
 use Rattle.sf_script_words.specs.Numbers.{decimal_of, digits_after}
 use Rattle.sf_script_words.specs.Reading.{end_at, number_at, word_at}
-use Rattle.sf_script_scene.specs.Scene.{SceneValue, has_queue}
-use Rattle.sf_script_scene.specs.declared.declarations.QueueDecl.{QueueDecl}
+use Rattle.sf_script.specs.sf_script_scene.Scene.{SceneValue, has_queue}
+use Rattle.sf_script.specs.sf_script_scene.declared.declarations.QueueDecl.{QueueDecl}
 use Rattle.sf_script.specs.Declarations.{header_at, new_queue_at, new_timeline_at, version_at}
 use Rattle.sf_script.specs.Draft.{DraftValue, draft_after, is_any, may_follow_rank, no_lines}
 use Rattle.sf_script.specs.Keywords.{keyword_of, plain_keyword_of}

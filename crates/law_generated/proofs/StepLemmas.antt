@@ -6,9 +6,9 @@ use Rattle.std.proofs.lemmas.List.{append-nil}
 use Rattle.sf_script_words.specs.Text.{Text, words_of}
 use Rattle.sf_script_words.specs.Names.{is_name, name_at}
 use Rattle.sf_script_words.specs.Reading.{end_at, fixed_at, word_at}
-use Rattle.sf_script_scene.specs.declared.change.Change.TheVariants as change
-use Rattle.sf_script_scene.specs.declared.step.Step.{Step}
-use Rattle.sf_script_scene.specs.declared.step.Step.TheVariants as step
+use Rattle.sf_script.specs.sf_script_scene.declared.change.Change.TheVariants as change
+use Rattle.sf_script.specs.sf_script_scene.declared.step.Step.{Step}
+use Rattle.sf_script.specs.sf_script_scene.declared.step.Step.TheVariants as step
 use Rattle.sf_script.specs.Draft.{DraftValue, place_of}
 use Rattle.sf_script.specs.Changes.{change_at, changed_at, created_at, moved_at, parent_at, raised_at}
 use Rattle.sf_script.specs.Keywords.{change_form_of, keyword_of}

@@ -1,7 +1,7 @@
 -- A draft behind which a picture may stand.
 use Rattle.std.specs.Prelude.{◌≡◌, ℕ, ◌≤◌, true, List, [], map}
-use Rattle.sf_picture.specs.declared.picture.Picture.{Picture}
-use Rattle.sf_script_scene.specs.Scene.{fills_so_far, has_queue, last_of}
+use Rattle.sf_script.specs.sf_picture.declared.picture.Picture.{Picture}
+use Rattle.sf_script.specs.sf_script_scene.Scene.{fills_so_far, has_queue, last_of}
 use Rattle.sf_script.specs.Draft.{DraftValue, may_follow_rank}
 use Rattle.sf_script.specs.declared.line.Keyword.TheVariants as key
 use Rattle.sf_script_words.specs.Text.{Text}

@@ -1,8 +1,8 @@
 -- A draft behind which steps may stand.
 use Rattle.std.specs.Prelude.{◌≡◌, ℕ, ◌≤◌, true, List, Some, map}
 use Rattle.sf_script_words.specs.Text.{Text}
-use Rattle.sf_script_scene.specs.Scene.{has_picture, has_queue, last_of, steps_so_far}
-use Rattle.sf_script_scene.specs.declared.step.ActorScript.{ActorScript}
+use Rattle.sf_script.specs.sf_script_scene.Scene.{has_picture, has_queue, last_of, steps_so_far}
+use Rattle.sf_script.specs.sf_script_scene.declared.step.ActorScript.{ActorScript}
 use Rattle.sf_script.specs.Draft.{DraftValue, is_any, may_follow_rank}
 use Rattle.sf_script.specs.declared.line.Keyword.TheVariants as key
 use Rattle.law_generated.specs.Passes.{Passes}

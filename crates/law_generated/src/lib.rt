@@ -10,3 +10,6 @@ ghost use Rattle.law_generated.specs.Scenes.{IsScene};
 pub fn text_is_scene(number: u64)
     ensures { IsScene (concat (lines_of number)) }
 {}
+
+pub use sf_script;
+pub use sf_script_generate;

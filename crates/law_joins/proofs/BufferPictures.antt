@@ -4,34 +4,34 @@ use Rattle.std.specs.List.{All}
 use Rattle.std.proofs.lemmas.Bool.{eqb-true}
 use Rattle.std.proofs.lemmas.List.Elements.{All-contains, All-weaker}
 use Rattle.atomic_table.specs.Seated.{TableId}
-use Rattle.sf_layer.specs.declared.shown.Shown.{Shown}
-use Rattle.sf_surface.specs.declared.mark.QueueMark.{QueueMark}
-use Rattle.sf_surface.specs.Reading.{PlainLease}
-use Rattle.sf_surface.specs.Tokens.{Issued, ReadLeaseOf}
-use Rattle.sf_turns.specs.Views.{SeatView}
-use Rattle.sf_txn.specs.declared.lease.Lease.{Ghosts}
-use Rattle.sf_commit.specs.OnLayers.{OnLayer}
-use Rattle.sf_script_scene.specs.Scene.{SceneValue, has_queue}
-use Rattle.sf_actor.specs.Desks.{DeskHome, DeskView}
-use Rattle.sf_actor.specs.Plain.{PlainOf, home_of as plain_home, view_of as plain_view}
-use Rattle.sf_actor.specs.Scripts.{picture_at}
-use Rattle.sf_actor.specs.Tries.{ActorOf}
-use Rattle.law_played.proofs.AcquiredFrames.{shows_picture}
-use Rattle.law_played.specs.Actors.{AreActors, AreCalls}
-use Rattle.sf_play_report.specs.Stages.{AreExpected}
-use Rattle.sf_live_seats.specs.declared.locks.Locks.{Locks}
-use Rattle.sf_live_threads.specs.Walks.{Moment}
-use Rattle.sf_play.proofs.HandlerLeases.{IsArrivedLent, OfFrames}
-use Rattle.sf_play.proofs.SeenTimelines.{one_passes}
-use Rattle.sf_play.specs.Players.{IsBufferLent}
-use Rattle.sf_play.specs.Playing.{expected_by}
+use Rattle.law_threads.specs.sf_layer.declared.shown.Shown.{Shown}
+use Rattle.law_threads.specs.sf_surface.declared.mark.QueueMark.{QueueMark}
+use Rattle.law_threads.specs.sf_surface.Reading.{PlainLease}
+use Rattle.law_threads.specs.sf_surface.Tokens.{Issued, ReadLeaseOf}
+use Rattle.law_threads.specs.sf_turns.Views.{SeatView}
+use Rattle.law_threads.specs.sf_txn.declared.lease.Lease.{Ghosts}
+use Rattle.law_threads.specs.sf_commit.OnLayers.{OnLayer}
+use Rattle.law_threads.specs.sf_script_scene.Scene.{SceneValue, has_queue}
+use Rattle.law_threads.specs.sf_actor.Desks.{DeskHome, DeskView}
+use Rattle.law_threads.specs.sf_actor.Plain.{PlainOf, home_of as plain_home, view_of as plain_view}
+use Rattle.law_threads.specs.sf_actor.Scripts.{picture_at}
+use Rattle.law_threads.specs.sf_actor.Tries.{ActorOf}
+use Rattle.law_threads.proofs.law_played_lemmas.AcquiredFrames.{shows_picture}
+use Rattle.law_threads.specs.law_played.Actors.{AreActors, AreCalls}
+use Rattle.law_threads.specs.sf_play_report.Stages.{AreExpected}
+use Rattle.law_threads.specs.sf_live_seats.declared.locks.Locks.{Locks}
+use Rattle.law_threads.specs.sf_live_threads.Walks.{Moment}
+use Rattle.law_threads.proofs.sf_play_lemmas.HandlerLeases.{IsArrivedLent, OfFrames}
+use Rattle.law_threads.proofs.sf_play_lemmas.SeenTimelines.{one_passes}
+use Rattle.law_threads.specs.sf_play.Players.{IsBufferLent}
+use Rattle.law_threads.specs.sf_play.Playing.{expected_by}
 use Rattle.law_joins.specs.Frames.{AllFind}
 use Rattle.law_joins.specs.Joined.{IsJoined}
 use Rattle.law_joins.specs.Logs.{HoldsLent, taken_of}
 use Rattle.law_joins.proofs.Lends.{back_all, front_all, lent_after, log_lent}
 use Rattle.law_joins.proofs.PlayerAtJoin.{actors, called_there, callers, came, home_marks, marks_are, marks_declared, none_on, none_pending}
 use Rattle.law_threads.specs.Joining.{of_at}
-use Rattle.sf_live_compositor.specs.Vsyncs.{Begin, More, Sitting, Vsyncs}
+use Rattle.law_threads.specs.sf_live_compositor.Vsyncs.{Begin, More, Sitting, Vsyncs}
 
 module _ {B : Type 0} (scene : SceneValue) (ofs : List (ActorOf B)) (home : DeskHome) (joined : DeskView B) (are : AreActors scene ofs home joined) (calls : AreCalls scene ofs home joined) where
   -- a buffer on a layer expects the scene's picture of its number

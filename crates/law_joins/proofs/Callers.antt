@@ -6,36 +6,36 @@ use Rattle.std.proofs.lemmas.Bool.{cases_Bool, eq-eqb, eqb-true, false≢true}
 use Rattle.std.proofs.lemmas.List.Elements.{All-contains}
 use Rattle.std.proofs.lemmas.List.Folds.{list_any-append}
 use Rattle.atomic_table.specs.Seated.{TableId}
-use Rattle.sf_calls.specs.declared.object.Entry.{Entry}
-use Rattle.sf_calls.specs.Histories.{calls_by}
-use Rattle.sf_calls_stamped.specs.Stamps.{unstamp, unstamped}
-use Rattle.sf_surface.specs.Histories.{Made}
-use Rattle.sf_surface.specs.Tokens.{Issued, ReadLeaseOf}
-use Rattle.sf_times.specs.declared.protocol.Knows.{Knows}
-use Rattle.sf_token.specs.declared.arrivals.ArriveCall.TheVariants as arrive
-use Rattle.sf_token.specs.Arrivals.{is_take, sent}
-use Rattle.sf_token.specs.Pending.{Arrival}
-use Rattle.sf_turns.specs.Views.{SeatView}
-use Rattle.sf_txn.specs.declared.lease.Lease.{Ghosts}
-use Rattle.sf_actor.specs.Desks.{DeskView}
-use Rattle.sf_actor.specs.Known.{ArriveWithout, is_sent_by}
-use Rattle.sf_actor.specs.Tries.{ActorOf}
-use Rattle.law_played.proofs.StepKeepsTold.{of_all}
-use Rattle.law_played.proofs.Members.{has_cases, has_here, has_later, has_none, map_has}
-use Rattle.law_played.specs.Actors.{AreArrivals, IsCallBy, IsRelease, number_of}
-use Rattle.sf_live_seats.specs.declared.first.FirstSeats.{FirstSeats}
-use Rattle.sf_live_seats.specs.declared.locks.Locks.{Locks}
-use Rattle.sf_live_seats.specs.declared.seats.Seats.{Seats}
-use Rattle.sf_live_seats.specs.Arriving.{ArrivalCalls, ArrivalEntry, Arrived, Arriving}
-use Rattle.sf_live_seats.specs.Closing.{HasNoEntry, IsOrdered}
-use Rattle.sf_live_seats.specs.First.{IsFirst, KnowsNothing, took_of}
-use Rattle.sf_live_seats.specs.Seats.{takes_in, view_of}
-use Rattle.sf_live_seats.proofs.IntakeHands.{first_known, none_arrived}
-use Rattle.sf_play.proofs.SeenTimelines.{any_has}
+use Rattle.law_threads.specs.sf_calls.declared.object.Entry.{Entry}
+use Rattle.law_threads.specs.sf_calls.Histories.{calls_by}
+use Rattle.law_threads.specs.sf_calls_stamped.Stamps.{unstamp, unstamped}
+use Rattle.law_threads.specs.sf_surface.Histories.{Made}
+use Rattle.law_threads.specs.sf_surface.Tokens.{Issued, ReadLeaseOf}
+use Rattle.law_threads.specs.sf_times.declared.protocol.Knows.{Knows}
+use Rattle.law_threads.specs.sf_token.declared.arrivals.ArriveCall.TheVariants as arrive
+use Rattle.law_threads.specs.sf_token.Arrivals.{is_take, sent}
+use Rattle.law_threads.specs.sf_token.Pending.{Arrival}
+use Rattle.law_threads.specs.sf_turns.Views.{SeatView}
+use Rattle.law_threads.specs.sf_txn.declared.lease.Lease.{Ghosts}
+use Rattle.law_threads.specs.sf_actor.Desks.{DeskView}
+use Rattle.law_threads.specs.sf_actor.Known.{ArriveWithout, is_sent_by}
+use Rattle.law_threads.specs.sf_actor.Tries.{ActorOf}
+use Rattle.law_threads.proofs.law_played_lemmas.StepKeepsTold.{of_all}
+use Rattle.law_threads.proofs.law_played_lemmas.Members.{has_cases, has_here, has_later, has_none, map_has}
+use Rattle.law_threads.specs.law_played.Actors.{AreArrivals, IsCallBy, IsRelease, number_of}
+use Rattle.law_threads.specs.sf_live_seats.declared.first.FirstSeats.{FirstSeats}
+use Rattle.law_threads.specs.sf_live_seats.declared.locks.Locks.{Locks}
+use Rattle.law_threads.specs.sf_live_seats.declared.seats.Seats.{Seats}
+use Rattle.law_threads.specs.sf_live_seats.Arriving.{ArrivalCalls, ArrivalEntry, Arrived, Arriving}
+use Rattle.law_threads.specs.sf_live_seats.Closing.{HasNoEntry, IsOrdered}
+use Rattle.law_threads.specs.sf_live_seats.First.{IsFirst, KnowsNothing, took_of}
+use Rattle.law_threads.specs.sf_live_seats.Seats.{takes_in, view_of}
+use Rattle.law_threads.proofs.sf_live_seats_lemmas.IntakeHands.{first_known, none_arrived}
+use Rattle.law_threads.proofs.sf_play_lemmas.SeenTimelines.{any_has}
 use Rattle.law_joins.specs.Calls.{AreReleasesOn}
 use Rattle.law_joins.specs.Logs.{OnlyFirstTakes}
 use Rattle.law_joins.proofs.Fronts.{gives_same}
-use Rattle.sf_live_compositor.specs.Vsyncs.{Begin, More, Sitting, Vsyncs}
+use Rattle.law_threads.specs.sf_live_compositor.Vsyncs.{Begin, More, Sitting, Vsyncs}
 
 -- a number is in a list, or it is not
 pub is_among : (n : ℕ) (ns : List ℕ) → Contains ns n ⊎ (Contains ns n → ⊥)

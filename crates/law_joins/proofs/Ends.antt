@@ -6,34 +6,34 @@ use Rattle.std.specs.List.{All, AllZip, list_any}
 use Rattle.std.specs.List.Sorted.{IsPermutation, IsStrictlyIncreasing}
 use Rattle.std.proofs.lemmas.List.Elements.{All-cons, All-head, All-nil, All-tail, All-weaker}
 use Rattle.atomic_table.specs.Seated.{TableId}
-use Rattle.sf_picture.specs.declared.picture.Picture.{Picture}
-use Rattle.sf_surface.specs.declared.mark.QueueMark.{QueueMark}
-use Rattle.sf_surface.specs.Tokens.{ReadLeaseOf}
-use Rattle.sf_txn.specs.Buffers.{Buffer}
-use Rattle.sf_script_scene.specs.Limits.{IsWithinLimits}
-use Rattle.sf_script_scene.specs.Scene.{SceneValue}
-use Rattle.sf_script_scene.specs.Named.{queue_named}
-use Rattle.sf_script_scene.specs.declared.step.ActorScript.{ActorScript}
-use Rattle.sf_script_scene.specs.declared.step.Step.{Step}
-use Rattle.sf_actor.specs.declared.tried.Stepped.{Stepped}
-use Rattle.sf_actor.specs.declared.tried.Stepped.TheVariants as stepped
-use Rattle.sf_actor.specs.Desks.{DeskHome, DeskView, known_of}
-use Rattle.sf_actor.specs.Known.{ShareGoesOn, share_of}
-use Rattle.sf_actor.specs.Parts.{queue_held}
-use Rattle.sf_actor.specs.Scripts.{picture_at}
-use Rattle.sf_actor.specs.Tries.{ActorOf, AreThere, Keeps, Tries, dequeues_in}
-use Rattle.sf_actor.specs.Written.{signals_of}
-use Rattle.sf_actor.proofs.GoingOn.{actor_on}
-use Rattle.sf_actor_set.proofs.RisingLemmas.{sorted_rises}
-use Rattle.sf_actor_set.specs.ActorSets.{KeepAs, scripts_of}
-use Rattle.sf_actor_set.specs.Opening.{IsSortedFrom, new_actors}
-use Rattle.sf_actor_steps.specs.Playable.{IsPlayable, MayPlay}
-use Rattle.sf_live_threads.specs.Walks.{Begin, Moment, More, Walk}
-use Rattle.sf_live_threads.proofs.ActorWalk.{walk_signals}
-use Rattle.law_played.specs.Actors.{AreActors, number_of, script_of}
-use Rattle.sf_live_seats.specs.declared.locks.Locks.{Locks}
-use Rattle.sf_live_seats.specs.declared.seats.Seats.{Seats}
-use Rattle.sf_live_seats.specs.Seats.{home_of, marks_of, view_of}
+use Rattle.law_threads.specs.sf_picture.declared.picture.Picture.{Picture}
+use Rattle.law_threads.specs.sf_surface.declared.mark.QueueMark.{QueueMark}
+use Rattle.law_threads.specs.sf_surface.Tokens.{ReadLeaseOf}
+use Rattle.law_threads.specs.sf_txn.Buffers.{Buffer}
+use Rattle.law_threads.specs.sf_script_scene.Limits.{IsWithinLimits}
+use Rattle.law_threads.specs.sf_script_scene.Scene.{SceneValue}
+use Rattle.law_threads.specs.sf_script_scene.Named.{queue_named}
+use Rattle.law_threads.specs.sf_script_scene.declared.step.ActorScript.{ActorScript}
+use Rattle.law_threads.specs.sf_script_scene.declared.step.Step.{Step}
+use Rattle.law_threads.specs.sf_actor.declared.tried.Stepped.{Stepped}
+use Rattle.law_threads.specs.sf_actor.declared.tried.Stepped.TheVariants as stepped
+use Rattle.law_threads.specs.sf_actor.Desks.{DeskHome, DeskView, known_of}
+use Rattle.law_threads.specs.sf_actor.Known.{ShareGoesOn, share_of}
+use Rattle.law_threads.specs.sf_actor.Parts.{queue_held}
+use Rattle.law_threads.specs.sf_actor.Scripts.{picture_at}
+use Rattle.law_threads.specs.sf_actor.Tries.{ActorOf, AreThere, Keeps, Tries, dequeues_in}
+use Rattle.law_threads.specs.sf_actor.Written.{signals_of}
+use Rattle.law_threads.proofs.sf_actor_lemmas.GoingOn.{actor_on}
+use Rattle.law_threads.proofs.sf_actor_set_lemmas.RisingLemmas.{sorted_rises}
+use Rattle.law_threads.specs.sf_actor_set.ActorSets.{KeepAs, scripts_of}
+use Rattle.law_threads.specs.sf_actor_set.Opening.{IsSortedFrom, new_actors}
+use Rattle.law_threads.specs.sf_actor_steps.Playable.{IsPlayable, MayPlay}
+use Rattle.law_threads.specs.sf_live_threads.Walks.{Begin, Moment, More, Walk}
+use Rattle.law_threads.proofs.sf_live_threads_lemmas.ActorWalk.{walk_signals}
+use Rattle.law_threads.specs.law_played.Actors.{AreActors, number_of, script_of}
+use Rattle.law_threads.specs.sf_live_seats.declared.locks.Locks.{Locks}
+use Rattle.law_threads.specs.sf_live_seats.declared.seats.Seats.{Seats}
+use Rattle.law_threads.specs.sf_live_seats.Seats.{home_of, marks_of, view_of}
 use Rattle.law_threads.specs.Joining.{CameBack, HasNewSeats, actor_at, of_at}
 
 scripts_new : (B : Type 0) (scripts : List ActorScript) (stock : List ℕ) → map script_of (new_actors {B = B} scripts stock) ≡ scripts

@@ -6,26 +6,26 @@ use Rattle.std.proofs.lemmas.List.{append_assoc}
 use Rattle.std.proofs.lemmas.List.Elements.{Contains-append_left}
 use Rattle.atomic_table.specs.Seated.{TableId}
 use Rattle.sf_base.specs.Points.{greatest, points_from}
-use Rattle.sf_calls.specs.Histories.{Begins, entry}
-use Rattle.sf_calls_stamped.specs.Stamps.{unstamped}
-use Rattle.sf_surface.specs.declared.call.QCall.TheVariants as call
-use Rattle.sf_surface.specs.Histories.{Made}
-use Rattle.sf_surface.specs.Tokens.{Issued, ReadLeaseOf}
-use Rattle.sf_times.specs.declared.protocol.Knows.{Knows}
-use Rattle.sf_token.specs.declared.arrivals.ArriveCall.TheVariants as arrive
-use Rattle.sf_token.specs.declared.arrivals.ArriveReply.TheVariants as reply
-use Rattle.sf_turns.specs.Views.{SeatView}
-use Rattle.sf_txn.specs.declared.lease.Lease.{Ghosts}
-use Rattle.sf_commit.specs.Releases.{ReleaseOf}
-use Rattle.sf_actor.specs.Desks.{DeskHome, DeskView}
-use Rattle.sf_actor.specs.Known.{AreAmong}
-use Rattle.law_rights.specs.Standing.{GiveAll, GivesOne}
-use Rattle.sf_live_seats.specs.declared.locks.Locks.{Locks}
-use Rattle.sf_live_seats.specs.declared.seats.Seats.{Seats}
-use Rattle.sf_live_seats.specs.Arriving.{ArrivalCalls, ArrivalsPass}
-use Rattle.sf_live_seats.specs.Seats.{calls_known, home_of, view_of}
+use Rattle.law_threads.specs.sf_calls.Histories.{Begins, entry}
+use Rattle.law_threads.specs.sf_calls_stamped.Stamps.{unstamped}
+use Rattle.law_threads.specs.sf_surface.declared.call.QCall.TheVariants as call
+use Rattle.law_threads.specs.sf_surface.Histories.{Made}
+use Rattle.law_threads.specs.sf_surface.Tokens.{Issued, ReadLeaseOf}
+use Rattle.law_threads.specs.sf_times.declared.protocol.Knows.{Knows}
+use Rattle.law_threads.specs.sf_token.declared.arrivals.ArriveCall.TheVariants as arrive
+use Rattle.law_threads.specs.sf_token.declared.arrivals.ArriveReply.TheVariants as reply
+use Rattle.law_threads.specs.sf_turns.Views.{SeatView}
+use Rattle.law_threads.specs.sf_txn.declared.lease.Lease.{Ghosts}
+use Rattle.law_threads.specs.sf_commit.Releases.{ReleaseOf}
+use Rattle.law_threads.specs.sf_actor.Desks.{DeskHome, DeskView}
+use Rattle.law_threads.specs.sf_actor.Known.{AreAmong}
+use Rattle.law_threads.specs.law_rights.Standing.{GiveAll, GivesOne}
+use Rattle.law_threads.specs.sf_live_seats.declared.locks.Locks.{Locks}
+use Rattle.law_threads.specs.sf_live_seats.declared.seats.Seats.{Seats}
+use Rattle.law_threads.specs.sf_live_seats.Arriving.{ArrivalCalls, ArrivalsPass}
+use Rattle.law_threads.specs.sf_live_seats.Seats.{calls_known, home_of, view_of}
 use Rattle.law_joins.specs.Logs.{IsKnown}
-use Rattle.sf_live_compositor.specs.Vsyncs.{IsVsync, Sitting}
+use Rattle.law_threads.specs.sf_live_compositor.Vsyncs.{IsVsync, Sitting}
 
 pub begins_on : {A : Type 0} (xs ys zs : List A) → Begins xs ys → Begins ys zs → Begins xs zs
 begins_on xs ys zs one two = (two.0 ++ one.0, two.1 ∙ ap (λ (l : List _). two.0 ++ l) one.1 ∙ sym (append_assoc two.0 one.0 xs))

@@ -6,36 +6,36 @@ use Rattle.std.proofs.lemmas.List.{append-nil, append_assoc, map-append}
 use Rattle.std.proofs.lemmas.List.Elements.{All-cons, All-head, All-tail, filter-append}
 use Rattle.sf_base.specs.Fences.{Fence}
 use Rattle.sf_base.specs.declared.ids.QueueId.{QueueId}
-use Rattle.sf_calls.specs.Histories.{GoesOnWithout, calls_by, entry}
-use Rattle.sf_layer.specs.declared.shown.Shown.{Shown}
-use Rattle.sf_slots.specs.declared.calls.Entry.{Entry}
-use Rattle.sf_slots.specs.declared.calls.PlainCall.TheVariants as plain
-use Rattle.sf_surface.specs.Histories.{Made, told, told_entry}
-use Rattle.sf_surface.specs.Reading.{PlainLease, plain_lease}
-use Rattle.sf_surface.specs.Tokens.{Issued, ReadLeaseOf}
-use Rattle.sf_surface.specs.declared.call.QCall.TheVariants as call
-use Rattle.sf_surface.specs.declared.call.QReply.{QReply}
-use Rattle.sf_surface.specs.declared.mark.QueueMark.{QueueMark}
-use Rattle.sf_turns.specs.Views.{SeatView}
-use Rattle.sf_txn.specs.declared.lease.Lease.{Ghosts}
-use Rattle.sf_commit.specs.Leases.{HandsBack, IsReleaseOf as IsGoneAs}
-use Rattle.sf_commit.specs.OnLayers.{OnLayer}
-use Rattle.sf_commit.specs.Releases.{ReleaseOf}
-use Rattle.sf_script_scene.specs.declared.declarations.QueueDecl.{QueueDecl}
-use Rattle.sf_actor.specs.Desks.{DeskHome, DeskView, mark_among}
-use Rattle.sf_actor.specs.Known.{Call, call_after, frame_of, own_calls, told_by}
-use Rattle.sf_actor.specs.Names.{FrameOf}
-use Rattle.sf_actor.proofs.GoingOn.{own_same}
-use Rattle.law_rights.specs.Standing.{GiveAll, GivesOne}
-use Rattle.law_played.proofs.RunGrowth.{IsReleaseOf, released_token}
-use Rattle.law_played.proofs.LeaseLemmas.{plain_frame}
-use Rattle.law_played.proofs.RunTraces.{own_told}
-use Rattle.law_played.specs.Actors.{IsRelease, mark_declared}
-use Rattle.law_played.specs.Framing.{framed_on}
-use Rattle.law_played.specs.Histories.{IsReleased, Released, released_on}
-use Rattle.law_played.specs.Runs.{calls_of}
+use Rattle.law_threads.specs.sf_calls.Histories.{GoesOnWithout, calls_by, entry}
+use Rattle.law_threads.specs.sf_layer.declared.shown.Shown.{Shown}
+use Rattle.law_threads.specs.sf_slots.declared.calls.Entry.{Entry}
+use Rattle.law_threads.specs.sf_slots.declared.calls.PlainCall.TheVariants as plain
+use Rattle.law_threads.specs.sf_surface.Histories.{Made, told, told_entry}
+use Rattle.law_threads.specs.sf_surface.Reading.{PlainLease, plain_lease}
+use Rattle.law_threads.specs.sf_surface.Tokens.{Issued, ReadLeaseOf}
+use Rattle.law_threads.specs.sf_surface.declared.call.QCall.TheVariants as call
+use Rattle.law_threads.specs.sf_surface.declared.call.QReply.{QReply}
+use Rattle.law_threads.specs.sf_surface.declared.mark.QueueMark.{QueueMark}
+use Rattle.law_threads.specs.sf_turns.Views.{SeatView}
+use Rattle.law_threads.specs.sf_txn.declared.lease.Lease.{Ghosts}
+use Rattle.law_threads.specs.sf_commit.Leases.{HandsBack, IsReleaseOf as IsGoneAs}
+use Rattle.law_threads.specs.sf_commit.OnLayers.{OnLayer}
+use Rattle.law_threads.specs.sf_commit.Releases.{ReleaseOf}
+use Rattle.law_threads.specs.sf_script_scene.declared.declarations.QueueDecl.{QueueDecl}
+use Rattle.law_threads.specs.sf_actor.Desks.{DeskHome, DeskView, mark_among}
+use Rattle.law_threads.specs.sf_actor.Known.{Call, call_after, frame_of, own_calls, told_by}
+use Rattle.law_threads.specs.sf_actor.Names.{FrameOf}
+use Rattle.law_threads.proofs.sf_actor_lemmas.GoingOn.{own_same}
+use Rattle.law_threads.specs.law_rights.Standing.{GiveAll, GivesOne}
+use Rattle.law_threads.proofs.law_played_lemmas.RunGrowth.{IsReleaseOf, released_token}
+use Rattle.law_threads.proofs.law_played_lemmas.LeaseLemmas.{plain_frame}
+use Rattle.law_threads.proofs.law_played_lemmas.RunTraces.{own_told}
+use Rattle.law_threads.specs.law_played.Actors.{IsRelease, mark_declared}
+use Rattle.law_threads.specs.law_played.Framing.{framed_on}
+use Rattle.law_threads.specs.law_played.Histories.{IsReleased, Released, released_on}
+use Rattle.law_threads.specs.law_played.Runs.{calls_of}
 use Rattle.law_joins.specs.Calls.{AreReleasesOn, IsGivenOn, entries_of}
-use Rattle.sf_play.proofs.HandlerLeases.{IsOnLent, OfFrames}
+use Rattle.law_threads.proofs.sf_play_lemmas.HandlerLeases.{IsOnLent, OfFrames}
 
 -- partners of two lists, with one more on each
 zip_more : {X Y : Type 0} (R : X → Y → Type 0) (xs : List X) (ys : List Y) (x : X) (y : Y) → AllZip R xs ys → R x y → AllZip R (xs ++ x ∷ []) (ys ++ y ∷ [])

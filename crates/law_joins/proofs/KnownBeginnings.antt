@@ -1,35 +1,35 @@
 -- What the compositor knew, with stamps, is how the histories began; so a player stands at the join.
 use Rattle.std.proofs.Common.{ℕ, ◌≤◌, List, map, subst}
 use Rattle.atomic_table.specs.Seated.{TableId}
-use Rattle.sf_calls.specs.Histories.{IsLegal}
-use Rattle.sf_surface.specs.declared.mark.QueueMark.{QueueMark}
-use Rattle.sf_surface.specs.Histories.{Answers}
-use Rattle.sf_surface.specs.Tokens.{Issued, ReadLeaseOf}
-use Rattle.sf_turns.specs.Views.{SeatView}
-use Rattle.sf_txn.specs.declared.lease.Lease.{Ghosts}
-use Rattle.sf_script_scene.specs.Scene.{SceneValue}
-use Rattle.sf_actor.specs.Desks.{mark_among}
-use Rattle.sf_actor.specs.Plain.{PlainOf, home_of as plain_home, view_of as plain_view}
-use Rattle.sf_live_seats.specs.declared.locks.Locks.{Locks}
-use Rattle.sf_live_threads.specs.Walks.{Moment}
-use Rattle.law_rights.specs.PlaceTries.{TellsPlaces}
-use Rattle.law_rights.specs.Standing.{LedgerStands, state_of}
-use Rattle.law_rights.specs.Vsyncs.{IsOfTurns}
-use Rattle.law_draws.specs.Placed.{calls_of}
-use Rattle.law_draws.specs.Standing.{RightsStand}
+use Rattle.law_threads.specs.sf_calls.Histories.{IsLegal}
+use Rattle.law_threads.specs.sf_surface.declared.mark.QueueMark.{QueueMark}
+use Rattle.law_threads.specs.sf_surface.Histories.{Answers}
+use Rattle.law_threads.specs.sf_surface.Tokens.{Issued, ReadLeaseOf}
+use Rattle.law_threads.specs.sf_turns.Views.{SeatView}
+use Rattle.law_threads.specs.sf_txn.declared.lease.Lease.{Ghosts}
+use Rattle.law_threads.specs.sf_script_scene.Scene.{SceneValue}
+use Rattle.law_threads.specs.sf_actor.Desks.{mark_among}
+use Rattle.law_threads.specs.sf_actor.Plain.{PlainOf, home_of as plain_home, view_of as plain_view}
+use Rattle.law_threads.specs.sf_live_seats.declared.locks.Locks.{Locks}
+use Rattle.law_threads.specs.sf_live_threads.Walks.{Moment}
+use Rattle.law_threads.specs.law_rights.PlaceTries.{TellsPlaces}
+use Rattle.law_threads.specs.law_rights.Standing.{LedgerStands, state_of}
+use Rattle.law_threads.specs.law_rights.Vsyncs.{IsOfTurns}
+use Rattle.law_threads.specs.law_draws.Placed.{calls_of}
+use Rattle.law_threads.specs.law_draws.Standing.{RightsStand}
 use Rattle.law_threads.specs.Joining.{of_at}
 use Rattle.law_threads.specs.Members.{AreTied, AreTimed, stamps}
 use Rattle.law_threads.specs.Stamped.{AreStamped}
-use Rattle.sf_live_compositor.specs.Vsyncs.{Begin, More, Sitting, Vsyncs}
+use Rattle.law_threads.specs.sf_live_compositor.Vsyncs.{Begin, More, Sitting, Vsyncs}
 use Rattle.law_joins.specs.Fronts.{AllFronts}
 use Rattle.law_joins.proofs.Stamps.{joined_fronts}
-use Rattle.sf_live_seats.specs.declared.first.FirstSeats.{FirstSeats}
+use Rattle.law_threads.specs.sf_live_seats.declared.first.FirstSeats.{FirstSeats}
 use Rattle.law_threads.proofs.StampBounds.{vsyncs_timed}
 use Rattle.law_threads.proofs.RightsAtTiedJoin.{ledger_join, rights_join}
-use Rattle.sf_play.specs.Standing.{IsStanding, StandsInRun}
+use Rattle.law_threads.specs.sf_play.Standing.{IsStanding, StandsInRun}
 use Rattle.law_joins.specs.Joined.{IsJoined, player_joined, so_joined}
 use Rattle.law_joins.proofs.PlayerAtJoin.{called, draws_placed, first_by, is_standing, stands_in_run}
-use Rattle.sf_play.proofs.HandlerLeases.{OfFrames}
+use Rattle.law_threads.proofs.sf_play_lemmas.HandlerLeases.{OfFrames}
 use Rattle.law_joins.proofs.WritesAtJoin.{KnowsByCounts}
 
 module _ {B : Type 0} (lease : Ghosts ReadLeaseOf SeatView ReadLeaseOf Issued) (table : TableId) (locks : Locks B) (period : ℕ) (first : FirstSeats B) where

@@ -10,76 +10,76 @@ use Rattle.atomic_table.specs.Seated.{TableId}
 use Rattle.sf_base.specs.Points.{greatest, points_from}
 use Rattle.sf_base.specs.Fences.{value_of}
 use Rattle.sf_base.specs.declared.fences.Seen.{Seen}
-use Rattle.sf_calls.specs.Histories.{GoesOnWithout, calls_by}
-use Rattle.sf_calls_stamped.specs.Stamps.{unstamped}
-use Rattle.sf_surface.specs.declared.mark.QueueMark.{QueueMark}
-use Rattle.sf_surface.specs.Histories.{Made}
-use Rattle.sf_surface.specs.Objects.{ObjectOf, mark_of}
-use Rattle.sf_surface.specs.Tokens.{Issued, ReadLeaseOf}
-use Rattle.sf_times.specs.Seats.{all_loaded}
-use Rattle.sf_times.specs.Views.{SeatView as TimesView}
-use Rattle.sf_token.specs.Arrivals.{sent}
-use Rattle.sf_token.specs.Pending.{Arrival}
-use Rattle.sf_turns.specs.Counts.{IsExact}
-use Rattle.sf_turns.specs.Views.{SeatView}
-use Rattle.sf_txn.specs.declared.lease.Lease.{Ghosts}
-use Rattle.sf_commit.specs.Handlers.{HandlerOf, new_handler}
-use Rattle.sf_script_scene.specs.Limits.{IsWithinLimits}
-use Rattle.sf_script_scene.specs.Ranges.{IsQueue}
-use Rattle.sf_script_scene.specs.Scene.{SceneValue, has_queue, has_timeline}
-use Rattle.sf_script_scene.specs.declared.declarations.QueueDecl.{QueueDecl}
-use Rattle.sf_actor.specs.Desks.{DeskHome, DeskView, known_of, mark_among, values_of}
-use Rattle.sf_actor.specs.Known.{AreAmong, CountsRise, ShareGoesOn, frame_of, is_sent_by, plain_arrival, share_of}
-use Rattle.sf_actor.specs.Names.{FrameOf}
-use Rattle.sf_actor.specs.Plain.{PlainOf, calls_among, home_of as plain_home, taken_in, view_of as plain_view}
-use Rattle.sf_actor.specs.Scripts.{picture_at}
-use Rattle.sf_actor.specs.Tries.{ActorOf, Sees}
-use Rattle.sf_actor.specs.Written.{FrameNumber, signals_of}
-use Rattle.sf_actor.proofs.CallGrowth.{value-values}
-use Rattle.sf_actor.specs.declared.done.Done.{Done}
-use Rattle.sf_actor.specs.Makers.{Run}
-use Rattle.sf_actor_set.specs.ActorSets.{KeepAs}
-use Rattle.sf_script_scene.specs.declared.step.ActorScript.{ActorScript}
-use Rattle.law_played.specs.Frames.{ShowImages}
-use Rattle.sf_record.specs.declared.event.VsyncReport.{VsyncReport}
-use Rattle.law_played.proofs.StepKeepsTold.{of_all}
-use Rattle.law_played.proofs.KeepingLemmas.{none_played}
-use Rattle.law_played.proofs.Members.{filter_has, has_cases, has_filter, has_here, has_joined, has_later, has_map, has_none, in_range, joined_has, map_has, zip_has}
-use Rattle.law_played.proofs.RisingNumbers.{rising_actors_are}
-use Rattle.law_played.proofs.RunTraces.{trace_here}
-use Rattle.law_played.specs.Actors.{AreActors, AreArrivals, IsCallBy, IsRelease, mark_declared, number_of, run_of, script_of, told_on, trace_among}
-use Rattle.law_played.specs.Histories.{IsReleased, queue_number, released_in, released_on, rising_queues}
-use Rattle.law_played.specs.Progress.{HasPlayed}
-use Rattle.law_played.specs.Runs.{calls_of, rising_actors, signals_in, written_in}
-use Rattle.law_played.specs.Stages.{told_of}
-use Rattle.law_played.specs.Telling.{AreReleases}
-use Rattle.law_played.specs.Vsyncs.{AreVsyncs, vsyncs_in}
-use Rattle.law_rights.specs.Actors.{AreOver}
-use Rattle.law_rights.specs.InTurn.{DrawsStand}
-use Rattle.law_rights.specs.MakerRuns.{MakersPlay}
-use Rattle.law_rights.specs.Standing.{LedgerStands, state_of}
-use Rattle.law_rights.specs.States.{is_queue}
-use Rattle.sf_live_seats.specs.declared.locks.Locks.{Locks}
-use Rattle.sf_live_seats.specs.declared.seats.Seats.{Seats}
-use Rattle.sf_live_seats.specs.Arriving.{ArrivalCalls}
-use Rattle.sf_live_seats.specs.First.{gave_of, took_of}
-use Rattle.sf_live_seats.specs.Reuniting.{Reunites}
-use Rattle.sf_live_seats.specs.Seats.{QueuePass, calls_known, home_of, is_at, view_of}
-use Rattle.sf_live_seats.proofs.CallsOfOthers.{goes_unstamped, sent_goes}
-use Rattle.sf_live_threads.specs.Walks.{Moment}
-use Rattle.sf_play.proofs.ArrivedFrames.{arrivals_lent}
-use Rattle.sf_play.proofs.PlayLedger.{none_absent}
-use Rattle.sf_play.proofs.HandlerLeases.{IsArrivedLent, OfFrames}
-use Rattle.sf_play.proofs.VsyncNumbers.{rounds_numbered}
-use Rattle.sf_play.proofs.SeenTimelines.{any_has, sees_signals}
-use Rattle.sf_play.specs.Ending.{Rests}
-use Rattle.sf_play.specs.Happening.{StandsAt}
-use Rattle.sf_play.specs.Players.{DeskStands, IsOfScene, PlayOf, SoFar, Stands, run_so, taken_at, told_at}
-use Rattle.sf_play.specs.Playing.{KeepsRights}
-use Rattle.sf_play.specs.Standing.{IsStanding, StandsInRun}
-use Rattle.law_draws.specs.Placed.{calls_of as calls_over}
-use Rattle.law_draws.specs.Standing.{RightsStand}
-use Rattle.law_draws.proofs.JoinedDraws.{draws_stand}
+use Rattle.law_threads.specs.sf_calls.Histories.{GoesOnWithout, calls_by}
+use Rattle.law_threads.specs.sf_calls_stamped.Stamps.{unstamped}
+use Rattle.law_threads.specs.sf_surface.declared.mark.QueueMark.{QueueMark}
+use Rattle.law_threads.specs.sf_surface.Histories.{Made}
+use Rattle.law_threads.specs.sf_surface.Objects.{ObjectOf, mark_of}
+use Rattle.law_threads.specs.sf_surface.Tokens.{Issued, ReadLeaseOf}
+use Rattle.law_threads.specs.sf_times.Seats.{all_loaded}
+use Rattle.law_threads.specs.sf_times.Views.{SeatView as TimesView}
+use Rattle.law_threads.specs.sf_token.Arrivals.{sent}
+use Rattle.law_threads.specs.sf_token.Pending.{Arrival}
+use Rattle.law_threads.specs.sf_turns.Counts.{IsExact}
+use Rattle.law_threads.specs.sf_turns.Views.{SeatView}
+use Rattle.law_threads.specs.sf_txn.declared.lease.Lease.{Ghosts}
+use Rattle.law_threads.specs.sf_commit.Handlers.{HandlerOf, new_handler}
+use Rattle.law_threads.specs.sf_script_scene.Limits.{IsWithinLimits}
+use Rattle.law_threads.specs.sf_script_scene.Ranges.{IsQueue}
+use Rattle.law_threads.specs.sf_script_scene.Scene.{SceneValue, has_queue, has_timeline}
+use Rattle.law_threads.specs.sf_script_scene.declared.declarations.QueueDecl.{QueueDecl}
+use Rattle.law_threads.specs.sf_actor.Desks.{DeskHome, DeskView, known_of, mark_among, values_of}
+use Rattle.law_threads.specs.sf_actor.Known.{AreAmong, CountsRise, ShareGoesOn, frame_of, is_sent_by, plain_arrival, share_of}
+use Rattle.law_threads.specs.sf_actor.Names.{FrameOf}
+use Rattle.law_threads.specs.sf_actor.Plain.{PlainOf, calls_among, home_of as plain_home, taken_in, view_of as plain_view}
+use Rattle.law_threads.specs.sf_actor.Scripts.{picture_at}
+use Rattle.law_threads.specs.sf_actor.Tries.{ActorOf, Sees}
+use Rattle.law_threads.specs.sf_actor.Written.{FrameNumber, signals_of}
+use Rattle.law_threads.proofs.sf_actor_lemmas.CallGrowth.{value-values}
+use Rattle.law_threads.specs.sf_actor.declared.done.Done.{Done}
+use Rattle.law_threads.specs.sf_actor.Makers.{Run}
+use Rattle.law_threads.specs.sf_actor_set.ActorSets.{KeepAs}
+use Rattle.law_threads.specs.sf_script_scene.declared.step.ActorScript.{ActorScript}
+use Rattle.law_threads.specs.law_played.Frames.{ShowImages}
+use Rattle.law_threads.specs.sf_record.declared.event.VsyncReport.{VsyncReport}
+use Rattle.law_threads.proofs.law_played_lemmas.StepKeepsTold.{of_all}
+use Rattle.law_threads.proofs.law_played_lemmas.KeepingLemmas.{none_played}
+use Rattle.law_threads.proofs.law_played_lemmas.Members.{filter_has, has_cases, has_filter, has_here, has_joined, has_later, has_map, has_none, in_range, joined_has, map_has, zip_has}
+use Rattle.law_threads.proofs.law_played_lemmas.RisingNumbers.{rising_actors_are}
+use Rattle.law_threads.proofs.law_played_lemmas.RunTraces.{trace_here}
+use Rattle.law_threads.specs.law_played.Actors.{AreActors, AreArrivals, IsCallBy, IsRelease, mark_declared, number_of, run_of, script_of, told_on, trace_among}
+use Rattle.law_threads.specs.law_played.Histories.{IsReleased, queue_number, released_in, released_on, rising_queues}
+use Rattle.law_threads.specs.law_played.Progress.{HasPlayed}
+use Rattle.law_threads.specs.law_played.Runs.{calls_of, rising_actors, signals_in, written_in}
+use Rattle.law_threads.specs.law_played.Stages.{told_of}
+use Rattle.law_threads.specs.law_played.Telling.{AreReleases}
+use Rattle.law_threads.specs.law_played.Vsyncs.{AreVsyncs, vsyncs_in}
+use Rattle.law_threads.specs.law_rights.Actors.{AreOver}
+use Rattle.law_threads.specs.law_rights.InTurn.{DrawsStand}
+use Rattle.law_threads.specs.law_rights.MakerRuns.{MakersPlay}
+use Rattle.law_threads.specs.law_rights.Standing.{LedgerStands, state_of}
+use Rattle.law_threads.specs.law_rights.States.{is_queue}
+use Rattle.law_threads.specs.sf_live_seats.declared.locks.Locks.{Locks}
+use Rattle.law_threads.specs.sf_live_seats.declared.seats.Seats.{Seats}
+use Rattle.law_threads.specs.sf_live_seats.Arriving.{ArrivalCalls}
+use Rattle.law_threads.specs.sf_live_seats.First.{gave_of, took_of}
+use Rattle.law_threads.specs.sf_live_seats.Reuniting.{Reunites}
+use Rattle.law_threads.specs.sf_live_seats.Seats.{QueuePass, calls_known, home_of, is_at, view_of}
+use Rattle.law_threads.proofs.sf_live_seats_lemmas.CallsOfOthers.{goes_unstamped, sent_goes}
+use Rattle.law_threads.specs.sf_live_threads.Walks.{Moment}
+use Rattle.law_threads.proofs.sf_play_lemmas.ArrivedFrames.{arrivals_lent}
+use Rattle.law_threads.proofs.sf_play_lemmas.PlayLedger.{none_absent}
+use Rattle.law_threads.proofs.sf_play_lemmas.HandlerLeases.{IsArrivedLent, OfFrames}
+use Rattle.law_threads.proofs.sf_play_lemmas.VsyncNumbers.{rounds_numbered}
+use Rattle.law_threads.proofs.sf_play_lemmas.SeenTimelines.{any_has, sees_signals}
+use Rattle.law_threads.specs.sf_play.Ending.{Rests}
+use Rattle.law_threads.specs.sf_play.Happening.{StandsAt}
+use Rattle.law_threads.specs.sf_play.Players.{DeskStands, IsOfScene, PlayOf, SoFar, Stands, run_so, taken_at, told_at}
+use Rattle.law_threads.specs.sf_play.Playing.{KeepsRights}
+use Rattle.law_threads.specs.sf_play.Standing.{IsStanding, StandsInRun}
+use Rattle.law_threads.specs.law_draws.Placed.{calls_of as calls_over}
+use Rattle.law_threads.specs.law_draws.Standing.{RightsStand}
+use Rattle.law_threads.proofs.law_draws_lemmas.JoinedDraws.{draws_stand}
 use Rattle.law_joins.specs.Joined.{IsJoined, player_joined, so_joined}
 use Rattle.law_joins.specs.Logs.{HasPlayedSo, HasSeenSo, HasTaken, HoldsLent, IsKnown, KnowsSteps, KnowsWritten, OnlyFirstTakes, reports_of, taken_of, told_in}
 use Rattle.law_joins.proofs.Callers.{NoStrangers, are_callers, are_senders, log_known, log_sends, log_signals, only_first}
@@ -95,7 +95,7 @@ use Rattle.law_joins.proofs.WritesAtJoin.{KnowsByCounts, knows_written}
 use Rattle.law_threads.specs.Joining.{Joins, actor_at, of_at, seats_at}
 use Rattle.law_threads.specs.Members.{number_at}
 use Rattle.law_threads.proofs.ReturnedSeats.{reunited_at, reunited_numbers, share_goes_on}
-use Rattle.sf_live_compositor.specs.Vsyncs.{Begin, More, Sitting, Vsyncs}
+use Rattle.law_threads.specs.sf_live_compositor.Vsyncs.{Begin, More, Sitting, Vsyncs}
 
 -- of two that are in a list whose numbers differ, those of one number are one
 module _ {X : Type 0} (number : X → ℕ) where

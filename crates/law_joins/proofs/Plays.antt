@@ -4,42 +4,42 @@ use Rattle.std.specs.List.{All, AllZip}
 use Rattle.std.proofs.lemmas.List.{append-nil, map-append}
 use Rattle.std.proofs.lemmas.List.Elements.{All-nil, All-weaker}
 use Rattle.atomic_table.specs.Seated.{TableId}
-use Rattle.sf_calls_stamped.specs.Stamps.{unstamped}
-use Rattle.sf_surface.specs.Histories.{Made}
-use Rattle.sf_surface.specs.declared.mark.QueueMark.{QueueMark}
-use Rattle.sf_surface.specs.Tokens.{Issued, ReadLeaseOf}
-use Rattle.sf_token.specs.Pending.{Arrival, IsRisingFrom}
-use Rattle.sf_turns.specs.Views.{SeatView}
-use Rattle.sf_txn.specs.Buffers.{Buffer}
-use Rattle.sf_txn.specs.declared.lease.Lease.{Ghosts}
-use Rattle.sf_commit.specs.Handlers.{last_of}
-use Rattle.sf_commit.specs.Leases.{IsReleaseOf}
-use Rattle.sf_commit.specs.OnLayers.{OnLayer}
-use Rattle.sf_commit.specs.Releases.{ReleaseOf}
-use Rattle.sf_commit.specs.declared.vsync.Commit.{Commit as Decided}
-use Rattle.sf_script_scene.specs.Scene.{SceneValue}
-use Rattle.sf_script_scene.specs.declared.declarations.QueueDecl.{QueueDecl}
-use Rattle.sf_actor.specs.Desks.{DeskView, mark_among}
-use Rattle.sf_actor.specs.Known.{CountsRise, frame_of, plain_arrival}
-use Rattle.sf_actor.specs.Names.{FrameOf}
-use Rattle.sf_actor.specs.Written.{FrameNumber}
-use Rattle.sf_record.specs.declared.event.VsyncReport.{VsyncReport}
-use Rattle.law_played.proofs.LeaseLemmas.{images_go_on, looks_tell, plain_frame, releases_go_on}
-use Rattle.law_played.proofs.ProgressLemmas.{goes_further, goes_on_by, goes_silently, releases_nothing, tells_no_more}
-use Rattle.law_played.specs.Actors.{IsRelease, mark_declared}
-use Rattle.law_played.specs.Commits.{is_written}
-use Rattle.law_played.specs.Frames.{ShowImages, ShowsImage}
-use Rattle.law_played.specs.Framing.{framed_on}
-use Rattle.law_played.specs.Histories.{IsReleased, Released, released_in}
-use Rattle.law_played.specs.Progress.{GoesOnBy, HasPlayed, SaysVsync, WroteWhatShows}
-use Rattle.law_played.specs.Stages.{told_from, told_of}
-use Rattle.sf_play_report.specs.Reports.{has_commits}
-use Rattle.sf_live_seats.specs.declared.locks.Locks.{Locks}
-use Rattle.sf_live_seats.specs.Arriving.{ArrivalCalls}
-use Rattle.sf_live_seats.specs.Seats.{home_of, view_of}
-use Rattle.sf_play.specs.Showing.{vsync_shown}
-use Rattle.sf_play.specs.Players.{IsBufferLent}
-use Rattle.sf_play.proofs.HandlerLeases.{IsArrivedLent, OfFrames}
+use Rattle.law_threads.specs.sf_calls_stamped.Stamps.{unstamped}
+use Rattle.law_threads.specs.sf_surface.Histories.{Made}
+use Rattle.law_threads.specs.sf_surface.declared.mark.QueueMark.{QueueMark}
+use Rattle.law_threads.specs.sf_surface.Tokens.{Issued, ReadLeaseOf}
+use Rattle.law_threads.specs.sf_token.Pending.{Arrival, IsRisingFrom}
+use Rattle.law_threads.specs.sf_turns.Views.{SeatView}
+use Rattle.law_threads.specs.sf_txn.Buffers.{Buffer}
+use Rattle.law_threads.specs.sf_txn.declared.lease.Lease.{Ghosts}
+use Rattle.law_threads.specs.sf_commit.Handlers.{last_of}
+use Rattle.law_threads.specs.sf_commit.Leases.{IsReleaseOf}
+use Rattle.law_threads.specs.sf_commit.OnLayers.{OnLayer}
+use Rattle.law_threads.specs.sf_commit.Releases.{ReleaseOf}
+use Rattle.law_threads.specs.sf_commit.declared.vsync.Commit.{Commit as Decided}
+use Rattle.law_threads.specs.sf_script_scene.Scene.{SceneValue}
+use Rattle.law_threads.specs.sf_script_scene.declared.declarations.QueueDecl.{QueueDecl}
+use Rattle.law_threads.specs.sf_actor.Desks.{DeskView, mark_among}
+use Rattle.law_threads.specs.sf_actor.Known.{CountsRise, frame_of, plain_arrival}
+use Rattle.law_threads.specs.sf_actor.Names.{FrameOf}
+use Rattle.law_threads.specs.sf_actor.Written.{FrameNumber}
+use Rattle.law_threads.specs.sf_record.declared.event.VsyncReport.{VsyncReport}
+use Rattle.law_threads.proofs.law_played_lemmas.LeaseLemmas.{images_go_on, looks_tell, plain_frame, releases_go_on}
+use Rattle.law_threads.proofs.law_played_lemmas.ProgressLemmas.{goes_further, goes_on_by, goes_silently, releases_nothing, tells_no_more}
+use Rattle.law_threads.specs.law_played.Actors.{IsRelease, mark_declared}
+use Rattle.law_threads.specs.law_played.Commits.{is_written}
+use Rattle.law_threads.specs.law_played.Frames.{ShowImages, ShowsImage}
+use Rattle.law_threads.specs.law_played.Framing.{framed_on}
+use Rattle.law_threads.specs.law_played.Histories.{IsReleased, Released, released_in}
+use Rattle.law_threads.specs.law_played.Progress.{GoesOnBy, HasPlayed, SaysVsync, WroteWhatShows}
+use Rattle.law_threads.specs.law_played.Stages.{told_from, told_of}
+use Rattle.law_threads.specs.sf_play_report.Reports.{has_commits}
+use Rattle.law_threads.specs.sf_live_seats.declared.locks.Locks.{Locks}
+use Rattle.law_threads.specs.sf_live_seats.Arriving.{ArrivalCalls}
+use Rattle.law_threads.specs.sf_live_seats.Seats.{home_of, view_of}
+use Rattle.law_threads.specs.sf_play.Showing.{vsync_shown}
+use Rattle.law_threads.specs.sf_play.Players.{IsBufferLent}
+use Rattle.law_threads.proofs.sf_play_lemmas.HandlerLeases.{IsArrivedLent, OfFrames}
 use Rattle.law_joins.specs.Calls.{AreReleasesOn, IsGivenOn, entries_of}
 use Rattle.law_joins.specs.Logs.{HasPlayedSo, HasTaken, HoldsLent, IsKnown, KnowsSteps, KnowsWritten, OnlyFirstTakes, reports_of, taken_of, told_in}
 use Rattle.law_joins.proofs.Fronts.{calls_took, known_before, turns_after}
@@ -47,7 +47,7 @@ use Rattle.law_joins.proofs.Gives.{all_given, all_releases, told_back}
 use Rattle.law_joins.proofs.Lends.{back_all, front_all, goes_lent, log_lent, looked_lent}
 use Rattle.law_joins.proofs.Sights.{says_seen}
 use Rattle.law_joins.proofs.Takes.{log_takes, takes_rise, vsync_takes}
-use Rattle.sf_live_compositor.specs.Vsyncs.{Begin, IsVsync, More, Sitting, Vsyncs}
+use Rattle.law_threads.specs.sf_live_compositor.Vsyncs.{Begin, IsVsync, More, Sitting, Vsyncs}
 
 no_commits : (commits : List Decided) → has_commits commits ≡ false → commits ≡ []
 no_commits [] none = refl

@@ -7,23 +7,23 @@ use Rattle.std.proofs.lemmas.Bool.{eq-eqb, ne_eqb}
 use Rattle.std.proofs.lemmas.List.{append-nil}
 use Rattle.std.proofs.lemmas.List.Concat.{flat_map-append}
 use Rattle.std.proofs.lemmas.List.Elements.{All-append, All-contains, All-head, All-map, All-nil, All-tail, filter-append}
-use Rattle.sf_script_scene.specs.Scene.{SceneValue}
-use Rattle.sf_actor.specs.declared.tried.Reply.{Reply as Told}
-use Rattle.sf_actor.specs.Desks.{DeskHome, DeskView}
-use Rattle.sf_actor.specs.Scripts.{picture_at}
-use Rattle.sf_actor.specs.Traces.{DoneAt, places_of}
-use Rattle.sf_actor.specs.Tries.{ActorOf, Keeps}
-use Rattle.sf_actor.specs.Values.{reply_at}
-use Rattle.sf_record.specs.declared.event.Event.TheVariants as event
-use Rattle.sf_record.specs.declared.event.VsyncReport.{VsyncReport}
-use Rattle.sf_record.specs.declared.record.Reply.{Reply}
-use Rattle.law_played.proofs.StepKeepsTold.{of_all}
-use Rattle.law_played.proofs.Members.{has_cases, has_here, has_later, has_map, has_none}
-use Rattle.law_played.proofs.RunTraces.{head_apart, rising_later}
-use Rattle.law_played.specs.Actors.{AreActors, number_of}
-use Rattle.law_played.specs.Replies.{replies_in, replies_to, reply_in, reply_shown}
-use Rattle.law_played.specs.Telling.{TellReplies}
-use Rattle.law_played.specs.Vsyncs.{vsync_in, vsyncs_in}
+use Rattle.law_threads.specs.sf_script_scene.Scene.{SceneValue}
+use Rattle.law_threads.specs.sf_actor.declared.tried.Reply.{Reply as Told}
+use Rattle.law_threads.specs.sf_actor.Desks.{DeskHome, DeskView}
+use Rattle.law_threads.specs.sf_actor.Scripts.{picture_at}
+use Rattle.law_threads.specs.sf_actor.Traces.{DoneAt, places_of}
+use Rattle.law_threads.specs.sf_actor.Tries.{ActorOf, Keeps}
+use Rattle.law_threads.specs.sf_actor.Values.{reply_at}
+use Rattle.law_threads.specs.sf_record.declared.event.Event.TheVariants as event
+use Rattle.law_threads.specs.sf_record.declared.event.VsyncReport.{VsyncReport}
+use Rattle.law_threads.specs.sf_record.declared.record.Reply.{Reply}
+use Rattle.law_threads.proofs.law_played_lemmas.StepKeepsTold.{of_all}
+use Rattle.law_threads.proofs.law_played_lemmas.Members.{has_cases, has_here, has_later, has_map, has_none}
+use Rattle.law_threads.proofs.law_played_lemmas.RunTraces.{head_apart, rising_later}
+use Rattle.law_threads.specs.law_played.Actors.{AreActors, number_of}
+use Rattle.law_threads.specs.law_played.Replies.{replies_in, replies_to, reply_in, reply_shown}
+use Rattle.law_threads.specs.law_played.Telling.{TellReplies}
+use Rattle.law_threads.specs.law_played.Vsyncs.{vsync_in, vsyncs_in}
 use Rattle.law_joins.specs.Joined.{events_of, replies_told}
 
 abbrev is_to : ℕ → Reply → Bool

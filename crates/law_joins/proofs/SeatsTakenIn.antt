@@ -5,16 +5,16 @@ use Rattle.std.proofs.lemmas.List.{append-nil, append_assoc}
 use Rattle.std.proofs.lemmas.List.Elements.{Contains-append_left}
 use Rattle.sf_base.proofs.PointLemmas.{greatest-append}
 use Rattle.sf_base.specs.Points.{greatest}
-use Rattle.sf_calls.specs.declared.object.Entry.{Entry}
-use Rattle.sf_calls.specs.Histories.{GoesOnWithout, calls_by}
-use Rattle.sf_times.specs.declared.protocol.Knows.{Knows}
-use Rattle.sf_turns.specs.Views.{SeatView}
-use Rattle.sf_actor.specs.Known.{AreAmong, CountsRise}
-use Rattle.law_played.proofs.Members.{has_cases, has_here, has_later}
-use Rattle.sf_live_seats.specs.declared.first.FirstSeats.{FirstSeats}
-use Rattle.sf_live_seats.specs.declared.seats.Seats.{Seats}
-use Rattle.sf_live_seats.specs.First.{Meets, took_of}
-use Rattle.sf_live_seats.specs.Seats.{view_of}
+use Rattle.law_threads.specs.sf_calls.declared.object.Entry.{Entry}
+use Rattle.law_threads.specs.sf_calls.Histories.{GoesOnWithout, calls_by}
+use Rattle.law_threads.specs.sf_times.declared.protocol.Knows.{Knows}
+use Rattle.law_threads.specs.sf_turns.Views.{SeatView}
+use Rattle.law_threads.specs.sf_actor.Known.{AreAmong, CountsRise}
+use Rattle.law_threads.proofs.law_played_lemmas.Members.{has_cases, has_here, has_later}
+use Rattle.law_threads.specs.sf_live_seats.declared.first.FirstSeats.{FirstSeats}
+use Rattle.law_threads.specs.sf_live_seats.declared.seats.Seats.{Seats}
+use Rattle.law_threads.specs.sf_live_seats.First.{Meets, took_of}
+use Rattle.law_threads.specs.sf_live_seats.Seats.{view_of}
 use Rattle.law_joins.proofs.Fronts.{begins_on, begins_same}
 use Rattle.law_threads.specs.Joining.{MeetsAll}
 

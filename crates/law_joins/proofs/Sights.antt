@@ -10,28 +10,28 @@ use Rattle.sf_base.proofs.PointLemmas.{greatest-append, has_le}
 use Rattle.sf_base.specs.Fences.{value_of}
 use Rattle.sf_base.specs.Points.{greatest, points_from}
 use Rattle.sf_base.specs.declared.fences.Seen.{Seen}
-use Rattle.sf_surface.specs.Tokens.{Issued, ReadLeaseOf}
-use Rattle.sf_times.specs.declared.protocol.Knows.{Knows}
-use Rattle.sf_times.specs.Seats.{all_loaded}
-use Rattle.sf_turns.specs.Views.{SeatView}
-use Rattle.sf_txn.specs.declared.lease.Lease.{Ghosts}
-use Rattle.sf_commit.specs.declared.vsync.Commit.{Commit as Decided}
-use Rattle.sf_script_scene.specs.Scene.{SceneValue}
-use Rattle.sf_actor.specs.Known.{AreAmong}
-use Rattle.sf_record.specs.declared.event.VsyncReport.{VsyncReport}
-use Rattle.law_played.proofs.Members.{has_first, has_later}
-use Rattle.law_played.proofs.SeenLemmas.{seen_is}
-use Rattle.law_played.proofs.VsyncLemmas.{none_seen, seen_more, seen_silently}
-use Rattle.law_played.specs.Commits.{commit_shown, seen_by}
-use Rattle.law_played.specs.Seeing.{HasSeen, TellsTime, value_shown}
-use Rattle.law_played.specs.Vsyncs.{WasSignalled}
-use Rattle.sf_play_report.specs.Reports.{has_commits}
-use Rattle.sf_live_seats.specs.declared.locks.Locks.{Locks}
-use Rattle.sf_play.specs.Showing.{vsync_shown}
-use Rattle.sf_play.proofs.SeenTimelines.{any_has}
+use Rattle.law_threads.specs.sf_surface.Tokens.{Issued, ReadLeaseOf}
+use Rattle.law_threads.specs.sf_times.declared.protocol.Knows.{Knows}
+use Rattle.law_threads.specs.sf_times.Seats.{all_loaded}
+use Rattle.law_threads.specs.sf_turns.Views.{SeatView}
+use Rattle.law_threads.specs.sf_txn.declared.lease.Lease.{Ghosts}
+use Rattle.law_threads.specs.sf_commit.declared.vsync.Commit.{Commit as Decided}
+use Rattle.law_threads.specs.sf_script_scene.Scene.{SceneValue}
+use Rattle.law_threads.specs.sf_actor.Known.{AreAmong}
+use Rattle.law_threads.specs.sf_record.declared.event.VsyncReport.{VsyncReport}
+use Rattle.law_threads.proofs.law_played_lemmas.Members.{has_first, has_later}
+use Rattle.law_threads.proofs.law_played_lemmas.SeenLemmas.{seen_is}
+use Rattle.law_threads.proofs.law_played_lemmas.VsyncLemmas.{none_seen, seen_more, seen_silently}
+use Rattle.law_threads.specs.law_played.Commits.{commit_shown, seen_by}
+use Rattle.law_threads.specs.law_played.Seeing.{HasSeen, TellsTime, value_shown}
+use Rattle.law_threads.specs.law_played.Vsyncs.{WasSignalled}
+use Rattle.law_threads.specs.sf_play_report.Reports.{has_commits}
+use Rattle.law_threads.specs.sf_live_seats.declared.locks.Locks.{Locks}
+use Rattle.law_threads.specs.sf_play.Showing.{vsync_shown}
+use Rattle.law_threads.proofs.sf_play_lemmas.SeenTimelines.{any_has}
 use Rattle.law_joins.specs.Logs.{HasSeenSo, KnowsSteps, reports_of}
 use Rattle.law_joins.proofs.Fronts.{times_after}
-use Rattle.sf_live_compositor.specs.Vsyncs.{Begin, IsVsync, More, Sitting, Vsyncs}
+use Rattle.law_threads.specs.sf_live_compositor.Vsyncs.{Begin, IsVsync, More, Sitting, Vsyncs}
 
 -- each value stands among the points that were loaded
 points_has : (values : List ℕ) (first k : ℕ) → k < length values → Contains (points_from first values) (first + k, slice_index values k)

@@ -3,26 +3,26 @@ use Rattle.std.proofs.Common.{◌≡◌, ℕ, ◌==◌, List, [], ◌∷◌, ap,
 use Rattle.std.specs.List.{AllZip}
 use Rattle.std.proofs.lemmas.Bool.{cases_Bool}
 use Rattle.atomic_table.specs.Seated.{TableId}
-use Rattle.sf_calls.specs.Histories.{Begins}
-use Rattle.sf_surface.specs.Tokens.{Issued, ReadLeaseOf}
-use Rattle.sf_turns.specs.Views.{SeatView}
-use Rattle.sf_txn.specs.declared.lease.Lease.{Ghosts}
-use Rattle.sf_script_scene.specs.Scene.{SceneValue}
-use Rattle.sf_actor.specs.Plain.{PlainOf}
-use Rattle.sf_live_seats.specs.declared.first.FirstSeats.{FirstSeats}
-use Rattle.sf_live_seats.specs.declared.locks.Locks.{Locks}
-use Rattle.sf_live_seats.specs.declared.locks.QueueLock.{QueueLock}
-use Rattle.sf_live_seats.specs.declared.seats.Seats.{Seats}
-use Rattle.sf_live_seats.specs.Moves.{MovesPass}
-use Rattle.sf_live_seats.specs.Passes.{KeepsOwn}
-use Rattle.sf_live_seats.specs.Seats.{IsPassOf, QueuePass, is_at, mark_in}
-use Rattle.sf_live_threads.specs.Walks.{Moment}
+use Rattle.law_threads.specs.sf_calls.Histories.{Begins}
+use Rattle.law_threads.specs.sf_surface.Tokens.{Issued, ReadLeaseOf}
+use Rattle.law_threads.specs.sf_turns.Views.{SeatView}
+use Rattle.law_threads.specs.sf_txn.declared.lease.Lease.{Ghosts}
+use Rattle.law_threads.specs.sf_script_scene.Scene.{SceneValue}
+use Rattle.law_threads.specs.sf_actor.Plain.{PlainOf}
+use Rattle.law_threads.specs.sf_live_seats.declared.first.FirstSeats.{FirstSeats}
+use Rattle.law_threads.specs.sf_live_seats.declared.locks.Locks.{Locks}
+use Rattle.law_threads.specs.sf_live_seats.declared.locks.QueueLock.{QueueLock}
+use Rattle.law_threads.specs.sf_live_seats.declared.seats.Seats.{Seats}
+use Rattle.law_threads.specs.sf_live_seats.Moves.{MovesPass}
+use Rattle.law_threads.specs.sf_live_seats.Passes.{KeepsOwn}
+use Rattle.law_threads.specs.sf_live_seats.Seats.{IsPassOf, QueuePass, is_at, mark_in}
+use Rattle.law_threads.specs.sf_live_threads.Walks.{Moment}
 use Rattle.law_joins.specs.Fronts.{AllFronts}
 use Rattle.law_joins.proofs.Fronts.{begins_on}
 use Rattle.law_joins.proofs.SeatsTakenIn.{meets_arrivals}
 use Rattle.law_threads.specs.Joining.{Joins, MeetsAll}
 use Rattle.law_threads.specs.Members.{seen_at}
-use Rattle.sf_live_compositor.specs.Vsyncs.{Begin, More, Sitting, Vsyncs}
+use Rattle.law_threads.specs.sf_live_compositor.Vsyncs.{Begin, More, Sitting, Vsyncs}
 
 module _ {B : Type 0} where
   abbrev BeginsPass : QueuePass B → QueuePass B → Type 0

@@ -5,26 +5,26 @@ use Rattle.std.proofs.lemmas.Bool.{cases_Bool, eq-eqb, false≢true}
 use Rattle.std.proofs.lemmas.List.{append-nil, append_assoc, take-append-le, take_all}
 use Rattle.std.proofs.lemmas.List.Elements.{Contains-append_left}
 use Rattle.atomic_table.specs.Seated.{TableId}
-use Rattle.sf_calls.specs.declared.object.Entry.{Entry}
-use Rattle.sf_calls.specs.Histories.{Begins, GoesOnWithout, calls_by, entry}
-use Rattle.sf_calls_stamped.specs.Stamps.{unstamped}
-use Rattle.sf_surface.specs.Tokens.{Issued, ReadLeaseOf}
-use Rattle.sf_token.specs.declared.arrivals.ArriveCall.TheVariants as arrive
-use Rattle.sf_token.specs.declared.arrivals.ArriveReply.TheVariants as reply
-use Rattle.sf_token.specs.Arrivals.{arrival, is_take, sent, waiting}
-use Rattle.sf_token.specs.Pending.{Arrival, IsRisingFrom}
-use Rattle.sf_turns.specs.Views.{SeatView}
-use Rattle.sf_txn.specs.declared.lease.Lease.{Ghosts}
-use Rattle.sf_commit.specs.Handlers.{HandlerOf, last_of}
-use Rattle.sf_actor.specs.Plain.{taken_in}
-use Rattle.sf_actor_set.proofs.ArrivalLemmas.{sent_is, waiting_last, waiting_many, waiting_rises}
-use Rattle.law_played.proofs.Members.{has_here, has_later}
-use Rattle.sf_live_seats.specs.declared.locks.Locks.{Locks}
-use Rattle.sf_live_seats.specs.Arriving.{ArrivalCalls, ArrivalsPass, Arrived, Arriving}
-use Rattle.sf_live_seats.proofs.CallsOfOthers.{none_later}
+use Rattle.law_threads.specs.sf_calls.declared.object.Entry.{Entry}
+use Rattle.law_threads.specs.sf_calls.Histories.{Begins, GoesOnWithout, calls_by, entry}
+use Rattle.law_threads.specs.sf_calls_stamped.Stamps.{unstamped}
+use Rattle.law_threads.specs.sf_surface.Tokens.{Issued, ReadLeaseOf}
+use Rattle.law_threads.specs.sf_token.declared.arrivals.ArriveCall.TheVariants as arrive
+use Rattle.law_threads.specs.sf_token.declared.arrivals.ArriveReply.TheVariants as reply
+use Rattle.law_threads.specs.sf_token.Arrivals.{arrival, is_take, sent, waiting}
+use Rattle.law_threads.specs.sf_token.Pending.{Arrival, IsRisingFrom}
+use Rattle.law_threads.specs.sf_turns.Views.{SeatView}
+use Rattle.law_threads.specs.sf_txn.declared.lease.Lease.{Ghosts}
+use Rattle.law_threads.specs.sf_commit.Handlers.{HandlerOf, last_of}
+use Rattle.law_threads.specs.sf_actor.Plain.{taken_in}
+use Rattle.law_threads.proofs.sf_actor_set_lemmas.ArrivalLemmas.{sent_is, waiting_last, waiting_many, waiting_rises}
+use Rattle.law_threads.proofs.law_played_lemmas.Members.{has_here, has_later}
+use Rattle.law_threads.specs.sf_live_seats.declared.locks.Locks.{Locks}
+use Rattle.law_threads.specs.sf_live_seats.Arriving.{ArrivalCalls, ArrivalsPass, Arrived, Arriving}
+use Rattle.law_threads.proofs.sf_live_seats_lemmas.CallsOfOthers.{none_later}
 use Rattle.law_joins.specs.Logs.{HasTaken, OnlyFirstTakes, taken_of}
 use Rattle.law_joins.proofs.Fronts.{arrivals_begin, arrivals_looked, begins_on}
-use Rattle.sf_live_compositor.specs.Vsyncs.{Begin, IsVsync, More, Sitting, Vsyncs}
+use Rattle.law_threads.specs.sf_live_compositor.Vsyncs.{Begin, IsVsync, More, Sitting, Vsyncs}
 
 abbrev Sent : Type 0
 Sent = List (Arrival ReadLeaseOf)

@@ -3,28 +3,28 @@ use Rattle.std.proofs.Common.{◌≡◌, ℕ, List, [], ◌∷◌, take, drop, f
 use Rattle.std.specs.List.{AllByRecursion, AllZip}
 use Rattle.std.proofs.lemmas.List.Elements.{All-cons, All-nil}
 use Rattle.atomic_table.specs.Seated.{TableId}
-use Rattle.sf_surface.specs.Histories.{Made}
-use Rattle.sf_surface.specs.Tokens.{ReadLeaseOf}
-use Rattle.sf_token.specs.Pending.{Arrival}
-use Rattle.sf_script_scene.specs.Scene.{SceneValue}
-use Rattle.sf_script_scene.specs.declared.step.ActorScript.{ActorScript}
-use Rattle.sf_actor.specs.Desks.{DeskHome, mark_among}
-use Rattle.sf_actor.specs.Known.{arrivals_told, is_sent_by, own_calls}
-use Rattle.sf_actor.specs.Parts.{PartsOf}
-use Rattle.sf_actor.specs.Scripts.{picture_at}
-use Rattle.sf_actor.specs.Tries.{ActorOf, Keeps, dequeues_in}
-use Rattle.sf_actor_set.specs.Opening.{new_actors}
-use Rattle.sf_actor_steps.proofs.NewLemmas.{new_keeps}
-use Rattle.sf_actor_steps.specs.Actors.{IsActor, IsNew, new_actor}
-use Rattle.sf_actor_steps.specs.Playable.{MayPlay}
-use Rattle.sf_actor_steps.specs.declared.actor.Actor.{Actor}
-use Rattle.sf_live_seats.specs.declared.locks.Locks.{Locks}
-use Rattle.sf_live_seats.specs.declared.seats.Seats.{Seats}
-use Rattle.sf_live_seats.specs.Seats.{home_of, marks_of, tells_of, view_of}
-use Rattle.sf_live_threads.specs.declared.seated_actor.SeatedActor.{SeatedActor}
-use Rattle.sf_live_threads.specs.Seating.{GetsSeats, IsNewcomer, home_for}
-use Rattle.sf_live_threads.specs.SeatedActors.{Came, moment_of}
-use Rattle.sf_live_threads.specs.Walks.{IsSound}
+use Rattle.law_threads.specs.sf_surface.Histories.{Made}
+use Rattle.law_threads.specs.sf_surface.Tokens.{ReadLeaseOf}
+use Rattle.law_threads.specs.sf_token.Pending.{Arrival}
+use Rattle.law_threads.specs.sf_script_scene.Scene.{SceneValue}
+use Rattle.law_threads.specs.sf_script_scene.declared.step.ActorScript.{ActorScript}
+use Rattle.law_threads.specs.sf_actor.Desks.{DeskHome, mark_among}
+use Rattle.law_threads.specs.sf_actor.Known.{arrivals_told, is_sent_by, own_calls}
+use Rattle.law_threads.specs.sf_actor.Parts.{PartsOf}
+use Rattle.law_threads.specs.sf_actor.Scripts.{picture_at}
+use Rattle.law_threads.specs.sf_actor.Tries.{ActorOf, Keeps, dequeues_in}
+use Rattle.law_threads.specs.sf_actor_set.Opening.{new_actors}
+use Rattle.law_threads.proofs.sf_actor_steps_lemmas.NewLemmas.{new_keeps}
+use Rattle.law_threads.specs.sf_actor_steps.Actors.{IsActor, IsNew, new_actor}
+use Rattle.law_threads.specs.sf_actor_steps.Playable.{MayPlay}
+use Rattle.law_threads.specs.sf_actor_steps.declared.actor.Actor.{Actor}
+use Rattle.law_threads.specs.sf_live_seats.declared.locks.Locks.{Locks}
+use Rattle.law_threads.specs.sf_live_seats.declared.seats.Seats.{Seats}
+use Rattle.law_threads.specs.sf_live_seats.Seats.{home_of, marks_of, tells_of, view_of}
+use Rattle.law_threads.specs.sf_live_threads.declared.seated_actor.SeatedActor.{SeatedActor}
+use Rattle.law_threads.specs.sf_live_threads.Seating.{GetsSeats, IsNewcomer, home_for}
+use Rattle.law_threads.specs.sf_live_threads.SeatedActors.{Came, moment_of}
+use Rattle.law_threads.specs.sf_live_threads.Walks.{IsSound}
 use Rattle.law_joins.specs.SeatedActors.{IsUnused, WalkedBack}
 use Rattle.law_threads.specs.Joining.{HasNewSeats}
 

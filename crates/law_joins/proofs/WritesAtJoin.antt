@@ -4,28 +4,28 @@ use Rattle.std.specs.Prelude.{Contains, nat_le}
 use Rattle.std.specs.List.{list_any}
 use Rattle.std.proofs.lemmas.Bool.{le-leb}
 use Rattle.sf_base.specs.Points.{greatest}
-use Rattle.sf_surface.specs.Histories.{Made}
-use Rattle.sf_surface.specs.Tokens.{Issued, ReadLeaseOf}
-use Rattle.sf_turns.specs.Counts.{IsExact, leaves_of}
-use Rattle.sf_turns.specs.Views.{SeatView}
-use Rattle.sf_txn.specs.declared.lease.Lease.{Ghosts}
-use Rattle.sf_commit.specs.Handlers.{HandlerOf}
-use Rattle.sf_script_scene.specs.Limits.{IsWithinLimits}
-use Rattle.sf_script_scene.specs.Scene.{SceneValue}
-use Rattle.sf_actor.specs.Desks.{DeskHome, DeskView}
-use Rattle.sf_actor.specs.Rights.{Turn}
-use Rattle.sf_actor.specs.Scripts.{picture_at}
-use Rattle.sf_actor.specs.Tries.{ActorOf}
-use Rattle.law_played.specs.Actors.{AreActors, run_of}
-use Rattle.law_played.specs.Runs.{written_in}
-use Rattle.law_rights.specs.Actors.{AreOver}
-use Rattle.law_rights.specs.Looks.{WasAcquired}
-use Rattle.law_rights.specs.Standing.{LedgerStands, state_of}
-use Rattle.law_rights.specs.States.{all_buffers, is_queue}
-use Rattle.law_rights.proofs.WrittenFrames.{look_is_written}
-use Rattle.law_rights.proofs.PermitStock.{made_in_stocks}
-use Rattle.law_rights.proofs.AcquiredRights.{acquired_queued}
-use Rattle.sf_play.specs.Players.{WasLent}
+use Rattle.law_threads.specs.sf_surface.Histories.{Made}
+use Rattle.law_threads.specs.sf_surface.Tokens.{Issued, ReadLeaseOf}
+use Rattle.law_threads.specs.sf_turns.Counts.{IsExact, leaves_of}
+use Rattle.law_threads.specs.sf_turns.Views.{SeatView}
+use Rattle.law_threads.specs.sf_txn.declared.lease.Lease.{Ghosts}
+use Rattle.law_threads.specs.sf_commit.Handlers.{HandlerOf}
+use Rattle.law_threads.specs.sf_script_scene.Limits.{IsWithinLimits}
+use Rattle.law_threads.specs.sf_script_scene.Scene.{SceneValue}
+use Rattle.law_threads.specs.sf_actor.Desks.{DeskHome, DeskView}
+use Rattle.law_threads.specs.sf_actor.Rights.{Turn}
+use Rattle.law_threads.specs.sf_actor.Scripts.{picture_at}
+use Rattle.law_threads.specs.sf_actor.Tries.{ActorOf}
+use Rattle.law_threads.specs.law_played.Actors.{AreActors, run_of}
+use Rattle.law_threads.specs.law_played.Runs.{written_in}
+use Rattle.law_threads.specs.law_rights.Actors.{AreOver}
+use Rattle.law_threads.specs.law_rights.Looks.{WasAcquired}
+use Rattle.law_threads.specs.law_rights.Standing.{LedgerStands, state_of}
+use Rattle.law_threads.specs.law_rights.States.{all_buffers, is_queue}
+use Rattle.law_threads.proofs.law_rights_lemmas.WrittenFrames.{look_is_written}
+use Rattle.law_threads.proofs.law_rights_lemmas.PermitStock.{made_in_stocks}
+use Rattle.law_threads.proofs.law_rights_lemmas.AcquiredRights.{acquired_queued}
+use Rattle.law_threads.specs.sf_play.Players.{WasLent}
 use Rattle.law_joins.specs.Logs.{KnowsWritten}
 
 -- an eye knows only writes whose turns it has seen to have left

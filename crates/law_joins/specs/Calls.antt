@@ -1,15 +1,15 @@
 -- The calls of a compositor, whose number is 0, on a queue: they are the releases of its vsyncs.
 use Rattle.std.specs.Prelude.{ℕ, List, All, map}
 use Rattle.std.specs.List.{AllZip}
-use Rattle.sf_calls.specs.Histories.{calls_by}
-use Rattle.sf_slots.specs.declared.calls.Entry.{Entry}
-use Rattle.sf_surface.specs.declared.mark.QueueMark.{QueueMark}
-use Rattle.sf_surface.specs.Histories.{Made}
-use Rattle.sf_script_scene.specs.declared.declarations.QueueDecl.{QueueDecl}
-use Rattle.sf_actor.specs.Desks.{mark_among}
-use Rattle.sf_actor.specs.Known.{own_calls, told_by}
-use Rattle.law_played.specs.Actors.{IsRelease}
-use Rattle.law_played.specs.Histories.{IsReleased, Released, released_on}
+use Rattle.law_threads.specs.sf_calls.Histories.{calls_by}
+use Rattle.law_threads.specs.sf_slots.declared.calls.Entry.{Entry}
+use Rattle.law_threads.specs.sf_surface.declared.mark.QueueMark.{QueueMark}
+use Rattle.law_threads.specs.sf_surface.Histories.{Made}
+use Rattle.law_threads.specs.sf_script_scene.declared.declarations.QueueDecl.{QueueDecl}
+use Rattle.law_threads.specs.sf_actor.Desks.{mark_among}
+use Rattle.law_threads.specs.sf_actor.Known.{own_calls, told_by}
+use Rattle.law_threads.specs.law_played.Actors.{IsRelease}
+use Rattle.law_threads.specs.law_played.Histories.{IsReleased, Released, released_on}
 
 module _ {B : Type 0} where
   -- what its calls tell of a queue

@@ -1,14 +1,14 @@
 -- The buffers that a compositor's vsyncs show have their pictures.
 use Rattle.std.specs.Prelude.{ℕ}
 use Rattle.atomic_table.specs.Seated.{TableId}
-use Rattle.sf_picture.specs.declared.picture.Picture.{Picture}
-use Rattle.sf_play_report.specs.Stages.{AreExpected}
-use Rattle.sf_surface.specs.Tokens.{Issued, ReadLeaseOf}
-use Rattle.sf_turns.specs.Views.{SeatView}
-use Rattle.sf_txn.specs.declared.lease.Lease.{Ghosts}
-use Rattle.sf_live_seats.specs.declared.locks.Locks.{Locks}
-use Rattle.sf_play.specs.Playing.{expected_by}
-use Rattle.sf_live_compositor.specs.Vsyncs.{Begin, More, Sitting, Vsyncs}
+use Rattle.law_threads.specs.sf_picture.declared.picture.Picture.{Picture}
+use Rattle.law_threads.specs.sf_play_report.Stages.{AreExpected}
+use Rattle.law_threads.specs.sf_surface.Tokens.{Issued, ReadLeaseOf}
+use Rattle.law_threads.specs.sf_turns.Views.{SeatView}
+use Rattle.law_threads.specs.sf_txn.declared.lease.Lease.{Ghosts}
+use Rattle.law_threads.specs.sf_live_seats.declared.locks.Locks.{Locks}
+use Rattle.law_threads.specs.sf_play.Playing.{expected_by}
+use Rattle.law_threads.specs.sf_live_compositor.Vsyncs.{Begin, More, Sitting, Vsyncs}
 
 module _ {B : Type 0} (lease : Ghosts ReadLeaseOf SeatView ReadLeaseOf Issued) (table : TableId) (locks : Locks B) (period : ℕ) where
   -- each buffer on a layer after each vsync has the picture of its number

@@ -2,28 +2,28 @@
 use Rattle.std.specs.Prelude.{◌≡◌, ℕ, false, List, ◌++◌, map}
 use Rattle.std.specs.List.{flat_map}
 use Rattle.atomic_table.specs.Seated.{TableId}
-use Rattle.sf_calls.specs.Histories.{IsLegal}
-use Rattle.sf_surface.specs.Histories.{Answers}
-use Rattle.sf_surface.specs.Tokens.{Issued, ReadLeaseOf}
-use Rattle.sf_turns.specs.Views.{SeatView}
-use Rattle.sf_txn.specs.declared.lease.Lease.{Ghosts}
-use Rattle.sf_script_scene.specs.Scene.{SceneValue}
-use Rattle.sf_actor.specs.declared.tried.Reply.{Reply as Told}
-use Rattle.sf_actor.specs.Desks.{KnowsAll, mark_among}
-use Rattle.sf_actor.specs.Plain.{PlainOf, home_of as plain_home, view_of as plain_view}
-use Rattle.sf_actor.specs.Tries.{ActorOf}
-use Rattle.sf_actor_set.specs.ActorSets.{ActorSetOf}
-use Rattle.sf_record.specs.declared.event.Event.{Event}
-use Rattle.sf_record.specs.declared.event.Event.TheVariants as event
-use Rattle.sf_record.specs.declared.event.VsyncReport.{VsyncReport}
-use Rattle.law_played.specs.Replies.{reply_shown}
-use Rattle.sf_script_scene.specs.Limits.{most_layers}
-use Rattle.sf_live_seats.specs.declared.locks.Locks.{Locks}
-use Rattle.sf_live_threads.specs.Walks.{Moment}
-use Rattle.sf_play.specs.Players.{PlayerOf, SoFar, before_round}
+use Rattle.law_threads.specs.sf_calls.Histories.{IsLegal}
+use Rattle.law_threads.specs.sf_surface.Histories.{Answers}
+use Rattle.law_threads.specs.sf_surface.Tokens.{Issued, ReadLeaseOf}
+use Rattle.law_threads.specs.sf_turns.Views.{SeatView}
+use Rattle.law_threads.specs.sf_txn.declared.lease.Lease.{Ghosts}
+use Rattle.law_threads.specs.sf_script_scene.Scene.{SceneValue}
+use Rattle.law_threads.specs.sf_actor.declared.tried.Reply.{Reply as Told}
+use Rattle.law_threads.specs.sf_actor.Desks.{KnowsAll, mark_among}
+use Rattle.law_threads.specs.sf_actor.Plain.{PlainOf, home_of as plain_home, view_of as plain_view}
+use Rattle.law_threads.specs.sf_actor.Tries.{ActorOf}
+use Rattle.law_threads.specs.sf_actor_set.ActorSets.{ActorSetOf}
+use Rattle.law_threads.specs.sf_record.declared.event.Event.{Event}
+use Rattle.law_threads.specs.sf_record.declared.event.Event.TheVariants as event
+use Rattle.law_threads.specs.sf_record.declared.event.VsyncReport.{VsyncReport}
+use Rattle.law_threads.specs.law_played.Replies.{reply_shown}
+use Rattle.law_threads.specs.sf_script_scene.Limits.{most_layers}
+use Rattle.law_threads.specs.sf_live_seats.declared.locks.Locks.{Locks}
+use Rattle.law_threads.specs.sf_live_threads.Walks.{Moment}
+use Rattle.law_threads.specs.sf_play.Players.{PlayerOf, SoFar, before_round}
 use Rattle.law_joins.specs.Logs.{reports_of}
 use Rattle.law_threads.specs.Joining.{Joins, actor_at, of_at}
-use Rattle.sf_live_compositor.specs.Vsyncs.{Sitting}
+use Rattle.law_threads.specs.sf_live_compositor.Vsyncs.{Sitting}
 
 module _ {B : Type 0} where
   -- what an actor replied

@@ -4,3 +4,4 @@ pub mod Frames
 pub mod Fronts
 pub mod Joined
 pub mod Logs
+pub use Rattle.law_threads.specs as law_threads

@@ -4,38 +4,38 @@ use Rattle.atomic_table.specs.Seated.{TableId}
 use Rattle.sf_base.specs.Fences.{value_of}
 use Rattle.sf_base.specs.Points.{greatest}
 use Rattle.sf_base.specs.declared.fences.Seen.{Seen}
-use Rattle.sf_calls.specs.declared.object.Entry.{Entry}
-use Rattle.sf_calls.specs.Histories.{Begins}
-use Rattle.sf_calls_stamped.specs.Stamps.{unstamped}
-use Rattle.sf_surface.specs.Tokens.{Issued, ReadLeaseOf}
-use Rattle.sf_times.specs.declared.protocol.Knows.{Knows}
-use Rattle.sf_times.specs.Seats.{OnlyOwnSignals}
-use Rattle.sf_token.specs.Arrivals.{is_take, sent}
-use Rattle.sf_token.specs.Pending.{Arrival}
-use Rattle.sf_turns.specs.Views.{SeatView}
-use Rattle.sf_txn.specs.declared.lease.Lease.{Ghosts}
-use Rattle.sf_commit.specs.Handlers.{HandlerOf}
-use Rattle.sf_commit.specs.OnLayers.{OnLayer}
-use Rattle.sf_script_scene.specs.Scene.{SceneValue, has_timeline}
-use Rattle.sf_actor.specs.Desks.{DeskView}
-use Rattle.sf_actor.specs.Known.{AreAmong, CountsRise, frame_of, plain_arrival}
-use Rattle.sf_actor.specs.Names.{FrameOf}
-use Rattle.sf_actor.specs.Plain.{taken_in}
-use Rattle.sf_actor.specs.Written.{FrameNumber}
-use Rattle.sf_record.specs.declared.event.VsyncReport.{VsyncReport}
-use Rattle.law_played.specs.Commits.{is_written}
-use Rattle.law_played.specs.Frames.{ShowImages}
-use Rattle.law_played.specs.Progress.{HasPlayed}
-use Rattle.law_played.specs.Seeing.{HasSeen}
-use Rattle.law_played.specs.Stages.{VsyncAt, told_of}
-use Rattle.sf_live_seats.specs.declared.locks.Locks.{Locks}
-use Rattle.sf_live_seats.specs.declared.seats.Seats.{Seats}
-use Rattle.sf_live_seats.specs.Arriving.{ArrivalCalls, Arrived, Arriving}
-use Rattle.sf_live_seats.specs.Seats.{view_of}
-use Rattle.sf_play_report.specs.Reports.{has_commits}
-use Rattle.sf_live_compositor.specs.Vsyncs.{Begin, IsVsync, More, Sitting, Vsyncs}
-use Rattle.sf_play.specs.Players.{AreLent, IsBufferLent, WasLent}
-use Rattle.sf_play.specs.Showing.{vsync_shown}
+use Rattle.law_threads.specs.sf_calls.declared.object.Entry.{Entry}
+use Rattle.law_threads.specs.sf_calls.Histories.{Begins}
+use Rattle.law_threads.specs.sf_calls_stamped.Stamps.{unstamped}
+use Rattle.law_threads.specs.sf_surface.Tokens.{Issued, ReadLeaseOf}
+use Rattle.law_threads.specs.sf_times.declared.protocol.Knows.{Knows}
+use Rattle.law_threads.specs.sf_times.Seats.{OnlyOwnSignals}
+use Rattle.law_threads.specs.sf_token.Arrivals.{is_take, sent}
+use Rattle.law_threads.specs.sf_token.Pending.{Arrival}
+use Rattle.law_threads.specs.sf_turns.Views.{SeatView}
+use Rattle.law_threads.specs.sf_txn.declared.lease.Lease.{Ghosts}
+use Rattle.law_threads.specs.sf_commit.Handlers.{HandlerOf}
+use Rattle.law_threads.specs.sf_commit.OnLayers.{OnLayer}
+use Rattle.law_threads.specs.sf_script_scene.Scene.{SceneValue, has_timeline}
+use Rattle.law_threads.specs.sf_actor.Desks.{DeskView}
+use Rattle.law_threads.specs.sf_actor.Known.{AreAmong, CountsRise, frame_of, plain_arrival}
+use Rattle.law_threads.specs.sf_actor.Names.{FrameOf}
+use Rattle.law_threads.specs.sf_actor.Plain.{taken_in}
+use Rattle.law_threads.specs.sf_actor.Written.{FrameNumber}
+use Rattle.law_threads.specs.sf_record.declared.event.VsyncReport.{VsyncReport}
+use Rattle.law_threads.specs.law_played.Commits.{is_written}
+use Rattle.law_threads.specs.law_played.Frames.{ShowImages}
+use Rattle.law_threads.specs.law_played.Progress.{HasPlayed}
+use Rattle.law_threads.specs.law_played.Seeing.{HasSeen}
+use Rattle.law_threads.specs.law_played.Stages.{VsyncAt, told_of}
+use Rattle.law_threads.specs.sf_live_seats.declared.locks.Locks.{Locks}
+use Rattle.law_threads.specs.sf_live_seats.declared.seats.Seats.{Seats}
+use Rattle.law_threads.specs.sf_live_seats.Arriving.{ArrivalCalls, Arrived, Arriving}
+use Rattle.law_threads.specs.sf_live_seats.Seats.{view_of}
+use Rattle.law_threads.specs.sf_play_report.Reports.{has_commits}
+use Rattle.law_threads.specs.sf_live_compositor.Vsyncs.{Begin, IsVsync, More, Sitting, Vsyncs}
+use Rattle.law_threads.specs.sf_play.Players.{AreLent, IsBufferLent, WasLent}
+use Rattle.law_threads.specs.sf_play.Showing.{vsync_shown}
 
 module _ {B : Type 0} (lease : Ghosts ReadLeaseOf SeatView ReadLeaseOf Issued) (table : TableId) (locks : Locks B) (period : ℕ) where
   -- all that was taken

@@ -2,17 +2,17 @@
 use Rattle.std.specs.Prelude.{◌≡◌, List, All, map}
 use Rattle.std.specs.List.{AllByRecursion, AllZip}
 use Rattle.atomic_table.specs.Seated.{TableId}
-use Rattle.sf_script_scene.specs.Scene.{SceneValue}
-use Rattle.sf_actor.specs.Tries.{ActorOf}
-use Rattle.sf_actor_steps.specs.Actors.{IsActor}
-use Rattle.sf_actor_steps.specs.declared.actor.Actor.{Actor}
-use Rattle.sf_live_seats.specs.declared.locks.Locks.{Locks}
-use Rattle.sf_live_seats.specs.declared.seats.Seats.{Seats}
-use Rattle.sf_live_seats.specs.First.{KnowsNothing}
-use Rattle.sf_live_threads.specs.declared.seated_actor.SeatedActor.{SeatedActor}
-use Rattle.sf_live_threads.specs.Seating.{GetsSeats, IsNewcomer}
-use Rattle.sf_live_threads.specs.SeatedActors.{Came}
-use Rattle.sf_live_threads.specs.Walks.{Moment}
+use Rattle.law_threads.specs.sf_script_scene.Scene.{SceneValue}
+use Rattle.law_threads.specs.sf_actor.Tries.{ActorOf}
+use Rattle.law_threads.specs.sf_actor_steps.Actors.{IsActor}
+use Rattle.law_threads.specs.sf_actor_steps.declared.actor.Actor.{Actor}
+use Rattle.law_threads.specs.sf_live_seats.declared.locks.Locks.{Locks}
+use Rattle.law_threads.specs.sf_live_seats.declared.seats.Seats.{Seats}
+use Rattle.law_threads.specs.sf_live_seats.First.{KnowsNothing}
+use Rattle.law_threads.specs.sf_live_threads.declared.seated_actor.SeatedActor.{SeatedActor}
+use Rattle.law_threads.specs.sf_live_threads.Seating.{GetsSeats, IsNewcomer}
+use Rattle.law_threads.specs.sf_live_threads.SeatedActors.{Came}
+use Rattle.law_threads.specs.sf_live_threads.Walks.{Moment}
 use Rattle.law_threads.specs.Joining.{CameBack, HasNewSeats, actor_at, of_at, seats_at}
 
 module _ {B : Type 0} where

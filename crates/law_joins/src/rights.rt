@@ -1,18 +1,16 @@
 ghost use Rattle.std.specs.Prelude.{◌≡◌, ℕ, ◌≤◌, List};
-ghost use Rattle.sf_script_scene.specs.Scene.{SceneValue};
-ghost use Rattle.sf_actor.specs.Plain.{PlainOf};
-ghost use Rattle.sf_live_seats.specs.declared.locks.Locks.{Locks};
-ghost use Rattle.sf_live_threads.specs.Walks.{Moment};
-ghost use Rattle.sf_live_compositor.specs.Vsyncs.{Sitting};
-ghost use Rattle.sf_play.specs.Standing.{IsStanding, StandsInRun};
+ghost use Rattle.law_threads.specs.sf_script_scene.Scene.{SceneValue};
+ghost use Rattle.law_threads.specs.sf_actor.Plain.{PlainOf};
+ghost use Rattle.law_threads.specs.sf_live_seats.declared.locks.Locks.{Locks};
+ghost use Rattle.law_threads.specs.sf_live_threads.Walks.{Moment};
+ghost use Rattle.law_threads.specs.sf_live_compositor.Vsyncs.{Sitting};
+ghost use Rattle.law_threads.specs.sf_play.Standing.{IsStanding, StandsInRun};
 ghost use Rattle.atomic_table.specs.Seated.{TableId};
 ghost use Rattle.law_threads.specs.Joining.{Joins};
 ghost use Rattle.law_joins.specs.Fronts.{AllFronts};
 ghost use Rattle.law_joins.specs.Joined.{IsJoined, player_joined, so_joined};
 
-use sf_surface::ReadLease;
-use sf_turns::TableName;
-use sf_txn::Lease;
+use law_threads::{Lease, ReadLease, TableName};
 
 /// A run in threads goes on from its join by the rounds of a player, with all its rights, where no more
 /// than 2^31 vsyncs were made.

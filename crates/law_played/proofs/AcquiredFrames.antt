@@ -6,22 +6,22 @@ use Rattle.std.proofs.lemmas.List.Elements.{All-contains, Contains-append_left, 
 use Rattle.sf_base.specs.Fences.{Fence}
 use Rattle.sf_base.specs.declared.geometry.Rect.{Rect}
 use Rattle.sf_base.specs.declared.ids.QueueId.{QueueId}
-use Rattle.sf_picture.specs.declared.picture.Picture.{Picture}
-use Rattle.sf_calls.specs.Histories.{IsLegal}
-use Rattle.sf_slots.specs.declared.calls.Entry.{Entry}
-use Rattle.sf_slots.specs.declared.calls.PlainReply.{PlainReply}
-use Rattle.sf_slots.specs.declared.calls.PlainReply.TheVariants as plain
-use Rattle.sf_slots.specs.declared.item.PlainItem.{PlainItem}
-use Rattle.sf_surface.specs.Calls.{queued_token, told_call}
-use Rattle.sf_surface.specs.Hands.{IsReply, taken_lease}
-use Rattle.sf_surface.specs.Histories.{Answers, caller, ComesFrom, FromLog, Made, Queues, Replied, told, told_entry, told_reply}
-use Rattle.sf_surface.specs.Tokens.{ReadLeaseOf, Right, WriteLeaseOf}
-use Rattle.sf_surface.specs.declared.call.Gives.{Gives}
-use Rattle.sf_surface.specs.declared.call.Gives.TheVariants as gives
-use Rattle.sf_surface.specs.declared.call.QCall.{QCall}
-use Rattle.sf_surface.specs.declared.call.QCall.TheVariants as call
-use Rattle.sf_surface.specs.declared.call.QReply.{QReply}
-use Rattle.sf_surface.specs.declared.mark.QueueMark.{QueueMark}
+use Rattle.sf_script_scene.specs.sf_picture.declared.picture.Picture.{Picture}
+use Rattle.sf_commit.specs.sf_calls.Histories.{IsLegal}
+use Rattle.sf_actor.specs.sf_slots.declared.calls.Entry.{Entry}
+use Rattle.sf_actor.specs.sf_slots.declared.calls.PlainReply.{PlainReply}
+use Rattle.sf_actor.specs.sf_slots.declared.calls.PlainReply.TheVariants as plain
+use Rattle.sf_actor.specs.sf_slots.declared.item.PlainItem.{PlainItem}
+use Rattle.sf_actor.specs.sf_surface.Calls.{queued_token, told_call}
+use Rattle.sf_actor.specs.sf_surface.Hands.{IsReply, taken_lease}
+use Rattle.sf_actor.specs.sf_surface.Histories.{Answers, caller, ComesFrom, FromLog, Made, Queues, Replied, told, told_entry, told_reply}
+use Rattle.sf_actor.specs.sf_surface.Tokens.{ReadLeaseOf, Right, WriteLeaseOf}
+use Rattle.sf_actor.specs.sf_surface.declared.call.Gives.{Gives}
+use Rattle.sf_actor.specs.sf_surface.declared.call.Gives.TheVariants as gives
+use Rattle.sf_actor.specs.sf_surface.declared.call.QCall.{QCall}
+use Rattle.sf_actor.specs.sf_surface.declared.call.QCall.TheVariants as call
+use Rattle.sf_actor.specs.sf_surface.declared.call.QReply.{QReply}
+use Rattle.sf_actor.specs.sf_surface.declared.mark.QueueMark.{QueueMark}
 use Rattle.sf_script_scene.specs.Scene.{SceneValue}
 use Rattle.sf_actor.specs.Desks.{DeskHome, DeskView, mark_among}
 use Rattle.sf_actor.specs.Known.{Call, call_after, own_calls}

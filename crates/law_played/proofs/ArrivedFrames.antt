@@ -5,19 +5,19 @@ use Rattle.std.specs.List.{list_any}
 use Rattle.std.proofs.lemmas.Bool.{cases_Bool, eq-eqb, eqb-true, or_left, or_right}
 use Rattle.std.proofs.lemmas.List.Elements.{All-contains, All-weaker, Contains-append_cases}
 use Rattle.std.proofs.lemmas.List.Sorted.{Contains-permutation, IsPermutation-sym}
-use Rattle.sf_slots.specs.declared.calls.Entry.{Entry}
-use Rattle.sf_slots.specs.declared.calls.PlainCall.TheVariants as plain
-use Rattle.sf_slots.specs.declared.calls.PlainReply.TheVariants as reply
-use Rattle.sf_slots.specs.Tells.{AreReplies}
-use Rattle.sf_surface.specs.Histories.{Made, told}
-use Rattle.sf_surface.specs.Tokens.{ReadLeaseOf}
-use Rattle.sf_surface.specs.declared.call.Gives.{Gives}
-use Rattle.sf_surface.specs.declared.call.Gives.TheVariants as gives
-use Rattle.sf_surface.specs.declared.call.QCall.{QCall}
-use Rattle.sf_surface.specs.declared.call.QCall.TheVariants as call
-use Rattle.sf_surface.specs.declared.mark.QueueMark.{QueueMark}
-use Rattle.sf_token.specs.Pending.{Arrival}
-use Rattle.sf_txn.specs.Buffers.{Buffer}
+use Rattle.sf_actor.specs.sf_slots.declared.calls.Entry.{Entry}
+use Rattle.sf_actor.specs.sf_slots.declared.calls.PlainCall.TheVariants as plain
+use Rattle.sf_actor.specs.sf_slots.declared.calls.PlainReply.TheVariants as reply
+use Rattle.sf_actor.specs.sf_slots.Tells.{AreReplies}
+use Rattle.sf_actor.specs.sf_surface.Histories.{Made, told}
+use Rattle.sf_actor.specs.sf_surface.Tokens.{ReadLeaseOf}
+use Rattle.sf_actor.specs.sf_surface.declared.call.Gives.{Gives}
+use Rattle.sf_actor.specs.sf_surface.declared.call.Gives.TheVariants as gives
+use Rattle.sf_actor.specs.sf_surface.declared.call.QCall.{QCall}
+use Rattle.sf_actor.specs.sf_surface.declared.call.QCall.TheVariants as call
+use Rattle.sf_actor.specs.sf_surface.declared.mark.QueueMark.{QueueMark}
+use Rattle.sf_commit.specs.sf_token.Pending.{Arrival}
+use Rattle.sf_commit.specs.sf_txn.Buffers.{Buffer}
 use Rattle.sf_script_scene.specs.Limits.{IsWithinLimits}
 use Rattle.sf_script_scene.specs.Ranges.{IsQueue}
 use Rattle.sf_script_scene.specs.Scene.{SceneValue, has_actor}

@@ -6,12 +6,12 @@ use Rattle.std.proofs.lemmas.Bool.{cases_Bool, eq-eqb, eqb-true, false≢true, o
 use Rattle.std.proofs.lemmas.List.Elements.{All-contains}
 use Rattle.std.proofs.lemmas.Option.{get_or_from_slice_get, slice_get_within}
 use Rattle.sf_base.specs.declared.geometry.Rect.{Rect}
-use Rattle.sf_picture.specs.declared.picture.Picture.{Picture}
-use Rattle.sf_slots.specs.declared.calls.Entry.{Entry}
-use Rattle.sf_slots.specs.declared.slot.Held.{Held}
-use Rattle.sf_slots.specs.Tells.{AreReplies}
-use Rattle.sf_token.specs.Pending.{Arrival}
-use Rattle.sf_view.specs.Contents.{unsigned}
+use Rattle.sf_script_scene.specs.sf_picture.declared.picture.Picture.{Picture}
+use Rattle.sf_actor.specs.sf_slots.declared.calls.Entry.{Entry}
+use Rattle.sf_actor.specs.sf_slots.declared.slot.Held.{Held}
+use Rattle.sf_actor.specs.sf_slots.Tells.{AreReplies}
+use Rattle.sf_commit.specs.sf_token.Pending.{Arrival}
+use Rattle.sf_compose.specs.sf_view.Contents.{unsigned}
 use Rattle.sf_script_scene.specs.Limits.{EachStep}
 use Rattle.sf_script_scene.specs.Named.{KnowsPicture}
 use Rattle.sf_script_scene.specs.Scene.{SceneValue, has_actor, has_picture}

@@ -5,12 +5,12 @@ use Rattle.std.specs.List.{flat_map}
 use Rattle.std.proofs.lemmas.Bool.{cases_Bool}
 use Rattle.std.proofs.lemmas.List.Elements.{All-append, All-cons, All-head, All-map, All-nil, All-tail, All-weaker}
 use Rattle.sf_base.specs.declared.ids.LayerId.{LayerId}
-use Rattle.sf_layer.specs.declared.shown.Shown.{Shown}
-use Rattle.sf_tree.specs.Changes.{Rejection, after}
-use Rattle.sf_tree.specs.Trees.{TreeOf}
-use Rattle.sf_txn.specs.Buffers.{Buffer}
-use Rattle.sf_txn.specs.Transactions.{shown_by}
-use Rattle.sf_token.specs.Pending.{Arrival, has_number}
+use Rattle.sf_compose.specs.sf_layer.declared.shown.Shown.{Shown}
+use Rattle.sf_compose.specs.sf_tree.Changes.{Rejection, after}
+use Rattle.sf_compose.specs.sf_tree.Trees.{TreeOf}
+use Rattle.sf_commit.specs.sf_txn.Buffers.{Buffer}
+use Rattle.sf_commit.specs.sf_txn.Transactions.{shown_by}
+use Rattle.sf_commit.specs.sf_token.Pending.{Arrival, has_number}
 use Rattle.sf_commit.specs.Rounds.{Round, StageOf, commit_of, committed, stage_with}
 use Rattle.sf_commit.specs.declared.vsync.Commit.{Commit as Decided}
 use Rattle.sf_actor.specs.Names.{FrameOf}

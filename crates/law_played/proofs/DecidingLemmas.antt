@@ -6,15 +6,15 @@ use Rattle.std.specs.Option.{option_map, option_map_or}
 use Rattle.std.proofs.lemmas.List.Elements.{All-head, All-tail}
 use Rattle.sf_base.specs.declared.fences.Seen.{Seen}
 use Rattle.sf_base.specs.declared.ids.TokenId.{TokenId}
-use Rattle.sf_ready.specs.Holds.{hold_of}
-use Rattle.sf_ready.specs.declared.hold.Hold.{Hold}
-use Rattle.sf_ready.specs.declared.hold.Hold.TheVariants as hold
-use Rattle.sf_token.specs.Pending.{Arrival, head_of, is_of}
-use Rattle.sf_txn.specs.Buffers.{Buffer}
-use Rattle.sf_txn.specs.Transactions.{without_first}
+use Rattle.sf_commit.specs.sf_ready.Holds.{hold_of}
+use Rattle.sf_commit.specs.sf_ready.declared.hold.Hold.{Hold}
+use Rattle.sf_commit.specs.sf_ready.declared.hold.Hold.TheVariants as hold
+use Rattle.sf_commit.specs.sf_token.Pending.{Arrival, head_of, is_of}
+use Rattle.sf_commit.specs.sf_txn.Buffers.{Buffer}
+use Rattle.sf_commit.specs.sf_txn.Transactions.{without_first}
 use Rattle.sf_commit.proofs.DecideLemmas.{all_left, hold_same}
 use Rattle.sf_commit.specs.Rounds.{Decided, IsNext, Leads, Round, committed, facts_of, held, hold_at}
-use Rattle.sf_commit_next.specs.Heads.{head_hold, ready_if, ready_of}
+use Rattle.sf_commit.specs.sf_commit_next.Heads.{head_hold, ready_if, ready_of}
 use Rattle.sf_actor.specs.Names.{FrameOf}
 use Rattle.sf_actor.specs.Written.{FrameNumber}
 use Rattle.law_played.proofs.EndLemmas.{flags_shown, head_framed}

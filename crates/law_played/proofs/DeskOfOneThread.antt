@@ -7,17 +7,17 @@ use Rattle.std.proofs.lemmas.Bool.{cases_Bool, eq-eqb, ne_eqb, or_left, or_right
 use Rattle.std.proofs.lemmas.List.{append-nil, length-append, map-append}
 use Rattle.std.proofs.lemmas.List.Elements.{All-head, All-tail}
 use Rattle.std.proofs.lemmas.List.Sorted.{Contains-permutation, IsPermutation-sym}
-use Rattle.sf_calls.specs.Histories.{IsLegal}
-use Rattle.sf_surface.specs.Histories.{Answers, Made}
-use Rattle.sf_surface.specs.Objects.{ObjectOf, mark_of}
-use Rattle.sf_surface.specs.Tokens.{Issued, ReadLeaseOf}
-use Rattle.sf_surface.specs.declared.mark.QueueMark.{QueueMark}
-use Rattle.sf_token.specs.Arrivals.{Calls, arrival, sent}
-use Rattle.sf_token.specs.Pending.{Arrival}
-use Rattle.sf_token.specs.declared.arrivals.ArriveCall.{ArriveCall}
-use Rattle.sf_token.specs.declared.arrivals.ArriveCall.TheVariants as call
-use Rattle.sf_token.specs.declared.arrivals.ArriveReply.{ArriveReply}
-use Rattle.sf_turns.specs.Views.{SeatView}
+use Rattle.sf_commit.specs.sf_calls.Histories.{IsLegal}
+use Rattle.sf_actor.specs.sf_surface.Histories.{Answers, Made}
+use Rattle.sf_actor.specs.sf_surface.Objects.{ObjectOf, mark_of}
+use Rattle.sf_actor.specs.sf_surface.Tokens.{Issued, ReadLeaseOf}
+use Rattle.sf_actor.specs.sf_surface.declared.mark.QueueMark.{QueueMark}
+use Rattle.sf_commit.specs.sf_token.Arrivals.{Calls, arrival, sent}
+use Rattle.sf_commit.specs.sf_token.Pending.{Arrival}
+use Rattle.sf_commit.specs.sf_token.declared.arrivals.ArriveCall.{ArriveCall}
+use Rattle.sf_commit.specs.sf_token.declared.arrivals.ArriveCall.TheVariants as call
+use Rattle.sf_commit.specs.sf_token.declared.arrivals.ArriveReply.{ArriveReply}
+use Rattle.sf_actor.specs.sf_turns.Views.{SeatView}
 use Rattle.sf_script_scene.specs.Scene.{SceneValue, has_queue as declares}
 use Rattle.sf_script_scene.specs.declared.declarations.QueueDecl.{QueueDecl}
 use Rattle.sf_actor.specs.Desks.{has_queue, mark_among}

@@ -2,9 +2,9 @@
 use Rattle.std.proofs.Common.{◌≡◌, [], ◌∷◌, map, refl}
 use Rattle.std.specs.List.{flat_map}
 use Rattle.sf_base.specs.Fences.{first_open_of, greater_of_each, merged, no_points, open_from, with_point}
-use Rattle.sf_slots.specs.Tells.{AreReplies}
-use Rattle.sf_surface.specs.Hands.{points_from}
-use Rattle.sf_tree.specs.Changes.{created}
+use Rattle.sf_actor.specs.sf_slots.Tells.{AreReplies}
+use Rattle.sf_actor.specs.sf_surface.Hands.{points_from}
+use Rattle.sf_compose.specs.sf_tree.Changes.{created}
 use Rattle.sf_actor.specs.Scripts.{picture_at}
 use Rattle.sf_actor.specs.Steps.{holdings_next}
 use Rattle.sf_actor.specs.Traces.{places_from}

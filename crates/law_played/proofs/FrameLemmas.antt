@@ -5,10 +5,10 @@ use Rattle.std.specs.Prelude.{if◌then◌else◌}
 use Rattle.std.proofs.lemmas.List.Elements.{All-append, All-filter, All-map, All-nil, All-weaker}
 use Rattle.sf_base.specs.declared.ids.LayerId.{LayerId}
 use Rattle.sf_compose.specs.Frames.{frame_bytes}
-use Rattle.sf_layer.specs.declared.layer.Layer.{Layer}
-use Rattle.sf_output.specs.declared.output.Output.{Output}
-use Rattle.sf_output.specs.declared.output.Output.TheVariants as out
-use Rattle.sf_picture.specs.declared.picture.Picture.{Picture}
+use Rattle.sf_compose.specs.sf_layer.declared.layer.Layer.{Layer}
+use Rattle.sf_record.specs.sf_output.declared.output.Output.{Output}
+use Rattle.sf_record.specs.sf_output.declared.output.Output.TheVariants as out
+use Rattle.sf_script_scene.specs.sf_picture.declared.picture.Picture.{Picture}
 use Rattle.sf_output_plan.specs.Due.{IsPlan}
 use Rattle.sf_output_plan.specs.declared.plan.CapturePlan.{CapturePlan}
 use Rattle.sf_output_plan.specs.declared.plan.DisplayPlan.{DisplayPlan}
@@ -19,11 +19,11 @@ use Rattle.sf_script_scene.specs.Scene.{SceneValue}
 use Rattle.sf_script_scene.specs.declared.declarations.CaptureDecl.{CaptureDecl}
 use Rattle.sf_script_scene.specs.declared.declarations.DisplayDecl.{DisplayDecl}
 use Rattle.sf_script_scene.specs.declared.declarations.HitDecl.{HitDecl}
-use Rattle.sf_output_shown.specs.Copies.{written}
-use Rattle.sf_output_shown.proofs.StackLemmas.{no_stacks}
-use Rattle.sf_tree.specs.Trees.{TreeOf}
-use Rattle.sf_view.specs.Image.{image, image_in}
-use Rattle.sf_view.specs.Views.{IsDisplay}
+use Rattle.sf_output_plan.specs.sf_output_shown.Copies.{written}
+use Rattle.sf_output_plan.proofs.sf_output_shown_lemmas.StackLemmas.{no_stacks}
+use Rattle.sf_compose.specs.sf_tree.Trees.{TreeOf}
+use Rattle.sf_compose.specs.sf_view.Image.{image, image_in}
+use Rattle.sf_compose.specs.sf_view.Views.{IsDisplay}
 use Rattle.sf_actor.specs.Scripts.{picture_at}
 use Rattle.sf_record.specs.declared.record.Commit.{Commit}
 use Rattle.law_played.specs.Frames.{HasOneOutput, capture_plan, display_plan, frame_after, frame_of, hit_plan, is_done, plan_of, shown_after, shown_due}

@@ -6,18 +6,18 @@ use Rattle.std.specs.Option.{option_map, option_to_list}
 use Rattle.std.proofs.lemmas.List.{map-append}
 use Rattle.std.proofs.lemmas.List.Folds.{list_any-append}
 use Rattle.sf_base.specs.declared.ids.LayerId.{LayerId}
-use Rattle.sf_layer.specs.declared.op.Op.{Op}
-use Rattle.sf_layer.specs.declared.op.Op.TheVariants as op
-use Rattle.sf_layer.specs.declared.shown.Shown.{Shown}
-use Rattle.sf_ready.specs.Facts.{is_met, meets}
-use Rattle.sf_token.specs.Looking.{IsLookedArrival}
-use Rattle.sf_token.specs.Pending.{Arrival}
-use Rattle.sf_tree.specs.Changes.{Rejection, after}
-use Rattle.sf_tree.specs.Trees.{TreeOf}
-use Rattle.sf_txn.specs.Buffers.{Buffer}
-use Rattle.sf_txn.specs.Leases.{IsLookedBuffer}
-use Rattle.sf_txn.specs.Transactions.{shown_by, without_first}
-use Rattle.sf_txn.specs.declared.lease.Lease.{Ghosts}
+use Rattle.sf_compose.specs.sf_layer.declared.op.Op.{Op}
+use Rattle.sf_compose.specs.sf_layer.declared.op.Op.TheVariants as op
+use Rattle.sf_compose.specs.sf_layer.declared.shown.Shown.{Shown}
+use Rattle.sf_commit.specs.sf_ready.Facts.{is_met, meets}
+use Rattle.sf_commit.specs.sf_token.Looking.{IsLookedArrival}
+use Rattle.sf_commit.specs.sf_token.Pending.{Arrival}
+use Rattle.sf_compose.specs.sf_tree.Changes.{Rejection, after}
+use Rattle.sf_compose.specs.sf_tree.Trees.{TreeOf}
+use Rattle.sf_commit.specs.sf_txn.Buffers.{Buffer}
+use Rattle.sf_commit.specs.sf_txn.Leases.{IsLookedBuffer}
+use Rattle.sf_commit.specs.sf_txn.Transactions.{shown_by, without_first}
+use Rattle.sf_commit.specs.sf_txn.declared.lease.Lease.{Ghosts}
 use Rattle.sf_commit.specs.OnLayers.{OnLayer, brought, gone_with, is_on, on_after, shown_on, without}
 use Rattle.sf_commit.specs.Rounds.{Round, StageOf, committed, frames_in, layers_in, shown_if, stage_after, stage_with}
 use Rattle.law_played.specs.Framing.{IsRoundOf, framed_arrival, framed_buffer, framed_on, framed_stage}

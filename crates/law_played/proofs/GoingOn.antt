@@ -4,11 +4,11 @@ use Rattle.std.specs.Prelude.{◌⊎◌, is_none}
 use Rattle.std.proofs.lemmas.Bool.{cases_Bool, cases_eq, cases_lt, eqb-true, ne_eqb}
 use Rattle.sf_base.specs.declared.fences.Seen.{Seen}
 use Rattle.sf_base.specs.declared.ids.TokenId.{TokenId}
-use Rattle.sf_token.specs.Pending.{Arrival, head_of, is_of}
-use Rattle.sf_txn.specs.Transactions.{without_first}
-use Rattle.sf_ready.specs.Facts.{FactsOf}
+use Rattle.sf_commit.specs.sf_token.Pending.{Arrival, head_of, is_of}
+use Rattle.sf_commit.specs.sf_txn.Transactions.{without_first}
+use Rattle.sf_commit.specs.sf_ready.Facts.{FactsOf}
 use Rattle.sf_commit.specs.Rounds.{Decided, IsNext, Round, committed, facts_of}
-use Rattle.sf_commit_next.specs.Heads.{head_hold, ready_if, ready_of}
+use Rattle.sf_commit.specs.sf_commit_next.Heads.{head_hold, ready_if, ready_of}
 use Rattle.sf_script_scene.specs.Scene.{SceneValue}
 use Rattle.law_played.specs.Commits.{is_written}
 use Rattle.law_played.specs.Plays.{GoesOnTo, GoesOnWith, IsOver, Playing, TakesTurn, is_quiet, with_round}

@@ -7,19 +7,19 @@ use Rattle.sf_base.specs.Fences.{Fence}
 use Rattle.sf_base.specs.declared.geometry.Rect.{Rect}
 use Rattle.sf_base.specs.declared.status.QStatus.{QStatus}
 use Rattle.sf_base.specs.declared.status.QStatus.TheVariants as status
-use Rattle.sf_slots.specs.declared.calls.Entry.{Entry}
-use Rattle.sf_slots.specs.declared.calls.PlainCall.{PlainCall}
-use Rattle.sf_slots.specs.declared.calls.PlainCall.TheVariants as call
-use Rattle.sf_slots.specs.declared.calls.PlainReply.{PlainReply}
-use Rattle.sf_slots.specs.declared.calls.PlainReply.TheVariants as reply
-use Rattle.sf_slots.specs.declared.calls.WriteToken.{WriteToken}
-use Rattle.sf_slots.specs.Events.{frames_queued}
-use Rattle.sf_slots.specs.History.{events, told_by}
-use Rattle.sf_slots.specs.Replies.{Refusal, is_crop_of, is_lent, refusal_of, refused_or, reply_after}
-use Rattle.sf_slots.specs.Shown.{frame_shown, kind_number, status_shown}
-use Rattle.sf_slots.specs.Tells.{AreReplies}
-use Rattle.sf_slots.specs.Told.{slot_at}
-use Rattle.sf_slots.proofs.Going.{own_unmet, unmet}
+use Rattle.sf_actor.specs.sf_slots.declared.calls.Entry.{Entry}
+use Rattle.sf_actor.specs.sf_slots.declared.calls.PlainCall.{PlainCall}
+use Rattle.sf_actor.specs.sf_slots.declared.calls.PlainCall.TheVariants as call
+use Rattle.sf_actor.specs.sf_slots.declared.calls.PlainReply.{PlainReply}
+use Rattle.sf_actor.specs.sf_slots.declared.calls.PlainReply.TheVariants as reply
+use Rattle.sf_actor.specs.sf_slots.declared.calls.WriteToken.{WriteToken}
+use Rattle.sf_actor.specs.sf_slots.Events.{frames_queued}
+use Rattle.sf_actor.specs.sf_slots.History.{events, told_by}
+use Rattle.sf_actor.specs.sf_slots.Replies.{Refusal, is_crop_of, is_lent, refusal_of, refused_or, reply_after}
+use Rattle.sf_actor.specs.sf_slots.Shown.{frame_shown, kind_number, status_shown}
+use Rattle.sf_actor.specs.sf_slots.Tells.{AreReplies}
+use Rattle.sf_actor.specs.sf_slots.Told.{slot_at}
+use Rattle.sf_actor.proofs.sf_slots_lemmas.Going.{own_unmet, unmet}
 use Rattle.sf_script_scene.specs.Scene.{SceneValue}
 use Rattle.sf_script_scene.specs.declared.declarations.QueueDecl.{QueueDecl}
 use Rattle.sf_actor.specs.Makers.{Run}

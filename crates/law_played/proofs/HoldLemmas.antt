@@ -6,11 +6,11 @@ use Rattle.std.specs.Option.{option_map, option_or}
 use Rattle.std.proofs.lemmas.List.Elements.{All-head, All-tail}
 use Rattle.sf_base.specs.Fences.{first_open_of}
 use Rattle.sf_base.specs.declared.fences.Seen.{Seen}
-use Rattle.sf_ready.specs.Facts.{FactsOf, has_layer}
-use Rattle.sf_ready.specs.Holds.{barrier_hold, fence_hold, hold_of, point_hold, pressure_hold, time_hold, undrawn_hold}
-use Rattle.sf_ready.specs.declared.hold.Hold.TheVariants as hold
-use Rattle.sf_txn.specs.Buffers.{Buffer}
-use Rattle.sf_txn.specs.Transactions.{Contents}
+use Rattle.sf_commit.specs.sf_ready.Facts.{FactsOf, has_layer}
+use Rattle.sf_commit.specs.sf_ready.Holds.{barrier_hold, fence_hold, hold_of, point_hold, pressure_hold, time_hold, undrawn_hold}
+use Rattle.sf_commit.specs.sf_ready.declared.hold.Hold.TheVariants as hold
+use Rattle.sf_commit.specs.sf_txn.Buffers.{Buffer}
+use Rattle.sf_commit.specs.sf_txn.Transactions.{Contents}
 use Rattle.sf_commit.specs.Deciding.{DecidesSame}
 use Rattle.sf_commit.specs.Rounds.{Round, facts_of, pressed_in}
 use Rattle.law_played.specs.Framing.{IsRoundOf, framed_buffer, framed_txn}

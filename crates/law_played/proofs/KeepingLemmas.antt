@@ -3,9 +3,9 @@ use Rattle.std.proofs.Common.{◌≡◌, ◌≢◌, ℕ, ◌+◌, true, false, L
 use Rattle.std.specs.Prelude.{is_none}
 use Rattle.std.specs.List.{All}
 use Rattle.std.proofs.lemmas.List.Elements.{All-head, All-nil, All-tail, All-weaker}
-use Rattle.sf_picture.specs.declared.picture.Picture.{Picture}
-use Rattle.sf_token.specs.Pending.{Arrival}
-use Rattle.sf_txn.specs.Buffers.{Buffer}
+use Rattle.sf_script_scene.specs.sf_picture.declared.picture.Picture.{Picture}
+use Rattle.sf_commit.specs.sf_token.Pending.{Arrival}
+use Rattle.sf_commit.specs.sf_txn.Buffers.{Buffer}
 use Rattle.sf_commit.specs.Handlers.{HandlerOf, new_handler}
 use Rattle.sf_commit.specs.Lending.{KeptRead}
 use Rattle.sf_commit.specs.OnLayers.{OnLayer, at_hand, lent_from}

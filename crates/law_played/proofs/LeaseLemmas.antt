@@ -5,14 +5,14 @@ use Rattle.std.proofs.lemmas.List.{append-nil}
 use Rattle.std.proofs.lemmas.List.Concat.{flat_map-append}
 use Rattle.std.proofs.lemmas.List.Elements.{All-append, All-cons, All-head, All-nil, All-tail}
 use Rattle.sf_base.specs.declared.fences.Seen.{Seen}
-use Rattle.sf_surface.specs.Reading.{plain_lease}
-use Rattle.sf_surface.specs.Tokens.{ReadLeaseOf}
-use Rattle.sf_token.specs.Looking.{AllLeases, IsLookedArrival}
-use Rattle.sf_token.specs.Pending.{Arrival, is_of}
-use Rattle.sf_tree.specs.Trees.{TreeOf}
-use Rattle.sf_txn.specs.Buffers.{Buffer}
-use Rattle.sf_txn.specs.Leases.{IsLooked, IsLookedBuffer}
-use Rattle.sf_txn.specs.declared.lease.Lease.{Ghosts}
+use Rattle.sf_actor.specs.sf_surface.Reading.{plain_lease}
+use Rattle.sf_actor.specs.sf_surface.Tokens.{ReadLeaseOf}
+use Rattle.sf_commit.specs.sf_token.Looking.{AllLeases, IsLookedArrival}
+use Rattle.sf_commit.specs.sf_token.Pending.{Arrival, is_of}
+use Rattle.sf_compose.specs.sf_tree.Trees.{TreeOf}
+use Rattle.sf_commit.specs.sf_txn.Buffers.{Buffer}
+use Rattle.sf_commit.specs.sf_txn.Leases.{IsLooked, IsLookedBuffer}
+use Rattle.sf_commit.specs.sf_txn.declared.lease.Lease.{Ghosts}
 use Rattle.sf_commit.proofs.DecideLemmas.{all_left}
 use Rattle.sf_commit.proofs.KnownLemmas.{holds_along}
 use Rattle.sf_commit.specs.Handlers.{Decides, HandlerOf, begun as begun_by}

@@ -6,21 +6,21 @@ use Rattle.std.proofs.lemmas.List.Elements.{All-nil, All-cons, All-from_recursio
 use Rattle.sf_base.specs.Blend.{blended, product}
 use Rattle.sf_base.specs.Paint.{painted}
 use Rattle.sf_base.specs.declared.fences.Seen.{Seen}
-use Rattle.sf_layer.specs.declared.kind.Kind.TheVariants as kind
-use Rattle.sf_layer.specs.declared.layer.Layer.{Layer}
-use Rattle.sf_layer.specs.declared.op.Op.TheVariants as op
-use Rattle.sf_layer.specs.declared.parent.Parent.TheVariants as parent
-use Rattle.sf_tree.specs.Changes.{created}
-use Rattle.sf_tree.specs.DrawOrder.{draw_order}
-use Rattle.sf_tree.specs.Showing.{shows}
-use Rattle.sf_txn.specs.Transactions.{Contents}
-use Rattle.sf_view.specs.Ancestry.{ancestry}
-use Rattle.sf_view.specs.Image.{drawn_in, image_in}
-use Rattle.sf_output_shown.specs.Copies.{written}
-use Rattle.sf_output_shown.specs.Displays.{stack_on}
+use Rattle.sf_compose.specs.sf_layer.declared.kind.Kind.TheVariants as kind
+use Rattle.sf_compose.specs.sf_layer.declared.layer.Layer.{Layer}
+use Rattle.sf_compose.specs.sf_layer.declared.op.Op.TheVariants as op
+use Rattle.sf_compose.specs.sf_layer.declared.parent.Parent.TheVariants as parent
+use Rattle.sf_compose.specs.sf_tree.Changes.{created}
+use Rattle.sf_compose.specs.sf_tree.DrawOrder.{draw_order}
+use Rattle.sf_compose.specs.sf_tree.Showing.{shows}
+use Rattle.sf_commit.specs.sf_txn.Transactions.{Contents}
+use Rattle.sf_compose.specs.sf_view.Ancestry.{ancestry}
+use Rattle.sf_compose.specs.sf_view.Image.{drawn_in, image_in}
+use Rattle.sf_output_plan.specs.sf_output_shown.Copies.{written}
+use Rattle.sf_output_plan.specs.sf_output_shown.Displays.{stack_on}
 use Rattle.sf_compose.specs.Frames.{frame_bytes, row_bytes}
-use Rattle.sf_ready.specs.Holds.{hold_of}
-use Rattle.sf_token.specs.Pending.{Arrival}
+use Rattle.sf_commit.specs.sf_ready.Holds.{hold_of}
+use Rattle.sf_commit.specs.sf_token.Pending.{Arrival}
 use Rattle.sf_commit.specs.Rounds.{Round}
 use Rattle.sf_commit.specs.declared.vsync.Commit.{Commit as Decided}
 use Rattle.sf_script_scene.specs.Scene.{has_actor}

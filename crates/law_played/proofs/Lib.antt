@@ -43,3 +43,6 @@ pub mod RunTraces
 pub mod VsyncLemmas
 pub mod TransactionWeights
 pub mod WorkLeft
+pub use Rattle.sf_commit.proofs as sf_commit_lemmas
+pub use Rattle.sf_output_plan.proofs.sf_output_shown_lemmas
+pub use Rattle.sf_compose.proofs.sf_tree_lemmas

@@ -2,10 +2,10 @@
 use Rattle.std.proofs.Common.{◌≡◌, ℕ, ◌≤◌, List, [], ◌∷◌, refl, ap, sym, ◌∙◌, inl, inr, arith}
 use Rattle.std.specs.Prelude.{◌==◌, Result, Ok, Err}
 use Rattle.std.proofs.lemmas.Bool.{cases_Bool}
-use Rattle.sf_token.specs.Pending.{Arrival}
-use Rattle.sf_tree.proofs.KeepingAll.{after-ok}
-use Rattle.sf_tree.specs.Changes.{Rejection, after}
-use Rattle.sf_tree.specs.Trees.{TreeOf}
+use Rattle.sf_commit.specs.sf_token.Pending.{Arrival}
+use Rattle.sf_compose.proofs.sf_tree_lemmas.KeepingAll.{after-ok}
+use Rattle.sf_compose.specs.sf_tree.Changes.{Rejection, after}
+use Rattle.sf_compose.specs.sf_tree.Trees.{TreeOf}
 use Rattle.sf_commit.specs.Handlers.{HandlerOf}
 use Rattle.sf_commit.specs.Rounds.{Round, committed, stage_with}
 use Rattle.sf_script_scene.specs.Limits.{most_layers}

@@ -11,23 +11,23 @@ use Rattle.std.proofs.lemmas.List.Elements.{All-cons, All-contains, All-head, Al
 use Rattle.std.proofs.lemmas.List.Sorted.{Contains-permutation, IsPermutation-sym}
 use Rattle.sf_base.specs.Fences.{Fence, IsSignalled}
 use Rattle.sf_base.specs.declared.fences.Seen.{Seen}
-use Rattle.sf_calls.specs.Histories.{calls_by, entry}
-use Rattle.sf_slots.specs.Replies.{reply_after}
-use Rattle.sf_slots.specs.Tells.{AreReplies}
-use Rattle.sf_slots.specs.declared.calls.PlainCall.TheVariants as plain
-use Rattle.sf_slots.specs.declared.calls.PlainReply.TheVariants as reply'
-use Rattle.sf_slots.specs.declared.calls.Entry.{Entry}
-use Rattle.sf_surface.specs.Calls.{told_call}
-use Rattle.sf_surface.specs.Histories.{Made, told, told_entry}
-use Rattle.sf_surface.specs.Drawing.{MayEnter}
-use Rattle.sf_surface.specs.Calls.{write_token}
-use Rattle.sf_surface.specs.Tokens.{ReadLeaseOf, WriteLeaseOf, turn_of}
-use Rattle.sf_surface.specs.declared.work.Work.{Work}
-use Rattle.sf_surface.specs.declared.work.Work.TheVariants as work
-use Rattle.sf_surface.specs.declared.call.QCall.TheVariants as call
-use Rattle.sf_surface.specs.declared.call.QReply.{QReply}
-use Rattle.sf_surface.specs.declared.mark.QueueMark.{QueueMark}
-use Rattle.sf_token.specs.Pending.{Arrival}
+use Rattle.sf_commit.specs.sf_calls.Histories.{calls_by, entry}
+use Rattle.sf_actor.specs.sf_slots.Replies.{reply_after}
+use Rattle.sf_actor.specs.sf_slots.Tells.{AreReplies}
+use Rattle.sf_actor.specs.sf_slots.declared.calls.PlainCall.TheVariants as plain
+use Rattle.sf_actor.specs.sf_slots.declared.calls.PlainReply.TheVariants as reply'
+use Rattle.sf_actor.specs.sf_slots.declared.calls.Entry.{Entry}
+use Rattle.sf_actor.specs.sf_surface.Calls.{told_call}
+use Rattle.sf_actor.specs.sf_surface.Histories.{Made, told, told_entry}
+use Rattle.sf_actor.specs.sf_surface.Drawing.{MayEnter}
+use Rattle.sf_actor.specs.sf_surface.Calls.{write_token}
+use Rattle.sf_actor.specs.sf_surface.Tokens.{ReadLeaseOf, WriteLeaseOf, turn_of}
+use Rattle.sf_actor.specs.sf_surface.declared.work.Work.{Work}
+use Rattle.sf_actor.specs.sf_surface.declared.work.Work.TheVariants as work
+use Rattle.sf_actor.specs.sf_surface.declared.call.QCall.TheVariants as call
+use Rattle.sf_actor.specs.sf_surface.declared.call.QReply.{QReply}
+use Rattle.sf_actor.specs.sf_surface.declared.mark.QueueMark.{QueueMark}
+use Rattle.sf_commit.specs.sf_token.Pending.{Arrival}
 use Rattle.sf_script_scene.specs.Limits.{IsWithinLimits}
 use Rattle.sf_script_scene.specs.Scene.{SceneValue, has_queue}
 use Rattle.sf_script_scene.specs.declared.declarations.QueueDecl.{QueueDecl}

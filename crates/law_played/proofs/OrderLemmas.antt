@@ -9,8 +9,8 @@ use Rattle.std.proofs.lemmas.List.Elements.{All-append, All-cons, All-filter, Al
 use Rattle.std.proofs.lemmas.List.Folds.{find-append, list_any-append, list_any_none}
 use Rattle.std.proofs.lemmas.Option.{none-some, same_Some}
 use Rattle.sf_base.specs.declared.ids.TokenId.{TokenId}
-use Rattle.sf_token.specs.Pending.{Arrival, IsRisingFrom, has_number, head_of, is_of}
-use Rattle.sf_txn.specs.Transactions.{without_first}
+use Rattle.sf_commit.specs.sf_token.Pending.{Arrival, IsRisingFrom, has_number, head_of, is_of}
+use Rattle.sf_commit.specs.sf_txn.Transactions.{without_first}
 use Rattle.sf_commit.proofs.FollowLemmas.{lower, rising_append}
 use Rattle.sf_commit.specs.Handlers.{last_of}
 use Rattle.sf_actor.specs.Names.{FrameOf}

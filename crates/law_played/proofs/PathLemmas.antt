@@ -8,15 +8,15 @@ use Rattle.std.proofs.lemmas.List.{append-nil, append_assoc}
 use Rattle.std.proofs.lemmas.List.Elements.{All-cons, All-nil}
 use Rattle.std.proofs.lemmas.Option.{none-some, same_Some}
 use Rattle.sf_base.specs.declared.fences.Seen.{Seen}
-use Rattle.sf_ready.specs.Facts.{FactsOf}
-use Rattle.sf_ready.specs.Holds.{hold_of}
-use Rattle.sf_token.specs.Pending.{Arrival, has_number, head_of, is_of}
-use Rattle.sf_tree.specs.Changes.{Rejection, after}
-use Rattle.sf_tree.specs.Trees.{TreeOf}
-use Rattle.sf_txn.specs.Buffers.{Buffer}
+use Rattle.sf_commit.specs.sf_ready.Facts.{FactsOf}
+use Rattle.sf_commit.specs.sf_ready.Holds.{hold_of}
+use Rattle.sf_commit.specs.sf_token.Pending.{Arrival, has_number, head_of, is_of}
+use Rattle.sf_compose.specs.sf_tree.Changes.{Rejection, after}
+use Rattle.sf_compose.specs.sf_tree.Trees.{TreeOf}
+use Rattle.sf_commit.specs.sf_txn.Buffers.{Buffer}
 use Rattle.sf_commit.proofs.DecideLemmas.{all_left, hold_same}
 use Rattle.sf_commit.specs.Rounds.{IsNext, Leads, Round, StageOf, commit_of, committed, facts_of, stage_with}
-use Rattle.sf_commit_next.specs.Heads.{head_hold, ready_if, ready_of}
+use Rattle.sf_commit.specs.sf_commit_next.Heads.{head_hold, ready_if, ready_of}
 use Rattle.sf_commit.specs.declared.vsync.Commit.{Commit as Decided}
 use Rattle.sf_actor.specs.Names.{FrameOf}
 use Rattle.sf_actor.specs.Written.{FrameNumber}

@@ -4,9 +4,9 @@ use Rattle.std.specs.Prelude.{◌⊎◌}
 use Rattle.std.proofs.lemmas.Bool.{cases_order}
 use Rattle.std.proofs.lemmas.Option.{none-some, same_Some}
 use Rattle.sf_base.specs.declared.fences.Seen.{Seen}
-use Rattle.sf_token.specs.Pending.{Arrival}
+use Rattle.sf_commit.specs.sf_token.Pending.{Arrival}
 use Rattle.sf_commit.specs.Rounds.{Decided, IsNext, Leads, Round, committed, facts_of}
-use Rattle.sf_commit_next.specs.Heads.{ready_of}
+use Rattle.sf_commit.specs.sf_commit_next.Heads.{ready_of}
 use Rattle.sf_script_scene.specs.Scene.{SceneValue}
 use Rattle.sf_record.specs.declared.event.Event.{Event}
 use Rattle.law_played.specs.Plays.{Comes, GoesOnTo, GoesOnWith, IsOver, IsPlay, Playing, TakesTurn, first_playing, goes, stays}

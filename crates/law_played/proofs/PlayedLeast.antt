@@ -7,18 +7,18 @@ use Rattle.sf_base.specs.Blend.{blended, product}
 use Rattle.sf_base.specs.Fences.{no_points}
 use Rattle.sf_base.specs.Paint.{painted}
 use Rattle.sf_base.specs.declared.ids.TokenId.{TokenId}
-use Rattle.sf_tree.specs.Changes.{created}
-use Rattle.sf_tree.specs.DrawOrder.{draw_order}
-use Rattle.sf_tree.specs.Showing.{shows}
-use Rattle.sf_view.specs.Ancestry.{ancestry}
-use Rattle.sf_view.specs.Image.{drawn_in, image_in}
-use Rattle.sf_output_shown.specs.Copies.{written}
-use Rattle.sf_output_shown.specs.Displays.{stack_on}
+use Rattle.sf_compose.specs.sf_tree.Changes.{created}
+use Rattle.sf_compose.specs.sf_tree.DrawOrder.{draw_order}
+use Rattle.sf_compose.specs.sf_tree.Showing.{shows}
+use Rattle.sf_compose.specs.sf_view.Ancestry.{ancestry}
+use Rattle.sf_compose.specs.sf_view.Image.{drawn_in, image_in}
+use Rattle.sf_output_plan.specs.sf_output_shown.Copies.{written}
+use Rattle.sf_output_plan.specs.sf_output_shown.Displays.{stack_on}
 use Rattle.sf_compose.specs.Frames.{frame_bytes, row_bytes}
-use Rattle.sf_ready.specs.Holds.{hold_of}
-use Rattle.sf_token.specs.Pending.{Arrival}
+use Rattle.sf_commit.specs.sf_ready.Holds.{hold_of}
+use Rattle.sf_commit.specs.sf_token.Pending.{Arrival}
 use Rattle.sf_commit.specs.Rounds.{Round, committed, facts_of}
-use Rattle.sf_commit_next.specs.Heads.{ready_if}
+use Rattle.sf_commit.specs.sf_commit_next.Heads.{ready_if}
 use Rattle.sf_script_scene.specs.Scene.{SceneValue}
 use Rattle.sf_actor.specs.Names.{FrameOf}
 use Rattle.sf_actor.specs.Steps.{holdings_next}

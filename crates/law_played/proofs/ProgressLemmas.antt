@@ -4,10 +4,10 @@ use Rattle.std.specs.List.{All, AllZip}
 use Rattle.std.proofs.lemmas.List.{append-nil, map-append}
 use Rattle.std.proofs.lemmas.List.Elements.{All-append, All-cons, All-nil}
 use Rattle.sf_base.specs.declared.fences.Seen.{Seen}
-use Rattle.sf_ready.specs.Facts.{is_met}
-use Rattle.sf_ready.specs.declared.hold.Hold.{Hold}
-use Rattle.sf_token.specs.Pending.{Arrival, IsRisingFrom}
-use Rattle.sf_txn.specs.declared.lease.Lease.{Ghosts}
+use Rattle.sf_commit.specs.sf_ready.Facts.{is_met}
+use Rattle.sf_commit.specs.sf_ready.declared.hold.Hold.{Hold}
+use Rattle.sf_commit.specs.sf_token.Pending.{Arrival, IsRisingFrom}
+use Rattle.sf_commit.specs.sf_txn.declared.lease.Lease.{Ghosts}
 use Rattle.sf_commit.specs.Handlers.{Decides, HandlerOf, begun as begun_by, last_of}
 use Rattle.sf_commit.specs.Leases.{IsReleaseOf}
 use Rattle.sf_commit.specs.OnLayers.{shown_on}

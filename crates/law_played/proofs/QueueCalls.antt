@@ -7,10 +7,10 @@ use Rattle.std.proofs.lemmas.List.Elements.{Contains-append_cases}
 use Rattle.std.proofs.lemmas.Option.{slice_get-map}
 use Rattle.sf_base.specs.Fences.{Fence}
 use Rattle.sf_base.specs.declared.geometry.Rect.{Rect}
-use Rattle.sf_picture.specs.declared.picture.Picture.{Picture}
-use Rattle.sf_slots.specs.declared.calls.PlainCall.{PlainCall}
-use Rattle.sf_slots.specs.declared.calls.PlainCall.TheVariants as call
-use Rattle.sf_slots.specs.declared.calls.WriteToken.{WriteToken}
+use Rattle.sf_script_scene.specs.sf_picture.declared.picture.Picture.{Picture}
+use Rattle.sf_actor.specs.sf_slots.declared.calls.PlainCall.{PlainCall}
+use Rattle.sf_actor.specs.sf_slots.declared.calls.PlainCall.TheVariants as call
+use Rattle.sf_actor.specs.sf_slots.declared.calls.WriteToken.{WriteToken}
 use Rattle.sf_script_scene.specs.declared.step.ActorScript.{ActorScript}
 use Rattle.sf_script_scene.specs.declared.step.Step.{Step}
 use Rattle.sf_script_scene.specs.declared.step.Step.TheVariants as step

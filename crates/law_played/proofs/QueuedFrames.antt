@@ -7,19 +7,19 @@ use Rattle.sf_base.specs.Fences.{Fence}
 use Rattle.sf_base.specs.declared.geometry.Rect.{Rect}
 use Rattle.sf_base.specs.declared.ids.ActorId.{ActorId}
 use Rattle.sf_base.specs.declared.status.QStatus.{QStatus}
-use Rattle.sf_slots.specs.declared.calls.Entry.{Entry}
-use Rattle.sf_slots.specs.declared.calls.PlainCall.{PlainCall}
-use Rattle.sf_slots.specs.declared.calls.PlainCall.TheVariants as call
-use Rattle.sf_slots.specs.declared.calls.PlainReply.{PlainReply}
-use Rattle.sf_slots.specs.declared.calls.PlainReply.TheVariants as reply
-use Rattle.sf_slots.specs.declared.calls.WriteToken.{WriteToken}
-use Rattle.sf_slots.specs.declared.item.PlainItem.{PlainItem}
-use Rattle.sf_slots.specs.Events.{Back, Consumer, Dequeuing, Elsewhere, Event, Gone, Hand, Last, Lend, Make, Mark, Producer, Returned, Take, Unmark, Waiting}
-use Rattle.sf_slots.specs.Events.{apart_from, frames_queued, items_after, last_of_each, waiting_item}
-use Rattle.sf_slots.specs.History.{all_slots, asynchronous, back_if, events, events_of, happening, kept_back, told_by}
-use Rattle.sf_slots.specs.Replies.{acquired_item, dropped_count, front_after_drops, refusal_of, refused_or, reply_after}
-use Rattle.sf_slots.specs.Tells.{AreReplies}
-use Rattle.sf_slots.specs.Told.{replaced_slot}
+use Rattle.sf_actor.specs.sf_slots.declared.calls.Entry.{Entry}
+use Rattle.sf_actor.specs.sf_slots.declared.calls.PlainCall.{PlainCall}
+use Rattle.sf_actor.specs.sf_slots.declared.calls.PlainCall.TheVariants as call
+use Rattle.sf_actor.specs.sf_slots.declared.calls.PlainReply.{PlainReply}
+use Rattle.sf_actor.specs.sf_slots.declared.calls.PlainReply.TheVariants as reply
+use Rattle.sf_actor.specs.sf_slots.declared.calls.WriteToken.{WriteToken}
+use Rattle.sf_actor.specs.sf_slots.declared.item.PlainItem.{PlainItem}
+use Rattle.sf_actor.specs.sf_slots.Events.{Back, Consumer, Dequeuing, Elsewhere, Event, Gone, Hand, Last, Lend, Make, Mark, Producer, Returned, Take, Unmark, Waiting}
+use Rattle.sf_actor.specs.sf_slots.Events.{apart_from, frames_queued, items_after, last_of_each, waiting_item}
+use Rattle.sf_actor.specs.sf_slots.History.{all_slots, asynchronous, back_if, events, events_of, happening, kept_back, told_by}
+use Rattle.sf_actor.specs.sf_slots.Replies.{acquired_item, dropped_count, front_after_drops, refusal_of, refused_or, reply_after}
+use Rattle.sf_actor.specs.sf_slots.Tells.{AreReplies}
+use Rattle.sf_actor.specs.sf_slots.Told.{replaced_slot}
 use Rattle.law_played.proofs.Members.{filter_has, has_cases, has_here, has_later, has_none, map_has}
 
 -- a call that was done queued this frame, with this picture and crop, out of a buffer of this size

@@ -9,17 +9,17 @@ use Rattle.std.proofs.lemmas.List.Concat.{flat_map-append}
 use Rattle.std.proofs.lemmas.List.Elements.{All-append, All-cons, All-contains, All-head, All-nil, All-tail, All-weaker, Contains-append_left, Contains-append_right, filter-append}
 use Rattle.sf_base.specs.Fences.{Fence}
 use Rattle.sf_base.specs.declared.ids.QueueId.{QueueId}
-use Rattle.sf_calls.specs.Histories.{GoesOnWithout, calls_by, entry}
-use Rattle.sf_slots.specs.declared.calls.Entry.{Entry}
-use Rattle.sf_slots.specs.declared.calls.PlainCall.TheVariants as plain
-use Rattle.sf_surface.specs.Calls.{read_token}
-use Rattle.sf_surface.specs.Histories.{Made, told, told_entry}
-use Rattle.sf_surface.specs.Tokens.{ReadLeaseOf}
-use Rattle.sf_surface.specs.declared.call.QCall.{QCall}
-use Rattle.sf_surface.specs.declared.call.QCall.TheVariants as call
-use Rattle.sf_surface.specs.declared.call.QReply.{QReply}
-use Rattle.sf_surface.specs.declared.mark.QueueMark.{QueueMark}
-use Rattle.sf_token.specs.Pending.{Arrival}
+use Rattle.sf_commit.specs.sf_calls.Histories.{GoesOnWithout, calls_by, entry}
+use Rattle.sf_actor.specs.sf_slots.declared.calls.Entry.{Entry}
+use Rattle.sf_actor.specs.sf_slots.declared.calls.PlainCall.TheVariants as plain
+use Rattle.sf_actor.specs.sf_surface.Calls.{read_token}
+use Rattle.sf_actor.specs.sf_surface.Histories.{Made, told, told_entry}
+use Rattle.sf_actor.specs.sf_surface.Tokens.{ReadLeaseOf}
+use Rattle.sf_actor.specs.sf_surface.declared.call.QCall.{QCall}
+use Rattle.sf_actor.specs.sf_surface.declared.call.QCall.TheVariants as call
+use Rattle.sf_actor.specs.sf_surface.declared.call.QReply.{QReply}
+use Rattle.sf_actor.specs.sf_surface.declared.mark.QueueMark.{QueueMark}
+use Rattle.sf_commit.specs.sf_token.Pending.{Arrival}
 use Rattle.sf_script_scene.specs.Limits.{IsActor as IsScript, IsWithinLimits, most_actors}
 use Rattle.sf_script_scene.specs.Scene.{SceneValue}
 use Rattle.sf_script_scene.specs.declared.declarations.QueueDecl.{QueueDecl}

@@ -5,9 +5,9 @@ use Rattle.std.specs.Option.{option_map}
 use Rattle.std.proofs.lemmas.Bool.{cases_Bool, cases_lt}
 use Rattle.std.proofs.lemmas.List.{get_or_past}
 use Rattle.std.proofs.lemmas.List.Elements.{All-append, All-cons, All-get_or, All-head, All-nil, All-replicate, All-set, All-tail}
-use Rattle.sf_slots.specs.declared.calls.PlainReply.TheVariants as reply
-use Rattle.sf_txn.specs.Buffers.{Buffer}
-use Rattle.sf_txn.specs.Transactions.{Contents, empty, is_for, merged, set as put, set_buffer, with_buffer, with_buffers, without_first}
+use Rattle.sf_actor.specs.sf_slots.declared.calls.PlainReply.TheVariants as reply
+use Rattle.sf_commit.specs.sf_txn.Buffers.{Buffer}
+use Rattle.sf_commit.specs.sf_txn.Transactions.{Contents, empty, is_for, merged, set as put, set_buffer, with_buffer, with_buffers, without_first}
 use Rattle.sf_script_scene.specs.declared.step.Step.{Step}
 use Rattle.sf_script_scene.specs.declared.step.Step.TheVariants as step
 use Rattle.sf_actor.specs.declared.done.Answered.{Answered}

@@ -6,7 +6,7 @@ use Rattle.sf_actor.specs.Desks.{DeskHome, DeskView}
 use Rattle.sf_actor.specs.Tries.{ActorOf}
 use Rattle.sf_actor.specs.Known.{frame_of}
 use Rattle.sf_commit.specs.Handlers.{HandlerOf}
-use Rattle.sf_surface.specs.Tokens.{ReadLeaseOf}
+use Rattle.sf_actor.specs.sf_surface.Tokens.{ReadLeaseOf}
 use Rattle.law_played.specs.Actors.{AreActors, AreArrivals, AreCalls, KnowsSignals, arrivals_of, run_of}
 use Rattle.law_played.specs.Commits.{CommitInOrder}
 use Rattle.law_played.specs.Frames.{ShowImages}

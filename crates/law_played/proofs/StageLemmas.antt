@@ -7,7 +7,7 @@ use Rattle.std.proofs.lemmas.List.{append-nil}
 use Rattle.std.proofs.lemmas.List.Concat.{flat_map-append}
 use Rattle.std.proofs.lemmas.List.Elements.{All-cons, All-head, All-nil, All-tail}
 use Rattle.std.proofs.lemmas.List.Folds.{find-append}
-use Rattle.sf_token.specs.Pending.{Arrival, has_number}
+use Rattle.sf_commit.specs.sf_token.Pending.{Arrival, has_number}
 use Rattle.sf_commit.specs.Rounds.{Round, committed}
 use Rattle.sf_actor.specs.Names.{FrameOf}
 use Rattle.sf_record.specs.declared.event.VsyncReport.{VsyncReport}

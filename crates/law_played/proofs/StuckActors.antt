@@ -12,14 +12,14 @@ use Rattle.sf_base.specs.Fences.{Fence, IsSignalled, first_open_of, no_points, o
 use Rattle.sf_base.specs.Points.{greatest}
 use Rattle.sf_base.specs.declared.fences.Seen.{Seen}
 use Rattle.sf_base.specs.declared.ids.QueueId.{QueueId}
-use Rattle.sf_picture.specs.declared.picture.Picture.{Picture}
-use Rattle.sf_surface.specs.Calls.{may_wait as may_wait_with, told_call}
-use Rattle.sf_surface.specs.Histories.{caller, told}
-use Rattle.sf_surface.specs.declared.call.QCall.{QCall}
-use Rattle.sf_surface.specs.declared.mark.QueueMark.{QueueMark}
-use Rattle.sf_slots.specs.Replies.{reply_after}
-use Rattle.sf_slots.specs.declared.calls.PlainCall.{PlainCall}
-use Rattle.sf_surface.specs.declared.call.QCall.TheVariants as call
+use Rattle.sf_script_scene.specs.sf_picture.declared.picture.Picture.{Picture}
+use Rattle.sf_actor.specs.sf_surface.Calls.{may_wait as may_wait_with, told_call}
+use Rattle.sf_actor.specs.sf_surface.Histories.{caller, told}
+use Rattle.sf_actor.specs.sf_surface.declared.call.QCall.{QCall}
+use Rattle.sf_actor.specs.sf_surface.declared.mark.QueueMark.{QueueMark}
+use Rattle.sf_actor.specs.sf_slots.Replies.{reply_after}
+use Rattle.sf_actor.specs.sf_slots.declared.calls.PlainCall.{PlainCall}
+use Rattle.sf_actor.specs.sf_surface.declared.call.QCall.TheVariants as call
 use Rattle.sf_record.specs.declared.record.StuckEntry.{StuckEntry}
 use Rattle.sf_script_scene.specs.Limits.{EachStep, IsWithinLimits, most_actors}
 use Rattle.sf_script_scene.specs.Named.{KnowsQueue, KnowsTimelines}

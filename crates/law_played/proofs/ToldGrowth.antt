@@ -8,20 +8,20 @@ use Rattle.std.proofs.Common.{append_assoc}
 use Rattle.std.proofs.lemmas.List.Concat.{flat_map-append}
 use Rattle.std.proofs.lemmas.List.Elements.{All-cons, All-head, All-tail, All-weaker}
 use Rattle.sf_base.specs.Fences.{Fence}
-use Rattle.sf_calls.specs.Histories.{IsLegal, entry}
+use Rattle.sf_commit.specs.sf_calls.Histories.{IsLegal, entry}
 use Rattle.sf_commit.specs.OnLayers.{OnLayer}
-use Rattle.sf_surface.specs.Histories.{Answers, Made, told}
-use Rattle.sf_surface.specs.Tokens.{Issued, ReadLeaseOf}
-use Rattle.sf_surface.specs.declared.call.QCall.{QCall}
-use Rattle.sf_surface.specs.declared.call.QCall.TheVariants as call
-use Rattle.sf_surface.specs.declared.call.QReply.{QReply}
-use Rattle.sf_surface.specs.declared.mark.QueueMark.{QueueMark}
-use Rattle.sf_token.specs.Arrivals.{sent}
-use Rattle.sf_token.specs.declared.arrivals.ArriveCall.TheVariants as arrive
-use Rattle.sf_token.specs.declared.arrivals.ArriveReply.{ArriveReply}
-use Rattle.sf_turns.specs.Views.{SeatView}
-use Rattle.sf_picture.specs.declared.picture.Picture.{Picture}
-use Rattle.sf_txn.specs.Buffers.{Buffer}
+use Rattle.sf_actor.specs.sf_surface.Histories.{Answers, Made, told}
+use Rattle.sf_actor.specs.sf_surface.Tokens.{Issued, ReadLeaseOf}
+use Rattle.sf_actor.specs.sf_surface.declared.call.QCall.{QCall}
+use Rattle.sf_actor.specs.sf_surface.declared.call.QCall.TheVariants as call
+use Rattle.sf_actor.specs.sf_surface.declared.call.QReply.{QReply}
+use Rattle.sf_actor.specs.sf_surface.declared.mark.QueueMark.{QueueMark}
+use Rattle.sf_commit.specs.sf_token.Arrivals.{sent}
+use Rattle.sf_commit.specs.sf_token.declared.arrivals.ArriveCall.TheVariants as arrive
+use Rattle.sf_commit.specs.sf_token.declared.arrivals.ArriveReply.{ArriveReply}
+use Rattle.sf_actor.specs.sf_turns.Views.{SeatView}
+use Rattle.sf_script_scene.specs.sf_picture.declared.picture.Picture.{Picture}
+use Rattle.sf_commit.specs.sf_txn.Buffers.{Buffer}
 use Rattle.sf_script_scene.specs.Limits.{IsWithinLimits}
 use Rattle.sf_script_scene.specs.Scene.{SceneValue, has_queue}
 use Rattle.sf_script_scene.specs.declared.declarations.QueueDecl.{QueueDecl}

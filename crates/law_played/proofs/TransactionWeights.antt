@@ -9,15 +9,15 @@ use Rattle.std.proofs.lemmas.Option.{none-some, same_Some}
 use Rattle.sf_base.specs.Fences.{first_open_of}
 use Rattle.sf_base.specs.declared.fences.Seen.{Seen}
 use Rattle.sf_base.specs.declared.ids.LayerId.{LayerId}
-use Rattle.sf_txn.specs.Buffers.{Buffer}
-use Rattle.sf_txn.specs.Transactions.{Contents}
-use Rattle.sf_ready.specs.Facts.{FactsOf}
-use Rattle.sf_ready.specs.Holds.{barrier_hold, fence_hold, hold_of, point_hold, pressure_hold, time_hold, undrawn_hold}
-use Rattle.sf_ready.specs.declared.hold.Hold.{Hold}
-use Rattle.sf_ready.specs.declared.hold.Hold.TheVariants as hold
-use Rattle.sf_token.specs.Pending.{Arrival, head_of}
+use Rattle.sf_commit.specs.sf_txn.Buffers.{Buffer}
+use Rattle.sf_commit.specs.sf_txn.Transactions.{Contents}
+use Rattle.sf_commit.specs.sf_ready.Facts.{FactsOf}
+use Rattle.sf_commit.specs.sf_ready.Holds.{barrier_hold, fence_hold, hold_of, point_hold, pressure_hold, time_hold, undrawn_hold}
+use Rattle.sf_commit.specs.sf_ready.declared.hold.Hold.{Hold}
+use Rattle.sf_commit.specs.sf_ready.declared.hold.Hold.TheVariants as hold
+use Rattle.sf_commit.specs.sf_token.Pending.{Arrival, head_of}
 use Rattle.sf_commit.specs.Rounds.{Round, facts_of, hold_at}
-use Rattle.sf_commit_next.specs.Heads.{head_hold}
+use Rattle.sf_commit.specs.sf_commit_next.Heads.{head_hold}
 use Rattle.law_played.specs.Progress.{is_time}
 use Rattle.law_played.proofs.Members.{has_cases, has_first, has_here, has_later, has_none}
 

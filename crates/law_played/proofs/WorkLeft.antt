@@ -9,9 +9,9 @@ use Rattle.std.proofs.lemmas.List.Elements.{filter-append}
 use Rattle.std.proofs.lemmas.List.Folds.{list_any-append}
 use Rattle.std.proofs.lemmas.List.Sums.{sum_by-append}
 use Rattle.std.proofs.lemmas.Option.{slice_get_within}
-use Rattle.sf_ready.specs.declared.hold.Hold.{Hold}
-use Rattle.sf_token.specs.Pending.{Arrival, is_of}
-use Rattle.sf_txn.specs.Transactions.{Contents}
+use Rattle.sf_commit.specs.sf_ready.declared.hold.Hold.{Hold}
+use Rattle.sf_commit.specs.sf_token.Pending.{Arrival, is_of}
+use Rattle.sf_commit.specs.sf_txn.Transactions.{Contents}
 use Rattle.sf_commit.specs.Rounds.{Leads, Round, facts_of, held}
 use Rattle.sf_commit.specs.declared.vsync.Commit.{Commit as Decided}
 use Rattle.sf_script_scene.specs.Scene.{SceneValue}

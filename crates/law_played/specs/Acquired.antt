@@ -1,10 +1,10 @@
 -- Frames that were acquired: each is one that a call queued before.
 use Rattle.std.specs.Prelude.{◌≡◌, ℕ, List, Contains}
-use Rattle.sf_txn.specs.Buffers.{Buffer}
-use Rattle.sf_surface.specs.Histories.{Made, Queues}
-use Rattle.sf_surface.specs.Tokens.{ReadLeaseOf}
-use Rattle.sf_surface.specs.declared.call.Gives.TheVariants as gives
-use Rattle.sf_surface.specs.declared.call.QCall.TheVariants as call
+use Rattle.sf_commit.specs.sf_txn.Buffers.{Buffer}
+use Rattle.sf_actor.specs.sf_surface.Histories.{Made, Queues}
+use Rattle.sf_actor.specs.sf_surface.Tokens.{ReadLeaseOf}
+use Rattle.sf_actor.specs.sf_surface.declared.call.Gives.TheVariants as gives
+use Rattle.sf_actor.specs.sf_surface.declared.call.QCall.TheVariants as call
 use Rattle.sf_actor.specs.Asking.{shown_of}
 use Rattle.sf_actor.specs.Desks.{DeskView}
 use Rattle.sf_actor.specs.Known.{frame_of}

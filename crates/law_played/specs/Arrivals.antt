@@ -1,7 +1,7 @@
 -- The record of arrivals shows what arrived; which transactions arrive is said with the traces that send them.
 use Rattle.std.specs.Prelude.{◌≡◌, ℕ, true, List, length, map}
 use Rattle.std.specs.List.{All, range_with_len}
-use Rattle.sf_token.specs.Pending.{Arrival}
+use Rattle.sf_commit.specs.sf_token.Pending.{Arrival}
 use Rattle.sf_script_scene.specs.Scene.{SceneValue, has_actor}
 use Rattle.sf_actor.specs.Names.{FrameOf}
 use Rattle.sf_record.specs.declared.record.ArrivalEntry.{ArrivalEntry}

@@ -1,8 +1,8 @@
 -- The buffers of commits, as arrivals brought them.
 use Rattle.std.specs.Prelude.{◌≡◌, List, All, Contains}
-use Rattle.sf_txn.specs.Buffers.{Buffer}
-use Rattle.sf_txn.specs.Transactions.{shown_by}
-use Rattle.sf_token.specs.Pending.{Arrival}
+use Rattle.sf_commit.specs.sf_txn.Buffers.{Buffer}
+use Rattle.sf_commit.specs.sf_txn.Transactions.{shown_by}
+use Rattle.sf_commit.specs.sf_token.Pending.{Arrival}
 use Rattle.sf_actor.specs.Names.{FrameOf}
 use Rattle.sf_record.specs.declared.record.Commit.{Commit}
 use Rattle.sf_record.specs.declared.record.CommittedBuffer.{CommittedBuffer}

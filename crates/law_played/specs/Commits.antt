@@ -5,12 +5,12 @@ use Rattle.std.specs.List.{All, list_any}
 use Rattle.sf_base.specs.Fences.{no_points}
 use Rattle.sf_base.specs.declared.fences.Seen.{Seen}
 use Rattle.sf_base.specs.declared.ids.LayerId.{LayerId}
-use Rattle.sf_layer.specs.declared.shown.Shown.{Shown}
-use Rattle.sf_view.specs.Contents.{unsigned}
-use Rattle.sf_ready.specs.declared.hold.Hold.{Hold}
-use Rattle.sf_token.specs.Pending.{Arrival, is_of}
+use Rattle.sf_compose.specs.sf_layer.declared.shown.Shown.{Shown}
+use Rattle.sf_compose.specs.sf_view.Contents.{unsigned}
+use Rattle.sf_commit.specs.sf_ready.declared.hold.Hold.{Hold}
+use Rattle.sf_commit.specs.sf_token.Pending.{Arrival, is_of}
 use Rattle.sf_commit.specs.Rounds.{facts_of}
-use Rattle.sf_commit_next.specs.Heads.{head_hold}
+use Rattle.sf_commit.specs.sf_commit_next.Heads.{head_hold}
 use Rattle.sf_commit.specs.declared.vsync.Commit.{Commit as Decided}
 use Rattle.sf_actor.specs.Names.{FrameOf}
 use Rattle.sf_actor.specs.Points.{reached_by}

@@ -1,6 +1,6 @@
 -- The end of a play, and the records of a whole play. They are determined by what was shown and by the world at its end.
 use Rattle.std.specs.Prelude.{◌≡◌, ℕ, ◌*◌, List, ◌∷◌, map}
-use Rattle.sf_ready.specs.declared.hold.Hold.{Hold}
+use Rattle.sf_commit.specs.sf_ready.declared.hold.Hold.{Hold}
 use Rattle.sf_commit.specs.Rounds.{held}
 use Rattle.sf_script_scene.specs.Scene.{SceneValue}
 use Rattle.sf_record.specs.Events.{events_records}

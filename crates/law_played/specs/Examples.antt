@@ -3,13 +3,13 @@ use Rattle.std.specs.Prelude.{ℕ, true, false, List, [], ◌∷◌, map, revers
 use Rattle.std.specs.Option.{unwrap_or}
 use Rattle.sf_base.specs.Fences.{Fence}
 use Rattle.sf_base.specs.declared.format.Format.TheVariants as format
-use Rattle.sf_picture.specs.declared.picture.Picture.{Picture}
-use Rattle.sf_slots.specs.declared.calls.Entry.{Entry}
-use Rattle.sf_slots.specs.declared.calls.PlainReply.{PlainReply}
-use Rattle.sf_slots.specs.declared.calls.PlainReply.TheVariants as reply
-use Rattle.sf_slots.specs.declared.slot.Held.{Held}
-use Rattle.sf_surface.specs.Hands.{points_of}
-use Rattle.sf_token.specs.Pending.{Arrival}
+use Rattle.sf_script_scene.specs.sf_picture.declared.picture.Picture.{Picture}
+use Rattle.sf_actor.specs.sf_slots.declared.calls.Entry.{Entry}
+use Rattle.sf_actor.specs.sf_slots.declared.calls.PlainReply.{PlainReply}
+use Rattle.sf_actor.specs.sf_slots.declared.calls.PlainReply.TheVariants as reply
+use Rattle.sf_actor.specs.sf_slots.declared.slot.Held.{Held}
+use Rattle.sf_actor.specs.sf_surface.Hands.{points_of}
+use Rattle.sf_commit.specs.sf_token.Pending.{Arrival}
 use Rattle.sf_script_scene.specs.Scene.{SceneValue, bare_scene}
 use Rattle.sf_script_scene.specs.declared.change.Change.TheVariants as change
 use Rattle.sf_script_scene.specs.declared.declarations.QueueDecl.{QueueDecl}

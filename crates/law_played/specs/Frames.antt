@@ -3,12 +3,12 @@
 use Rattle.std.specs.Prelude.{◌≡◌, ℕ, ◌==◌, Bool, if◌then◌else◌, List, [], ◌∷◌, map, pos}
 use Rattle.std.specs.List.{All, list_any}
 use Rattle.sf_compose.specs.Frames.{frame_bytes}
-use Rattle.sf_layer.specs.declared.layer.Layer.{Layer}
-use Rattle.sf_output.specs.Outputs.{map_output}
-use Rattle.sf_output.specs.declared.output.Output.{Output}
-use Rattle.sf_output.specs.declared.output.Output.TheVariants as out
-use Rattle.sf_picture.specs.declared.picture.Picture.{Picture}
-use Rattle.sf_view.specs.Image.{image, image_in}
+use Rattle.sf_compose.specs.sf_layer.declared.layer.Layer.{Layer}
+use Rattle.sf_record.specs.sf_output.Outputs.{map_output}
+use Rattle.sf_record.specs.sf_output.declared.output.Output.{Output}
+use Rattle.sf_record.specs.sf_output.declared.output.Output.TheVariants as out
+use Rattle.sf_script_scene.specs.sf_picture.declared.picture.Picture.{Picture}
+use Rattle.sf_compose.specs.sf_view.Image.{image, image_in}
 use Rattle.sf_script_scene.specs.Scene.{SceneValue}
 use Rattle.sf_script_scene.specs.declared.declarations.CaptureDecl.{CaptureDecl}
 use Rattle.sf_script_scene.specs.declared.declarations.DisplayDecl.{DisplayDecl}
@@ -19,7 +19,7 @@ use Rattle.sf_output_plan.specs.declared.plan.DisplayPlan.{DisplayPlan}
 use Rattle.sf_output_plan.specs.declared.plan.HitPlan.{HitPlan}
 use Rattle.sf_output_plan.specs.declared.plan.Plan.{Plan}
 use Rattle.sf_actor.specs.Scripts.{picture_at}
-use Rattle.sf_tree.specs.Trees.{TreeOf}
+use Rattle.sf_compose.specs.sf_tree.Trees.{TreeOf}
 use Rattle.sf_record.specs.declared.record.Commit.{Commit}
 use Rattle.law_played.specs.Runs.{rising}
 use Rattle.law_played.specs.Stages.{VsyncAt}

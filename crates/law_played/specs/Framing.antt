@@ -1,10 +1,10 @@
 -- What a handler keeps over leases, told of plain frames: each lease stands for its frame, and where its pixels are lent is
 -- not told.
 use Rattle.std.specs.Prelude.{◌≡◌, map, None}
-use Rattle.sf_ready.specs.Facts.{TellsSame}
-use Rattle.sf_token.specs.Pending.{Arrival}
-use Rattle.sf_txn.specs.Buffers.{Buffer}
-use Rattle.sf_txn.specs.Transactions.{Contents}
+use Rattle.sf_commit.specs.sf_ready.Facts.{TellsSame}
+use Rattle.sf_commit.specs.sf_token.Pending.{Arrival}
+use Rattle.sf_commit.specs.sf_txn.Buffers.{Buffer}
+use Rattle.sf_commit.specs.sf_txn.Transactions.{Contents}
 use Rattle.sf_commit.specs.Handlers.{HandlerOf}
 use Rattle.sf_commit.specs.OnLayers.{OnLayer, shown_on}
 use Rattle.sf_commit.specs.Rounds.{Round, StageOf}

@@ -1,11 +1,11 @@
 -- The histories of a run's queues: who called, and each call answered as the calls before it say.
 use Rattle.std.specs.Prelude.{◌≡◌, ℕ, ◌==◌, true, ◌||◌, List, filter, map, reverse}
 use Rattle.std.specs.List.{All, AllZip, flat_map}
-use Rattle.sf_slots.specs.Shown.{frame_shown, kind_number, slot_shown, status_shown}
-use Rattle.sf_slots.specs.Tells.{AreReplies}
-use Rattle.sf_slots.specs.declared.calls.Entry.{Entry}
-use Rattle.sf_slots.specs.declared.calls.PlainCall.{PlainCall}
-use Rattle.sf_slots.specs.declared.calls.PlainCall.TheVariants as call
+use Rattle.sf_actor.specs.sf_slots.Shown.{frame_shown, kind_number, slot_shown, status_shown}
+use Rattle.sf_actor.specs.sf_slots.Tells.{AreReplies}
+use Rattle.sf_actor.specs.sf_slots.declared.calls.Entry.{Entry}
+use Rattle.sf_actor.specs.sf_slots.declared.calls.PlainCall.{PlainCall}
+use Rattle.sf_actor.specs.sf_slots.declared.calls.PlainCall.TheVariants as call
 use Rattle.sf_commit.specs.OnLayers.{OnLayer}
 use Rattle.sf_script_scene.specs.Scene.{SceneValue, has_actor}
 use Rattle.sf_script_scene.specs.declared.declarations.QueueDecl.{QueueDecl}

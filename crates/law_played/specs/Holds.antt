@@ -3,12 +3,12 @@ use Rattle.std.specs.Prelude.{◌≡◌, ℕ, ◌==◌, Bool, false, not, if◌t
 use Rattle.std.specs.List.{list_any}
 use Rattle.std.specs.Option.{option_map, option_map_or, option_or}
 use Rattle.sf_base.specs.declared.fences.Seen.{Seen}
-use Rattle.sf_txn.specs.Buffers.{Buffer}
-use Rattle.sf_txn.specs.Transactions.{Contents}
-use Rattle.sf_ready.specs.Holds.{barrier_hold, fence_hold, undrawn_hold}
-use Rattle.sf_ready.specs.declared.hold.Hold.{Hold}
-use Rattle.sf_ready.specs.declared.hold.Hold.TheVariants as hold
-use Rattle.sf_token.specs.Pending.{Arrival, head_of}
+use Rattle.sf_commit.specs.sf_txn.Buffers.{Buffer}
+use Rattle.sf_commit.specs.sf_txn.Transactions.{Contents}
+use Rattle.sf_commit.specs.sf_ready.Holds.{barrier_hold, fence_hold, undrawn_hold}
+use Rattle.sf_commit.specs.sf_ready.declared.hold.Hold.{Hold}
+use Rattle.sf_commit.specs.sf_ready.declared.hold.Hold.TheVariants as hold
+use Rattle.sf_commit.specs.sf_token.Pending.{Arrival, head_of}
 use Rattle.sf_actor.specs.Names.{FrameOf}
 use Rattle.sf_actor.specs.Written.{FrameNumber}
 use Rattle.sf_record.specs.declared.record.Commit.{Commit}

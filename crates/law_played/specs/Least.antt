@@ -5,7 +5,7 @@ use Rattle.sf_script_scene.specs.declared.change.Change.TheVariants as change
 use Rattle.sf_script_scene.specs.declared.step.ActorScript.{ActorScript}
 use Rattle.sf_script_scene.specs.declared.step.Step.{Step}
 use Rattle.sf_script_scene.specs.declared.step.Step.TheVariants as step
-use Rattle.sf_output.specs.declared.output.Output.TheVariants as out
+use Rattle.sf_record.specs.sf_output.declared.output.Output.TheVariants as out
 use Rattle.sf_record.specs.declared.event.Event.{Event}
 use Rattle.sf_record.specs.declared.event.Event.TheVariants as event
 use Rattle.sf_record.specs.declared.event.VsyncReport.{VsyncReport}

@@ -3,7 +3,7 @@
 -- their whole answers, the calls on queues with their whole replies, the transactions with their operations - is some that fits.
 use Rattle.std.specs.Prelude.{◌≡◌, Bool, true, List, ◌∷◌, ◌++◌, All, map}
 use Rattle.std.specs.List.{flat_map}
-use Rattle.sf_token.specs.Pending.{Arrival}
+use Rattle.sf_commit.specs.sf_token.Pending.{Arrival}
 use Rattle.sf_script_scene.specs.Scene.{SceneValue}
 use Rattle.sf_script_scene.specs.declared.step.ActorScript.{ActorScript}
 use Rattle.sf_actor.specs.Makers.{Run}

@@ -2,11 +2,11 @@
 use Rattle.std.specs.Prelude.{◌≡◌, ℕ, Bool, true, false, List, [], ◌∷◌, ◌++◌, map, is_some}
 use Rattle.std.specs.List.{All, find}
 use Rattle.sf_base.specs.declared.fences.Seen.{Seen}
-use Rattle.sf_ready.specs.declared.hold.Hold.{Hold}
-use Rattle.sf_ready.specs.declared.hold.Hold.TheVariants as hold
-use Rattle.sf_token.specs.Looking.{AllLeases}
-use Rattle.sf_token.specs.Pending.{Arrival, IsRisingFrom, has_number}
-use Rattle.sf_tree.specs.Trees.{TreeOf}
+use Rattle.sf_commit.specs.sf_ready.declared.hold.Hold.{Hold}
+use Rattle.sf_commit.specs.sf_ready.declared.hold.Hold.TheVariants as hold
+use Rattle.sf_commit.specs.sf_token.Looking.{AllLeases}
+use Rattle.sf_commit.specs.sf_token.Pending.{Arrival, IsRisingFrom, has_number}
+use Rattle.sf_compose.specs.sf_tree.Trees.{TreeOf}
 use Rattle.sf_commit.specs.Handlers.{HandlerOf}
 use Rattle.sf_commit.specs.OnLayers.{OnLayer}
 use Rattle.sf_commit.specs.Releases.{ReleaseOf, VsyncOf}

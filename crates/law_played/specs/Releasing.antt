@@ -1,9 +1,9 @@
 -- The frames that the compositor releases, as calls on a desk and as they are told.
 use Rattle.std.specs.Prelude.{◌≡◌, ℕ, List, [], ◌∷◌, map}
 use Rattle.sf_commit.specs.OnLayers.{OnLayer}
-use Rattle.sf_surface.specs.Tokens.{ReadLeaseOf}
-use Rattle.sf_surface.specs.declared.call.QCall.TheVariants as call
-use Rattle.sf_surface.specs.declared.call.QReply.{QReply}
+use Rattle.sf_actor.specs.sf_surface.Tokens.{ReadLeaseOf}
+use Rattle.sf_actor.specs.sf_surface.declared.call.QCall.TheVariants as call
+use Rattle.sf_actor.specs.sf_surface.declared.call.QReply.{QReply}
 use Rattle.sf_actor.specs.Desks.{DeskHome, DeskView, MadeCall}
 use Rattle.sf_actor.specs.Known.{frame_of}
 use Rattle.law_played.specs.Framing.{framed_on}

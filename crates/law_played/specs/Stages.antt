@@ -1,8 +1,8 @@
 -- How far the commits of a run have come: vsync by vsync and commit by commit, what the decision core makes of them.
 use Rattle.std.specs.Prelude.{ℕ, List, [], ◌∷◌, find, map}
 use Rattle.std.specs.Option.{unwrap_or}
-use Rattle.sf_token.specs.Pending.{Arrival, has_number}
-use Rattle.sf_txn.specs.Transactions.{empty}
+use Rattle.sf_commit.specs.sf_token.Pending.{Arrival, has_number}
+use Rattle.sf_commit.specs.sf_txn.Transactions.{empty}
 use Rattle.sf_commit.specs.OnLayers.{shown_on}
 use Rattle.sf_commit.specs.Rounds.{Round, committed}
 use Rattle.sf_script_scene.specs.Limits.{most_layers}

@@ -2,11 +2,11 @@
 use Rattle.std.specs.Prelude.{◌≡◌, ℕ, true, false, List, [], ◌∷◌, ◌++◌, length, map, Some, None, Contains}
 use Rattle.std.specs.List.{All, range_with_len}
 use Rattle.sf_base.specs.Fences.{Fence, IsSignalled}
-use Rattle.sf_slots.specs.Tells.{AreReplies}
-use Rattle.sf_slots.specs.declared.calls.Entry.{Entry}
-use Rattle.sf_surface.specs.Drawing.{MayEnter}
-use Rattle.sf_token.specs.Pending.{Arrival}
-use Rattle.sf_turns.specs.Views.{SeatView}
+use Rattle.sf_actor.specs.sf_slots.Tells.{AreReplies}
+use Rattle.sf_actor.specs.sf_slots.declared.calls.Entry.{Entry}
+use Rattle.sf_actor.specs.sf_surface.Drawing.{MayEnter}
+use Rattle.sf_commit.specs.sf_token.Pending.{Arrival}
+use Rattle.sf_actor.specs.sf_turns.Views.{SeatView}
 use Rattle.sf_script_scene.specs.Scene.{SceneValue, has_queue}
 use Rattle.sf_script_scene.specs.declared.declarations.QueueDecl.{QueueDecl}
 use Rattle.sf_script_scene.specs.declared.step.ActorScript.{ActorScript}

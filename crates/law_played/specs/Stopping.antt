@@ -3,7 +3,7 @@ use Rattle.std.specs.Prelude.{◌≡◌, ℕ, ◌+◌, nat_lt, true, if◌then�
 use Rattle.std.specs.List.{flat_map}
 use Rattle.sf_base.specs.Fences.{Fence}
 use Rattle.sf_script_scene.specs.Scene.{SceneValue}
-use Rattle.sf_surface.specs.Drawing.{IsShort}
+use Rattle.sf_actor.specs.sf_surface.Drawing.{IsShort}
 use Rattle.sf_actor.specs.declared.holding.Holding.{Holding}
 use Rattle.sf_actor.specs.Desks.{DeskView}
 use Rattle.sf_actor.specs.Makers.{Run}

@@ -5,7 +5,7 @@ use Rattle.std.specs.List.{All, flat_map, list_any}
 use Rattle.std.specs.Option.{option_map_or}
 use Rattle.sf_base.specs.Fences.{Fence, first_open_of}
 use Rattle.sf_base.specs.declared.fences.Seen.{Seen}
-use Rattle.sf_slots.specs.Replies.{reply_after}
+use Rattle.sf_actor.specs.sf_slots.Replies.{reply_after}
 use Rattle.sf_script_scene.specs.Scene.{SceneValue}
 use Rattle.sf_script_scene.specs.declared.declarations.QueueDecl.{QueueDecl}
 use Rattle.sf_script_scene.specs.declared.step.ActorScript.{ActorScript}

@@ -1,10 +1,10 @@
 -- What the records of a run show of the actors over a desk: replies, arrivals and histories.
 use Rattle.std.specs.Prelude.{◌≡◌, ℕ, List, All, Contains, length, map}
 use Rattle.std.specs.List.{AllZip, range_with_len}
-use Rattle.sf_surface.specs.declared.entry.HistEntry.{HistEntry}
-use Rattle.sf_surface.specs.Tokens.{ReadLeaseOf}
-use Rattle.sf_token.specs.Pending.{Arrival}
-use Rattle.sf_token.specs.declared.arrivals.ArrvEntry.{ArrvEntry}
+use Rattle.sf_actor.specs.sf_surface.declared.entry.HistEntry.{HistEntry}
+use Rattle.sf_actor.specs.sf_surface.Tokens.{ReadLeaseOf}
+use Rattle.sf_commit.specs.sf_token.Pending.{Arrival}
+use Rattle.sf_commit.specs.sf_token.declared.arrivals.ArrvEntry.{ArrvEntry}
 use Rattle.sf_script_scene.specs.Scene.{SceneValue}
 use Rattle.sf_script_scene.specs.declared.declarations.QueueDecl.{QueueDecl}
 use Rattle.sf_actor.specs.Desks.{DeskHome, DeskView}

@@ -6,13 +6,13 @@ use Rattle.std.specs.List.{list_any, range_with_len}
 use Rattle.std.specs.Option.{option_map_or}
 use Rattle.sf_base.specs.Fences.{Fence, value_of}
 use Rattle.sf_base.specs.declared.fences.Seen.{Seen}
-use Rattle.sf_slots.specs.Replies.{reply_after}
-use Rattle.sf_slots.specs.declared.calls.PlainReply.{PlainReply}
-use Rattle.sf_slots.specs.declared.calls.PlainReply.TheVariants as reply
-use Rattle.sf_ready.specs.declared.hold.Hold.{Hold}
-use Rattle.sf_token.specs.Pending.{Arrival}
-use Rattle.sf_tree.specs.Trees.{TreeOf}
-use Rattle.sf_txn.specs.Transactions.{Contents}
+use Rattle.sf_actor.specs.sf_slots.Replies.{reply_after}
+use Rattle.sf_actor.specs.sf_slots.declared.calls.PlainReply.{PlainReply}
+use Rattle.sf_actor.specs.sf_slots.declared.calls.PlainReply.TheVariants as reply
+use Rattle.sf_commit.specs.sf_ready.declared.hold.Hold.{Hold}
+use Rattle.sf_commit.specs.sf_token.Pending.{Arrival}
+use Rattle.sf_compose.specs.sf_tree.Trees.{TreeOf}
+use Rattle.sf_commit.specs.sf_txn.Transactions.{Contents}
 use Rattle.sf_commit.specs.OnLayers.{OnLayer}
 use Rattle.sf_commit.specs.Rounds.{Decided, Round, held}
 use Rattle.sf_commit.specs.declared.vsync.Commit.{Commit as Told}

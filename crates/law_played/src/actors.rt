@@ -1,8 +1,8 @@
 ghost use Rattle.std.specs.Prelude.{◌≡◌, ℕ, Bool, List, Contains, map};
-ghost use Rattle.sf_calls.specs.Histories.{IsLegal};
-ghost use Rattle.sf_surface.specs.Histories.{Answers, Made};
-ghost use Rattle.sf_surface.specs.Tokens.{ReadLeaseOf};
-ghost use Rattle.sf_surface.specs.declared.mark.QueueMark.{QueueMark as Mark};
+ghost use Rattle.sf_commit.specs.sf_calls.Histories.{IsLegal};
+ghost use Rattle.sf_actor.specs.sf_surface.Histories.{Answers, Made};
+ghost use Rattle.sf_actor.specs.sf_surface.Tokens.{ReadLeaseOf};
+ghost use Rattle.sf_actor.specs.sf_surface.declared.mark.QueueMark.{QueueMark as Mark};
 ghost use Rattle.sf_script_scene.specs.Limits.{IsWithinLimits};
 ghost use Rattle.sf_script_scene.specs.Scene.{SceneValue};
 ghost use Rattle.sf_actor.specs.Desks.{DeskHome, DeskView};
@@ -17,7 +17,7 @@ ghost use Rattle.law_played.specs.Buffers.{ShowAsQueued};
 ghost use Rattle.law_played.specs.Histories.{history_shown, rising_queues};
 ghost use Rattle.law_played.specs.Runs.{AreTraced};
 
-use sf_turns::TableName;
+use sf_actor::sf_turns::TableName;
 
 /// Over a desk that knows all that happened, the actors of a scene tell a run that is traced: each
 /// actor's trace is one of its script, and its calls and arrivals are those of its steps.

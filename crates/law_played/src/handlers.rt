@@ -3,13 +3,13 @@ ghost use Rattle.std.specs.Prelude.{◌≡◌, ℕ, ◌+◌, ◌<◌, ◌≤◌,
 ghost use Rattle.sf_base.specs.Fences.{no_points, value_of};
 ghost use Rattle.sf_base.specs.Points.{greatest};
 ghost use Rattle.sf_base.specs.declared.fences.Seen.{Seen as SeenValue};
-ghost use Rattle.sf_picture.specs.declared.picture.Picture.{Picture as PictureValue};
-ghost use Rattle.sf_ready.specs.declared.hold.Hold.{Hold as HoldValue};
-ghost use Rattle.sf_surface.specs.Reading.{plain_lease};
-ghost use Rattle.sf_surface.specs.Tokens.{ReadLeaseOf};
-ghost use Rattle.sf_token.specs.Looking.{AllLeases};
-ghost use Rattle.sf_token.specs.Pending.{Arrival, IsRisingFrom};
-ghost use Rattle.sf_tree.specs.Trees.{TreeOf};
+ghost use Rattle.sf_script_scene.specs.sf_picture.declared.picture.Picture.{Picture as PictureValue};
+ghost use Rattle.sf_commit.specs.sf_ready.declared.hold.Hold.{Hold as HoldValue};
+ghost use Rattle.sf_actor.specs.sf_surface.Reading.{plain_lease};
+ghost use Rattle.sf_actor.specs.sf_surface.Tokens.{ReadLeaseOf};
+ghost use Rattle.sf_commit.specs.sf_token.Looking.{AllLeases};
+ghost use Rattle.sf_commit.specs.sf_token.Pending.{Arrival, IsRisingFrom};
+ghost use Rattle.sf_compose.specs.sf_tree.Trees.{TreeOf};
 ghost use Rattle.sf_commit.specs.Handlers.{Decides, HandlerOf, last_of, new_handler};
 ghost use Rattle.sf_commit.specs.Lending.{KeptRead};
 ghost use Rattle.sf_commit.specs.OnLayers.{OnLayer, at_hand, lent_from};
@@ -34,7 +34,7 @@ ghost use Rattle.law_played.specs.Stages.{VsyncAt, bare_round, round_at_end, tol
 ghost use Rattle.sf_script_scene.specs.Limits.{most_layers};
 ghost use Rattle.law_played.specs.Vsyncs.{commits_in, rising_timelines};
 
-use sf_txn::Lease;
+use sf_commit::sf_txn::Lease;
 
 /// A new handler has played nothing of a scene.
 pub fn a_new_handler_has_played_nothing<L: Lease>()

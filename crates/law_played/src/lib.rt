@@ -34,6 +34,15 @@ pub use plays::{
     a_done_step_is_a_turn, a_release_is_the_plays, a_scene_has_one_play,
     a_step_is_the_next_of_a_play, a_vsync_is_the_next_of_a_play, the_least_scene_has_a_play,
 };
+pub use sf_actor;
+pub use sf_actor::{sf_surface, sf_turns};
+pub use sf_commit;
+pub use sf_commit::{sf_ready, sf_token, sf_txn};
+pub use sf_compose::{sf_layer, sf_view};
+pub use sf_output_plan;
+pub use sf_record;
+pub use sf_record::sf_output;
+pub use sf_script_scene;
 pub use telling::{
     arrivals_come_in_order, calls_are_histories, replies_answer_steps, what_actors_tell_fits,
 };

@@ -1,10 +1,10 @@
 ghost use Rattle.std.specs.List.{All};
 ghost use Rattle.std.specs.Prelude.{◌≡◌, ◌⊎◌, ℕ, ◌+◌, ◌*◌, ◌==◌, ◌++◌, List, [], ◌∷◌, find, map, slice_get, slice_set, false, true, Some, None};
 ghost use Rattle.sf_base.specs.Fences.{Fence as FenceValue};
-ghost use Rattle.sf_surface.specs.Tokens.{ReadLeaseOf};
-ghost use Rattle.sf_surface.specs.declared.call.QCall.TheVariants as call;
-ghost use Rattle.sf_surface.specs.declared.call.QReply.{QReply};
-ghost use Rattle.sf_token.specs.Pending.{Arrival, IsRisingFrom};
+ghost use Rattle.sf_actor.specs.sf_surface.Tokens.{ReadLeaseOf};
+ghost use Rattle.sf_actor.specs.sf_surface.declared.call.QCall.TheVariants as call;
+ghost use Rattle.sf_actor.specs.sf_surface.declared.call.QReply.{QReply};
+ghost use Rattle.sf_commit.specs.sf_token.Pending.{Arrival, IsRisingFrom};
 ghost use Rattle.sf_commit.specs.Handlers.{Decides, HandlerOf, last_of};
 ghost use Rattle.sf_commit.specs.Releases.{VsyncOf};
 ghost use Rattle.sf_script_scene.specs.Limits.{IsWithinLimits};
@@ -37,8 +37,8 @@ ghost use Rattle.law_played.specs.Stuck.{IsNotReady, next_step};
 ghost use Rattle.law_played.specs.Telling.{AreNumbered};
 ghost use Rattle.law_played.specs.Worlds.{IsPlaysVsync, World, actor_turn, at_now, idle, release_asked, with_call};
 
-use sf_turns::TableName;
-use sf_txn::Lease;
+use sf_actor::sf_turns::TableName;
+use sf_commit::sf_txn::Lease;
 
 /// A scene has at most one play on one thread; of two that have begun one goes on with the other; and
 /// one that has begun has begun still after its next step.

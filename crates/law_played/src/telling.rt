@@ -20,7 +20,7 @@ ghost use Rattle.law_played.specs.Telling.{AreNumbered, AreReleases, TellReplies
 ghost use Rattle.law_played.specs.Turns.{DrawAfterOwed};
 ghost use Rattle.law_played.specs.Vsyncs.{AreVsyncs, commits_in, vsyncs_in};
 
-use sf_turns::TableName;
+use sf_actor::sf_turns::TableName;
 
 /// Where the replies among events are those of the actors, they are those to the steps of their
 /// traces.

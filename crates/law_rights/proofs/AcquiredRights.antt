@@ -5,22 +5,22 @@ use Rattle.std.proofs.lemmas.List.Elements.{Contains-append_left, Contains-appen
 use Rattle.sf_base.specs.declared.ids.QueueId.{QueueId}
 use Rattle.sf_base.specs.Fences.{Fence}
 use Rattle.sf_base.specs.declared.geometry.Rect.{Rect}
-use Rattle.sf_calls.specs.Histories.{IsLegal}
-use Rattle.sf_picture.specs.declared.picture.Picture.{Picture}
+use Rattle.sf_actor_set.specs.sf_calls.Histories.{IsLegal}
+use Rattle.sf_actor_set.specs.sf_picture.declared.picture.Picture.{Picture}
 use Rattle.sf_slots.specs.declared.calls.PlainReply.{PlainReply}
 use Rattle.sf_slots.specs.declared.calls.PlainReply.TheVariants as plain
-use Rattle.sf_surface.specs.declared.call.Gives.{Gives}
-use Rattle.sf_surface.specs.declared.call.Gives.TheVariants as gives
-use Rattle.sf_surface.specs.declared.call.QCall.{QCall}
-use Rattle.sf_surface.specs.declared.call.QCall.TheVariants as call
-use Rattle.sf_surface.specs.declared.call.QReply.{QReply}
-use Rattle.sf_surface.specs.declared.mark.QueueMark.{QueueMark}
-use Rattle.sf_surface.specs.Hands.{IsReply}
-use Rattle.sf_surface.specs.Histories.{Answers, ComesFrom, Made, Queued, Replied, told_reply}
-use Rattle.sf_surface.specs.Reading.{PlainLease}
-use Rattle.sf_surface.specs.Tokens.{ReadLeaseOf, Right, WriteLeaseOf, turn_of}
-use Rattle.sf_actor.specs.Desks.{mark_among}
-use Rattle.sf_actor.specs.Rights.{turn_by}
+use Rattle.sf_actor_set.specs.sf_surface.declared.call.Gives.{Gives}
+use Rattle.sf_actor_set.specs.sf_surface.declared.call.Gives.TheVariants as gives
+use Rattle.sf_actor_set.specs.sf_surface.declared.call.QCall.{QCall}
+use Rattle.sf_actor_set.specs.sf_surface.declared.call.QCall.TheVariants as call
+use Rattle.sf_actor_set.specs.sf_surface.declared.call.QReply.{QReply}
+use Rattle.sf_actor_set.specs.sf_surface.declared.mark.QueueMark.{QueueMark}
+use Rattle.sf_actor_set.specs.sf_surface.Hands.{IsReply}
+use Rattle.sf_actor_set.specs.sf_surface.Histories.{Answers, ComesFrom, Made, Queued, Replied, told_reply}
+use Rattle.sf_actor_set.specs.sf_surface.Reading.{PlainLease}
+use Rattle.sf_actor_set.specs.sf_surface.Tokens.{ReadLeaseOf, Right, WriteLeaseOf, turn_of}
+use Rattle.sf_actor_set.specs.sf_actor.Desks.{mark_among}
+use Rattle.sf_actor_set.specs.sf_actor.Rights.{turn_by}
 use Rattle.law_rights.specs.Calls.{write_of, writes_in}
 use Rattle.law_rights.specs.Ledgers.{Write}
 use Rattle.law_rights.specs.Looks.{IsQueuedFrame, WasAcquired}

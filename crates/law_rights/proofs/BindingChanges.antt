@@ -2,24 +2,24 @@
 use Rattle.std.proofs.Common.{◌≡◌, ℕ, ◌+◌, ◌≤◌, List, [], ◌∷◌, suc, zero, arith, ap, ◌∙◌, refl, get_or, set, Option, Some, None}
 use Rattle.std.specs.List.{flat_map, sum_by}
 use Rattle.std.proofs.lemmas.List.Sums.{sum_by-cons}
-use Rattle.sf_picture.specs.declared.picture.Picture.{Picture}
-use Rattle.sf_script_scene.specs.declared.step.Step.{Step}
-use Rattle.sf_script_scene.specs.declared.step.Step.TheVariants as step
+use Rattle.sf_actor_set.specs.sf_picture.declared.picture.Picture.{Picture}
+use Rattle.sf_actor_set.specs.sf_script_scene.declared.step.Step.{Step}
+use Rattle.sf_actor_set.specs.sf_script_scene.declared.step.Step.TheVariants as step
 use Rattle.sf_base.specs.declared.ids.QueueId.{QueueId}
-use Rattle.sf_surface.specs.declared.call.Gives.{Gives}
-use Rattle.sf_surface.specs.declared.call.Gives.TheVariants as gives
-use Rattle.sf_surface.specs.declared.call.QCall.{QCall}
-use Rattle.sf_surface.specs.declared.call.QCall.TheVariants as call
-use Rattle.sf_turns.specs.Views.{PermitView}
-use Rattle.sf_actor.specs.declared.holding.Holding.{Holding}
-use Rattle.sf_actor.specs.declared.holding.Holding.TheVariants as holding
-use Rattle.sf_actor.specs.Makers.{BufferOf}
-use Rattle.sf_actor.specs.Rights.{turn_by}
-use Rattle.sf_actor_steps.specs.declared.asking.Asking.{Asking}
-use Rattle.sf_actor_steps.specs.declared.asking.Homes.{Homes}
-use Rattle.sf_actor_steps.specs.declared.bindings.Bindings.{Bindings}
-use Rattle.sf_actor_steps.specs.Calling.{placed, with_held, with_spare}
-use Rattle.sf_actor_steps.specs.Forming.{FormsCall, Takes}
+use Rattle.sf_actor_set.specs.sf_surface.declared.call.Gives.{Gives}
+use Rattle.sf_actor_set.specs.sf_surface.declared.call.Gives.TheVariants as gives
+use Rattle.sf_actor_set.specs.sf_surface.declared.call.QCall.{QCall}
+use Rattle.sf_actor_set.specs.sf_surface.declared.call.QCall.TheVariants as call
+use Rattle.sf_actor_set.specs.sf_turns.Views.{PermitView}
+use Rattle.sf_actor_set.specs.sf_actor.declared.holding.Holding.{Holding}
+use Rattle.sf_actor_set.specs.sf_actor.declared.holding.Holding.TheVariants as holding
+use Rattle.sf_actor_set.specs.sf_actor.Makers.{BufferOf}
+use Rattle.sf_actor_set.specs.sf_actor.Rights.{turn_by}
+use Rattle.sf_actor_set.specs.sf_actor_steps.declared.asking.Asking.{Asking}
+use Rattle.sf_actor_set.specs.sf_actor_steps.declared.asking.Homes.{Homes}
+use Rattle.sf_actor_set.specs.sf_actor_steps.declared.bindings.Bindings.{Bindings}
+use Rattle.sf_actor_set.specs.sf_actor_steps.Calling.{placed, with_held, with_spare}
+use Rattle.sf_actor_set.specs.sf_actor_steps.Forming.{FormsCall, Takes}
 use Rattle.law_rights.specs.MakerCalls.{brought_at, given_at, loose_from}
 use Rattle.law_rights.specs.Makers.{RightAt, place_of}
 use Rattle.law_rights.proofs.ListSums.{sum-flat_map}

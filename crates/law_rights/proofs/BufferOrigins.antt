@@ -1,6 +1,6 @@
 -- A buffer that is followed back comes to its maker.
 use Rattle.std.proofs.Common.{◌≡◌, ℕ, zero, suc, ◌+◌, ◌≤◌, List, [], ◌∷◌, length, arith, ap, ◌∙◌, refl}
-use Rattle.sf_actor.specs.Makers.{BufferOf, Run, followed, older}
+use Rattle.sf_actor_set.specs.sf_actor.Makers.{BufferOf, Run, followed, older}
 use Rattle.law_rights.specs.Stays.{AreStays, first_stay, maker_of}
 
 pub followed_back : (run : Run) (n : ℕ) (stay : BufferOf) (earlier : List BufferOf) → AreStays run stay earlier → length earlier ≤ n → followed n run stay ≡ maker_of stay earlier

@@ -10,8 +10,8 @@ use Rattle.sf_base.specs.declared.ids.SlotId.{SlotId}
 use Rattle.sf_base.specs.Fences.{Fence}
 use Rattle.sf_base.specs.declared.geometry.Rect.{Rect}
 use Rattle.sf_base.specs.declared.status.QStatus.{QStatus}
-use Rattle.sf_calls.specs.Histories.{entry}
-use Rattle.sf_picture.specs.declared.picture.Picture.{Picture}
+use Rattle.sf_actor_set.specs.sf_calls.Histories.{entry}
+use Rattle.sf_actor_set.specs.sf_picture.declared.picture.Picture.{Picture}
 use Rattle.sf_slots.specs.declared.calls.PlainCall.{PlainCall}
 use Rattle.sf_slots.specs.declared.calls.PlainCall.TheVariants as said
 use Rattle.sf_slots.specs.declared.calls.PlainReply.{PlainReply}
@@ -19,19 +19,19 @@ use Rattle.sf_slots.specs.declared.calls.PlainReply.TheVariants as plain
 use Rattle.sf_slots.specs.Events.{Event, Lend, Take, items_after}
 use Rattle.sf_slots.specs.History.{events, events_of, happening, kept_back, slot_after}
 use Rattle.sf_slots.proofs.TellsGone.{happening-append}
-use Rattle.sf_surface.specs.declared.call.Gives.TheVariants as gives
-use Rattle.sf_surface.specs.declared.call.QCall.{QCall}
-use Rattle.sf_surface.specs.declared.call.QCall.TheVariants as call
-use Rattle.sf_surface.specs.declared.call.QReply.{QReply}
-use Rattle.sf_surface.specs.declared.mark.QueueMark.{QueueMark}
-use Rattle.sf_surface.specs.declared.work.Work.{Work}
-use Rattle.sf_surface.specs.declared.work.Work.TheVariants as work
-use Rattle.sf_surface.specs.Calls.{named_slot, no_slot, queued_slot, shows_other, told_call, write_token, queued_token, read_token}
-use Rattle.sf_surface.specs.Hands.{IsReply, brought, done_reply, lent_lease, owes, points_of, refused_reply, taken_lease}
-use Rattle.sf_surface.specs.Tokens.{WriteLeaseOf, ending_drawn, ending_of, turn_after, turn_of}
-use Rattle.sf_surface.specs.Histories.{FromLog, Left, Made, caller, last_left, left_by, Replied, told, told_reply}
-use Rattle.sf_turns.specs.Views.{heir_expecting}
-use Rattle.sf_actor.specs.Rights.{Turn, turn_by}
+use Rattle.sf_actor_set.specs.sf_surface.declared.call.Gives.TheVariants as gives
+use Rattle.sf_actor_set.specs.sf_surface.declared.call.QCall.{QCall}
+use Rattle.sf_actor_set.specs.sf_surface.declared.call.QCall.TheVariants as call
+use Rattle.sf_actor_set.specs.sf_surface.declared.call.QReply.{QReply}
+use Rattle.sf_actor_set.specs.sf_surface.declared.mark.QueueMark.{QueueMark}
+use Rattle.sf_actor_set.specs.sf_surface.declared.work.Work.{Work}
+use Rattle.sf_actor_set.specs.sf_surface.declared.work.Work.TheVariants as work
+use Rattle.sf_actor_set.specs.sf_surface.Calls.{named_slot, no_slot, queued_slot, shows_other, told_call, write_token, queued_token, read_token}
+use Rattle.sf_actor_set.specs.sf_surface.Hands.{IsReply, brought, done_reply, lent_lease, owes, points_of, refused_reply, taken_lease}
+use Rattle.sf_actor_set.specs.sf_surface.Tokens.{WriteLeaseOf, ending_drawn, ending_of, turn_after, turn_of}
+use Rattle.sf_actor_set.specs.sf_surface.Histories.{FromLog, Left, Made, caller, last_left, left_by, Replied, told, told_reply}
+use Rattle.sf_actor_set.specs.sf_turns.Views.{heir_expecting}
+use Rattle.sf_actor_set.specs.sf_actor.Rights.{Turn, turn_by}
 use Rattle.law_rights.specs.Calls.{MovesRights, brought_rights, ending, given_rights, move_of, queueing}
 use Rattle.law_rights.specs.Moves.{Move, Goes, given_by, used_by}
 use Rattle.law_rights.specs.Slots.{is_home_after, lying, turn_left}

@@ -6,17 +6,17 @@ use Rattle.std.proofs.lemmas.Bool.{cases_Bool, eqb-true, eq-eqb, false≢true}
 use Rattle.std.proofs.lemmas.List.Elements.{Contains-append_cases, Contains-append_left, Contains-append_right}
 use Rattle.std.proofs.lemmas.List.Sums.{sum_by-append}
 use Rattle.sf_base.specs.declared.ids.QueueId.{QueueId}
-use Rattle.sf_calls.specs.Histories.{entry}
+use Rattle.sf_actor_set.specs.sf_calls.Histories.{entry}
 use Rattle.sf_slots.specs.declared.calls.PlainReply.{PlainReply}
 use Rattle.sf_slots.specs.declared.calls.PlainReply.TheVariants as plain
-use Rattle.sf_surface.specs.declared.call.QCall.{QCall}
-use Rattle.sf_surface.specs.declared.call.QCall.TheVariants as call
-use Rattle.sf_surface.specs.declared.call.QReply.{QReply}
-use Rattle.sf_surface.specs.declared.mark.QueueMark.{QueueMark}
-use Rattle.sf_surface.specs.declared.work.Work.{Work}
-use Rattle.sf_surface.specs.declared.work.Work.TheVariants as work
-use Rattle.sf_surface.specs.Histories.{Made, told_reply}
-use Rattle.sf_actor.specs.Desks.{mark_among}
+use Rattle.sf_actor_set.specs.sf_surface.declared.call.QCall.{QCall}
+use Rattle.sf_actor_set.specs.sf_surface.declared.call.QCall.TheVariants as call
+use Rattle.sf_actor_set.specs.sf_surface.declared.call.QReply.{QReply}
+use Rattle.sf_actor_set.specs.sf_surface.declared.mark.QueueMark.{QueueMark}
+use Rattle.sf_actor_set.specs.sf_surface.declared.work.Work.{Work}
+use Rattle.sf_actor_set.specs.sf_surface.declared.work.Work.TheVariants as work
+use Rattle.sf_actor_set.specs.sf_surface.Histories.{Made, told_reply}
+use Rattle.sf_actor_set.specs.sf_actor.Desks.{mark_among}
 use Rattle.law_rights.specs.Calls.{brought_rights, buffers_in, ending, given_rights, made_of, move_of, queueing, write_of, writes_in}
 use Rattle.law_rights.specs.Ledgers.{Write}
 use Rattle.law_rights.specs.Moves.{Gets, HasAtMost, given_by, made_by, queued_by, used_by}

@@ -6,21 +6,21 @@ use Rattle.std.proofs.lemmas.Bool.{cases_Bool}
 use Rattle.std.proofs.lemmas.List.Sums.{sum_by-append, sum_by-cons}
 use Rattle.sf_base.specs.declared.fences.Seen.{Seen}
 use Rattle.sf_base.specs.declared.ids.LayerId.{LayerId}
-use Rattle.sf_layer.specs.declared.op.Op.{Op}
-use Rattle.sf_layer.specs.declared.op.Op.TheVariants as op
-use Rattle.sf_surface.specs.Tokens.{Issued, ReadLeaseOf}
-use Rattle.sf_token.specs.Looking.{IsLookedArrival}
-use Rattle.sf_token.specs.Pending.{Arrival, head_of, is_of}
-use Rattle.sf_tree.specs.Changes.{Rejection, after}
-use Rattle.sf_tree.specs.Trees.{TreeOf}
-use Rattle.sf_turns.specs.Views.{SeatView}
-use Rattle.sf_txn.specs.Buffers.{Buffer}
-use Rattle.sf_txn.specs.Leases.{IsLooked, IsLookedBuffer}
-use Rattle.sf_txn.specs.Transactions.{without_first}
-use Rattle.sf_txn.specs.declared.lease.Lease.{Ghosts}
-use Rattle.sf_commit.specs.OnLayers.{OnLayer, brought, gone_with, is_on, on_after, without}
-use Rattle.sf_commit.specs.Rounds.{Leads, Round, StageOf, committed, facts_of, stage_after, stage_with}
-use Rattle.sf_commit_next.specs.Heads.{ready_if}
+use Rattle.sf_actor_set.specs.sf_layer.declared.op.Op.{Op}
+use Rattle.sf_actor_set.specs.sf_layer.declared.op.Op.TheVariants as op
+use Rattle.sf_actor_set.specs.sf_surface.Tokens.{Issued, ReadLeaseOf}
+use Rattle.sf_actor_set.specs.sf_token.Looking.{IsLookedArrival}
+use Rattle.sf_actor_set.specs.sf_token.Pending.{Arrival, head_of, is_of}
+use Rattle.sf_actor_set.specs.sf_tree.Changes.{Rejection, after}
+use Rattle.sf_actor_set.specs.sf_tree.Trees.{TreeOf}
+use Rattle.sf_actor_set.specs.sf_turns.Views.{SeatView}
+use Rattle.sf_actor_set.specs.sf_txn.Buffers.{Buffer}
+use Rattle.sf_actor_set.specs.sf_txn.Leases.{IsLooked, IsLookedBuffer}
+use Rattle.sf_actor_set.specs.sf_txn.Transactions.{without_first}
+use Rattle.sf_actor_set.specs.sf_txn.declared.lease.Lease.{Ghosts}
+use Rattle.sf_actor_set.specs.sf_commit.OnLayers.{OnLayer, brought, gone_with, is_on, on_after, without}
+use Rattle.sf_actor_set.specs.sf_commit.Rounds.{Leads, Round, StageOf, committed, facts_of, stage_after, stage_with}
+use Rattle.sf_actor_set.specs.sf_commit_next.Heads.{ready_if}
 
 module _ {R : Type 0} (read : ReadLeaseOf → R) where
   -- what is read off leases on layers, and off those of transactions
@@ -161,7 +161,7 @@ module _ {R : Type 0} (read : ReadLeaseOf → R) where
       where
         first_is : (head : Option (Arrival ReadLeaseOf)) → ready_if drawn seen expected (facts_of r) head ≡ Some next → head ≡ Some next
         first_is None is = is
-        first_is (Some a) is = elim (cases_Bool (is_none (Rattle.sf_commit_next.specs.Heads.head_hold drawn seen expected (facts_of r) a))) [
+        first_is (Some a) is = elim (cases_Bool (is_none (Rattle.sf_actor_set.specs.sf_commit_next.Heads.head_hold drawn seen expected (facts_of r) a))) [
           | inl met ↦ rw met at is
           | inr unmet ↦ absurd (cc (rw unmet at is))
         ]

@@ -3,10 +3,10 @@ use Rattle.std.proofs.Common.{◌≡◌, ℕ, zero, suc, ◌+◌, ◌≤◌, ◌
 use Rattle.std.specs.Prelude.{AllPairs, Contains, option_to_list}
 use Rattle.std.specs.List.{flat_map}
 use Rattle.std.proofs.lemmas.List.Elements.{All-contains, Contains-append_right}
-use Rattle.sf_actor.specs.declared.done.Done.{Done}
-use Rattle.sf_actor.specs.Draws.{DrawInTurn, IsInOrder, entered_at}
-use Rattle.sf_actor.specs.Known.{Share}
-use Rattle.sf_actor.specs.Traces.{DoneAt, Past, next, no_past, places_from, places_of}
+use Rattle.sf_actor_set.specs.sf_actor.declared.done.Done.{Done}
+use Rattle.sf_actor_set.specs.sf_actor.Draws.{DrawInTurn, IsInOrder, entered_at}
+use Rattle.sf_actor_set.specs.sf_actor.Known.{Share}
+use Rattle.sf_actor_set.specs.sf_actor.Traces.{DoneAt, Past, next, no_past, places_from, places_of}
 use Rattle.law_rights.proofs.TurnCounts.{first, in_front, none_in}
 use Rattle.law_rights.proofs.QueueCounts.{in_all}
 

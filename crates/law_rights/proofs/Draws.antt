@@ -5,30 +5,30 @@ use Rattle.std.specs.List.{flat_map, sum_by}
 use Rattle.std.specs.Option.{option_map}
 use Rattle.sf_base.specs.Fences.{Fence}
 use Rattle.sf_base.specs.declared.fences.Seen.{Seen}
-use Rattle.sf_picture.specs.declared.picture.Picture.{Picture}
-use Rattle.sf_script_scene.specs.declared.step.Step.TheVariants as step
-use Rattle.sf_surface.specs.declared.work.Work.{Work}
-use Rattle.sf_surface.specs.declared.work.Work.TheVariants as work
-use Rattle.sf_surface.specs.Drawing.{Enters, MustWait, Passes, drawn_with}
-use Rattle.sf_surface.specs.Tokens.{OwingOf, WriteLeaseOf}
+use Rattle.sf_actor_set.specs.sf_picture.declared.picture.Picture.{Picture}
+use Rattle.sf_actor_set.specs.sf_script_scene.declared.step.Step.TheVariants as step
+use Rattle.sf_actor_set.specs.sf_surface.declared.work.Work.{Work}
+use Rattle.sf_actor_set.specs.sf_surface.declared.work.Work.TheVariants as work
+use Rattle.sf_actor_set.specs.sf_surface.Drawing.{Enters, MustWait, Passes, drawn_with}
+use Rattle.sf_actor_set.specs.sf_surface.Tokens.{OwingOf, WriteLeaseOf}
 use Rattle.sf_slots.specs.declared.slot.Held.{Held}
-use Rattle.sf_turns.specs.Views.{SeatView}
-use Rattle.sf_actor.specs.declared.done.Answered.{Answered}
-use Rattle.sf_actor.specs.declared.done.Answered.TheVariants as answered
-use Rattle.sf_actor.specs.declared.holding.Holding.{Holding}
-use Rattle.sf_actor.specs.declared.holding.Holding.TheVariants as holding
-use Rattle.sf_actor.specs.Desks.{DeskHome, DeskView}
-use Rattle.sf_actor.specs.Parts.{token_of}
-use Rattle.sf_actor.specs.Rights.{Turn, issued_turn}
-use Rattle.sf_actor.specs.Written as written
-use Rattle.sf_actor_steps.specs.declared.bindings.Bindings.{Bindings}
-use Rattle.sf_actor_steps.specs.declared.tried.Tried.{Tried}
-use Rattle.sf_actor_steps.specs.declared.tried.Tried.TheVariants as tried
-use Rattle.sf_actor_steps.specs.Actors.{parts_of}
-use Rattle.sf_actor_steps.specs.Calling.{with_held}
-use Rattle.sf_actor_steps.specs.Drawing.{Draws, DrawsHolding, WaitsToDraw, filled}
-use Rattle.sf_actor_steps.specs.Bindings.{holdings_of}
-use Rattle.sf_actor_steps.proofs.HoldingLemmas.{name_in-held}
+use Rattle.sf_actor_set.specs.sf_turns.Views.{SeatView}
+use Rattle.sf_actor_set.specs.sf_actor.declared.done.Answered.{Answered}
+use Rattle.sf_actor_set.specs.sf_actor.declared.done.Answered.TheVariants as answered
+use Rattle.sf_actor_set.specs.sf_actor.declared.holding.Holding.{Holding}
+use Rattle.sf_actor_set.specs.sf_actor.declared.holding.Holding.TheVariants as holding
+use Rattle.sf_actor_set.specs.sf_actor.Desks.{DeskHome, DeskView}
+use Rattle.sf_actor_set.specs.sf_actor.Parts.{token_of}
+use Rattle.sf_actor_set.specs.sf_actor.Rights.{Turn, issued_turn}
+use Rattle.sf_actor_set.specs.sf_actor.Written as written
+use Rattle.sf_actor_set.specs.sf_actor_steps.declared.bindings.Bindings.{Bindings}
+use Rattle.sf_actor_set.specs.sf_actor_steps.declared.tried.Tried.{Tried}
+use Rattle.sf_actor_set.specs.sf_actor_steps.declared.tried.Tried.TheVariants as tried
+use Rattle.sf_actor_set.specs.sf_actor_steps.Actors.{parts_of}
+use Rattle.sf_actor_set.specs.sf_actor_steps.Calling.{with_held}
+use Rattle.sf_actor_set.specs.sf_actor_steps.Drawing.{Draws, DrawsHolding, WaitsToDraw, filled}
+use Rattle.sf_actor_set.specs.sf_actor_steps.Bindings.{holdings_of}
+use Rattle.sf_actor_set.proofs.sf_actor_steps_lemmas.HoldingLemmas.{name_in-held}
 use Rattle.law_played.proofs.Members.{has_map}
 use Rattle.law_rights.specs.Ledgers.{IsLedger, Write}
 use Rattle.law_rights.specs.Makers.{RightAt, WriteAt, place_of, place_owed, places_arrived, places_held, places_of, places_out, places_owed}
@@ -72,7 +72,7 @@ waits_left : (fence : Fence) (seen : Seen) (buffer number : ℕ) (old new : Seat
 waits_left fence seen buffer number old new (inl unmet) = ap (λ (v : SeatView). v.leaves) unmet.1
 waits_left fence seen buffer number old new (inr short) = ap (λ (v : SeatView). v.leaves) short.1.1.0
 
-work_waits : (done : Work) (fence : Fence) (seen : Seen) (old new : SeatView) → Rattle.sf_surface.specs.Drawing.Waits done fence seen old new → new.leaves ≡ old.leaves
+work_waits : (done : Work) (fence : Fence) (seen : Seen) (old new : SeatView) → Rattle.sf_actor_set.specs.sf_surface.Drawing.Waits done fence seen old new → new.leaves ≡ old.leaves
 work_waits (work.Fresh turn) fence seen old new waits = waits_left fence seen turn.buffer turn.number old new waits
 work_waits (work.Drawn inside pixels) fence seen old new none = absurd none
 

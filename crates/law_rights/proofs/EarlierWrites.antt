@@ -3,14 +3,14 @@ use Rattle.std.proofs.Common.{◌≡◌, ℕ, ◌≤◌, ◌<◌, List, arith, a
 use Rattle.std.specs.Prelude.{Contains}
 use Rattle.std.proofs.lemmas.List.Elements.{All-contains}
 use Rattle.sf_base.specs.Points.{greatest}
-use Rattle.sf_commit.specs.Handlers.{HandlerOf}
-use Rattle.sf_picture.specs.declared.picture.Picture.{Picture}
-use Rattle.sf_surface.specs.Tokens.{ReadLeaseOf}
-use Rattle.sf_turns.specs.Counts.{IsExact}
-use Rattle.sf_actor.specs.Desks.{DeskHome, DeskView, known_of}
-use Rattle.sf_actor.specs.Draws.{EntersCounted, entered_in}
-use Rattle.sf_actor.specs.Known.{share_of}
-use Rattle.sf_actor.specs.Tries.{ActorOf, Keeps}
+use Rattle.sf_actor_set.specs.sf_commit.Handlers.{HandlerOf}
+use Rattle.sf_actor_set.specs.sf_picture.declared.picture.Picture.{Picture}
+use Rattle.sf_actor_set.specs.sf_surface.Tokens.{ReadLeaseOf}
+use Rattle.sf_actor_set.specs.sf_turns.Counts.{IsExact}
+use Rattle.sf_actor_set.specs.sf_actor.Desks.{DeskHome, DeskView, known_of}
+use Rattle.sf_actor_set.specs.sf_actor.Draws.{EntersCounted, entered_in}
+use Rattle.sf_actor_set.specs.sf_actor.Known.{share_of}
+use Rattle.sf_actor_set.specs.sf_actor.Tries.{ActorOf, Keeps}
 use Rattle.law_rights.specs.Actors.{AreOver}
 use Rattle.law_rights.specs.Ledgers.{Write}
 use Rattle.law_rights.specs.Owed.{EntersLast}

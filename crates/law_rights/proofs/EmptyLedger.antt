@@ -3,21 +3,21 @@ use Rattle.std.proofs.Common.{◌≡◌, ℕ, zero, suc, Bool, true, false, List
 use Rattle.std.specs.Prelude.{All, if◌then◌else◌}
 use Rattle.std.specs.List.{flat_map, range_with_len}
 use Rattle.std.proofs.lemmas.List.Elements.{All-head, All-tail}
-use Rattle.sf_commit.specs.Handlers.{HandlerOf}
-use Rattle.sf_commit.specs.OnLayers.{OnLayer}
+use Rattle.sf_actor_set.specs.sf_commit.Handlers.{HandlerOf}
+use Rattle.sf_actor_set.specs.sf_commit.OnLayers.{OnLayer}
 use Rattle.sf_slots.specs.History.{events}
-use Rattle.sf_surface.specs.declared.mark.QueueMark.{QueueMark}
-use Rattle.sf_surface.specs.Histories.{last_left, told}
-use Rattle.sf_surface.specs.Tokens.{ReadLeaseOf}
-use Rattle.sf_token.specs.Pending.{Arrival}
-use Rattle.sf_txn.specs.Transactions.{Contents}
-use Rattle.sf_actor.specs.declared.done.Done.{Done}
-use Rattle.sf_actor.specs.declared.holding.Holding.{Holding}
-use Rattle.sf_actor.specs.Desks.{DeskHome, DeskView}
-use Rattle.sf_actor.specs.Rights.{Turn}
-use Rattle.sf_actor.specs.Traces.{places_from}
-use Rattle.sf_actor.specs.Tries.{ActorOf}
-use Rattle.sf_actor.specs.Written as written
+use Rattle.sf_actor_set.specs.sf_surface.declared.mark.QueueMark.{QueueMark}
+use Rattle.sf_actor_set.specs.sf_surface.Histories.{last_left, told}
+use Rattle.sf_actor_set.specs.sf_surface.Tokens.{ReadLeaseOf}
+use Rattle.sf_actor_set.specs.sf_token.Pending.{Arrival}
+use Rattle.sf_actor_set.specs.sf_txn.Transactions.{Contents}
+use Rattle.sf_actor_set.specs.sf_actor.declared.done.Done.{Done}
+use Rattle.sf_actor_set.specs.sf_actor.declared.holding.Holding.{Holding}
+use Rattle.sf_actor_set.specs.sf_actor.Desks.{DeskHome, DeskView}
+use Rattle.sf_actor_set.specs.sf_actor.Rights.{Turn}
+use Rattle.sf_actor_set.specs.sf_actor.Traces.{places_from}
+use Rattle.sf_actor_set.specs.sf_actor.Tries.{ActorOf}
+use Rattle.sf_actor_set.specs.sf_actor.Written as written
 use Rattle.law_rights.specs.Calls.{buffers_in, writes_in}
 use Rattle.law_rights.specs.Ledgers.{IsLedger, Ledger}
 use Rattle.law_rights.specs.Slots.{is_home_after, lying, lying_in, turn_left}

@@ -4,26 +4,26 @@ use Rattle.std.specs.Prelude.{Contains, option_to_list}
 use Rattle.std.specs.List.{flat_map}
 use Rattle.std.specs.Option.{option_map}
 use Rattle.std.proofs.lemmas.Bool.{cases_Bool, cases_lt, eqb-true, false≢true}
-use Rattle.sf_commit.specs.Handlers.{HandlerOf}
-use Rattle.sf_picture.specs.declared.picture.Picture.{Picture}
-use Rattle.sf_script_scene.specs.Scene.{SceneValue}
-use Rattle.sf_script_scene.specs.declared.step.ActorScript.{ActorScript}
+use Rattle.sf_actor_set.specs.sf_commit.Handlers.{HandlerOf}
+use Rattle.sf_actor_set.specs.sf_picture.declared.picture.Picture.{Picture}
+use Rattle.sf_actor_set.specs.sf_script_scene.Scene.{SceneValue}
+use Rattle.sf_actor_set.specs.sf_script_scene.declared.step.ActorScript.{ActorScript}
 use Rattle.sf_slots.specs.declared.slot.Held.{Held}
-use Rattle.sf_surface.specs.Drawing.{MayEnter}
-use Rattle.sf_surface.specs.Tokens.{OwingOf, ReadLeaseOf, turn_of}
-use Rattle.sf_turns.specs.Counts.{IsExact, leaves_of}
-use Rattle.sf_turns.specs.Views.{SeatView}
-use Rattle.sf_actor.specs.declared.done.Done.{Done}
-use Rattle.sf_actor.specs.declared.holding.Holding.{Holding}
-use Rattle.sf_actor.specs.declared.holding.Holding.TheVariants as holding
-use Rattle.sf_actor.specs.Desks.{DeskHome, DeskView}
-use Rattle.sf_actor.specs.Makers.{BufferOf, Maker, Run, buffer_in, followed, is_before, is_older, same_maker}
-use Rattle.sf_actor.specs.Names.{Holdings, Token, is_owing}
-use Rattle.sf_actor.specs.Parts.{token_of, turn_held}
-use Rattle.sf_actor.specs.Rights.{issued_turn, turn_by}
-use Rattle.sf_actor.specs.Scripts.{picture_at}
-use Rattle.sf_actor.specs.Traces.{past_after}
-use Rattle.sf_actor.specs.Tries.{ActorOf}
+use Rattle.sf_actor_set.specs.sf_surface.Drawing.{MayEnter}
+use Rattle.sf_actor_set.specs.sf_surface.Tokens.{OwingOf, ReadLeaseOf, turn_of}
+use Rattle.sf_actor_set.specs.sf_turns.Counts.{IsExact, leaves_of}
+use Rattle.sf_actor_set.specs.sf_turns.Views.{SeatView}
+use Rattle.sf_actor_set.specs.sf_actor.declared.done.Done.{Done}
+use Rattle.sf_actor_set.specs.sf_actor.declared.holding.Holding.{Holding}
+use Rattle.sf_actor_set.specs.sf_actor.declared.holding.Holding.TheVariants as holding
+use Rattle.sf_actor_set.specs.sf_actor.Desks.{DeskHome, DeskView}
+use Rattle.sf_actor_set.specs.sf_actor.Makers.{BufferOf, Maker, Run, buffer_in, followed, is_before, is_older, same_maker}
+use Rattle.sf_actor_set.specs.sf_actor.Names.{Holdings, Token, is_owing}
+use Rattle.sf_actor_set.specs.sf_actor.Parts.{token_of, turn_held}
+use Rattle.sf_actor_set.specs.sf_actor.Rights.{issued_turn, turn_by}
+use Rattle.sf_actor_set.specs.sf_actor.Scripts.{picture_at}
+use Rattle.sf_actor_set.specs.sf_actor.Traces.{past_after}
+use Rattle.sf_actor_set.specs.sf_actor.Tries.{ActorOf}
 use Rattle.law_played.specs.Actors.{AreActors, run_of}
 use Rattle.law_played.specs.Stepping.{TellsFirst}
 use Rattle.law_played.specs.Stuck.{has_older, holdings_at_end, owings_left, owings_of}

@@ -8,11 +8,11 @@ use Rattle.sf_slots.specs.declared.item.PlainItem.{PlainItem}
 use Rattle.sf_slots.specs.Events.{Event, Make, Lend, Hand, Take, Back, Gone, Mark, Unmark, frames_queued, items_after}
 use Rattle.sf_slots.specs.History.{back_if, events, events_of, happening}
 use Rattle.sf_slots.specs.Told.{replaced_slot}
-use Rattle.sf_surface.specs.declared.call.QCall.{QCall}
-use Rattle.sf_surface.specs.declared.call.QCall.TheVariants as call
-use Rattle.sf_surface.specs.declared.mark.QueueMark.{QueueMark}
-use Rattle.sf_surface.specs.Calls.{queued_token, told_call}
-use Rattle.sf_surface.specs.Histories.{Made, caller, told, told_reply}
+use Rattle.sf_actor_set.specs.sf_surface.declared.call.QCall.{QCall}
+use Rattle.sf_actor_set.specs.sf_surface.declared.call.QCall.TheVariants as call
+use Rattle.sf_actor_set.specs.sf_surface.declared.mark.QueueMark.{QueueMark}
+use Rattle.sf_actor_set.specs.sf_surface.Calls.{queued_token, told_call}
+use Rattle.sf_actor_set.specs.sf_surface.Histories.{Made, caller, told, told_reply}
 use Rattle.law_rights.specs.Calls.{write_of, writes_in}
 use Rattle.law_rights.specs.Ledgers.{Write}
 use Rattle.law_rights.proofs.SlotAnswers.{queued_below}

@@ -5,27 +5,27 @@ use Rattle.std.specs.Option.{option_map}
 use Rattle.std.proofs.lemmas.Bool.{cases_Bool, eq-eqb, eqb-true, false≢true}
 use Rattle.std.proofs.lemmas.List.{get_or-set_other, get_or-set_same, length-set}
 use Rattle.sf_base.specs.declared.ids.QueueId.{QueueId}
-use Rattle.sf_picture.specs.declared.picture.Picture.{Picture}
-use Rattle.sf_script_scene.specs.Ranges.{IsStep}
-use Rattle.sf_script_scene.specs.declared.step.Step.{Step}
-use Rattle.sf_script_scene.specs.declared.step.Step.TheVariants as step
+use Rattle.sf_actor_set.specs.sf_picture.declared.picture.Picture.{Picture}
+use Rattle.sf_actor_set.specs.sf_script_scene.Ranges.{IsStep}
+use Rattle.sf_actor_set.specs.sf_script_scene.declared.step.Step.{Step}
+use Rattle.sf_actor_set.specs.sf_script_scene.declared.step.Step.TheVariants as step
 use Rattle.sf_slots.specs.declared.calls.PlainReply.{PlainReply}
 use Rattle.sf_slots.specs.declared.calls.PlainReply.TheVariants as plain
-use Rattle.sf_surface.specs.declared.call.Gives.TheVariants as gives
-use Rattle.sf_surface.specs.declared.call.QCall.{QCall}
-use Rattle.sf_surface.specs.declared.call.QCall.TheVariants as call
-use Rattle.sf_surface.specs.declared.call.QReply.{QReply}
-use Rattle.sf_surface.specs.Hands.{IsReply, brought}
-use Rattle.sf_actor.specs.declared.holding.Holding.{Holding}
-use Rattle.sf_actor.specs.declared.holding.Holding.TheVariants as holding
-use Rattle.sf_actor.specs.Names.{Holdings, Token, name_in}
-use Rattle.sf_actor.specs.Parts.{token_of}
-use Rattle.sf_actor.specs.Tests.{first_met, is_taken, occupied, refusal_of, tests_of}
-use Rattle.sf_actor_steps.specs.declared.asking.Asking.{Asking}
-use Rattle.sf_actor_steps.specs.declared.bindings.Bindings.{Bindings}
-use Rattle.sf_actor_steps.specs.Forming.{FormsCall, Takes}
-use Rattle.sf_actor_steps.specs.Bindings.{holdings_of}
-use Rattle.sf_actor_steps.proofs.HoldingLemmas.{name_in-held}
+use Rattle.sf_actor_set.specs.sf_surface.declared.call.Gives.TheVariants as gives
+use Rattle.sf_actor_set.specs.sf_surface.declared.call.QCall.{QCall}
+use Rattle.sf_actor_set.specs.sf_surface.declared.call.QCall.TheVariants as call
+use Rattle.sf_actor_set.specs.sf_surface.declared.call.QReply.{QReply}
+use Rattle.sf_actor_set.specs.sf_surface.Hands.{IsReply, brought}
+use Rattle.sf_actor_set.specs.sf_actor.declared.holding.Holding.{Holding}
+use Rattle.sf_actor_set.specs.sf_actor.declared.holding.Holding.TheVariants as holding
+use Rattle.sf_actor_set.specs.sf_actor.Names.{Holdings, Token, name_in}
+use Rattle.sf_actor_set.specs.sf_actor.Parts.{token_of}
+use Rattle.sf_actor_set.specs.sf_actor.Tests.{first_met, is_taken, occupied, refusal_of, tests_of}
+use Rattle.sf_actor_set.specs.sf_actor_steps.declared.asking.Asking.{Asking}
+use Rattle.sf_actor_set.specs.sf_actor_steps.declared.bindings.Bindings.{Bindings}
+use Rattle.sf_actor_set.specs.sf_actor_steps.Forming.{FormsCall, Takes}
+use Rattle.sf_actor_set.specs.sf_actor_steps.Bindings.{holdings_of}
+use Rattle.sf_actor_set.proofs.sf_actor_steps_lemmas.HoldingLemmas.{name_in-held}
 use Rattle.law_rights.specs.Makers.{WriteAt, place_owed}
 use Rattle.law_rights.specs.Moves.{Gets}
 use Rattle.law_rights.proofs.OwedDrawings.{AreFree, IsFreeAt, gets_same, gets_set, bindings_owe}

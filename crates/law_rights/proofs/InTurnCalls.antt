@@ -5,25 +5,25 @@ use Rattle.std.proofs.lemmas.Bool.{cases_Bool, cases_eq, eqb-true}
 use Rattle.std.proofs.lemmas.List.Elements.{Contains-append_cases}
 use Rattle.sf_base.specs.Fences.{Fence}
 use Rattle.sf_base.specs.declared.ids.QueueId.{QueueId}
-use Rattle.sf_calls.specs.Histories.{entry}
-use Rattle.sf_script_scene.specs.Scene.{SceneValue}
+use Rattle.sf_actor_set.specs.sf_calls.Histories.{entry}
+use Rattle.sf_actor_set.specs.sf_script_scene.Scene.{SceneValue}
 use Rattle.sf_slots.specs.declared.calls.Entry.{Entry}
 use Rattle.sf_slots.specs.declared.calls.PlainReply.{PlainReply}
 use Rattle.sf_slots.specs.declared.calls.PlainReply.TheVariants as plain
 use Rattle.sf_slots.specs.Events.{frames_queued}
 use Rattle.sf_slots.specs.History.{events}
-use Rattle.sf_surface.specs.declared.call.QCall.{QCall}
-use Rattle.sf_surface.specs.declared.call.QCall.TheVariants as call
-use Rattle.sf_surface.specs.declared.call.QReply.{QReply}
-use Rattle.sf_surface.specs.declared.mark.QueueMark.{QueueMark}
-use Rattle.sf_surface.specs.Hands.{IsReply}
-use Rattle.sf_surface.specs.Histories.{Made, told, told_entry, told_reply}
-use Rattle.sf_surface.specs.Tokens.{ReadLeaseOf}
-use Rattle.sf_actor.specs.declared.done.Done.{Done}
-use Rattle.sf_actor.specs.Desks.{mark_among}
-use Rattle.sf_actor.specs.Makers.{BufferOf, Run, attached_from, is_attached}
-use Rattle.sf_actor.specs.Names.{Apart, Frame, Lent, Owing, Token}
-use Rattle.sf_actor.specs.Rights.{Turn, turn_by}
+use Rattle.sf_actor_set.specs.sf_surface.declared.call.QCall.{QCall}
+use Rattle.sf_actor_set.specs.sf_surface.declared.call.QCall.TheVariants as call
+use Rattle.sf_actor_set.specs.sf_surface.declared.call.QReply.{QReply}
+use Rattle.sf_actor_set.specs.sf_surface.declared.mark.QueueMark.{QueueMark}
+use Rattle.sf_actor_set.specs.sf_surface.Hands.{IsReply}
+use Rattle.sf_actor_set.specs.sf_surface.Histories.{Made, told, told_entry, told_reply}
+use Rattle.sf_actor_set.specs.sf_surface.Tokens.{ReadLeaseOf}
+use Rattle.sf_actor_set.specs.sf_actor.declared.done.Done.{Done}
+use Rattle.sf_actor_set.specs.sf_actor.Desks.{mark_among}
+use Rattle.sf_actor_set.specs.sf_actor.Makers.{BufferOf, Run, attached_from, is_attached}
+use Rattle.sf_actor_set.specs.sf_actor.Names.{Apart, Frame, Lent, Owing, Token}
+use Rattle.sf_actor_set.specs.sf_actor.Rights.{Turn, turn_by}
 use Rattle.law_played.specs.Runs.{StepBy, steps_in}
 use Rattle.law_played.specs.Turns.{calls_in, frames_at_lending, lends, turn_frame}
 use Rattle.law_played.proofs.Members.{has_map}

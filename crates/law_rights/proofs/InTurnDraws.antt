@@ -4,37 +4,37 @@ use Rattle.std.specs.Prelude.{Contains, filter, nat_le}
 use Rattle.std.specs.List.{flat_map}
 use Rattle.std.proofs.lemmas.Bool.{cases_Bool, eqb-true, false≢true}
 use Rattle.sf_base.specs.declared.ids.QueueId.{QueueId}
-use Rattle.sf_calls.specs.Histories.{IsLegal}
-use Rattle.sf_commit.specs.Handlers.{HandlerOf}
-use Rattle.sf_picture.specs.declared.picture.Picture.{Picture}
-use Rattle.sf_script_scene.specs.Limits.{IsWithinLimits}
-use Rattle.sf_script_scene.specs.Scene.{SceneValue}
-use Rattle.sf_script_scene.specs.declared.step.ActorScript.{ActorScript}
+use Rattle.sf_actor_set.specs.sf_calls.Histories.{IsLegal}
+use Rattle.sf_actor_set.specs.sf_commit.Handlers.{HandlerOf}
+use Rattle.sf_actor_set.specs.sf_picture.declared.picture.Picture.{Picture}
+use Rattle.sf_actor_set.specs.sf_script_scene.Limits.{IsWithinLimits}
+use Rattle.sf_actor_set.specs.sf_script_scene.Scene.{SceneValue}
+use Rattle.sf_actor_set.specs.sf_script_scene.declared.step.ActorScript.{ActorScript}
 use Rattle.sf_slots.specs.declared.calls.Entry.{Entry}
 use Rattle.sf_slots.specs.declared.calls.PlainReply.{PlainReply}
 use Rattle.sf_slots.specs.declared.calls.PlainReply.TheVariants as plain
 use Rattle.sf_slots.specs.Events.{Event, frames_queued}
-use Rattle.sf_surface.specs.declared.call.QCall.{QCall}
-use Rattle.sf_surface.specs.declared.call.QCall.TheVariants as call
-use Rattle.sf_surface.specs.declared.call.QReply.{QReply}
-use Rattle.sf_surface.specs.declared.mark.QueueMark.{QueueMark}
-use Rattle.sf_surface.specs.Calls.{write_token}
-use Rattle.sf_surface.specs.Drawing.{MayEnter}
-use Rattle.sf_surface.specs.Hands.{IsReply}
-use Rattle.sf_surface.specs.Histories.{Answers, Made, told, told_entry, told_reply}
-use Rattle.sf_surface.specs.Tokens.{ReadLeaseOf}
-use Rattle.sf_turns.specs.Counts.{IsExact, leaves_of}
-use Rattle.sf_turns.specs.Views.{SeatView}
-use Rattle.sf_actor.specs.declared.done.Done.{Done}
-use Rattle.sf_actor.specs.declared.holding.Holding.{Holding}
-use Rattle.sf_actor.specs.declared.holding.Holding.TheVariants as holding
-use Rattle.sf_actor.specs.Desks.{DeskHome, DeskView, mark_among}
-use Rattle.sf_actor.specs.Makers.{BufferOf, Maker, Run, buffer_in, followed, is_before, same_maker}
-use Rattle.sf_actor.specs.Parts.{token_of, turn_held}
-use Rattle.sf_actor.specs.Rights.{issued_turn}
-use Rattle.sf_actor.specs.Traces.{DoneAt, no_past, places_of as steps_of}
-use Rattle.sf_actor.specs.Tries.{ActorOf}
-use Rattle.sf_actor.specs.Written.{written_at, written_in}
+use Rattle.sf_actor_set.specs.sf_surface.declared.call.QCall.{QCall}
+use Rattle.sf_actor_set.specs.sf_surface.declared.call.QCall.TheVariants as call
+use Rattle.sf_actor_set.specs.sf_surface.declared.call.QReply.{QReply}
+use Rattle.sf_actor_set.specs.sf_surface.declared.mark.QueueMark.{QueueMark}
+use Rattle.sf_actor_set.specs.sf_surface.Calls.{write_token}
+use Rattle.sf_actor_set.specs.sf_surface.Drawing.{MayEnter}
+use Rattle.sf_actor_set.specs.sf_surface.Hands.{IsReply}
+use Rattle.sf_actor_set.specs.sf_surface.Histories.{Answers, Made, told, told_entry, told_reply}
+use Rattle.sf_actor_set.specs.sf_surface.Tokens.{ReadLeaseOf}
+use Rattle.sf_actor_set.specs.sf_turns.Counts.{IsExact, leaves_of}
+use Rattle.sf_actor_set.specs.sf_turns.Views.{SeatView}
+use Rattle.sf_actor_set.specs.sf_actor.declared.done.Done.{Done}
+use Rattle.sf_actor_set.specs.sf_actor.declared.holding.Holding.{Holding}
+use Rattle.sf_actor_set.specs.sf_actor.declared.holding.Holding.TheVariants as holding
+use Rattle.sf_actor_set.specs.sf_actor.Desks.{DeskHome, DeskView, mark_among}
+use Rattle.sf_actor_set.specs.sf_actor.Makers.{BufferOf, Maker, Run, buffer_in, followed, is_before, same_maker}
+use Rattle.sf_actor_set.specs.sf_actor.Parts.{token_of, turn_held}
+use Rattle.sf_actor_set.specs.sf_actor.Rights.{issued_turn}
+use Rattle.sf_actor_set.specs.sf_actor.Traces.{DoneAt, no_past, places_of as steps_of}
+use Rattle.sf_actor_set.specs.sf_actor.Tries.{ActorOf}
+use Rattle.sf_actor_set.specs.sf_actor.Written.{written_at, written_in}
 use Rattle.law_played.specs.Actors.{AreActors, run_of, script_of, trace_among}
 use Rattle.law_played.specs.Runs.{StepBy, rising_actors, steps_by, steps_in}
 use Rattle.law_played.specs.Turns.{calls_in, frames_at_lending, is_queued, lends, maker_at, turn_frame}

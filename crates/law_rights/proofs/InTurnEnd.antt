@@ -7,12 +7,12 @@ use Rattle.std.proofs.lemmas.List.Elements.{All-contains, All-contains_itself, A
 use Rattle.sf_base.specs.Fences.{Fence}
 use Rattle.sf_base.specs.declared.geometry.Rect.{Rect}
 use Rattle.sf_base.specs.declared.ids.QueueId.{QueueId}
-use Rattle.sf_commit.specs.Handlers.{HandlerOf}
-use Rattle.sf_script_scene.specs.Limits.{IsWithinLimits}
-use Rattle.sf_script_scene.specs.Scene.{SceneValue}
-use Rattle.sf_script_scene.specs.declared.step.ActorScript.{ActorScript}
-use Rattle.sf_script_scene.specs.declared.step.Step.{Step}
-use Rattle.sf_script_scene.specs.declared.step.Step.TheVariants as step
+use Rattle.sf_actor_set.specs.sf_commit.Handlers.{HandlerOf}
+use Rattle.sf_actor_set.specs.sf_script_scene.Limits.{IsWithinLimits}
+use Rattle.sf_actor_set.specs.sf_script_scene.Scene.{SceneValue}
+use Rattle.sf_actor_set.specs.sf_script_scene.declared.step.ActorScript.{ActorScript}
+use Rattle.sf_actor_set.specs.sf_script_scene.declared.step.Step.{Step}
+use Rattle.sf_actor_set.specs.sf_script_scene.declared.step.Step.TheVariants as step
 use Rattle.sf_slots.specs.declared.calls.Entry.{Entry}
 use Rattle.sf_slots.specs.declared.calls.PlainCall.{PlainCall}
 use Rattle.sf_slots.specs.declared.calls.PlainCall.TheVariants as plain_call
@@ -20,22 +20,22 @@ use Rattle.sf_slots.specs.declared.calls.PlainReply.{PlainReply}
 use Rattle.sf_slots.specs.declared.calls.PlainReply.TheVariants as plain
 use Rattle.sf_slots.specs.declared.calls.WriteToken.{WriteToken}
 use Rattle.sf_slots.specs.declared.slot.Held.{Held}
-use Rattle.sf_surface.specs.declared.call.QCall.{QCall}
-use Rattle.sf_surface.specs.declared.call.QCall.TheVariants as call
-use Rattle.sf_surface.specs.declared.mark.QueueMark.{QueueMark}
-use Rattle.sf_surface.specs.Calls.{told_call}
-use Rattle.sf_surface.specs.Histories.{Made, told, told_entry, told_reply}
-use Rattle.sf_surface.specs.Tokens.{ReadLeaseOf}
-use Rattle.sf_actor.specs.declared.done.Done.{Done}
-use Rattle.sf_actor.specs.Desks.{DeskHome, DeskView, has_queue, mark_among}
-use Rattle.sf_actor.specs.Makers.{BufferOf, Run, buffer_in, is_before, same_maker}
-use Rattle.sf_actor.specs.Names.{OwedFrame, Owing, Token, name_in}
-use Rattle.sf_actor.specs.Scripts.{picture_at}
-use Rattle.sf_actor.specs.Steps.{owed_by}
-use Rattle.sf_actor.specs.Tales.{IsMade, made_on}
-use Rattle.sf_actor.specs.Traces.{DoneAt, made_by, places_of as steps_of}
-use Rattle.sf_actor.specs.Tries.{ActorOf, Keeps}
-use Rattle.sf_actor.specs.Written.{FrameNumber, paid_at, written_at}
+use Rattle.sf_actor_set.specs.sf_surface.declared.call.QCall.{QCall}
+use Rattle.sf_actor_set.specs.sf_surface.declared.call.QCall.TheVariants as call
+use Rattle.sf_actor_set.specs.sf_surface.declared.mark.QueueMark.{QueueMark}
+use Rattle.sf_actor_set.specs.sf_surface.Calls.{told_call}
+use Rattle.sf_actor_set.specs.sf_surface.Histories.{Made, told, told_entry, told_reply}
+use Rattle.sf_actor_set.specs.sf_surface.Tokens.{ReadLeaseOf}
+use Rattle.sf_actor_set.specs.sf_actor.declared.done.Done.{Done}
+use Rattle.sf_actor_set.specs.sf_actor.Desks.{DeskHome, DeskView, has_queue, mark_among}
+use Rattle.sf_actor_set.specs.sf_actor.Makers.{BufferOf, Run, buffer_in, is_before, same_maker}
+use Rattle.sf_actor_set.specs.sf_actor.Names.{OwedFrame, Owing, Token, name_in}
+use Rattle.sf_actor_set.specs.sf_actor.Scripts.{picture_at}
+use Rattle.sf_actor_set.specs.sf_actor.Steps.{owed_by}
+use Rattle.sf_actor_set.specs.sf_actor.Tales.{IsMade, made_on}
+use Rattle.sf_actor_set.specs.sf_actor.Traces.{DoneAt, made_by, places_of as steps_of}
+use Rattle.sf_actor_set.specs.sf_actor.Tries.{ActorOf, Keeps}
+use Rattle.sf_actor_set.specs.sf_actor.Written.{FrameNumber, paid_at, written_at}
 use Rattle.law_played.specs.Actors.{AreActors, run_of, script_of}
 use Rattle.law_played.specs.Runs.{StepBy, rising_actors, steps_by, steps_in}
 use Rattle.law_played.specs.Turns.{ComesAfter, DrawAfterOwed, EntersAfter, Paid, entered_by, is_earlier, maker_at, owed_by_step, owed_if, owed_in, paid_by, payments_in, pays_before, turn_frame}

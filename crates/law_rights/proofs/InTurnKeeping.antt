@@ -1,9 +1,9 @@
 -- What draws entered stays in turn while a run goes on.
 use Rattle.std.proofs.Common.{◌≡◌, ℕ, ◌+◌, ◌<◌, ◌≤◌, ◌⊎◌, ◌&&◌, true, List, [], ◌∷◌, length, arith, refl, ap, sym, ◌∙◌, subst, inl, inr}
 use Rattle.std.specs.Prelude.{Contains}
-use Rattle.sf_script_scene.specs.Scene.{SceneValue}
-use Rattle.sf_actor.specs.Makers.{BufferOf, Maker, Run, buffer_in, is_before, same_maker}
-use Rattle.sf_actor.specs.Names.{Token}
+use Rattle.sf_actor_set.specs.sf_script_scene.Scene.{SceneValue}
+use Rattle.sf_actor_set.specs.sf_actor.Makers.{BufferOf, Maker, Run, buffer_in, is_before, same_maker}
+use Rattle.sf_actor_set.specs.sf_actor.Names.{Token}
 use Rattle.law_played.specs.Runs.{StepBy, steps_in}
 use Rattle.law_played.specs.Turns.{calls_in, maker_at, turn_frame}
 use Rattle.law_rights.specs.InTurn.{IsEarlier, IsInTurn, WasWritten, frames_on}

@@ -7,47 +7,47 @@ use Rattle.std.proofs.lemmas.List.{length-append}
 use Rattle.std.proofs.lemmas.List.Elements.{Contains-append_cases, Contains-append_left}
 use Rattle.atomic_table.specs.Seated.{TableId}
 use Rattle.sf_base.specs.Fences.{Fence}
-use Rattle.sf_calls.specs.Histories.{entry}
-use Rattle.sf_commit.specs.Handlers.{HandlerOf}
-use Rattle.sf_picture.specs.declared.picture.Picture.{Picture}
-use Rattle.sf_script_scene.specs.Limits.{IsWithinLimits}
-use Rattle.sf_script_scene.specs.Scene.{SceneValue}
-use Rattle.sf_script_scene.specs.declared.step.ActorScript.{ActorScript}
-use Rattle.sf_script_scene.specs.declared.step.Step.{Step}
-use Rattle.sf_script_scene.specs.declared.step.Step.TheVariants as step
+use Rattle.sf_actor_set.specs.sf_calls.Histories.{entry}
+use Rattle.sf_actor_set.specs.sf_commit.Handlers.{HandlerOf}
+use Rattle.sf_actor_set.specs.sf_picture.declared.picture.Picture.{Picture}
+use Rattle.sf_actor_set.specs.sf_script_scene.Limits.{IsWithinLimits}
+use Rattle.sf_actor_set.specs.sf_script_scene.Scene.{SceneValue}
+use Rattle.sf_actor_set.specs.sf_script_scene.declared.step.ActorScript.{ActorScript}
+use Rattle.sf_actor_set.specs.sf_script_scene.declared.step.Step.{Step}
+use Rattle.sf_actor_set.specs.sf_script_scene.declared.step.Step.TheVariants as step
 use Rattle.sf_slots.specs.declared.calls.Entry.{Entry}
 use Rattle.sf_slots.specs.declared.calls.WriteToken.{WriteToken}
 use Rattle.sf_base.specs.declared.ids.QueueId.{QueueId}
-use Rattle.sf_surface.specs.declared.work.Work.{Work}
-use Rattle.sf_surface.specs.declared.work.Work.TheVariants as work
-use Rattle.sf_surface.specs.Calls.{write_token}
-use Rattle.sf_surface.specs.Drawing.{MayEnter}
-use Rattle.sf_surface.specs.Tokens.{Issued, ReadLeaseOf, turn_of}
-use Rattle.sf_turns.specs.Counts.{IsExact}
-use Rattle.sf_turns.specs.Views.{SeatView}
-use Rattle.sf_txn.specs.declared.lease.Lease.{Ghosts}
-use Rattle.sf_actor.specs.declared.done.Answered.{Answered}
-use Rattle.sf_actor.specs.declared.done.Answered.TheVariants as answered
-use Rattle.sf_actor.specs.declared.done.Done.{Done}
-use Rattle.sf_actor.specs.declared.holding.Holding.{Holding}
-use Rattle.sf_actor.specs.declared.holding.Holding.TheVariants as holding
-use Rattle.sf_actor.specs.declared.tried.Reply.{Reply}
-use Rattle.sf_actor.specs.declared.tried.Stepped.{Stepped}
-use Rattle.sf_actor.specs.declared.tried.Stepped.TheVariants as stepped
-use Rattle.sf_actor.specs.Desks.{DeskHome, DeskView}
-use Rattle.sf_actor.specs.Draws.{entered_name}
-use Rattle.sf_actor.specs.Makers.{Run}
-use Rattle.sf_actor.specs.Names.{Holdings, Lent, Token, name_in}
-use Rattle.sf_actor.specs.Parts.{drawn_picture, token_of, turn_held}
-use Rattle.sf_actor.specs.Plain.{PlainOf, home_of, view_of}
-use Rattle.sf_actor.specs.Points.{undrawn_fence}
-use Rattle.sf_actor.specs.Rights.{turn_by}
-use Rattle.sf_actor.specs.Scripts.{picture_at}
-use Rattle.sf_actor.specs.Traces.{DoneAt, no_past, past_after, places_of as steps_of}
-use Rattle.sf_actor.specs.Tries.{ActorOf, DoesStep, DrawsHeld, DrawsIn, Tries}
-use Rattle.sf_actor_steps.specs.declared.actor.Actor.{Actor}
-use Rattle.sf_actor_steps.specs.Bindings.{holdings_of}
-use Rattle.sf_actor_steps.specs.Playable.{MayPlay}
+use Rattle.sf_actor_set.specs.sf_surface.declared.work.Work.{Work}
+use Rattle.sf_actor_set.specs.sf_surface.declared.work.Work.TheVariants as work
+use Rattle.sf_actor_set.specs.sf_surface.Calls.{write_token}
+use Rattle.sf_actor_set.specs.sf_surface.Drawing.{MayEnter}
+use Rattle.sf_actor_set.specs.sf_surface.Tokens.{Issued, ReadLeaseOf, turn_of}
+use Rattle.sf_actor_set.specs.sf_turns.Counts.{IsExact}
+use Rattle.sf_actor_set.specs.sf_turns.Views.{SeatView}
+use Rattle.sf_actor_set.specs.sf_txn.declared.lease.Lease.{Ghosts}
+use Rattle.sf_actor_set.specs.sf_actor.declared.done.Answered.{Answered}
+use Rattle.sf_actor_set.specs.sf_actor.declared.done.Answered.TheVariants as answered
+use Rattle.sf_actor_set.specs.sf_actor.declared.done.Done.{Done}
+use Rattle.sf_actor_set.specs.sf_actor.declared.holding.Holding.{Holding}
+use Rattle.sf_actor_set.specs.sf_actor.declared.holding.Holding.TheVariants as holding
+use Rattle.sf_actor_set.specs.sf_actor.declared.tried.Reply.{Reply}
+use Rattle.sf_actor_set.specs.sf_actor.declared.tried.Stepped.{Stepped}
+use Rattle.sf_actor_set.specs.sf_actor.declared.tried.Stepped.TheVariants as stepped
+use Rattle.sf_actor_set.specs.sf_actor.Desks.{DeskHome, DeskView}
+use Rattle.sf_actor_set.specs.sf_actor.Draws.{entered_name}
+use Rattle.sf_actor_set.specs.sf_actor.Makers.{Run}
+use Rattle.sf_actor_set.specs.sf_actor.Names.{Holdings, Lent, Token, name_in}
+use Rattle.sf_actor_set.specs.sf_actor.Parts.{drawn_picture, token_of, turn_held}
+use Rattle.sf_actor_set.specs.sf_actor.Plain.{PlainOf, home_of, view_of}
+use Rattle.sf_actor_set.specs.sf_actor.Points.{undrawn_fence}
+use Rattle.sf_actor_set.specs.sf_actor.Rights.{turn_by}
+use Rattle.sf_actor_set.specs.sf_actor.Scripts.{picture_at}
+use Rattle.sf_actor_set.specs.sf_actor.Traces.{DoneAt, no_past, past_after, places_of as steps_of}
+use Rattle.sf_actor_set.specs.sf_actor.Tries.{ActorOf, DoesStep, DrawsHeld, DrawsIn, Tries}
+use Rattle.sf_actor_set.specs.sf_actor_steps.declared.actor.Actor.{Actor}
+use Rattle.sf_actor_set.specs.sf_actor_steps.Bindings.{holdings_of}
+use Rattle.sf_actor_set.specs.sf_actor_steps.Playable.{MayPlay}
 use Rattle.sf_actor_set.specs.ActorSets.{KeepAs, StepsAt, scripts_of}
 use Rattle.law_played.specs.Actors.{AreActors, trace_among}
 use Rattle.law_played.specs.Runs.{StepBy, rising_actors, steps_by, steps_in}

@@ -69,3 +69,7 @@ pub mod StepMoves
 pub mod TryTraces
 pub mod CallTryLedger
 pub mod WaitingDraws
+pub use Rattle.law_played.proofs as law_played_lemmas
+pub use Rattle.sf_actor_set.proofs.sf_actor_lemmas
+pub use Rattle.sf_actor_set.proofs as sf_actor_set_lemmas
+pub use Rattle.sf_actor_set.proofs.sf_actor_steps_lemmas

@@ -5,12 +5,12 @@ use Rattle.std.specs.List.{list_any, sum_by}
 use Rattle.std.proofs.lemmas.Bool.{cases_Bool, cases_lt, eqb-true, eq-eqb, false≢true}
 use Rattle.std.proofs.lemmas.Bool.Decides.{nat_tests}
 use Rattle.std.proofs.lemmas.List.Recursion.{is_sum_by}
-use Rattle.sf_turns.specs.Counts.{IsExact, leaf_at, leaves_of}
-use Rattle.sf_surface.specs.Reading.{has_left}
-use Rattle.sf_surface.specs.Tokens.{ReadLeaseOf}
-use Rattle.sf_actor.specs.Known.{frame_of}
-use Rattle.sf_actor.specs.Rights.{Turn, turn_by}
-use Rattle.sf_actor.specs.Written.{FrameNumber}
+use Rattle.sf_actor_set.specs.sf_turns.Counts.{IsExact, leaf_at, leaves_of}
+use Rattle.sf_actor_set.specs.sf_surface.Reading.{has_left}
+use Rattle.sf_actor_set.specs.sf_surface.Tokens.{ReadLeaseOf}
+use Rattle.sf_actor_set.specs.sf_actor.Known.{frame_of}
+use Rattle.sf_actor_set.specs.sf_actor.Rights.{Turn, turn_by}
+use Rattle.sf_actor_set.specs.sf_actor.Written.{FrameNumber}
 use Rattle.law_rights.specs.Ledgers.{IsLedger, Ledger}
 use Rattle.law_rights.specs.Looks.{IsQueuedFrame, is_written}
 use Rattle.law_rights.proofs.TurnCounts.{counted, first, found, in_front, is_turn, later, none_in}

@@ -3,17 +3,17 @@ use Rattle.std.proofs.Common.{◌≡◌, ℕ, zero, suc, ◌⊎◌, List, [], �
 use Rattle.std.specs.Prelude.{Contains}
 use Rattle.std.specs.List.{flat_map}
 use Rattle.std.proofs.lemmas.List.Elements.{All-contains, Contains-append_cases}
-use Rattle.sf_commit.specs.Handlers.{HandlerOf}
-use Rattle.sf_commit.specs.OnLayers.{OnLayer}
-use Rattle.sf_surface.specs.declared.mark.QueueMark.{QueueMark}
-use Rattle.sf_surface.specs.Histories.{Made, last_left}
-use Rattle.sf_surface.specs.Tokens.{ReadLeaseOf}
-use Rattle.sf_token.specs.Pending.{Arrival}
-use Rattle.sf_txn.specs.Transactions.{Contents}
-use Rattle.sf_actor.specs.declared.holding.Holding.{Holding}
-use Rattle.sf_actor.specs.Desks.{DeskHome, DeskView}
-use Rattle.sf_actor.specs.Makers.{Run}
-use Rattle.sf_actor.specs.Tries.{ActorOf}
+use Rattle.sf_actor_set.specs.sf_commit.Handlers.{HandlerOf}
+use Rattle.sf_actor_set.specs.sf_commit.OnLayers.{OnLayer}
+use Rattle.sf_actor_set.specs.sf_surface.declared.mark.QueueMark.{QueueMark}
+use Rattle.sf_actor_set.specs.sf_surface.Histories.{Made, last_left}
+use Rattle.sf_actor_set.specs.sf_surface.Tokens.{ReadLeaseOf}
+use Rattle.sf_actor_set.specs.sf_token.Pending.{Arrival}
+use Rattle.sf_actor_set.specs.sf_txn.Transactions.{Contents}
+use Rattle.sf_actor_set.specs.sf_actor.declared.holding.Holding.{Holding}
+use Rattle.sf_actor_set.specs.sf_actor.Desks.{DeskHome, DeskView}
+use Rattle.sf_actor_set.specs.sf_actor.Makers.{Run}
+use Rattle.sf_actor_set.specs.sf_actor.Tries.{ActorOf}
 use Rattle.law_rights.specs.Calls.{buffers_in}
 use Rattle.law_rights.specs.Makers.{MakersStand, RightAt, WriteAt, place_of, place_owed, places_arrived, places_held, places_in, places_lying, places_of, places_out, places_owed, places_written, right_read}
 use Rattle.law_rights.specs.Standing.{Begins, IsFresh, state_of}

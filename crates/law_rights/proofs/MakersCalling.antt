@@ -9,27 +9,27 @@ use Rattle.sf_base.specs.declared.ids.SlotId.{SlotId}
 use Rattle.sf_base.specs.Fences.{Fence}
 use Rattle.sf_base.specs.declared.geometry.Rect.{Rect}
 use Rattle.sf_base.specs.declared.status.QStatus.{QStatus}
-use Rattle.sf_calls.specs.Histories.{entry}
-use Rattle.sf_picture.specs.declared.picture.Picture.{Picture}
+use Rattle.sf_actor_set.specs.sf_calls.Histories.{entry}
+use Rattle.sf_actor_set.specs.sf_picture.declared.picture.Picture.{Picture}
 use Rattle.sf_slots.specs.declared.calls.PlainCall.{PlainCall}
 use Rattle.sf_slots.specs.declared.calls.PlainCall.TheVariants as said
 use Rattle.sf_slots.specs.declared.calls.PlainReply.{PlainReply}
 use Rattle.sf_slots.specs.declared.calls.PlainReply.TheVariants as plain
 use Rattle.sf_slots.specs.History.{events, slot_after}
-use Rattle.sf_surface.specs.declared.call.Gives.TheVariants as gives
-use Rattle.sf_surface.specs.declared.call.QCall.{QCall}
-use Rattle.sf_surface.specs.declared.call.QCall.TheVariants as call
-use Rattle.sf_surface.specs.declared.call.QReply.{QReply}
-use Rattle.sf_surface.specs.declared.mark.QueueMark.{QueueMark}
-use Rattle.sf_surface.specs.declared.work.Work.{Work}
-use Rattle.sf_surface.specs.declared.work.Work.TheVariants as work
-use Rattle.sf_surface.specs.Calls.{no_slot, queued_token, read_token, shows_other, told_call, write_token}
-use Rattle.sf_surface.specs.Hands.{IsReply, brought, done_reply, lent_lease, owes, points_of, refused_reply, taken_lease}
-use Rattle.sf_surface.specs.Histories.{FromLog, Left, Made, caller, last_left, left_after, left_by, Replied, told, told_reply}
-use Rattle.sf_surface.specs.Tokens.{WriteLeaseOf, ending_drawn, ending_of, turn_after, turn_of}
-use Rattle.sf_turns.specs.Views.{heir_expecting}
-use Rattle.sf_actor.specs.Makers.{BufferOf}
-use Rattle.sf_actor.specs.Rights.{turn_by}
+use Rattle.sf_actor_set.specs.sf_surface.declared.call.Gives.TheVariants as gives
+use Rattle.sf_actor_set.specs.sf_surface.declared.call.QCall.{QCall}
+use Rattle.sf_actor_set.specs.sf_surface.declared.call.QCall.TheVariants as call
+use Rattle.sf_actor_set.specs.sf_surface.declared.call.QReply.{QReply}
+use Rattle.sf_actor_set.specs.sf_surface.declared.mark.QueueMark.{QueueMark}
+use Rattle.sf_actor_set.specs.sf_surface.declared.work.Work.{Work}
+use Rattle.sf_actor_set.specs.sf_surface.declared.work.Work.TheVariants as work
+use Rattle.sf_actor_set.specs.sf_surface.Calls.{no_slot, queued_token, read_token, shows_other, told_call, write_token}
+use Rattle.sf_actor_set.specs.sf_surface.Hands.{IsReply, brought, done_reply, lent_lease, owes, points_of, refused_reply, taken_lease}
+use Rattle.sf_actor_set.specs.sf_surface.Histories.{FromLog, Left, Made, caller, last_left, left_after, left_by, Replied, told, told_reply}
+use Rattle.sf_actor_set.specs.sf_surface.Tokens.{WriteLeaseOf, ending_drawn, ending_of, turn_after, turn_of}
+use Rattle.sf_actor_set.specs.sf_turns.Views.{heir_expecting}
+use Rattle.sf_actor_set.specs.sf_actor.Makers.{BufferOf}
+use Rattle.sf_actor_set.specs.sf_actor.Rights.{turn_by}
 use Rattle.law_rights.specs.MakerCalls.{IsNewAt, WasIn, brought_at, given_at, right_written}
 use Rattle.law_rights.specs.Makers.{RightAt, place_left, place_lying, places_lying, right_read}
 use Rattle.law_rights.specs.Slots.{is_home_after}

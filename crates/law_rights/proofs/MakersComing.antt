@@ -2,7 +2,7 @@
 use Rattle.std.proofs.Common.{◌≡◌, ℕ, ◌<◌, ◌≤◌, ◌⊎◌, ◌==◌, ◌&&◌, Bool, true, false, List, [], ◌∷◌, length, arith, refl, ap, sym, ◌∙◌, subst, inl, inr}
 use Rattle.std.specs.Prelude.{Contains, if◌then◌else◌}
 use Rattle.std.proofs.lemmas.Bool.{cases_Bool, eq-eqb, eqb-true, false≢true}
-use Rattle.sf_actor.specs.Makers.{BufferOf, Maker, Run}
+use Rattle.sf_actor_set.specs.sf_actor.Makers.{BufferOf, Maker, Run}
 use Rattle.law_rights.specs.Makers.{AreFollowed, AreMade, GoesOn, IsStay, IsTraced, Places, RightAt, Stays, WasMade, WriteAt, buffer_of, maker_in}
 use Rattle.law_rights.specs.Places.{AttachesTo, ComesTo, MakesAt, WasAt}
 use Rattle.law_rights.specs.Stays.{AreStays, IsBefore, first_stay, maker_of}

@@ -5,11 +5,11 @@ use Rattle.std.proofs.lemmas.Bool.{cases_Bool, eq-eqb, eqb-true, false≢true}
 use Rattle.sf_base.specs.declared.ids.QueueId.{QueueId}
 use Rattle.sf_slots.specs.declared.calls.PlainReply.{PlainReply}
 use Rattle.sf_slots.specs.declared.calls.PlainReply.TheVariants as plain
-use Rattle.sf_surface.specs.declared.call.QCall.{QCall}
-use Rattle.sf_surface.specs.declared.call.QCall.TheVariants as call
-use Rattle.sf_surface.specs.Tokens.{turn_of}
-use Rattle.sf_actor.specs.Makers.{BufferOf, Run}
-use Rattle.sf_actor.specs.Rights.{turn_by}
+use Rattle.sf_actor_set.specs.sf_surface.declared.call.QCall.{QCall}
+use Rattle.sf_actor_set.specs.sf_surface.declared.call.QCall.TheVariants as call
+use Rattle.sf_actor_set.specs.sf_surface.Tokens.{turn_of}
+use Rattle.sf_actor_set.specs.sf_actor.Makers.{BufferOf, Run}
+use Rattle.sf_actor_set.specs.sf_actor.Rights.{turn_by}
 use Rattle.law_rights.specs.MakerCalls.{IsNewAt, right_written}
 use Rattle.law_rights.specs.Makers.{AreFollowed, Places, RightAt, Stays, WriteAt}
 use Rattle.law_rights.specs.MakerSteps.{PlacesTold, RunTold}

@@ -5,11 +5,11 @@ use Rattle.std.proofs.lemmas.Bool.{cases_Bool, eq-eqb, eqb-true, false≢true}
 use Rattle.sf_slots.specs.declared.calls.Entry.{Entry}
 use Rattle.sf_slots.specs.declared.calls.PlainReply.{PlainReply}
 use Rattle.sf_slots.specs.declared.calls.PlainReply.TheVariants as reply
-use Rattle.sf_surface.specs.declared.call.QCall.{QCall}
-use Rattle.sf_surface.specs.declared.call.QCall.TheVariants as call
-use Rattle.sf_surface.specs.declared.mark.QueueMark.{QueueMark}
-use Rattle.sf_surface.specs.Histories.{Made, told, told_entry, told_reply}
-use Rattle.sf_actor.specs.Makers.{BufferOf, Run, attached_from, before_attach, is_attached, making_of}
+use Rattle.sf_actor_set.specs.sf_surface.declared.call.QCall.{QCall}
+use Rattle.sf_actor_set.specs.sf_surface.declared.call.QCall.TheVariants as call
+use Rattle.sf_actor_set.specs.sf_surface.declared.mark.QueueMark.{QueueMark}
+use Rattle.sf_actor_set.specs.sf_surface.Histories.{Made, told, told_entry, told_reply}
+use Rattle.sf_actor_set.specs.sf_actor.Makers.{BufferOf, Run, attached_from, before_attach, is_attached, making_of}
 use Rattle.law_rights.specs.MakerCalls.{IsNewAt}
 use Rattle.law_rights.specs.Makers.{GoesOn, RightAt, WasMade}
 use Rattle.law_rights.specs.MakerSteps.{IsMadeBy, RunGets, RunTold}

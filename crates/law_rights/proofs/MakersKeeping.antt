@@ -1,7 +1,7 @@
 -- What happens to the places of rights keeps makers followed.
 use Rattle.std.proofs.Common.{◌≡◌, ℕ, ◌<◌, ◌≤◌, ◌⊎◌, List, [], ◌∷◌, arith, ap, sym, ◌∙◌, subst, inl, inr}
 use Rattle.std.specs.Prelude.{Contains}
-use Rattle.sf_actor.specs.Makers.{BufferOf, Run}
+use Rattle.sf_actor_set.specs.sf_actor.Makers.{BufferOf, Run}
 use Rattle.law_rights.specs.Makers.{AreFollowed, AreMade, GoesOn, IsStay, IsTraced, Places, RightAt, Rises, Stays, WriteAt, buffer_of, maker_in}
 use Rattle.law_rights.specs.Places.{QueuesAt, RestsAt, WasAt}
 use Rattle.law_rights.specs.Stays.{AreStays}

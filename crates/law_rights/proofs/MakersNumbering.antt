@@ -17,12 +17,12 @@ use Rattle.sf_slots.specs.Events.{Event, Make, Lend, Hand, Take, Back, Gone, Mar
 use Rattle.sf_slots.specs.History.{events, events_of, happening, told_by}
 use Rattle.sf_slots.specs.Replies.{acquired_item, dequeued_from, dropped_count, front_after_drops, has_size, reply_after, size_asked}
 use Rattle.sf_slots.specs.Told.{Told, slot_at, slot_for}
-use Rattle.sf_surface.specs.declared.call.QCall.{QCall}
-use Rattle.sf_surface.specs.declared.call.QCall.TheVariants as asks
-use Rattle.sf_surface.specs.declared.mark.QueueMark.{QueueMark}
-use Rattle.sf_surface.specs.Calls.{told_call}
-use Rattle.sf_surface.specs.Histories.{Made, caller, told, told_entry, told_reply}
-use Rattle.sf_actor.specs.Makers.{making_of, makes}
+use Rattle.sf_actor_set.specs.sf_surface.declared.call.QCall.{QCall}
+use Rattle.sf_actor_set.specs.sf_surface.declared.call.QCall.TheVariants as asks
+use Rattle.sf_actor_set.specs.sf_surface.declared.mark.QueueMark.{QueueMark}
+use Rattle.sf_actor_set.specs.sf_surface.Calls.{told_call}
+use Rattle.sf_actor_set.specs.sf_surface.Histories.{Made, caller, told, told_entry, told_reply}
+use Rattle.sf_actor_set.specs.sf_actor.Makers.{making_of, makes}
 use Rattle.law_rights.specs.MakerCalls.{IsNewAt}
 use Rattle.law_rights.specs.Makers.{RightAt}
 use Rattle.law_rights.proofs.SlotAnswers.{given_then}

@@ -5,33 +5,33 @@ use Rattle.std.specs.List.{AllZip}
 use Rattle.std.specs.List.Sorted.{IsStrictlyIncreasing}
 use Rattle.std.specs.Option.{option_map_or}
 use Rattle.atomic_table.specs.Seated.{TableId}
-use Rattle.sf_calls.specs.Histories.{entry}
-use Rattle.sf_commit.specs.Handlers.{HandlerOf}
-use Rattle.sf_picture.specs.declared.picture.Picture.{Picture}
-use Rattle.sf_script_scene.specs.Scene.{SceneValue}
-use Rattle.sf_script_scene.specs.declared.step.ActorScript.{ActorScript}
-use Rattle.sf_script_scene.specs.declared.step.Step.{Step}
+use Rattle.sf_actor_set.specs.sf_calls.Histories.{entry}
+use Rattle.sf_actor_set.specs.sf_commit.Handlers.{HandlerOf}
+use Rattle.sf_actor_set.specs.sf_picture.declared.picture.Picture.{Picture}
+use Rattle.sf_actor_set.specs.sf_script_scene.Scene.{SceneValue}
+use Rattle.sf_actor_set.specs.sf_script_scene.declared.step.ActorScript.{ActorScript}
+use Rattle.sf_actor_set.specs.sf_script_scene.declared.step.Step.{Step}
 use Rattle.sf_slots.specs.declared.calls.Entry.{Entry}
-use Rattle.sf_surface.specs.Tokens.{Issued, ReadLeaseOf}
-use Rattle.sf_turns.specs.Counts.{IsExact}
-use Rattle.sf_turns.specs.Views.{SeatView}
-use Rattle.sf_txn.specs.declared.lease.Lease.{Ghosts}
-use Rattle.sf_actor.specs.declared.done.Done.{Done}
-use Rattle.sf_actor.specs.declared.tried.Reply.{Reply}
-use Rattle.sf_actor.specs.declared.tried.Stepped.{Stepped}
-use Rattle.sf_actor.specs.declared.tried.Stepped.TheVariants as stepped
-use Rattle.sf_actor.specs.Desks.{DeskHome, DeskView, mark_among}
-use Rattle.sf_actor.specs.Makers.{BufferOf, attached_at}
-use Rattle.sf_actor.specs.Names.{Holdings}
-use Rattle.sf_actor.specs.Parts.{plain_of}
-use Rattle.sf_actor.specs.Plain.{PlainOf, home_of, view_of}
-use Rattle.sf_actor.specs.Scripts.{picture_at}
-use Rattle.sf_actor.specs.Tales.{IsMade, made_on}
-use Rattle.sf_actor.specs.Traces.{DoneAt, made_by, past_after, places_of}
-use Rattle.sf_actor.specs.Tries.{ActorOf, DoesStep, Tries, next_step}
-use Rattle.sf_actor_steps.specs.declared.actor.Actor.{Actor}
-use Rattle.sf_actor_steps.specs.Bindings.{holdings_of}
-use Rattle.sf_actor_steps.specs.Playable.{MayPlay}
+use Rattle.sf_actor_set.specs.sf_surface.Tokens.{Issued, ReadLeaseOf}
+use Rattle.sf_actor_set.specs.sf_turns.Counts.{IsExact}
+use Rattle.sf_actor_set.specs.sf_turns.Views.{SeatView}
+use Rattle.sf_actor_set.specs.sf_txn.declared.lease.Lease.{Ghosts}
+use Rattle.sf_actor_set.specs.sf_actor.declared.done.Done.{Done}
+use Rattle.sf_actor_set.specs.sf_actor.declared.tried.Reply.{Reply}
+use Rattle.sf_actor_set.specs.sf_actor.declared.tried.Stepped.{Stepped}
+use Rattle.sf_actor_set.specs.sf_actor.declared.tried.Stepped.TheVariants as stepped
+use Rattle.sf_actor_set.specs.sf_actor.Desks.{DeskHome, DeskView, mark_among}
+use Rattle.sf_actor_set.specs.sf_actor.Makers.{BufferOf, attached_at}
+use Rattle.sf_actor_set.specs.sf_actor.Names.{Holdings}
+use Rattle.sf_actor_set.specs.sf_actor.Parts.{plain_of}
+use Rattle.sf_actor_set.specs.sf_actor.Plain.{PlainOf, home_of, view_of}
+use Rattle.sf_actor_set.specs.sf_actor.Scripts.{picture_at}
+use Rattle.sf_actor_set.specs.sf_actor.Tales.{IsMade, made_on}
+use Rattle.sf_actor_set.specs.sf_actor.Traces.{DoneAt, made_by, past_after, places_of}
+use Rattle.sf_actor_set.specs.sf_actor.Tries.{ActorOf, DoesStep, Tries, next_step}
+use Rattle.sf_actor_set.specs.sf_actor_steps.declared.actor.Actor.{Actor}
+use Rattle.sf_actor_set.specs.sf_actor_steps.Bindings.{holdings_of}
+use Rattle.sf_actor_set.specs.sf_actor_steps.Playable.{MayPlay}
 use Rattle.sf_actor_set.specs.ActorSets.{KeepAs, KeepsAs, StepsAt, scripts_of}
 use Rattle.law_played.specs.Actors.{AreActors, number_of, run_of, told_on, trace_among}
 use Rattle.law_played.specs.Stopping.{TellsOlder}

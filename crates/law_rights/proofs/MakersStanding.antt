@@ -1,18 +1,18 @@
 -- A call leaves the makers of a state standing.
 use Rattle.std.proofs.Common.{◌≡◌, ℕ, ◌<◌, ◌⊎◌, true, [], ◌∷◌, ap, ◌∙◌, sym, refl, inl, inr, subst}
 use Rattle.std.specs.Prelude.{Contains}
-use Rattle.sf_calls.specs.Histories.{entry}
+use Rattle.sf_actor_set.specs.sf_calls.Histories.{entry}
 use Rattle.sf_slots.specs.declared.calls.PlainReply.{PlainReply}
 use Rattle.sf_slots.specs.declared.calls.PlainReply.TheVariants as plain
-use Rattle.sf_surface.specs.declared.call.QCall.{QCall}
-use Rattle.sf_surface.specs.declared.call.QCall.TheVariants as call
-use Rattle.sf_surface.specs.declared.call.QReply.{QReply}
-use Rattle.sf_surface.specs.declared.mark.QueueMark.{QueueMark}
-use Rattle.sf_surface.specs.Hands.{IsReply}
-use Rattle.sf_surface.specs.Histories.{told_reply}
-use Rattle.sf_actor.specs.Desks.{mark_among}
-use Rattle.sf_actor.specs.Makers.{BufferOf, Run}
-use Rattle.sf_actor.specs.Rights.{turn_by}
+use Rattle.sf_actor_set.specs.sf_surface.declared.call.QCall.{QCall}
+use Rattle.sf_actor_set.specs.sf_surface.declared.call.QCall.TheVariants as call
+use Rattle.sf_actor_set.specs.sf_surface.declared.call.QReply.{QReply}
+use Rattle.sf_actor_set.specs.sf_surface.declared.mark.QueueMark.{QueueMark}
+use Rattle.sf_actor_set.specs.sf_surface.Hands.{IsReply}
+use Rattle.sf_actor_set.specs.sf_surface.Histories.{told_reply}
+use Rattle.sf_actor_set.specs.sf_actor.Desks.{mark_among}
+use Rattle.sf_actor_set.specs.sf_actor.Makers.{BufferOf, Run}
+use Rattle.sf_actor_set.specs.sf_actor.Rights.{turn_by}
 use Rattle.law_rights.specs.Calls.{move_of}
 use Rattle.law_rights.specs.Ledgers.{IsLedger}
 use Rattle.law_rights.specs.MakerCalls.{IsNewAt, given_at}

@@ -5,9 +5,9 @@ use Rattle.std.specs.List.{sum_by}
 use Rattle.std.proofs.lemmas.Bool.{cases_Bool, cases_lt, eqb-true}
 use Rattle.std.proofs.lemmas.List.Elements.{Contains-append_cases, Contains-append_left, Contains-append_right}
 use Rattle.std.proofs.lemmas.List.Sums.{sum_by-cons}
-use Rattle.sf_turns.specs.Counts.{leaves_of}
-use Rattle.sf_actor.specs.Rights.{Turn}
-use Rattle.sf_actor.specs.Written.{FrameNumber}
+use Rattle.sf_actor_set.specs.sf_turns.Counts.{leaves_of}
+use Rattle.sf_actor_set.specs.sf_actor.Rights.{Turn}
+use Rattle.sf_actor_set.specs.sf_actor.Written.{FrameNumber}
 use Rattle.law_rights.specs.Ledgers.{ComesBefore, HasLeftOrIsOwed, IsLedger, IsSettled, Ledger, Write}
 use Rattle.law_rights.specs.Moves.{HasAtMost, MayMove, Move, Moves, ended_by, given_by, made_by, owed_by, paid_by, queued_by, turn_after, used_by, written_by}
 use Rattle.law_rights.specs.Moves.{Goes, Makes, Ends, QueuesDrawn, QueuesOwed, Pays}

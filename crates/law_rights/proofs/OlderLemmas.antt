@@ -7,23 +7,23 @@ use Rattle.std.proofs.lemmas.Bool.{false≢true}
 use Rattle.std.proofs.lemmas.List.Elements.{All-contains}
 use Rattle.std.proofs.lemmas.List.Sorted.{Contains-permutation, IsPermutation-sym}
 use Rattle.sf_base.specs.Fences.{Fence}
-use Rattle.sf_picture.specs.declared.picture.Picture.{Picture}
-use Rattle.sf_surface.specs.Tokens.{ReadLeaseOf}
-use Rattle.sf_turns.specs.Counts.{IsExact}
-use Rattle.sf_commit.specs.Handlers.{HandlerOf}
-use Rattle.sf_script_scene.specs.Scene.{SceneValue}
-use Rattle.sf_actor.specs.declared.done.Done.{Done}
-use Rattle.sf_actor.specs.declared.holding.Holding.{Holding}
-use Rattle.sf_actor.specs.declared.holding.Holding.TheVariants as holding
-use Rattle.sf_actor.specs.Desks.{DeskHome, DeskView}
-use Rattle.sf_actor.specs.Makers.{Run, is_older}
-use Rattle.sf_actor.specs.Names.{Holdings, Token, is_owing}
-use Rattle.sf_actor.specs.Parts.{token_of, turn_held}
-use Rattle.sf_actor.specs.Points.{undrawn_fence}
-use Rattle.sf_actor.specs.Rights.{Turn}
-use Rattle.sf_actor.specs.Scripts.{picture_at}
-use Rattle.sf_actor.specs.Traces.{past_after}
-use Rattle.sf_actor.specs.Tries.{ActorOf, Keeps}
+use Rattle.sf_actor_set.specs.sf_picture.declared.picture.Picture.{Picture}
+use Rattle.sf_actor_set.specs.sf_surface.Tokens.{ReadLeaseOf}
+use Rattle.sf_actor_set.specs.sf_turns.Counts.{IsExact}
+use Rattle.sf_actor_set.specs.sf_commit.Handlers.{HandlerOf}
+use Rattle.sf_actor_set.specs.sf_script_scene.Scene.{SceneValue}
+use Rattle.sf_actor_set.specs.sf_actor.declared.done.Done.{Done}
+use Rattle.sf_actor_set.specs.sf_actor.declared.holding.Holding.{Holding}
+use Rattle.sf_actor_set.specs.sf_actor.declared.holding.Holding.TheVariants as holding
+use Rattle.sf_actor_set.specs.sf_actor.Desks.{DeskHome, DeskView}
+use Rattle.sf_actor_set.specs.sf_actor.Makers.{Run, is_older}
+use Rattle.sf_actor_set.specs.sf_actor.Names.{Holdings, Token, is_owing}
+use Rattle.sf_actor_set.specs.sf_actor.Parts.{token_of, turn_held}
+use Rattle.sf_actor_set.specs.sf_actor.Points.{undrawn_fence}
+use Rattle.sf_actor_set.specs.sf_actor.Rights.{Turn}
+use Rattle.sf_actor_set.specs.sf_actor.Scripts.{picture_at}
+use Rattle.sf_actor_set.specs.sf_actor.Traces.{past_after}
+use Rattle.sf_actor_set.specs.sf_actor.Tries.{ActorOf, Keeps}
 use Rattle.law_played.proofs.ArrivedFrames.{any_passes}
 use Rattle.law_played.proofs.Members.{has_filter, has_first, has_here, has_joined, has_later, has_map}
 use Rattle.law_played.proofs.RunTraces.{trace_here}

@@ -1,19 +1,19 @@
 -- What a call leaves owed, and which turns leave with it, are those of its move.
 use Rattle.std.proofs.Common.{◌≡◌, ℕ, true, false, List, [], ◌∷◌, ◌++◌, ap, ◌∙◌, sym, refl, subst, Option, Some, None}
 use Rattle.sf_base.specs.declared.ids.QueueId.{QueueId}
-use Rattle.sf_picture.specs.declared.picture.Picture.{Picture}
+use Rattle.sf_actor_set.specs.sf_picture.declared.picture.Picture.{Picture}
 use Rattle.sf_slots.specs.declared.calls.PlainReply.{PlainReply}
 use Rattle.sf_slots.specs.declared.calls.PlainReply.TheVariants as plain
-use Rattle.sf_surface.specs.declared.call.QCall.{QCall}
-use Rattle.sf_surface.specs.declared.call.QCall.TheVariants as call
-use Rattle.sf_surface.specs.declared.call.QReply.{QReply}
-use Rattle.sf_surface.specs.declared.work.Work.{Work}
-use Rattle.sf_surface.specs.declared.work.Work.TheVariants as work
-use Rattle.sf_surface.specs.Hands.{IsReply, brought, owes}
-use Rattle.sf_surface.specs.Tokens.{EndingOf, WriteLeaseOf, ending_drawn, ending_of, turn_of}
-use Rattle.sf_actor.specs.Desks.{DeskView}
-use Rattle.sf_actor.specs.Rights.{Turn, issued_turn, turn_by}
-use Rattle.sf_actor_steps.specs.Calling.{Ends}
+use Rattle.sf_actor_set.specs.sf_surface.declared.call.QCall.{QCall}
+use Rattle.sf_actor_set.specs.sf_surface.declared.call.QCall.TheVariants as call
+use Rattle.sf_actor_set.specs.sf_surface.declared.call.QReply.{QReply}
+use Rattle.sf_actor_set.specs.sf_surface.declared.work.Work.{Work}
+use Rattle.sf_actor_set.specs.sf_surface.declared.work.Work.TheVariants as work
+use Rattle.sf_actor_set.specs.sf_surface.Hands.{IsReply, brought, owes}
+use Rattle.sf_actor_set.specs.sf_surface.Tokens.{EndingOf, WriteLeaseOf, ending_drawn, ending_of, turn_of}
+use Rattle.sf_actor_set.specs.sf_actor.Desks.{DeskView}
+use Rattle.sf_actor_set.specs.sf_actor.Rights.{Turn, issued_turn, turn_by}
+use Rattle.sf_actor_set.specs.sf_actor_steps.Calling.{Ends}
 use Rattle.law_rights.specs.Calls.{ending, move_of, queueing}
 use Rattle.law_rights.specs.Moves.{Gets, ended_by, owed_by}
 use Rattle.law_rights.proofs.CallBalance.{refused_goes}

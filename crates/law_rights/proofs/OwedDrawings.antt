@@ -3,15 +3,15 @@ use Rattle.std.proofs.Common.{◌≡◌, ℕ, ◌<◌, ◌⊎◌, List, [], ◌�
 use Rattle.std.specs.Prelude.{Contains}
 use Rattle.std.specs.List.{flat_map}
 use Rattle.std.proofs.lemmas.List.Elements.{Contains-append_cases, Contains-append_left, Contains-append_right}
-use Rattle.sf_surface.specs.declared.call.Gives.{Gives}
-use Rattle.sf_surface.specs.declared.call.Gives.TheVariants as gives
-use Rattle.sf_turns.specs.Views.{PermitView}
-use Rattle.sf_actor.specs.declared.holding.Holding.{Holding}
-use Rattle.sf_actor.specs.declared.holding.Holding.TheVariants as holding
-use Rattle.sf_actor.specs.Rights.{issued_turn}
-use Rattle.sf_actor_steps.specs.declared.asking.Homes.{Homes}
-use Rattle.sf_actor_steps.specs.declared.bindings.Bindings.{Bindings}
-use Rattle.sf_actor_steps.specs.Calling.{placed, with_held, with_spare}
+use Rattle.sf_actor_set.specs.sf_surface.declared.call.Gives.{Gives}
+use Rattle.sf_actor_set.specs.sf_surface.declared.call.Gives.TheVariants as gives
+use Rattle.sf_actor_set.specs.sf_turns.Views.{PermitView}
+use Rattle.sf_actor_set.specs.sf_actor.declared.holding.Holding.{Holding}
+use Rattle.sf_actor_set.specs.sf_actor.declared.holding.Holding.TheVariants as holding
+use Rattle.sf_actor_set.specs.sf_actor.Rights.{issued_turn}
+use Rattle.sf_actor_set.specs.sf_actor_steps.declared.asking.Homes.{Homes}
+use Rattle.sf_actor_set.specs.sf_actor_steps.declared.bindings.Bindings.{Bindings}
+use Rattle.sf_actor_set.specs.sf_actor_steps.Calling.{placed, with_held, with_spare}
 use Rattle.law_rights.specs.Ledgers.{Write}
 use Rattle.law_rights.specs.Moves.{AreIn, Gets}
 use Rattle.law_rights.specs.Makers.{WriteAt, place_owed}

@@ -7,24 +7,24 @@ use Rattle.std.specs.Option.{option_map}
 use Rattle.std.proofs.lemmas.Bool.{cases_Bool, false≢true}
 use Rattle.std.proofs.lemmas.List.Elements.{All-contains}
 use Rattle.sf_base.specs.declared.ids.QueueId.{QueueId}
-use Rattle.sf_picture.specs.declared.picture.Picture.{Picture}
-use Rattle.sf_script_scene.specs.declared.step.Step.{Step}
-use Rattle.sf_script_scene.specs.declared.step.Step.TheVariants as step
+use Rattle.sf_actor_set.specs.sf_picture.declared.picture.Picture.{Picture}
+use Rattle.sf_actor_set.specs.sf_script_scene.declared.step.Step.{Step}
+use Rattle.sf_actor_set.specs.sf_script_scene.declared.step.Step.TheVariants as step
 use Rattle.sf_slots.specs.declared.calls.PlainReply.TheVariants as reply
 use Rattle.sf_slots.specs.declared.calls.WriteToken.{WriteToken}
 use Rattle.sf_slots.specs.declared.slot.Held.{Held}
-use Rattle.sf_surface.specs.Tokens.{OwingOf}
-use Rattle.sf_actor.specs.declared.done.Answered.{Answered}
-use Rattle.sf_actor.specs.declared.done.Answered.TheVariants as answered
-use Rattle.sf_actor.specs.declared.done.Done.{Done}
-use Rattle.sf_actor.specs.declared.holding.Holding.TheVariants as holding
-use Rattle.sf_actor.specs.Desks.{DeskHome, DeskView}
-use Rattle.sf_actor.specs.Names.{Apart, Frame, Holdings, Lent, OwedFrame, Owing, Token, dropped_of, is_owing, moved, name_in, with_name}
-use Rattle.sf_actor.specs.Parts.{token_of}
-use Rattle.sf_actor.specs.Steps.{attached, attached_read, detached, drawn_with, holdings_next, holdings_with, lent_by, owed_by, requested, shown_on, taken_by, was_done}
-use Rattle.sf_actor.specs.Traces.{DoneAt, Past, next, no_past, past_after, past_from, places_from, places_of}
-use Rattle.sf_actor.specs.Tries.{ActorOf, Keeps}
-use Rattle.sf_actor.specs.Written.{FrameNumber, paid_by, paid_frame, written_in}
+use Rattle.sf_actor_set.specs.sf_surface.Tokens.{OwingOf}
+use Rattle.sf_actor_set.specs.sf_actor.declared.done.Answered.{Answered}
+use Rattle.sf_actor_set.specs.sf_actor.declared.done.Answered.TheVariants as answered
+use Rattle.sf_actor_set.specs.sf_actor.declared.done.Done.{Done}
+use Rattle.sf_actor_set.specs.sf_actor.declared.holding.Holding.TheVariants as holding
+use Rattle.sf_actor_set.specs.sf_actor.Desks.{DeskHome, DeskView}
+use Rattle.sf_actor_set.specs.sf_actor.Names.{Apart, Frame, Holdings, Lent, OwedFrame, Owing, Token, dropped_of, is_owing, moved, name_in, with_name}
+use Rattle.sf_actor_set.specs.sf_actor.Parts.{token_of}
+use Rattle.sf_actor_set.specs.sf_actor.Steps.{attached, attached_read, detached, drawn_with, holdings_next, holdings_with, lent_by, owed_by, requested, shown_on, taken_by, was_done}
+use Rattle.sf_actor_set.specs.sf_actor.Traces.{DoneAt, Past, next, no_past, past_after, past_from, places_from, places_of}
+use Rattle.sf_actor_set.specs.sf_actor.Tries.{ActorOf, Keeps}
+use Rattle.sf_actor_set.specs.sf_actor.Written.{FrameNumber, paid_by, paid_frame, written_in}
 use Rattle.law_played.specs.Actors.{number_of, trace_among}
 use Rattle.law_played.proofs.Members.{has_map}
 use Rattle.law_played.proofs.RunTraces.{trace_here}

@@ -5,19 +5,19 @@ use Rattle.std.specs.List.{flat_map}
 use Rattle.std.specs.List.Sorted.{IsStrictlyIncreasing}
 use Rattle.std.proofs.lemmas.List.Elements.{All-contains}
 use Rattle.sf_base.specs.declared.ids.QueueId.{QueueId}
-use Rattle.sf_picture.specs.declared.picture.Picture.{Picture}
-use Rattle.sf_script_scene.specs.declared.step.Step.{Step}
-use Rattle.sf_script_scene.specs.declared.step.Step.TheVariants as step
+use Rattle.sf_actor_set.specs.sf_picture.declared.picture.Picture.{Picture}
+use Rattle.sf_actor_set.specs.sf_script_scene.declared.step.Step.{Step}
+use Rattle.sf_actor_set.specs.sf_script_scene.declared.step.Step.TheVariants as step
 use Rattle.sf_slots.specs.declared.calls.PlainReply.TheVariants as reply
 use Rattle.sf_slots.specs.declared.calls.WriteToken.{WriteToken}
-use Rattle.sf_actor.specs.declared.done.Answered.{Answered}
-use Rattle.sf_actor.specs.declared.done.Answered.TheVariants as answered
-use Rattle.sf_actor.specs.declared.done.Done.{Done}
-use Rattle.sf_actor.specs.Desks.{DeskHome, DeskView}
-use Rattle.sf_actor.specs.Names.{Holdings, Lent, Token, name_in}
-use Rattle.sf_actor.specs.Traces.{DoneAt, Past, next, no_past, places_from, places_of}
-use Rattle.sf_actor.specs.Tries.{ActorOf, Keeps}
-use Rattle.sf_actor.specs.Written.{FrameNumber, drawn_frame, paid_at, paid_by, written_at, written_by, written_in}
+use Rattle.sf_actor_set.specs.sf_actor.declared.done.Answered.{Answered}
+use Rattle.sf_actor_set.specs.sf_actor.declared.done.Answered.TheVariants as answered
+use Rattle.sf_actor_set.specs.sf_actor.declared.done.Done.{Done}
+use Rattle.sf_actor_set.specs.sf_actor.Desks.{DeskHome, DeskView}
+use Rattle.sf_actor_set.specs.sf_actor.Names.{Holdings, Lent, Token, name_in}
+use Rattle.sf_actor_set.specs.sf_actor.Traces.{DoneAt, Past, next, no_past, places_from, places_of}
+use Rattle.sf_actor_set.specs.sf_actor.Tries.{ActorOf, Keeps}
+use Rattle.sf_actor_set.specs.sf_actor.Written.{FrameNumber, drawn_frame, paid_at, paid_by, written_at, written_by, written_in}
 use Rattle.law_played.specs.Actors.{number_of, trace_among}
 use Rattle.law_played.proofs.RunTraces.{trace_here}
 use Rattle.law_rights.specs.Queuing.{QueuesFrame, WasPaidFor}

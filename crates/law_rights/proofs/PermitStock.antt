@@ -4,25 +4,25 @@ use Rattle.std.specs.Prelude.{Contains, if◌then◌else◌, slice_get}
 use Rattle.std.specs.List.{flat_map}
 use Rattle.std.proofs.lemmas.Bool.{cases_eq, eq-eqb, eqb-true, false≢true}
 use Rattle.std.proofs.lemmas.List.Elements.{All-contains, Contains-append_cases, Contains-append_left, Contains-append_right}
-use Rattle.sf_calls.specs.Histories.{IsLegal}
-use Rattle.sf_commit.specs.Handlers.{HandlerOf}
-use Rattle.sf_picture.specs.declared.picture.Picture.{Picture}
+use Rattle.sf_actor_set.specs.sf_calls.Histories.{IsLegal}
+use Rattle.sf_actor_set.specs.sf_commit.Handlers.{HandlerOf}
+use Rattle.sf_actor_set.specs.sf_picture.declared.picture.Picture.{Picture}
 use Rattle.sf_slots.specs.declared.calls.PlainReply.{PlainReply}
 use Rattle.sf_slots.specs.declared.calls.PlainReply.TheVariants as plain
-use Rattle.sf_surface.specs.declared.call.QCall.{QCall}
-use Rattle.sf_surface.specs.declared.call.QCall.TheVariants as call
-use Rattle.sf_surface.specs.declared.call.QReply.{QReply}
-use Rattle.sf_surface.specs.declared.mark.QueueMark.{QueueMark}
-use Rattle.sf_surface.specs.Hands.{IsReply, permit_of}
-use Rattle.sf_surface.specs.Histories.{Answers, Made, told_reply}
-use Rattle.sf_surface.specs.Reading.{has_left}
-use Rattle.sf_surface.specs.Tokens.{ReadLeaseOf}
-use Rattle.sf_turns.specs.Counts.{IsExact, stock_at}
-use Rattle.sf_turns.specs.Views.{PermitView}
-use Rattle.sf_actor.specs.Desks.{DeskHome, DeskView, known_of, mark_among}
-use Rattle.sf_actor.specs.Known.{Call, call_after, frame_of, own_calls, share_of}
-use Rattle.sf_actor.specs.Rights.{MadeWith, Turn, made_with, turn_by}
-use Rattle.sf_actor.specs.Tries.{ActorOf, Keeps}
+use Rattle.sf_actor_set.specs.sf_surface.declared.call.QCall.{QCall}
+use Rattle.sf_actor_set.specs.sf_surface.declared.call.QCall.TheVariants as call
+use Rattle.sf_actor_set.specs.sf_surface.declared.call.QReply.{QReply}
+use Rattle.sf_actor_set.specs.sf_surface.declared.mark.QueueMark.{QueueMark}
+use Rattle.sf_actor_set.specs.sf_surface.Hands.{IsReply, permit_of}
+use Rattle.sf_actor_set.specs.sf_surface.Histories.{Answers, Made, told_reply}
+use Rattle.sf_actor_set.specs.sf_surface.Reading.{has_left}
+use Rattle.sf_actor_set.specs.sf_surface.Tokens.{ReadLeaseOf}
+use Rattle.sf_actor_set.specs.sf_turns.Counts.{IsExact, stock_at}
+use Rattle.sf_actor_set.specs.sf_turns.Views.{PermitView}
+use Rattle.sf_actor_set.specs.sf_actor.Desks.{DeskHome, DeskView, known_of, mark_among}
+use Rattle.sf_actor_set.specs.sf_actor.Known.{Call, call_after, frame_of, own_calls, share_of}
+use Rattle.sf_actor_set.specs.sf_actor.Rights.{MadeWith, Turn, made_with, turn_by}
+use Rattle.sf_actor_set.specs.sf_actor.Tries.{ActorOf, Keeps}
 use Rattle.law_played.specs.Actors.{IsCallBy, IsRelease, number_of}
 use Rattle.law_played.proofs.Members.{has_joined, map_has}
 use Rattle.law_rights.specs.Actors.{AreOver}

@@ -6,23 +6,23 @@ use Rattle.std.proofs.lemmas.Bool.{eq-eqb, eqb-true}
 use Rattle.std.proofs.lemmas.List.Elements.{Contains-append_left}
 use Rattle.sf_base.specs.declared.geometry.Rect.{Rect}
 use Rattle.sf_base.specs.declared.ids.QueueId.{QueueId}
-use Rattle.sf_picture.specs.declared.picture.Picture.{Picture}
-use Rattle.sf_script_scene.specs.declared.step.Step.{Step}
-use Rattle.sf_script_scene.specs.declared.step.Step.TheVariants as step
+use Rattle.sf_actor_set.specs.sf_picture.declared.picture.Picture.{Picture}
+use Rattle.sf_actor_set.specs.sf_script_scene.declared.step.Step.{Step}
+use Rattle.sf_actor_set.specs.sf_script_scene.declared.step.Step.TheVariants as step
 use Rattle.sf_slots.specs.declared.calls.Entry.{Entry}
 use Rattle.sf_slots.specs.declared.calls.PlainCall.TheVariants as call
 use Rattle.sf_slots.specs.declared.calls.PlainReply.TheVariants as reply
 use Rattle.sf_slots.specs.declared.calls.WriteToken.{WriteToken}
-use Rattle.sf_surface.specs.Histories.{told}
-use Rattle.sf_actor.specs.declared.done.Answered.TheVariants as answered
-use Rattle.sf_actor.specs.declared.done.Done.{Done}
-use Rattle.sf_actor.specs.Asking.{Asked, call_of, queueing_of}
-use Rattle.sf_actor.specs.Desks.{DeskHome, DeskView, mark_among}
-use Rattle.sf_actor.specs.Scripts.{crop_of, fence_of}
-use Rattle.sf_actor.specs.Steps.{used_by}
-use Rattle.sf_actor.specs.Tales.{IsMade, made_on}
-use Rattle.sf_actor.specs.Traces.{DoneAt, MadeStep, made_at, made_by, overtaken, own_call, places_of, source_in}
-use Rattle.sf_actor.specs.Tries.{ActorOf, Keeps}
+use Rattle.sf_actor_set.specs.sf_surface.Histories.{told}
+use Rattle.sf_actor_set.specs.sf_actor.declared.done.Answered.TheVariants as answered
+use Rattle.sf_actor_set.specs.sf_actor.declared.done.Done.{Done}
+use Rattle.sf_actor_set.specs.sf_actor.Asking.{Asked, call_of, queueing_of}
+use Rattle.sf_actor_set.specs.sf_actor.Desks.{DeskHome, DeskView, mark_among}
+use Rattle.sf_actor_set.specs.sf_actor.Scripts.{crop_of, fence_of}
+use Rattle.sf_actor_set.specs.sf_actor.Steps.{used_by}
+use Rattle.sf_actor_set.specs.sf_actor.Tales.{IsMade, made_on}
+use Rattle.sf_actor_set.specs.sf_actor.Traces.{DoneAt, MadeStep, made_at, made_by, overtaken, own_call, places_of, source_in}
+use Rattle.sf_actor_set.specs.sf_actor.Tries.{ActorOf, Keeps}
 use Rattle.law_played.specs.Runs.{calls_of}
 use Rattle.law_played.proofs.Members.{filter_has, has_filter, has_joined, reverse_has}
 use Rattle.law_played.proofs.QueuedFrames.{IsQueued, queued_once}

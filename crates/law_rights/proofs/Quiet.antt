@@ -3,24 +3,24 @@ use Rattle.std.proofs.Common.{◌≡◌, ℕ, ◌+◌, ◌≤◌, ◌==◌, fals
 use Rattle.std.specs.List.{flat_map, sum_by}
 use Rattle.std.proofs.lemmas.Bool.{cases_Bool, eq-eqb, eqb-true, false≢true}
 use Rattle.std.proofs.lemmas.List.{append-nil}
-use Rattle.sf_picture.specs.declared.picture.Picture.{Picture}
-use Rattle.sf_script_scene.specs.declared.step.Step.{Step}
-use Rattle.sf_surface.specs.Hands.{brought, permit_of}
-use Rattle.sf_surface.specs.Tokens.{ReadLeaseOf}
-use Rattle.sf_token.specs.Pending.{Arrival}
-use Rattle.sf_actor.specs.declared.done.Answered.{Answered}
-use Rattle.sf_actor.specs.Desks.{DeskHome, DeskView}
-use Rattle.sf_actor.specs.Rights.{Turn}
-use Rattle.sf_actor.specs.Tests.{refusal_of}
-use Rattle.sf_actor.specs.Written as written
-use Rattle.sf_actor_steps.specs.declared.asking.Asking.{Asking}
-use Rattle.sf_actor_steps.specs.declared.bindings.Bindings.{Bindings}
-use Rattle.sf_actor_steps.specs.declared.tried.Tried.{Tried}
-use Rattle.sf_actor_steps.specs.declared.tried.Tried.TheVariants as tried
-use Rattle.sf_actor_steps.specs.Actors.{parts_of}
-use Rattle.sf_actor_steps.specs.Calling.{WaitsToCall, taken_back}
-use Rattle.sf_actor_steps.specs.Forming.{FormsCall}
-use Rattle.sf_actor_steps.specs.Bindings.{holdings_of}
+use Rattle.sf_actor_set.specs.sf_picture.declared.picture.Picture.{Picture}
+use Rattle.sf_actor_set.specs.sf_script_scene.declared.step.Step.{Step}
+use Rattle.sf_actor_set.specs.sf_surface.Hands.{brought, permit_of}
+use Rattle.sf_actor_set.specs.sf_surface.Tokens.{ReadLeaseOf}
+use Rattle.sf_actor_set.specs.sf_token.Pending.{Arrival}
+use Rattle.sf_actor_set.specs.sf_actor.declared.done.Answered.{Answered}
+use Rattle.sf_actor_set.specs.sf_actor.Desks.{DeskHome, DeskView}
+use Rattle.sf_actor_set.specs.sf_actor.Rights.{Turn}
+use Rattle.sf_actor_set.specs.sf_actor.Tests.{refusal_of}
+use Rattle.sf_actor_set.specs.sf_actor.Written as written
+use Rattle.sf_actor_set.specs.sf_actor_steps.declared.asking.Asking.{Asking}
+use Rattle.sf_actor_set.specs.sf_actor_steps.declared.bindings.Bindings.{Bindings}
+use Rattle.sf_actor_set.specs.sf_actor_steps.declared.tried.Tried.{Tried}
+use Rattle.sf_actor_set.specs.sf_actor_steps.declared.tried.Tried.TheVariants as tried
+use Rattle.sf_actor_set.specs.sf_actor_steps.Actors.{parts_of}
+use Rattle.sf_actor_set.specs.sf_actor_steps.Calling.{WaitsToCall, taken_back}
+use Rattle.sf_actor_set.specs.sf_actor_steps.Forming.{FormsCall}
+use Rattle.sf_actor_set.specs.sf_actor_steps.Bindings.{holdings_of}
 use Rattle.law_rights.specs.Ledgers.{IsLedger}
 use Rattle.law_rights.specs.Makers.{RightAt, places_arrived, places_held, places_of, places_out}
 use Rattle.law_rights.specs.Moves.{Gets, HasAtMost}

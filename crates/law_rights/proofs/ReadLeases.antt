@@ -4,20 +4,20 @@ use Rattle.std.specs.List.{AllZip, flat_map, sum_by}
 use Rattle.std.proofs.lemmas.List.{append-nil}
 use Rattle.std.proofs.lemmas.List.Elements.{Contains-append_right}
 use Rattle.std.proofs.lemmas.List.Sums.{sum_by-append, sum_by-cons}
-use Rattle.sf_surface.specs.Tokens.{Issued, ReadLeaseOf}
-use Rattle.sf_token.specs.Pending.{Arrival}
-use Rattle.sf_turns.specs.Views.{SeatView}
-use Rattle.sf_txn.specs.Leases.{IsLooked}
-use Rattle.sf_txn.specs.declared.lease.Lease.{Ghosts}
-use Rattle.sf_commit.specs.Handlers.{HandlerOf}
-use Rattle.sf_commit.specs.Leases.{HandsBack, IsReleaseOf}
-use Rattle.sf_commit.specs.Lending.{ends_of, left_if, reads_of}
-use Rattle.sf_commit.specs.OnLayers.{OnLayer, shown_on}
-use Rattle.sf_commit.specs.Releases.{ReleaseOf}
-use Rattle.sf_commit.specs.Rounds.{Round}
-use Rattle.sf_actor.specs.Desks.{DeskView}
-use Rattle.sf_actor.specs.Rights.{Turn, turn_by}
-use Rattle.sf_actor.specs.Tries.{ActorOf}
+use Rattle.sf_actor_set.specs.sf_surface.Tokens.{Issued, ReadLeaseOf}
+use Rattle.sf_actor_set.specs.sf_token.Pending.{Arrival}
+use Rattle.sf_actor_set.specs.sf_turns.Views.{SeatView}
+use Rattle.sf_actor_set.specs.sf_txn.Leases.{IsLooked}
+use Rattle.sf_actor_set.specs.sf_txn.declared.lease.Lease.{Ghosts}
+use Rattle.sf_actor_set.specs.sf_commit.Handlers.{HandlerOf}
+use Rattle.sf_actor_set.specs.sf_commit.Leases.{HandsBack, IsReleaseOf}
+use Rattle.sf_actor_set.specs.sf_commit.Lending.{ends_of, left_if, reads_of}
+use Rattle.sf_actor_set.specs.sf_commit.OnLayers.{OnLayer, shown_on}
+use Rattle.sf_actor_set.specs.sf_commit.Releases.{ReleaseOf}
+use Rattle.sf_actor_set.specs.sf_commit.Rounds.{Round}
+use Rattle.sf_actor_set.specs.sf_actor.Desks.{DeskView}
+use Rattle.sf_actor_set.specs.sf_actor.Rights.{Turn, turn_by}
+use Rattle.sf_actor_set.specs.sf_actor.Tries.{ActorOf}
 use Rattle.law_rights.specs.Ledgers.{IsLedger}
 use Rattle.law_rights.specs.Moves.{Gets, HasAtMost, turn_after}
 use Rattle.law_rights.specs.States.{State, all_owed, all_written, lease_turn, ledger_of, rights_arrived, rights_held, rights_of}

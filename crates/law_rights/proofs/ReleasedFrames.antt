@@ -5,32 +5,32 @@ use Rattle.std.specs.List.{flat_map, list_any, sum_by}
 use Rattle.std.proofs.lemmas.Bool.{cases_Bool, eqb-true, eq-eqb, false≢true}
 use Rattle.std.proofs.lemmas.List.Sums.{sum_by-append, sum_by-cons}
 use Rattle.sf_base.specs.Fences.{no_points, merged as with_points_of}
-use Rattle.sf_calls.specs.Histories.{IsLegal, entry}
-use Rattle.sf_picture.specs.declared.picture.Picture.{Picture}
-use Rattle.sf_script_scene.specs.declared.step.Step.{Step}
-use Rattle.sf_surface.specs.declared.call.QCall.{QCall}
-use Rattle.sf_surface.specs.declared.call.QCall.TheVariants as call
-use Rattle.sf_surface.specs.declared.mark.QueueMark.{QueueMark}
-use Rattle.sf_surface.specs.Histories.{Answers, Made, told_reply}
-use Rattle.sf_surface.specs.Tokens.{ReadLeaseOf}
-use Rattle.sf_token.specs.Pending.{Arrival}
-use Rattle.sf_txn.specs.Buffers.{Buffer}
-use Rattle.sf_txn.specs.Transactions.{all_replaced, empty, is_for, merged, replaced_by, set_buffer, with_buffer, with_buffers, without_first}
-use Rattle.sf_actor.specs.declared.done.Answered.{Answered}
-use Rattle.sf_actor.specs.declared.holding.Holding.{Holding}
-use Rattle.sf_actor.specs.declared.holding.Holding.TheVariants as holding
-use Rattle.sf_actor.specs.Desks.{DeskHome, DeskView, has_queue, mark_among}
-use Rattle.sf_actor.specs.Makers.{BufferOf}
-use Rattle.sf_actor.specs.Rights.{Turn}
-use Rattle.sf_actor.specs.Tries.{ActorOf}
-use Rattle.sf_actor.specs.Written as written
-use Rattle.sf_actor_steps.specs.declared.bindings.Bindings.{Bindings}
-use Rattle.sf_actor_steps.specs.declared.tried.Tried.{Tried}
-use Rattle.sf_actor_steps.specs.Actors.{parts_of}
-use Rattle.sf_actor_steps.specs.Calling.{with_held}
-use Rattle.sf_actor_steps.specs.Editing.{Merges, Releases, ReleasesAll, Shows, buffer_with, with_txn}
-use Rattle.sf_actor_steps.specs.Forming.{Takes}
-use Rattle.sf_actor_steps.specs.Bindings.{holdings_of}
+use Rattle.sf_actor_set.specs.sf_calls.Histories.{IsLegal, entry}
+use Rattle.sf_actor_set.specs.sf_picture.declared.picture.Picture.{Picture}
+use Rattle.sf_actor_set.specs.sf_script_scene.declared.step.Step.{Step}
+use Rattle.sf_actor_set.specs.sf_surface.declared.call.QCall.{QCall}
+use Rattle.sf_actor_set.specs.sf_surface.declared.call.QCall.TheVariants as call
+use Rattle.sf_actor_set.specs.sf_surface.declared.mark.QueueMark.{QueueMark}
+use Rattle.sf_actor_set.specs.sf_surface.Histories.{Answers, Made, told_reply}
+use Rattle.sf_actor_set.specs.sf_surface.Tokens.{ReadLeaseOf}
+use Rattle.sf_actor_set.specs.sf_token.Pending.{Arrival}
+use Rattle.sf_actor_set.specs.sf_txn.Buffers.{Buffer}
+use Rattle.sf_actor_set.specs.sf_txn.Transactions.{all_replaced, empty, is_for, merged, replaced_by, set_buffer, with_buffer, with_buffers, without_first}
+use Rattle.sf_actor_set.specs.sf_actor.declared.done.Answered.{Answered}
+use Rattle.sf_actor_set.specs.sf_actor.declared.holding.Holding.{Holding}
+use Rattle.sf_actor_set.specs.sf_actor.declared.holding.Holding.TheVariants as holding
+use Rattle.sf_actor_set.specs.sf_actor.Desks.{DeskHome, DeskView, has_queue, mark_among}
+use Rattle.sf_actor_set.specs.sf_actor.Makers.{BufferOf}
+use Rattle.sf_actor_set.specs.sf_actor.Rights.{Turn}
+use Rattle.sf_actor_set.specs.sf_actor.Tries.{ActorOf}
+use Rattle.sf_actor_set.specs.sf_actor.Written as written
+use Rattle.sf_actor_set.specs.sf_actor_steps.declared.bindings.Bindings.{Bindings}
+use Rattle.sf_actor_set.specs.sf_actor_steps.declared.tried.Tried.{Tried}
+use Rattle.sf_actor_set.specs.sf_actor_steps.Actors.{parts_of}
+use Rattle.sf_actor_set.specs.sf_actor_steps.Calling.{with_held}
+use Rattle.sf_actor_set.specs.sf_actor_steps.Editing.{Merges, Releases, ReleasesAll, Shows, buffer_with, with_txn}
+use Rattle.sf_actor_set.specs.sf_actor_steps.Forming.{Takes}
+use Rattle.sf_actor_set.specs.sf_actor_steps.Bindings.{holdings_of}
 use Rattle.law_rights.specs.Ledgers.{IsLedger}
 use Rattle.law_rights.specs.Makers.{RightAt, place_of, place_owed, places_arrived, places_held, places_of, places_out, right_read, right_shown}
 use Rattle.law_rights.specs.MakerSteps.{PlaceStep}

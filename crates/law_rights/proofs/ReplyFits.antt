@@ -4,30 +4,30 @@ use Rattle.std.specs.Prelude.{Contains}
 use Rattle.std.specs.Option.{option_map}
 use Rattle.std.proofs.lemmas.Bool.{false≢true}
 use Rattle.sf_base.specs.declared.ids.QueueId.{QueueId}
-use Rattle.sf_picture.specs.declared.picture.Picture.{Picture}
-use Rattle.sf_script_scene.specs.declared.step.Step.{Step}
-use Rattle.sf_script_scene.specs.declared.step.Step.TheVariants as step
+use Rattle.sf_actor_set.specs.sf_picture.declared.picture.Picture.{Picture}
+use Rattle.sf_actor_set.specs.sf_script_scene.declared.step.Step.{Step}
+use Rattle.sf_actor_set.specs.sf_script_scene.declared.step.Step.TheVariants as step
 use Rattle.sf_slots.specs.declared.calls.PlainReply.{PlainReply}
 use Rattle.sf_slots.specs.declared.calls.PlainReply.TheVariants as plain
 use Rattle.sf_slots.specs.declared.slot.Held.{Held}
-use Rattle.sf_surface.specs.declared.call.Gives.{Gives}
-use Rattle.sf_surface.specs.declared.call.QCall.{QCall}
-use Rattle.sf_surface.specs.declared.call.QCall.TheVariants as call
-use Rattle.sf_surface.specs.declared.call.QReply.{QReply}
-use Rattle.sf_surface.specs.declared.work.Work.{Work}
-use Rattle.sf_surface.specs.declared.work.Work.TheVariants as work
-use Rattle.sf_surface.specs.Hands.{IsReply, brought, owes}
-use Rattle.sf_surface.specs.Tokens.{WriteLeaseOf, turn_of}
-use Rattle.sf_actor.specs.declared.holding.Holding.{Holding}
-use Rattle.sf_actor.specs.Makers.{BufferOf, is_attached, loose_buffer}
-use Rattle.sf_actor.specs.Parts.{token_of}
-use Rattle.sf_actor.specs.Rights.{turn_by}
-use Rattle.sf_actor_steps.specs.declared.asking.Asking.{Asking}
-use Rattle.sf_actor_steps.specs.declared.asking.Homes.{Homes}
-use Rattle.sf_actor_steps.specs.declared.bindings.Bindings.{Bindings}
-use Rattle.sf_actor_steps.specs.Forming.{FormsCall}
-use Rattle.sf_actor_steps.specs.Bindings.{holdings_of}
-use Rattle.sf_actor_steps.proofs.HoldingLemmas.{name_in-held}
+use Rattle.sf_actor_set.specs.sf_surface.declared.call.Gives.{Gives}
+use Rattle.sf_actor_set.specs.sf_surface.declared.call.QCall.{QCall}
+use Rattle.sf_actor_set.specs.sf_surface.declared.call.QCall.TheVariants as call
+use Rattle.sf_actor_set.specs.sf_surface.declared.call.QReply.{QReply}
+use Rattle.sf_actor_set.specs.sf_surface.declared.work.Work.{Work}
+use Rattle.sf_actor_set.specs.sf_surface.declared.work.Work.TheVariants as work
+use Rattle.sf_actor_set.specs.sf_surface.Hands.{IsReply, brought, owes}
+use Rattle.sf_actor_set.specs.sf_surface.Tokens.{WriteLeaseOf, turn_of}
+use Rattle.sf_actor_set.specs.sf_actor.declared.holding.Holding.{Holding}
+use Rattle.sf_actor_set.specs.sf_actor.Makers.{BufferOf, is_attached, loose_buffer}
+use Rattle.sf_actor_set.specs.sf_actor.Parts.{token_of}
+use Rattle.sf_actor_set.specs.sf_actor.Rights.{turn_by}
+use Rattle.sf_actor_set.specs.sf_actor_steps.declared.asking.Asking.{Asking}
+use Rattle.sf_actor_set.specs.sf_actor_steps.declared.asking.Homes.{Homes}
+use Rattle.sf_actor_set.specs.sf_actor_steps.declared.bindings.Bindings.{Bindings}
+use Rattle.sf_actor_set.specs.sf_actor_steps.Forming.{FormsCall}
+use Rattle.sf_actor_set.specs.sf_actor_steps.Bindings.{holdings_of}
+use Rattle.sf_actor_set.proofs.sf_actor_steps_lemmas.HoldingLemmas.{name_in-held}
 use Rattle.law_rights.specs.MakerCalls.{brought_at, given_at}
 use Rattle.law_rights.specs.Makers.{WriteAt, place_written}
 use Rattle.law_rights.specs.Moves.{AreIn}

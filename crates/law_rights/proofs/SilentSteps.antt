@@ -3,9 +3,9 @@ use Rattle.std.proofs.Common.{◌≡◌, ℕ, List, [], ◌∷◌, arith, ap, �
 use Rattle.std.specs.List.{sum_by}
 use Rattle.std.proofs.lemmas.List.Elements.{Contains-append_right}
 use Rattle.std.proofs.lemmas.List.Sums.{sum_by-append}
-use Rattle.sf_surface.specs.declared.mark.QueueMark.{QueueMark}
-use Rattle.sf_surface.specs.Histories.{Made}
-use Rattle.sf_actor.specs.Rights.{Turn}
+use Rattle.sf_actor_set.specs.sf_surface.declared.mark.QueueMark.{QueueMark}
+use Rattle.sf_actor_set.specs.sf_surface.Histories.{Made}
+use Rattle.sf_actor_set.specs.sf_actor.Rights.{Turn}
 use Rattle.law_rights.specs.Ledgers.{IsLedger, Write}
 use Rattle.law_rights.specs.Moves.{Gets, HasAtMost, Goes, Ends, Pays, turn_after}
 use Rattle.law_rights.specs.States.{State, all_buffers, all_lying, all_writes, ledger_of, rights_held}

@@ -5,10 +5,10 @@ use Rattle.std.specs.List.{range_with_len, sum_by}
 use Rattle.std.proofs.lemmas.Bool.{cases_Bool, eqb-true, eq-eqb, false≢true}
 use Rattle.std.proofs.lemmas.List.Sums.{sum_by-cons}
 use Rattle.sf_slots.specs.History.{events, events_of, happening}
-use Rattle.sf_surface.specs.declared.mark.QueueMark.{QueueMark}
-use Rattle.sf_surface.specs.Calls.{told_call}
-use Rattle.sf_surface.specs.Histories.{Left, Made, last_left, left_after, left_by, told, told_reply}
-use Rattle.sf_actor.specs.Rights.{Turn, turn_by}
+use Rattle.sf_actor_set.specs.sf_surface.declared.mark.QueueMark.{QueueMark}
+use Rattle.sf_actor_set.specs.sf_surface.Calls.{told_call}
+use Rattle.sf_actor_set.specs.sf_surface.Histories.{Left, Made, last_left, left_after, left_by, told, told_reply}
+use Rattle.sf_actor_set.specs.sf_actor.Rights.{Turn, turn_by}
 use Rattle.law_rights.specs.Slots.{is_home_after, lying, lying_in, turn_left}
 use Rattle.law_rights.proofs.Homes.{ComeHome, StayHome}
 use Rattle.law_rights.proofs.ListSums.{at, range_filled, range_kept, range_taken, sum-flat_map}

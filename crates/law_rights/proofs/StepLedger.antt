@@ -6,34 +6,34 @@ use Rattle.std.proofs.lemmas.Bool.{or_parts}
 use Rattle.std.proofs.lemmas.List.{append-nil}
 use Rattle.std.proofs.lemmas.List.Elements.{All-contains}
 use Rattle.atomic_table.specs.Seated.{TableId}
-use Rattle.sf_commit.specs.Handlers.{HandlerOf}
-use Rattle.sf_picture.specs.declared.picture.Picture.{Picture}
-use Rattle.sf_script_scene.specs.declared.step.ActorScript.{ActorScript}
-use Rattle.sf_script_scene.specs.declared.step.Step.{Step}
-use Rattle.sf_script_scene.specs.declared.step.Step.TheVariants as step
-use Rattle.sf_script_scene.specs.Ranges.{IsStep}
-use Rattle.sf_surface.specs.Objects.{ObjectOf, mark_of}
-use Rattle.sf_surface.specs.Tokens.{ReadLeaseOf}
-use Rattle.sf_token.specs.Pending.{Arrival}
-use Rattle.sf_turns.specs.Counts.{stock_at}
-use Rattle.sf_actor.specs.declared.done.Done.{Done}
-use Rattle.sf_actor.specs.declared.tried.Reply.{Reply}
-use Rattle.sf_actor.specs.declared.tried.Stepped.{Stepped}
-use Rattle.sf_actor.specs.declared.tried.Stepped.TheVariants as stepped
-use Rattle.sf_actor.specs.Desks.{DeskHome, DeskView, has_queue}
-use Rattle.sf_actor.specs.Parts.{PartsOf}
-use Rattle.sf_actor.specs.Plain.{PlainOf, calls_among, home_of, is_queue, view_of}
-use Rattle.sf_actor.specs.Scripts.{picture_at}
-use Rattle.sf_actor.specs.Tales.{step_done}
-use Rattle.sf_actor.specs.Tests.{refusal_of}
-use Rattle.sf_actor.specs.Tries.{ActorOf, DoesStep, Keeps, Tries, next_step}
-use Rattle.sf_actor_steps.specs.declared.actor.Actor.{Actor}
-use Rattle.sf_actor_steps.specs.declared.bindings.Bindings.{Bindings}
-use Rattle.sf_actor_steps.specs.declared.tried.Tried.{Tried}
-use Rattle.sf_actor_steps.specs.Acting.{Acts as StepActs, Attempts}
-use Rattle.sf_actor_steps.specs.Actors.{Acts}
-use Rattle.sf_actor_steps.specs.Bindings.{holdings_of}
-use Rattle.sf_actor_steps.specs.Playable.{IsPlayable, MayPlay}
+use Rattle.sf_actor_set.specs.sf_commit.Handlers.{HandlerOf}
+use Rattle.sf_actor_set.specs.sf_picture.declared.picture.Picture.{Picture}
+use Rattle.sf_actor_set.specs.sf_script_scene.declared.step.ActorScript.{ActorScript}
+use Rattle.sf_actor_set.specs.sf_script_scene.declared.step.Step.{Step}
+use Rattle.sf_actor_set.specs.sf_script_scene.declared.step.Step.TheVariants as step
+use Rattle.sf_actor_set.specs.sf_script_scene.Ranges.{IsStep}
+use Rattle.sf_actor_set.specs.sf_surface.Objects.{ObjectOf, mark_of}
+use Rattle.sf_actor_set.specs.sf_surface.Tokens.{ReadLeaseOf}
+use Rattle.sf_actor_set.specs.sf_token.Pending.{Arrival}
+use Rattle.sf_actor_set.specs.sf_turns.Counts.{stock_at}
+use Rattle.sf_actor_set.specs.sf_actor.declared.done.Done.{Done}
+use Rattle.sf_actor_set.specs.sf_actor.declared.tried.Reply.{Reply}
+use Rattle.sf_actor_set.specs.sf_actor.declared.tried.Stepped.{Stepped}
+use Rattle.sf_actor_set.specs.sf_actor.declared.tried.Stepped.TheVariants as stepped
+use Rattle.sf_actor_set.specs.sf_actor.Desks.{DeskHome, DeskView, has_queue}
+use Rattle.sf_actor_set.specs.sf_actor.Parts.{PartsOf}
+use Rattle.sf_actor_set.specs.sf_actor.Plain.{PlainOf, calls_among, home_of, is_queue, view_of}
+use Rattle.sf_actor_set.specs.sf_actor.Scripts.{picture_at}
+use Rattle.sf_actor_set.specs.sf_actor.Tales.{step_done}
+use Rattle.sf_actor_set.specs.sf_actor.Tests.{refusal_of}
+use Rattle.sf_actor_set.specs.sf_actor.Tries.{ActorOf, DoesStep, Keeps, Tries, next_step}
+use Rattle.sf_actor_set.specs.sf_actor_steps.declared.actor.Actor.{Actor}
+use Rattle.sf_actor_set.specs.sf_actor_steps.declared.bindings.Bindings.{Bindings}
+use Rattle.sf_actor_set.specs.sf_actor_steps.declared.tried.Tried.{Tried}
+use Rattle.sf_actor_set.specs.sf_actor_steps.Acting.{Acts as StepActs, Attempts}
+use Rattle.sf_actor_set.specs.sf_actor_steps.Actors.{Acts}
+use Rattle.sf_actor_set.specs.sf_actor_steps.Bindings.{holdings_of}
+use Rattle.sf_actor_set.specs.sf_actor_steps.Playable.{IsPlayable, MayPlay}
 use Rattle.sf_actor_set.specs.ActorSets.{KeepAs, KeepsAs, StepsAt, script_of, scripts_of}
 use Rattle.sf_actor_set.proofs.ArrivalLemmas.{waiting_many}
 use Rattle.law_played.proofs.Members.{has_map}

@@ -8,31 +8,31 @@ use Rattle.std.proofs.lemmas.List.Concat.{flat_map-append}
 use Rattle.sf_base.specs.declared.ids.QueueId.{QueueId}
 use Rattle.sf_base.specs.Fences.{Fence}
 use Rattle.sf_base.specs.declared.geometry.Rect.{Rect}
-use Rattle.sf_picture.specs.declared.picture.Picture.{Picture}
-use Rattle.sf_script_scene.specs.declared.step.Step.{Step}
-use Rattle.sf_script_scene.specs.declared.step.Step.TheVariants as step
+use Rattle.sf_actor_set.specs.sf_picture.declared.picture.Picture.{Picture}
+use Rattle.sf_actor_set.specs.sf_script_scene.declared.step.Step.{Step}
+use Rattle.sf_actor_set.specs.sf_script_scene.declared.step.Step.TheVariants as step
 use Rattle.sf_slots.specs.declared.calls.PlainReply.{PlainReply}
 use Rattle.sf_slots.specs.declared.calls.PlainReply.TheVariants as plain
-use Rattle.sf_surface.specs.declared.call.QCall.TheVariants as call
-use Rattle.sf_surface.specs.declared.work.Work.{Work}
-use Rattle.sf_surface.specs.declared.work.Work.TheVariants as work
-use Rattle.sf_surface.specs.Calls.{write_token}
-use Rattle.sf_surface.specs.Tokens.{WriteLeaseOf, turn_of}
-use Rattle.sf_turns.specs.Views.{PermitView}
-use Rattle.sf_actor.specs.declared.done.Answered.TheVariants as answered
-use Rattle.sf_actor.specs.declared.done.Done.{Done}
-use Rattle.sf_actor.specs.declared.holding.Holding.TheVariants as holding
-use Rattle.sf_actor.specs.Names.{Lent, Token}
-use Rattle.sf_actor.specs.Parts.{drawn_picture, token_of}
-use Rattle.sf_actor.specs.Rights.{turn_by}
-use Rattle.sf_actor.specs.Scripts.{crop_of, fence_of}
-use Rattle.sf_actor.specs.Traces.{DoneAt, Past, next, no_past, past_after, past_from, places_from, places_of}
-use Rattle.sf_actor.specs.Written as written
-use Rattle.sf_actor_steps.specs.declared.asking.Asking.{Asking}
-use Rattle.sf_actor_steps.specs.declared.bindings.Bindings.{Bindings}
-use Rattle.sf_actor_steps.specs.Forming.{FormsCall, cancel_fence, permits_of}
-use Rattle.sf_actor_steps.specs.Bindings.{holdings_of}
-use Rattle.sf_actor_steps.proofs.HoldingLemmas.{name_in-held}
+use Rattle.sf_actor_set.specs.sf_surface.declared.call.QCall.TheVariants as call
+use Rattle.sf_actor_set.specs.sf_surface.declared.work.Work.{Work}
+use Rattle.sf_actor_set.specs.sf_surface.declared.work.Work.TheVariants as work
+use Rattle.sf_actor_set.specs.sf_surface.Calls.{write_token}
+use Rattle.sf_actor_set.specs.sf_surface.Tokens.{WriteLeaseOf, turn_of}
+use Rattle.sf_actor_set.specs.sf_turns.Views.{PermitView}
+use Rattle.sf_actor_set.specs.sf_actor.declared.done.Answered.TheVariants as answered
+use Rattle.sf_actor_set.specs.sf_actor.declared.done.Done.{Done}
+use Rattle.sf_actor_set.specs.sf_actor.declared.holding.Holding.TheVariants as holding
+use Rattle.sf_actor_set.specs.sf_actor.Names.{Lent, Token}
+use Rattle.sf_actor_set.specs.sf_actor.Parts.{drawn_picture, token_of}
+use Rattle.sf_actor_set.specs.sf_actor.Rights.{turn_by}
+use Rattle.sf_actor_set.specs.sf_actor.Scripts.{crop_of, fence_of}
+use Rattle.sf_actor_set.specs.sf_actor.Traces.{DoneAt, Past, next, no_past, past_after, past_from, places_from, places_of}
+use Rattle.sf_actor_set.specs.sf_actor.Written as written
+use Rattle.sf_actor_set.specs.sf_actor_steps.declared.asking.Asking.{Asking}
+use Rattle.sf_actor_set.specs.sf_actor_steps.declared.bindings.Bindings.{Bindings}
+use Rattle.sf_actor_set.specs.sf_actor_steps.Forming.{FormsCall, cancel_fence, permits_of}
+use Rattle.sf_actor_set.specs.sf_actor_steps.Bindings.{holdings_of}
+use Rattle.sf_actor_set.proofs.sf_actor_steps_lemmas.HoldingLemmas.{name_in-held}
 use Rattle.law_rights.specs.Calls.{ending, made_of, move_of, queueing}
 use Rattle.law_rights.specs.Moves.{made_by, written_by}
 use Rattle.law_rights.proofs.CallEffects.{move_makes}

@@ -1,23 +1,23 @@
 -- Whatever a try of a step comes to, the ledger of the run stays one.
 use Rattle.std.proofs.Common.{◌≡◌, ℕ, ◌+◌, ◌==◌, Bool, true, false, [], ◌∷◌, arith, ap, ◌∙◌, refl, subst, length, Option, Some, None}
 use Rattle.std.specs.List.{sum_by}
-use Rattle.sf_picture.specs.declared.picture.Picture.{Picture}
-use Rattle.sf_script_scene.specs.declared.step.Step.{Step}
-use Rattle.sf_script_scene.specs.declared.step.Step.TheVariants as step
-use Rattle.sf_txn.specs.Transactions.{empty}
-use Rattle.sf_actor.specs.declared.done.Answered.TheVariants as answered
-use Rattle.sf_actor.specs.Desks.{DeskHome, DeskView}
-use Rattle.sf_actor.specs.Names.{Holdings, name_in}
-use Rattle.sf_actor.specs.Points.{frame_fence, requested_fence}
-use Rattle.sf_actor.specs.Tests.{bad_value, first_met, refusal_of}
-use Rattle.sf_actor.specs.Tests as tests
-use Rattle.sf_actor.specs.Written as written
-use Rattle.sf_actor_steps.specs.declared.bindings.Bindings.{Bindings}
-use Rattle.sf_actor_steps.specs.declared.tried.Tried.{Tried}
-use Rattle.sf_actor_steps.specs.declared.tried.Tried.TheVariants as tried
-use Rattle.sf_actor_steps.specs.Acting.{Acts, Attempts}
-use Rattle.sf_actor_steps.specs.Actors.{parts_of}
-use Rattle.sf_actor_steps.specs.Bindings.{holdings_of}
+use Rattle.sf_actor_set.specs.sf_picture.declared.picture.Picture.{Picture}
+use Rattle.sf_actor_set.specs.sf_script_scene.declared.step.Step.{Step}
+use Rattle.sf_actor_set.specs.sf_script_scene.declared.step.Step.TheVariants as step
+use Rattle.sf_actor_set.specs.sf_txn.Transactions.{empty}
+use Rattle.sf_actor_set.specs.sf_actor.declared.done.Answered.TheVariants as answered
+use Rattle.sf_actor_set.specs.sf_actor.Desks.{DeskHome, DeskView}
+use Rattle.sf_actor_set.specs.sf_actor.Names.{Holdings, name_in}
+use Rattle.sf_actor_set.specs.sf_actor.Points.{frame_fence, requested_fence}
+use Rattle.sf_actor_set.specs.sf_actor.Tests.{bad_value, first_met, refusal_of}
+use Rattle.sf_actor_set.specs.sf_actor.Tests as tests
+use Rattle.sf_actor_set.specs.sf_actor.Written as written
+use Rattle.sf_actor_set.specs.sf_actor_steps.declared.bindings.Bindings.{Bindings}
+use Rattle.sf_actor_set.specs.sf_actor_steps.declared.tried.Tried.{Tried}
+use Rattle.sf_actor_set.specs.sf_actor_steps.declared.tried.Tried.TheVariants as tried
+use Rattle.sf_actor_set.specs.sf_actor_steps.Acting.{Acts, Attempts}
+use Rattle.sf_actor_set.specs.sf_actor_steps.Actors.{parts_of}
+use Rattle.sf_actor_set.specs.sf_actor_steps.Bindings.{holdings_of}
 use Rattle.law_rights.specs.Ledgers.{IsLedger}
 use Rattle.law_rights.specs.Makers.{places_held}
 use Rattle.law_rights.specs.PlaceTries.{PlacesGo}

@@ -8,54 +8,54 @@ use Rattle.std.proofs.lemmas.List.{append-nil, map-append}
 use Rattle.std.proofs.lemmas.List.Concat.{flat_map-append}
 use Rattle.std.proofs.lemmas.List.Elements.{All-head, All-tail, filter-append}
 use Rattle.sf_base.specs.declared.fences.Seen.{Seen}
-use Rattle.sf_calls.specs.Histories.{entry}
-use Rattle.sf_picture.specs.declared.picture.Picture.{Picture}
-use Rattle.sf_script_scene.specs.declared.step.ActorScript.{ActorScript}
-use Rattle.sf_script_scene.specs.declared.step.Step.{Step}
-use Rattle.sf_script_scene.specs.declared.step.Step.TheVariants as step
+use Rattle.sf_actor_set.specs.sf_calls.Histories.{entry}
+use Rattle.sf_actor_set.specs.sf_picture.declared.picture.Picture.{Picture}
+use Rattle.sf_actor_set.specs.sf_script_scene.declared.step.ActorScript.{ActorScript}
+use Rattle.sf_actor_set.specs.sf_script_scene.declared.step.Step.{Step}
+use Rattle.sf_actor_set.specs.sf_script_scene.declared.step.Step.TheVariants as step
 use Rattle.sf_slots.specs.declared.calls.Entry.{Entry}
 use Rattle.sf_slots.specs.declared.calls.PlainReply.{PlainReply}
-use Rattle.sf_surface.specs.declared.call.QCall.{QCall}
-use Rattle.sf_surface.specs.declared.call.QReply.{QReply}
-use Rattle.sf_surface.specs.declared.mark.QueueMark.{QueueMark}
-use Rattle.sf_surface.specs.Histories.{Made, told_reply}
-use Rattle.sf_surface.specs.Calls.{may_wait, write_token}
+use Rattle.sf_actor_set.specs.sf_surface.declared.call.QCall.{QCall}
+use Rattle.sf_actor_set.specs.sf_surface.declared.call.QReply.{QReply}
+use Rattle.sf_actor_set.specs.sf_surface.declared.mark.QueueMark.{QueueMark}
+use Rattle.sf_actor_set.specs.sf_surface.Histories.{Made, told_reply}
+use Rattle.sf_actor_set.specs.sf_surface.Calls.{may_wait, write_token}
 use Rattle.sf_base.specs.declared.status.QStatus.{QStatus}
 use Rattle.sf_slots.specs.declared.calls.WriteToken.{WriteToken}
 use Rattle.sf_base.specs.Fences.{Fence}
 use Rattle.sf_base.specs.declared.ids.QueueId.{QueueId}
-use Rattle.sf_actor_steps.specs.declared.asking.Asking.{Asking}
-use Rattle.sf_surface.specs.Tokens.{WriteLeaseOf}
-use Rattle.sf_turns.specs.Views.{SeatView}
-use Rattle.sf_actor.specs.declared.done.Answered.{Answered}
-use Rattle.sf_actor.specs.declared.done.Answered.TheVariants as answered
-use Rattle.sf_actor.specs.declared.done.Done.{Done}
-use Rattle.sf_actor.specs.declared.holding.Holding.{Holding}
-use Rattle.sf_actor.specs.declared.holding.Holding.TheVariants as holding
-use Rattle.sf_actor.specs.declared.tried.Reply.{Reply}
-use Rattle.sf_actor.specs.declared.tried.Stepped.{Stepped}
-use Rattle.sf_actor.specs.declared.tried.Stepped.TheVariants as stepped
-use Rattle.sf_actor.specs.Asking.{Asked, call_of, queueing_of}
-use Rattle.sf_actor.specs.Desks.{DeskHome, DeskView, known_of, mark_among}
-use Rattle.sf_actor.specs.Known.{Call, call_after, own_calls, share_of, told_by}
-use Rattle.sf_actor.specs.Names.{Holdings, Lent}
-use Rattle.sf_actor.specs.Parts.{PartsOf, drawn_picture, plain_of, token_of}
-use Rattle.sf_actor.specs.Rights.{Turn}
-use Rattle.sf_actor.specs.Steps.{used_by, was_done}
-use Rattle.sf_actor.specs.Scripts.{fence_of}
-use Rattle.sf_actor.specs.Tales.{IsMade, made_on, step_done}
-use Rattle.sf_actor.specs.Tests.{refusal_of}
-use Rattle.sf_actor.specs.Traces.{AnswersCall, AnswersTests, DoneAt, IsAnswered, MadeStep, Past, made_at, made_by, overtaken, own_call, past_after, places_of, source_in}
-use Rattle.sf_actor.specs.Tries.{ActorOf, DoesStep, Keeps, Tries, ended_by, held_in, next_step, owed_turn}
-use Rattle.sf_actor.specs.Written as written
-use Rattle.sf_actor_steps.specs.declared.bindings.Bindings.{Bindings}
-use Rattle.sf_actor_steps.specs.declared.tried.Tried.{Tried}
-use Rattle.sf_actor_steps.specs.declared.tried.Tried.TheVariants as tried
-use Rattle.sf_actor_steps.specs.Actors.{parts_of}
-use Rattle.sf_actor_steps.specs.Doing.{MakesCall}
-use Rattle.sf_actor_steps.specs.Drawing.{Draws, DrawsHolding, WaitsToDraw}
-use Rattle.sf_actor_steps.specs.Bindings.{holdings_of}
-use Rattle.sf_actor_steps.proofs.HoldingLemmas.{name_in-held}
+use Rattle.sf_actor_set.specs.sf_actor_steps.declared.asking.Asking.{Asking}
+use Rattle.sf_actor_set.specs.sf_surface.Tokens.{WriteLeaseOf}
+use Rattle.sf_actor_set.specs.sf_turns.Views.{SeatView}
+use Rattle.sf_actor_set.specs.sf_actor.declared.done.Answered.{Answered}
+use Rattle.sf_actor_set.specs.sf_actor.declared.done.Answered.TheVariants as answered
+use Rattle.sf_actor_set.specs.sf_actor.declared.done.Done.{Done}
+use Rattle.sf_actor_set.specs.sf_actor.declared.holding.Holding.{Holding}
+use Rattle.sf_actor_set.specs.sf_actor.declared.holding.Holding.TheVariants as holding
+use Rattle.sf_actor_set.specs.sf_actor.declared.tried.Reply.{Reply}
+use Rattle.sf_actor_set.specs.sf_actor.declared.tried.Stepped.{Stepped}
+use Rattle.sf_actor_set.specs.sf_actor.declared.tried.Stepped.TheVariants as stepped
+use Rattle.sf_actor_set.specs.sf_actor.Asking.{Asked, call_of, queueing_of}
+use Rattle.sf_actor_set.specs.sf_actor.Desks.{DeskHome, DeskView, known_of, mark_among}
+use Rattle.sf_actor_set.specs.sf_actor.Known.{Call, call_after, own_calls, share_of, told_by}
+use Rattle.sf_actor_set.specs.sf_actor.Names.{Holdings, Lent}
+use Rattle.sf_actor_set.specs.sf_actor.Parts.{PartsOf, drawn_picture, plain_of, token_of}
+use Rattle.sf_actor_set.specs.sf_actor.Rights.{Turn}
+use Rattle.sf_actor_set.specs.sf_actor.Steps.{used_by, was_done}
+use Rattle.sf_actor_set.specs.sf_actor.Scripts.{fence_of}
+use Rattle.sf_actor_set.specs.sf_actor.Tales.{IsMade, made_on, step_done}
+use Rattle.sf_actor_set.specs.sf_actor.Tests.{refusal_of}
+use Rattle.sf_actor_set.specs.sf_actor.Traces.{AnswersCall, AnswersTests, DoneAt, IsAnswered, MadeStep, Past, made_at, made_by, overtaken, own_call, past_after, places_of, source_in}
+use Rattle.sf_actor_set.specs.sf_actor.Tries.{ActorOf, DoesStep, Keeps, Tries, ended_by, held_in, next_step, owed_turn}
+use Rattle.sf_actor_set.specs.sf_actor.Written as written
+use Rattle.sf_actor_set.specs.sf_actor_steps.declared.bindings.Bindings.{Bindings}
+use Rattle.sf_actor_set.specs.sf_actor_steps.declared.tried.Tried.{Tried}
+use Rattle.sf_actor_set.specs.sf_actor_steps.declared.tried.Tried.TheVariants as tried
+use Rattle.sf_actor_set.specs.sf_actor_steps.Actors.{parts_of}
+use Rattle.sf_actor_set.specs.sf_actor_steps.Doing.{MakesCall}
+use Rattle.sf_actor_set.specs.sf_actor_steps.Drawing.{Draws, DrawsHolding, WaitsToDraw}
+use Rattle.sf_actor_set.specs.sf_actor_steps.Bindings.{holdings_of}
+use Rattle.sf_actor_set.proofs.sf_actor_steps_lemmas.HoldingLemmas.{name_in-held}
 use Rattle.law_rights.specs.States.{CallsOnce, State}
 use Rattle.law_rights.specs.Tries.{WritesTry}
 use Rattle.law_rights.proofs.Draws.{draw_waits, draw_writes}

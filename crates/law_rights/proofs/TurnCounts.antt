@@ -6,8 +6,8 @@ use Rattle.std.proofs.lemmas.Bool.{cases_Bool, eqb-true}
 use Rattle.std.proofs.lemmas.List.Elements.{Contains-append_cases, Contains-append_left, Contains-append_right, Contains-push, Contains-push_cases}
 use Rattle.std.proofs.lemmas.List.Recursion.{is_sum_by}
 use Rattle.std.proofs.lemmas.List.Sums.{sum_by-cons}
-use Rattle.sf_turns.specs.Counts.{leaves_of, same, same_turn}
-use Rattle.sf_actor.specs.Rights.{Turn}
+use Rattle.sf_actor_set.specs.sf_turns.Counts.{leaves_of, same, same_turn}
+use Rattle.sf_actor_set.specs.sf_actor.Rights.{Turn}
 
 module _ {A : Type 0} where
   -- the items of a list with one more in front

@@ -4,18 +4,18 @@ use Rattle.std.specs.Prelude.{Contains}
 use Rattle.std.specs.List.{AllZip, flat_map, sum_by}
 use Rattle.std.proofs.lemmas.List.Elements.{Contains-append_cases, Contains-append_left, Contains-append_right}
 use Rattle.std.proofs.lemmas.List.Sums.{sum_by-append}
-use Rattle.sf_surface.specs.Tokens.{Issued, ReadLeaseOf}
-use Rattle.sf_token.specs.Pending.{Arrival}
-use Rattle.sf_turns.specs.Views.{SeatView}
-use Rattle.sf_txn.specs.Leases.{IsLooked}
-use Rattle.sf_txn.specs.declared.lease.Lease.{Ghosts}
-use Rattle.sf_commit.specs.Handlers.{HandlerOf}
-use Rattle.sf_commit.specs.Leases.{HandsBack, IsReleaseOf}
-use Rattle.sf_commit.specs.OnLayers.{OnLayer, shown_on}
-use Rattle.sf_commit.specs.Releases.{ReleaseOf}
-use Rattle.sf_commit.specs.Rounds.{Round}
-use Rattle.sf_actor.specs.Rights.{Turn}
-use Rattle.sf_actor.specs.Tries.{ActorOf}
+use Rattle.sf_actor_set.specs.sf_surface.Tokens.{Issued, ReadLeaseOf}
+use Rattle.sf_actor_set.specs.sf_token.Pending.{Arrival}
+use Rattle.sf_actor_set.specs.sf_turns.Views.{SeatView}
+use Rattle.sf_actor_set.specs.sf_txn.Leases.{IsLooked}
+use Rattle.sf_actor_set.specs.sf_txn.declared.lease.Lease.{Ghosts}
+use Rattle.sf_actor_set.specs.sf_commit.Handlers.{HandlerOf}
+use Rattle.sf_actor_set.specs.sf_commit.Leases.{HandsBack, IsReleaseOf}
+use Rattle.sf_actor_set.specs.sf_commit.OnLayers.{OnLayer, shown_on}
+use Rattle.sf_actor_set.specs.sf_commit.Releases.{ReleaseOf}
+use Rattle.sf_actor_set.specs.sf_commit.Rounds.{Round}
+use Rattle.sf_actor_set.specs.sf_actor.Rights.{Turn}
+use Rattle.sf_actor_set.specs.sf_actor.Tries.{ActorOf}
 use Rattle.law_played.proofs.Members.{has_map, map_has}
 use Rattle.law_rights.specs.Makers.{RightAt, places_arrived, places_held, places_of, places_out, places_owed, right_read}
 use Rattle.law_rights.specs.Places.{RestsAt}

@@ -3,19 +3,19 @@ use Rattle.std.proofs.Common.{◌≡◌, ℕ, ◌<◌, true, List, [], ◌++◌,
 use Rattle.std.specs.Prelude.{Contains}
 use Rattle.std.specs.List.{flat_map}
 use Rattle.std.proofs.lemmas.List.Elements.{Contains-append_left, Contains-append_right}
-use Rattle.sf_commit.specs.Handlers.{HandlerOf}
-use Rattle.sf_picture.specs.declared.picture.Picture.{Picture}
+use Rattle.sf_actor_set.specs.sf_commit.Handlers.{HandlerOf}
+use Rattle.sf_actor_set.specs.sf_picture.declared.picture.Picture.{Picture}
 use Rattle.sf_slots.specs.declared.slot.Held.{Held}
-use Rattle.sf_surface.specs.Drawing.{IsShort}
-use Rattle.sf_surface.specs.Tokens.{OwingOf, ReadLeaseOf, WriteLeaseOf, turn_of}
-use Rattle.sf_turns.specs.Counts.{IsExact, leaves_of}
-use Rattle.sf_turns.specs.Views.{SeatView}
-use Rattle.sf_actor.specs.declared.holding.Holding.{Holding}
-use Rattle.sf_actor.specs.declared.holding.Holding.TheVariants as holding
-use Rattle.sf_actor.specs.Desks.{DeskHome, DeskView}
-use Rattle.sf_actor.specs.Parts.{turn_held}
-use Rattle.sf_actor.specs.Rights.{Turn, issued_turn, turn_by}
-use Rattle.sf_actor.specs.Tries.{ActorOf}
+use Rattle.sf_actor_set.specs.sf_surface.Drawing.{IsShort}
+use Rattle.sf_actor_set.specs.sf_surface.Tokens.{OwingOf, ReadLeaseOf, WriteLeaseOf, turn_of}
+use Rattle.sf_actor_set.specs.sf_turns.Counts.{IsExact, leaves_of}
+use Rattle.sf_actor_set.specs.sf_turns.Views.{SeatView}
+use Rattle.sf_actor_set.specs.sf_actor.declared.holding.Holding.{Holding}
+use Rattle.sf_actor_set.specs.sf_actor.declared.holding.Holding.TheVariants as holding
+use Rattle.sf_actor_set.specs.sf_actor.Desks.{DeskHome, DeskView}
+use Rattle.sf_actor_set.specs.sf_actor.Parts.{turn_held}
+use Rattle.sf_actor_set.specs.sf_actor.Rights.{Turn, issued_turn, turn_by}
+use Rattle.sf_actor_set.specs.sf_actor.Tries.{ActorOf}
 use Rattle.law_rights.specs.Actors.{AreOver}
 use Rattle.law_rights.specs.Ledgers.{HasLeftOrIsOwed, IsSettled, Ledger, Write}
 use Rattle.law_rights.specs.Owed.{HasEarlier, IsOwedIn, MayDraw}

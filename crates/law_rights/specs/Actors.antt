@@ -1,10 +1,10 @@
 -- The actors of a run over their desk, as far as its ledger needs them.
 use Rattle.std.specs.Prelude.{ℕ, List, All}
-use Rattle.sf_calls.specs.Histories.{IsLegal}
-use Rattle.sf_picture.specs.declared.picture.Picture.{Picture}
-use Rattle.sf_surface.specs.Histories.{Answers}
-use Rattle.sf_actor.specs.Desks.{DeskHome, DeskView, mark_among}
-use Rattle.sf_actor.specs.Tries.{ActorOf, Keeps}
+use Rattle.sf_actor_set.specs.sf_calls.Histories.{IsLegal}
+use Rattle.sf_actor_set.specs.sf_picture.declared.picture.Picture.{Picture}
+use Rattle.sf_actor_set.specs.sf_surface.Histories.{Answers}
+use Rattle.sf_actor_set.specs.sf_actor.Desks.{DeskHome, DeskView, mark_among}
+use Rattle.sf_actor_set.specs.sf_actor.Tries.{ActorOf, Keeps}
 use Rattle.law_played.specs.Actors.{IsCallBy}
 use Rattle.law_rights.specs.States.{AreApart}
 

@@ -1,20 +1,20 @@
 -- What a call on a queue does to the turns.
 use Rattle.std.specs.Prelude.{ℕ, true, List, [], ◌∷◌, ◌++◌, option_to_list}
 use Rattle.sf_base.specs.declared.ids.QueueId.{QueueId}
-use Rattle.sf_calls.specs.Histories.{entry}
+use Rattle.sf_actor_set.specs.sf_calls.Histories.{entry}
 use Rattle.sf_slots.specs.declared.calls.PlainReply.{PlainReply}
 use Rattle.sf_slots.specs.declared.calls.PlainReply.TheVariants as plain
-use Rattle.sf_surface.specs.declared.call.Gives.{Gives}
-use Rattle.sf_surface.specs.declared.call.Gives.TheVariants as gives
-use Rattle.sf_surface.specs.declared.call.QCall.{QCall}
-use Rattle.sf_surface.specs.declared.call.QCall.TheVariants as call
-use Rattle.sf_surface.specs.declared.call.QReply.{QReply}
-use Rattle.sf_surface.specs.declared.mark.QueueMark.{QueueMark}
-use Rattle.sf_surface.specs.declared.work.Work.{Work}
-use Rattle.sf_surface.specs.declared.work.Work.TheVariants as work
-use Rattle.sf_surface.specs.Histories.{Made, told_reply}
-use Rattle.sf_surface.specs.Tokens.{turn_of}
-use Rattle.sf_actor.specs.Rights.{Turn, brought_turn, turn_by}
+use Rattle.sf_actor_set.specs.sf_surface.declared.call.Gives.{Gives}
+use Rattle.sf_actor_set.specs.sf_surface.declared.call.Gives.TheVariants as gives
+use Rattle.sf_actor_set.specs.sf_surface.declared.call.QCall.{QCall}
+use Rattle.sf_actor_set.specs.sf_surface.declared.call.QCall.TheVariants as call
+use Rattle.sf_actor_set.specs.sf_surface.declared.call.QReply.{QReply}
+use Rattle.sf_actor_set.specs.sf_surface.declared.mark.QueueMark.{QueueMark}
+use Rattle.sf_actor_set.specs.sf_surface.declared.work.Work.{Work}
+use Rattle.sf_actor_set.specs.sf_surface.declared.work.Work.TheVariants as work
+use Rattle.sf_actor_set.specs.sf_surface.Histories.{Made, told_reply}
+use Rattle.sf_actor_set.specs.sf_surface.Tokens.{turn_of}
+use Rattle.sf_actor_set.specs.sf_actor.Rights.{Turn, brought_turn, turn_by}
 use Rattle.law_rights.specs.Ledgers.{Write}
 use Rattle.law_rights.specs.Moves.{HasAtMost, Move, Goes, Makes, Ends, QueuesDrawn, QueuesOwed, given_by, used_by}
 use Rattle.law_rights.specs.Slots.{lying}

@@ -1,15 +1,15 @@
 -- Draws that entered pixels: each frame that was queued before is written before, and what is queued later comes after.
 use Rattle.std.specs.Prelude.{◌≡◌, ℕ, ◌+◌, ◌<◌, ◌≤◌, ◌==◌, ◌&&◌, ◌⊎◌, nat_le, true, false, List, ◌∷◌, length, Contains}
-use Rattle.sf_script_scene.specs.Scene.{SceneValue}
+use Rattle.sf_actor_set.specs.sf_script_scene.Scene.{SceneValue}
 use Rattle.sf_slots.specs.Events.{frames_queued}
 use Rattle.sf_slots.specs.History.{events}
-use Rattle.sf_commit.specs.Handlers.{HandlerOf}
-use Rattle.sf_surface.specs.Tokens.{ReadLeaseOf}
-use Rattle.sf_actor.specs.Desks.{DeskHome, DeskView}
-use Rattle.sf_actor.specs.Makers.{BufferOf, Run, buffer_in, is_before, same_maker}
-use Rattle.sf_actor.specs.Names.{Token}
-use Rattle.sf_actor.specs.Tries.{ActorOf}
-use Rattle.sf_actor.specs.Written.{FrameNumber, written_at}
+use Rattle.sf_actor_set.specs.sf_commit.Handlers.{HandlerOf}
+use Rattle.sf_actor_set.specs.sf_surface.Tokens.{ReadLeaseOf}
+use Rattle.sf_actor_set.specs.sf_actor.Desks.{DeskHome, DeskView}
+use Rattle.sf_actor_set.specs.sf_actor.Makers.{BufferOf, Run, buffer_in, is_before, same_maker}
+use Rattle.sf_actor_set.specs.sf_actor.Names.{Token}
+use Rattle.sf_actor_set.specs.sf_actor.Tries.{ActorOf}
+use Rattle.sf_actor_set.specs.sf_actor.Written.{FrameNumber, written_at}
 use Rattle.law_played.specs.Actors.{run_of}
 use Rattle.law_played.specs.Runs.{StepBy, steps_in}
 use Rattle.law_played.specs.Turns.{calls_in, entered_by, maker_at, turn_frame}

@@ -1,8 +1,8 @@
 -- A ledger of the turns at buffers: which rights lie somewhere, which drawings are owed, and which turns have left.
 use Rattle.std.specs.Prelude.{◌≡◌, ℕ, ◌<◌, ◌≤◌, ◌⊎◌, List, Contains}
-use Rattle.sf_turns.specs.Counts.{leaves_of}
-use Rattle.sf_actor.specs.Rights.{Turn}
-use Rattle.sf_actor.specs.Written.{FrameNumber}
+use Rattle.sf_actor_set.specs.sf_turns.Counts.{leaves_of}
+use Rattle.sf_actor_set.specs.sf_actor.Rights.{Turn}
+use Rattle.sf_actor_set.specs.sf_actor.Written.{FrameNumber}
 
 -- the write of a frame: the turn in which its picture is drawn, and the frame
 pub record Write : Type 0 where

@@ -20,3 +20,18 @@ pub mod States
 pub mod Steps
 pub mod Tries
 pub mod Vsyncs
+pub use Rattle.law_played.specs as law_played
+pub use Rattle.sf_actor_set.specs.sf_actor
+pub use Rattle.sf_actor_set.specs as sf_actor_set
+pub use Rattle.sf_actor_set.specs.sf_actor_steps
+pub use Rattle.sf_actor_set.specs.sf_calls
+pub use Rattle.sf_actor_set.specs.sf_commit
+pub use Rattle.sf_actor_set.specs.sf_layer
+pub use Rattle.sf_actor_set.specs.sf_picture
+pub use Rattle.law_played.specs.sf_record
+pub use Rattle.sf_actor_set.specs.sf_script_scene
+pub use Rattle.sf_actor_set.specs.sf_surface
+pub use Rattle.sf_actor_set.specs.sf_times
+pub use Rattle.sf_actor_set.specs.sf_token
+pub use Rattle.sf_actor_set.specs.sf_turns
+pub use Rattle.sf_actor_set.specs.sf_txn

@@ -1,17 +1,17 @@
 -- What a look at a frame tells, by a ledger.
 use Rattle.std.specs.Prelude.{◌≡◌, ℕ, ◌==◌, ◌&&◌, Bool, true, List, Contains}
 use Rattle.std.specs.List.{list_any}
-use Rattle.sf_calls.specs.Histories.{IsLegal}
-use Rattle.sf_surface.specs.declared.call.Gives.TheVariants as gives
-use Rattle.sf_surface.specs.declared.call.QCall.TheVariants as call
-use Rattle.sf_surface.specs.declared.mark.QueueMark.{QueueMark}
-use Rattle.sf_surface.specs.Histories.{Answers, Made}
-use Rattle.sf_surface.specs.Reading.{plain_lease}
-use Rattle.sf_surface.specs.Tokens.{ReadLeaseOf}
-use Rattle.sf_actor.specs.Desks.{mark_among}
-use Rattle.sf_actor.specs.Names.{FrameOf}
-use Rattle.sf_actor.specs.Rights.{turn_by}
-use Rattle.sf_actor.specs.Written.{FrameNumber}
+use Rattle.sf_actor_set.specs.sf_calls.Histories.{IsLegal}
+use Rattle.sf_actor_set.specs.sf_surface.declared.call.Gives.TheVariants as gives
+use Rattle.sf_actor_set.specs.sf_surface.declared.call.QCall.TheVariants as call
+use Rattle.sf_actor_set.specs.sf_surface.declared.mark.QueueMark.{QueueMark}
+use Rattle.sf_actor_set.specs.sf_surface.Histories.{Answers, Made}
+use Rattle.sf_actor_set.specs.sf_surface.Reading.{plain_lease}
+use Rattle.sf_actor_set.specs.sf_surface.Tokens.{ReadLeaseOf}
+use Rattle.sf_actor_set.specs.sf_actor.Desks.{mark_among}
+use Rattle.sf_actor_set.specs.sf_actor.Names.{FrameOf}
+use Rattle.sf_actor_set.specs.sf_actor.Rights.{turn_by}
+use Rattle.sf_actor_set.specs.sf_actor.Written.{FrameNumber}
 use Rattle.law_rights.specs.Ledgers.{Ledger, Write}
 use Rattle.law_rights.specs.Moves.{turn_after}
 use Rattle.law_rights.specs.States.{is_queue}

@@ -3,13 +3,13 @@ use Rattle.std.specs.Prelude.{◌≡◌, true, List, [], ◌∷◌, Contains}
 use Rattle.sf_base.specs.declared.ids.QueueId.{QueueId}
 use Rattle.sf_slots.specs.declared.calls.PlainReply.{PlainReply}
 use Rattle.sf_slots.specs.declared.calls.PlainReply.TheVariants as plain
-use Rattle.sf_surface.specs.declared.call.Gives.{Gives}
-use Rattle.sf_surface.specs.declared.call.Gives.TheVariants as gives
-use Rattle.sf_surface.specs.declared.call.QCall.{QCall}
-use Rattle.sf_surface.specs.declared.call.QCall.TheVariants as call
-use Rattle.sf_surface.specs.Tokens.{WriteLeaseOf, turn_of}
-use Rattle.sf_actor.specs.Makers.{BufferOf}
-use Rattle.sf_actor.specs.Rights.{turn_by}
+use Rattle.sf_actor_set.specs.sf_surface.declared.call.Gives.{Gives}
+use Rattle.sf_actor_set.specs.sf_surface.declared.call.Gives.TheVariants as gives
+use Rattle.sf_actor_set.specs.sf_surface.declared.call.QCall.{QCall}
+use Rattle.sf_actor_set.specs.sf_surface.declared.call.QCall.TheVariants as call
+use Rattle.sf_actor_set.specs.sf_surface.Tokens.{WriteLeaseOf, turn_of}
+use Rattle.sf_actor_set.specs.sf_actor.Makers.{BufferOf}
+use Rattle.sf_actor_set.specs.sf_actor.Rights.{turn_by}
 use Rattle.law_rights.specs.Makers.{RightAt, right_read}
 
 -- one of these rights is of the same buffer, at the same place

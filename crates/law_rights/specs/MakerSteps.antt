@@ -2,13 +2,13 @@
 use Rattle.std.specs.Prelude.{◌≡◌, ℕ, ◌<◌, ◌⊎◌, true, List, [], ◌∷◌, ◌++◌, Contains}
 use Rattle.sf_base.specs.declared.ids.QueueId.{QueueId}
 use Rattle.sf_slots.specs.declared.calls.PlainReply.{PlainReply}
-use Rattle.sf_surface.specs.declared.call.QCall.{QCall}
-use Rattle.sf_surface.specs.declared.call.QCall.TheVariants as call
-use Rattle.sf_surface.specs.declared.call.QReply.{QReply}
-use Rattle.sf_surface.specs.declared.mark.QueueMark.{QueueMark}
-use Rattle.sf_surface.specs.Histories.{Made, told, told_entry, told_reply}
-use Rattle.sf_actor.specs.Makers.{BufferOf, Run, attached_from, before_attach, is_attached, making_of}
-use Rattle.sf_actor.specs.Desks.{mark_among}
+use Rattle.sf_actor_set.specs.sf_surface.declared.call.QCall.{QCall}
+use Rattle.sf_actor_set.specs.sf_surface.declared.call.QCall.TheVariants as call
+use Rattle.sf_actor_set.specs.sf_surface.declared.call.QReply.{QReply}
+use Rattle.sf_actor_set.specs.sf_surface.declared.mark.QueueMark.{QueueMark}
+use Rattle.sf_actor_set.specs.sf_surface.Histories.{Made, told, told_entry, told_reply}
+use Rattle.sf_actor_set.specs.sf_actor.Makers.{BufferOf, Run, attached_from, before_attach, is_attached, making_of}
+use Rattle.sf_actor_set.specs.sf_actor.Desks.{mark_among}
 use Rattle.law_rights.specs.Calls.{made_of}
 use Rattle.law_rights.specs.MakerCalls.{IsNewAt, brought_at, given_at}
 use Rattle.law_rights.specs.Makers.{GoesOn, Places, RightAt, WasMade, WriteAt, place_written, places_of, places_out}

@@ -6,20 +6,20 @@ use Rattle.sf_base.specs.declared.ids.QueueId.{QueueId}
 use Rattle.sf_slots.specs.declared.calls.PlainReply.{PlainReply}
 use Rattle.sf_slots.specs.declared.calls.PlainReply.TheVariants as plain
 use Rattle.sf_slots.specs.History.{events}
-use Rattle.sf_surface.specs.declared.call.QCall.{QCall}
-use Rattle.sf_surface.specs.declared.call.QCall.TheVariants as call
-use Rattle.sf_surface.specs.declared.mark.QueueMark.{QueueMark}
-use Rattle.sf_surface.specs.Histories.{Left, Made, last_left, told, told_reply}
-use Rattle.sf_surface.specs.Tokens.{ReadLeaseOf, turn_of}
-use Rattle.sf_token.specs.Pending.{Arrival}
-use Rattle.sf_txn.specs.Buffers.{Buffer}
-use Rattle.sf_txn.specs.Transactions.{Contents}
-use Rattle.sf_actor.specs.declared.holding.Holding.{Holding}
-use Rattle.sf_actor.specs.declared.holding.Holding.TheVariants as holding
-use Rattle.sf_actor.specs.Makers.{BufferOf, Maker, Run, before_attach, making_of}
-use Rattle.sf_actor.specs.Parts.{PartsOf}
-use Rattle.sf_actor.specs.Rights.{Turn, issued_turn, turn_by}
-use Rattle.sf_actor.specs.Tries.{ActorOf}
+use Rattle.sf_actor_set.specs.sf_surface.declared.call.QCall.{QCall}
+use Rattle.sf_actor_set.specs.sf_surface.declared.call.QCall.TheVariants as call
+use Rattle.sf_actor_set.specs.sf_surface.declared.mark.QueueMark.{QueueMark}
+use Rattle.sf_actor_set.specs.sf_surface.Histories.{Left, Made, last_left, told, told_reply}
+use Rattle.sf_actor_set.specs.sf_surface.Tokens.{ReadLeaseOf, turn_of}
+use Rattle.sf_actor_set.specs.sf_token.Pending.{Arrival}
+use Rattle.sf_actor_set.specs.sf_txn.Buffers.{Buffer}
+use Rattle.sf_actor_set.specs.sf_txn.Transactions.{Contents}
+use Rattle.sf_actor_set.specs.sf_actor.declared.holding.Holding.{Holding}
+use Rattle.sf_actor_set.specs.sf_actor.declared.holding.Holding.TheVariants as holding
+use Rattle.sf_actor_set.specs.sf_actor.Makers.{BufferOf, Maker, Run, before_attach, making_of}
+use Rattle.sf_actor_set.specs.sf_actor.Parts.{PartsOf}
+use Rattle.sf_actor_set.specs.sf_actor.Rights.{Turn, issued_turn, turn_by}
+use Rattle.sf_actor_set.specs.sf_actor.Tries.{ActorOf}
 use Rattle.law_rights.specs.Ledgers.{Write}
 use Rattle.law_rights.specs.Slots.{is_home_after}
 use Rattle.law_rights.specs.States.{State, all_buffers}

@@ -1,8 +1,8 @@
 -- What can happen to a ledger.
 use Rattle.std.specs.Prelude.{◌≡◌, ℕ, ◌+◌, ◌≤◌, List, [], ◌∷◌, ◌++◌, Contains}
 use Rattle.std.specs.List.{sum_by}
-use Rattle.sf_actor.specs.Rights.{Turn}
-use Rattle.sf_actor.specs.Written.{FrameNumber}
+use Rattle.sf_actor_set.specs.sf_actor.Rights.{Turn}
+use Rattle.sf_actor_set.specs.sf_actor.Written.{FrameNumber}
 use Rattle.law_rights.specs.Ledgers.{Ledger, Write}
 
 pub data Move : Type 0 where

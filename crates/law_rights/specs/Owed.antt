@@ -1,15 +1,15 @@
 -- Which drawings are owed before a turn, and which frames are written before a draw.
 use Rattle.std.specs.Prelude.{◌≡◌, ℕ, ◌<◌, List, Contains, Some}
 use Rattle.sf_slots.specs.declared.slot.Held.{Held}
-use Rattle.sf_surface.specs.Tokens.{OwingOf}
-use Rattle.sf_actor.specs.declared.holding.Holding.{Holding}
-use Rattle.sf_actor.specs.declared.holding.Holding.TheVariants as holding
-use Rattle.sf_actor.specs.Desks.{DeskHome, DeskView, known_of}
-use Rattle.sf_actor.specs.Known.{share_of}
-use Rattle.sf_actor.specs.Parts.{turn_held}
-use Rattle.sf_actor.specs.Rights.{Turn, WasGivenAt, issued_turn}
-use Rattle.sf_actor.specs.Tries.{ActorOf}
-use Rattle.sf_actor.specs.Written.{FrameNumber}
+use Rattle.sf_actor_set.specs.sf_surface.Tokens.{OwingOf}
+use Rattle.sf_actor_set.specs.sf_actor.declared.holding.Holding.{Holding}
+use Rattle.sf_actor_set.specs.sf_actor.declared.holding.Holding.TheVariants as holding
+use Rattle.sf_actor_set.specs.sf_actor.Desks.{DeskHome, DeskView, known_of}
+use Rattle.sf_actor_set.specs.sf_actor.Known.{share_of}
+use Rattle.sf_actor_set.specs.sf_actor.Parts.{turn_held}
+use Rattle.sf_actor_set.specs.sf_actor.Rights.{Turn, WasGivenAt, issued_turn}
+use Rattle.sf_actor_set.specs.sf_actor.Tries.{ActorOf}
+use Rattle.sf_actor_set.specs.sf_actor.Written.{FrameNumber}
 use Rattle.law_rights.specs.Ledgers.{Write}
 use Rattle.law_rights.specs.States.{all_writes}
 

@@ -2,18 +2,18 @@
 use Rattle.std.specs.Prelude.{◌≡◌, ℕ, ◌⊎◌, true, List, [], ◌∷◌}
 use Rattle.std.specs.Option.{option_map_or}
 use Rattle.sf_base.specs.Fences.{Fence}
-use Rattle.sf_script_scene.specs.declared.step.Step.{Step}
-use Rattle.sf_surface.specs.declared.call.QCall.{QCall}
-use Rattle.sf_surface.specs.declared.call.QCall.TheVariants as call
-use Rattle.sf_surface.specs.declared.call.QReply.{QReply}
-use Rattle.sf_surface.specs.Histories.{told_reply}
-use Rattle.sf_surface.specs.Tokens.{Issued, ReadLeaseOf}
-use Rattle.sf_turns.specs.Views.{SeatView}
-use Rattle.sf_txn.specs.declared.lease.Lease.{Ghosts}
-use Rattle.sf_actor.specs.Desks.{mark_among}
-use Rattle.sf_actor.specs.Makers.{BufferOf, is_attached, loose_buffer}
-use Rattle.sf_actor.specs.Names.{Holdings, name_in}
-use Rattle.sf_actor.specs.Steps.{used_by}
+use Rattle.sf_actor_set.specs.sf_script_scene.declared.step.Step.{Step}
+use Rattle.sf_actor_set.specs.sf_surface.declared.call.QCall.{QCall}
+use Rattle.sf_actor_set.specs.sf_surface.declared.call.QCall.TheVariants as call
+use Rattle.sf_actor_set.specs.sf_surface.declared.call.QReply.{QReply}
+use Rattle.sf_actor_set.specs.sf_surface.Histories.{told_reply}
+use Rattle.sf_actor_set.specs.sf_surface.Tokens.{Issued, ReadLeaseOf}
+use Rattle.sf_actor_set.specs.sf_turns.Views.{SeatView}
+use Rattle.sf_actor_set.specs.sf_txn.declared.lease.Lease.{Ghosts}
+use Rattle.sf_actor_set.specs.sf_actor.Desks.{mark_among}
+use Rattle.sf_actor_set.specs.sf_actor.Makers.{BufferOf, is_attached, loose_buffer}
+use Rattle.sf_actor_set.specs.sf_actor.Names.{Holdings, name_in}
+use Rattle.sf_actor_set.specs.sf_actor.Steps.{used_by}
 use Rattle.law_rights.specs.Ledgers.{IsLedger}
 use Rattle.law_rights.specs.Makers.{places_of, right_read}
 use Rattle.law_rights.specs.MakerSteps.{PlaceStep}

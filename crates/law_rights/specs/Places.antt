@@ -1,6 +1,6 @@
 -- What can happen to the places of rights.
 use Rattle.std.specs.Prelude.{◌≡◌, ℕ, ◌<◌, ◌⊎◌, [], ◌∷◌, Contains}
-use Rattle.sf_actor.specs.Makers.{BufferOf, Run}
+use Rattle.sf_actor_set.specs.sf_actor.Makers.{BufferOf, Run}
 use Rattle.law_rights.specs.Makers.{Places, RightAt, WasMade, WriteAt, buffer_of}
 use Rattle.law_rights.specs.Moves.{AreIn, Gets}
 use Rattle.law_rights.specs.Stays.{IsBefore, IsFirst}

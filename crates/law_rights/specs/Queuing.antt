@@ -1,15 +1,15 @@
 -- A step that queued a frame, and one that drew what was owed to it.
 use Rattle.std.specs.Prelude.{◌≡◌, ℕ, List, Contains, Option, Some}
 use Rattle.sf_base.specs.declared.ids.QueueId.{QueueId}
-use Rattle.sf_script_scene.specs.declared.step.Step.TheVariants as step
+use Rattle.sf_actor_set.specs.sf_script_scene.declared.step.Step.TheVariants as step
 use Rattle.sf_slots.specs.declared.calls.PlainReply.TheVariants as reply
 use Rattle.sf_slots.specs.declared.calls.WriteToken.{WriteToken}
-use Rattle.sf_actor.specs.declared.done.Answered.TheVariants as answered
-use Rattle.sf_actor.specs.declared.done.Done.{Done}
-use Rattle.sf_actor.specs.Names.{Lent, name_in}
-use Rattle.sf_actor.specs.Traces.{DoneAt, places_of}
-use Rattle.sf_actor.specs.Tries.{ActorOf}
-use Rattle.sf_actor.specs.Written.{FrameNumber, paid_at}
+use Rattle.sf_actor_set.specs.sf_actor.declared.done.Answered.TheVariants as answered
+use Rattle.sf_actor_set.specs.sf_actor.declared.done.Done.{Done}
+use Rattle.sf_actor_set.specs.sf_actor.Names.{Lent, name_in}
+use Rattle.sf_actor_set.specs.sf_actor.Traces.{DoneAt, places_of}
+use Rattle.sf_actor_set.specs.sf_actor.Tries.{ActorOf}
+use Rattle.sf_actor_set.specs.sf_actor.Written.{FrameNumber, paid_at}
 
 -- one of a trace's steps queued a frame of this number in this queue
 pub record QueuesFrame (trace : List Done) (queue : QueueId) (frame : ℕ) (at : DoneAt) : Type 0 where

@@ -6,9 +6,9 @@ use Rattle.sf_slots.specs.declared.slot.SlotState.TheVariants.{Free, Queued}
 use Rattle.sf_slots.specs.Events.{Event}
 use Rattle.sf_slots.specs.History.{events, slot_after}
 use Rattle.sf_slots.specs.Told.{is_in}
-use Rattle.sf_surface.specs.declared.mark.QueueMark.{QueueMark}
-use Rattle.sf_surface.specs.Histories.{Left, Made, last_left, told}
-use Rattle.sf_actor.specs.Rights.{Turn, turn_by}
+use Rattle.sf_actor_set.specs.sf_surface.declared.mark.QueueMark.{QueueMark}
+use Rattle.sf_actor_set.specs.sf_surface.Histories.{Left, Made, last_left, told}
+use Rattle.sf_actor_set.specs.sf_actor.Rights.{Turn, turn_by}
 
 -- the right to a slot's pixels lies in it: the slot is free and has a buffer, or a frame is queued from it
 abbrev pub is_home : Slot → Bool

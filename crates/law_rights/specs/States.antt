@@ -1,22 +1,22 @@
 -- The ledger of a run of one thread: what its queues, its actors, the transactions on their way and the layers hold.
 use Rattle.std.specs.Prelude.{◌≡◌, ◌≢◌, ℕ, ◌==◌, Bool, false, true, List, [], ◌∷◌, ◌++◌, map, Option, Some, None}
 use Rattle.std.specs.List.{flat_map, list_any}
-use Rattle.sf_calls.specs.Histories.{entry}
-use Rattle.sf_surface.specs.declared.call.QCall.{QCall}
-use Rattle.sf_surface.specs.declared.call.QReply.{QReply}
-use Rattle.sf_surface.specs.declared.mark.QueueMark.{QueueMark}
-use Rattle.sf_surface.specs.Histories.{Made, Replied, told_reply}
-use Rattle.sf_surface.specs.Tokens.{ReadLeaseOf, turn_of}
-use Rattle.sf_token.specs.Pending.{Arrival}
-use Rattle.sf_txn.specs.Buffers.{Buffer}
-use Rattle.sf_txn.specs.Transactions.{Contents}
-use Rattle.sf_actor.specs.declared.holding.Holding.{Holding}
-use Rattle.sf_actor.specs.declared.holding.Holding.TheVariants as holding
-use Rattle.sf_actor.specs.Desks.{DeskView, mark_among}
-use Rattle.sf_actor.specs.Parts.{PartsOf}
-use Rattle.sf_actor.specs.Rights.{Turn, issued_turn, turn_by}
-use Rattle.sf_actor.specs.Tries.{ActorOf}
-use Rattle.sf_actor.specs.Written as written
+use Rattle.sf_actor_set.specs.sf_calls.Histories.{entry}
+use Rattle.sf_actor_set.specs.sf_surface.declared.call.QCall.{QCall}
+use Rattle.sf_actor_set.specs.sf_surface.declared.call.QReply.{QReply}
+use Rattle.sf_actor_set.specs.sf_surface.declared.mark.QueueMark.{QueueMark}
+use Rattle.sf_actor_set.specs.sf_surface.Histories.{Made, Replied, told_reply}
+use Rattle.sf_actor_set.specs.sf_surface.Tokens.{ReadLeaseOf, turn_of}
+use Rattle.sf_actor_set.specs.sf_token.Pending.{Arrival}
+use Rattle.sf_actor_set.specs.sf_txn.Buffers.{Buffer}
+use Rattle.sf_actor_set.specs.sf_txn.Transactions.{Contents}
+use Rattle.sf_actor_set.specs.sf_actor.declared.holding.Holding.{Holding}
+use Rattle.sf_actor_set.specs.sf_actor.declared.holding.Holding.TheVariants as holding
+use Rattle.sf_actor_set.specs.sf_actor.Desks.{DeskView, mark_among}
+use Rattle.sf_actor_set.specs.sf_actor.Parts.{PartsOf}
+use Rattle.sf_actor_set.specs.sf_actor.Rights.{Turn, issued_turn, turn_by}
+use Rattle.sf_actor_set.specs.sf_actor.Tries.{ActorOf}
+use Rattle.sf_actor_set.specs.sf_actor.Written as written
 use Rattle.law_rights.specs.Calls.{buffers_in, move_of, writes_in}
 use Rattle.law_rights.specs.Ledgers.{Ledger, Write}
 use Rattle.law_rights.specs.Moves.{Move}

@@ -1,6 +1,6 @@
 -- Where a buffer has been: it goes from queue to queue by attach calls.
 use Rattle.std.specs.Prelude.{◌≡◌, List, [], ◌∷◌, length, Some, None}
-use Rattle.sf_actor.specs.Makers.{BufferOf, Maker, Run, before_attach, making_of}
+use Rattle.sf_actor_set.specs.sf_actor.Makers.{BufferOf, Maker, Run, before_attach, making_of}
 
 -- the buffer of a queue before the attach that put it there, if an attach did
 abbrev pub IsBefore : Run → BufferOf → BufferOf → Type 0

@@ -1,8 +1,8 @@
 -- What a call of an actor or of the compositor does to a state.
 use Rattle.std.specs.Prelude.{◌≡◌, ℕ, [], ◌∷◌, ◌++◌, Contains}
-use Rattle.sf_surface.specs.declared.call.QCall.{QCall}
-use Rattle.sf_surface.specs.declared.call.QReply.{QReply}
-use Rattle.sf_actor.specs.Rights.{Turn}
+use Rattle.sf_actor_set.specs.sf_surface.declared.call.QCall.{QCall}
+use Rattle.sf_actor_set.specs.sf_surface.declared.call.QReply.{QReply}
+use Rattle.sf_actor_set.specs.sf_actor.Rights.{Turn}
 use Rattle.law_rights.specs.Calls.{brought_rights, given_rights}
 use Rattle.law_rights.specs.Ledgers.{Write}
 use Rattle.law_rights.specs.Moves.{AreIn, Gets, HasAtMost, ended_by, made_by, owed_by, turn_after, written_by}

@@ -1,28 +1,28 @@
 -- An actor's try of a step, as a change of a state.
 use Rattle.std.specs.Prelude.{◌≡◌, ℕ, ◌+◌, ◌++◌, [], false, true, List, length, Contains, Some, slice_get, slice_set}
-use Rattle.sf_picture.specs.declared.picture.Picture.{Picture}
-use Rattle.sf_script_scene.specs.Ranges.{IsStep}
-use Rattle.sf_script_scene.specs.declared.step.Step.{Step}
-use Rattle.sf_surface.specs.declared.call.QCall.{QCall}
-use Rattle.sf_surface.specs.declared.call.QReply.{QReply}
-use Rattle.sf_surface.specs.Histories.{told_reply}
-use Rattle.sf_surface.specs.Tokens.{ReadLeaseOf}
-use Rattle.sf_token.specs.Pending.{Arrival}
-use Rattle.sf_actor.specs.declared.done.Answered.{Answered}
-use Rattle.sf_actor.specs.declared.done.Answered.TheVariants as answered
-use Rattle.sf_actor.specs.declared.done.Done.{Done}
-use Rattle.sf_actor.specs.Desks.{DeskHome, has_queue, mark_among}
-use Rattle.sf_actor.specs.Names.{Holdings}
-use Rattle.sf_actor.specs.Tests.{refusal_of}
-use Rattle.sf_actor.specs.Tries.{ActorOf}
-use Rattle.sf_actor.specs.Written as written
-use Rattle.sf_actor_steps.specs.declared.bindings.Bindings.{Bindings}
-use Rattle.sf_actor_steps.specs.declared.tried.Tried.{Tried}
-use Rattle.sf_actor_steps.specs.declared.tried.Tried.TheVariants as tried
-use Rattle.sf_actor_steps.specs.Acting.{Attempts}
-use Rattle.sf_actor_steps.specs.Actors.{parts_of}
-use Rattle.sf_actor_steps.specs.Forming.{permits_of}
-use Rattle.sf_actor_steps.specs.Bindings.{holdings_of}
+use Rattle.sf_actor_set.specs.sf_picture.declared.picture.Picture.{Picture}
+use Rattle.sf_actor_set.specs.sf_script_scene.Ranges.{IsStep}
+use Rattle.sf_actor_set.specs.sf_script_scene.declared.step.Step.{Step}
+use Rattle.sf_actor_set.specs.sf_surface.declared.call.QCall.{QCall}
+use Rattle.sf_actor_set.specs.sf_surface.declared.call.QReply.{QReply}
+use Rattle.sf_actor_set.specs.sf_surface.Histories.{told_reply}
+use Rattle.sf_actor_set.specs.sf_surface.Tokens.{ReadLeaseOf}
+use Rattle.sf_actor_set.specs.sf_token.Pending.{Arrival}
+use Rattle.sf_actor_set.specs.sf_actor.declared.done.Answered.{Answered}
+use Rattle.sf_actor_set.specs.sf_actor.declared.done.Answered.TheVariants as answered
+use Rattle.sf_actor_set.specs.sf_actor.declared.done.Done.{Done}
+use Rattle.sf_actor_set.specs.sf_actor.Desks.{DeskHome, has_queue, mark_among}
+use Rattle.sf_actor_set.specs.sf_actor.Names.{Holdings}
+use Rattle.sf_actor_set.specs.sf_actor.Tests.{refusal_of}
+use Rattle.sf_actor_set.specs.sf_actor.Tries.{ActorOf}
+use Rattle.sf_actor_set.specs.sf_actor.Written as written
+use Rattle.sf_actor_set.specs.sf_actor_steps.declared.bindings.Bindings.{Bindings}
+use Rattle.sf_actor_set.specs.sf_actor_steps.declared.tried.Tried.{Tried}
+use Rattle.sf_actor_set.specs.sf_actor_steps.declared.tried.Tried.TheVariants as tried
+use Rattle.sf_actor_set.specs.sf_actor_steps.Acting.{Attempts}
+use Rattle.sf_actor_set.specs.sf_actor_steps.Actors.{parts_of}
+use Rattle.sf_actor_set.specs.sf_actor_steps.Forming.{permits_of}
+use Rattle.sf_actor_set.specs.sf_actor_steps.Bindings.{holdings_of}
 use Rattle.law_rights.specs.States.{AreApart, CallsOnce, State, all_buffers}
 
 module _ {B : Type 0} where

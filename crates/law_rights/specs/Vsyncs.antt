@@ -2,18 +2,18 @@
 use Rattle.std.specs.Prelude.{◌≡◌, ℕ, true, List, map, ◌++◌, ◌∷◌, None}
 use Rattle.sf_base.specs.Fences.{Fence}
 use Rattle.sf_base.specs.declared.fences.Seen.{Seen}
-use Rattle.sf_surface.specs.declared.call.QCall.TheVariants as call
-use Rattle.sf_surface.specs.declared.call.QReply.{QReply}
-use Rattle.sf_surface.specs.Tokens.{Issued, ReadLeaseOf}
-use Rattle.sf_token.specs.Pending.{Arrival}
-use Rattle.sf_turns.specs.Views.{SeatView}
-use Rattle.sf_txn.specs.declared.lease.Lease.{Ghosts}
-use Rattle.sf_commit.specs.Handlers.{Decides, HandlerOf}
-use Rattle.sf_commit.specs.Lending.{ends_of, left_if, reads_of}
-use Rattle.sf_commit.specs.OnLayers.{OnLayer}
-use Rattle.sf_commit.specs.Releases.{ReleaseOf, VsyncOf}
-use Rattle.sf_actor.specs.Desks.{DeskHome, MadeCall, has_queue}
-use Rattle.sf_actor.specs.Rights.{turn_by}
+use Rattle.sf_actor_set.specs.sf_surface.declared.call.QCall.TheVariants as call
+use Rattle.sf_actor_set.specs.sf_surface.declared.call.QReply.{QReply}
+use Rattle.sf_actor_set.specs.sf_surface.Tokens.{Issued, ReadLeaseOf}
+use Rattle.sf_actor_set.specs.sf_token.Pending.{Arrival}
+use Rattle.sf_actor_set.specs.sf_turns.Views.{SeatView}
+use Rattle.sf_actor_set.specs.sf_txn.declared.lease.Lease.{Ghosts}
+use Rattle.sf_actor_set.specs.sf_commit.Handlers.{Decides, HandlerOf}
+use Rattle.sf_actor_set.specs.sf_commit.Lending.{ends_of, left_if, reads_of}
+use Rattle.sf_actor_set.specs.sf_commit.OnLayers.{OnLayer}
+use Rattle.sf_actor_set.specs.sf_commit.Releases.{ReleaseOf, VsyncOf}
+use Rattle.sf_actor_set.specs.sf_actor.Desks.{DeskHome, MadeCall, has_queue}
+use Rattle.sf_actor_set.specs.sf_actor.Rights.{turn_by}
 use Rattle.law_rights.specs.Moves.{turn_after}
 use Rattle.law_rights.specs.States.{AreApart, State}
 

@@ -1,11 +1,11 @@
 ghost use Rattle.std.specs.Prelude.{◌≡◌, ℕ, List, Contains, true};
-ghost use Rattle.sf_picture.specs.declared.picture.Picture.{Picture};
-ghost use Rattle.sf_turns.specs.Counts.{IsExact};
-ghost use Rattle.sf_surface.specs.Tokens.{ReadLeaseOf};
-ghost use Rattle.sf_commit.specs.Handlers.{HandlerOf};
-ghost use Rattle.sf_script_scene.specs.Scene.{SceneValue};
-ghost use Rattle.sf_actor.specs.Desks.{DeskHome, DeskView};
-ghost use Rattle.sf_actor.specs.Tries.{ActorOf};
+ghost use Rattle.sf_actor_set.specs.sf_picture.declared.picture.Picture.{Picture};
+ghost use Rattle.sf_actor_set.specs.sf_turns.Counts.{IsExact};
+ghost use Rattle.sf_actor_set.specs.sf_surface.Tokens.{ReadLeaseOf};
+ghost use Rattle.sf_actor_set.specs.sf_commit.Handlers.{HandlerOf};
+ghost use Rattle.sf_actor_set.specs.sf_script_scene.Scene.{SceneValue};
+ghost use Rattle.sf_actor_set.specs.sf_actor.Desks.{DeskHome, DeskView};
+ghost use Rattle.sf_actor_set.specs.sf_actor.Tries.{ActorOf};
 ghost use Rattle.law_played.specs.Actors.{AreActors, run_of};
 ghost use Rattle.law_played.specs.Stepping.{TellsFirst};
 ghost use Rattle.law_played.specs.Turns.{calls_in};
@@ -13,7 +13,7 @@ ghost use Rattle.law_rights.specs.Actors.{AreOver};
 ghost use Rattle.law_rights.specs.Makers.{MakersStand};
 ghost use Rattle.law_rights.specs.Standing.{LedgerStands, state_of};
 
-use sf_turns::TableName;
+use sf_actor_set::sf_turns::TableName;
 
 /// Where a ledger stands, and its makers, a look that shows that all earlier turns at pixels have
 /// left finds no older draw that is owed.

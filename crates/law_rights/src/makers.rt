@@ -1,21 +1,21 @@
 ghost use Rattle.std.specs.Prelude.{◌≡◌, map, is_some, true, ℕ, ◌<◌, ◌≤◌, ◌⊎◌, List, [], ◌∷◌, ◌++◌, length, Contains, ◌+◌};
-ghost use Rattle.sf_picture.specs.declared.picture.Picture.{Picture};
-ghost use Rattle.sf_script_scene.specs.declared.step.Step.{Step};
-ghost use Rattle.sf_actor_steps.specs.declared.bindings.Bindings.{Bindings as BindingsOf};
-ghost use Rattle.sf_actor_steps.specs.declared.tried.Tried.{Tried};
-ghost use Rattle.sf_actor_steps.specs.Bindings.{holdings_of};
-ghost use Rattle.sf_calls.specs.Histories.{entry};
+ghost use Rattle.sf_actor_set.specs.sf_picture.declared.picture.Picture.{Picture};
+ghost use Rattle.sf_actor_set.specs.sf_script_scene.declared.step.Step.{Step};
+ghost use Rattle.sf_actor_set.specs.sf_actor_steps.declared.bindings.Bindings.{Bindings as BindingsOf};
+ghost use Rattle.sf_actor_set.specs.sf_actor_steps.declared.tried.Tried.{Tried};
+ghost use Rattle.sf_actor_set.specs.sf_actor_steps.Bindings.{holdings_of};
+ghost use Rattle.sf_actor_set.specs.sf_calls.Histories.{entry};
 ghost use Rattle.sf_base.specs.declared.ids.QueueId.{QueueId as QueueIdOf};
 ghost use Rattle.sf_slots.specs.declared.calls.PlainReply.{PlainReply};
-ghost use Rattle.sf_surface.specs.declared.call.QCall.{QCall};
-ghost use Rattle.sf_surface.specs.declared.call.QReply.{QReply};
-ghost use Rattle.sf_surface.specs.declared.mark.QueueMark.{QueueMark};
-ghost use Rattle.sf_surface.specs.Histories.{Made, Replied, told, told_reply};
-ghost use Rattle.sf_surface.specs.Tokens.{ReadLeaseOf};
-ghost use Rattle.sf_commit.specs.Handlers.{HandlerOf};
-ghost use Rattle.sf_actor.specs.Desks.{DeskHome, DeskView, mark_among};
-ghost use Rattle.sf_actor.specs.Tries.{ActorOf};
-ghost use Rattle.sf_actor.specs.Makers.{BufferOf, Run, followed, making_of, makes};
+ghost use Rattle.sf_actor_set.specs.sf_surface.declared.call.QCall.{QCall};
+ghost use Rattle.sf_actor_set.specs.sf_surface.declared.call.QReply.{QReply};
+ghost use Rattle.sf_actor_set.specs.sf_surface.declared.mark.QueueMark.{QueueMark};
+ghost use Rattle.sf_actor_set.specs.sf_surface.Histories.{Made, Replied, told, told_reply};
+ghost use Rattle.sf_actor_set.specs.sf_surface.Tokens.{ReadLeaseOf};
+ghost use Rattle.sf_actor_set.specs.sf_commit.Handlers.{HandlerOf};
+ghost use Rattle.sf_actor_set.specs.sf_actor.Desks.{DeskHome, DeskView, mark_among};
+ghost use Rattle.sf_actor_set.specs.sf_actor.Tries.{ActorOf};
+ghost use Rattle.sf_actor_set.specs.sf_actor.Makers.{BufferOf, Run, followed, making_of, makes};
 ghost use Rattle.law_rights.specs.Ledgers.{IsLedger};
 ghost use Rattle.law_rights.specs.Makers.{AreFollowed, GoesOn, MakersStand, Places, RightAt, Stays, WriteAt, places_lying, places_of};
 ghost use Rattle.law_rights.specs.MakerCalls.{IsNewAt, WasIn, brought_at, given_at};
@@ -27,9 +27,9 @@ ghost use Rattle.law_rights.specs.Standing.{Begins, LedgerStands, VsyncIn, home_
 ghost use Rattle.law_rights.specs.States.{State, ledger_of};
 ghost use Rattle.law_rights.specs.Tries.{TriesIn};
 
-use sf_surface::ReadLease;
-use sf_turns::TableName;
-use sf_txn::Lease;
+use sf_actor_set::sf_surface::ReadLease;
+use sf_actor_set::sf_turns::TableName;
+use sf_actor_set::sf_txn::Lease;
 
 /// Where the ledger of a state stands, and its makers are followed through a run, they tell of the
 /// turns at buffers.

@@ -1,18 +1,18 @@
 ghost use Rattle.std.specs.Prelude.{◌≡◌, ℕ, List, All, Contains, map, true, slice_set};
 ghost use Rattle.std.specs.List.Sorted.{IsStrictlyIncreasing};
 ghost use Rattle.atomic_table.specs.Seated.{TableId};
-ghost use Rattle.sf_commit.specs.Handlers.{HandlerOf};
-ghost use Rattle.sf_picture.specs.declared.picture.Picture.{Picture};
-ghost use Rattle.sf_script_scene.specs.Scene.{SceneValue};
-ghost use Rattle.sf_surface.specs.Tokens.{ReadLeaseOf};
-ghost use Rattle.sf_turns.specs.Counts.{IsExact};
-ghost use Rattle.sf_actor.specs.declared.tried.Stepped.{Stepped};
-ghost use Rattle.sf_actor.specs.Desks.{DeskHome, DeskView};
-ghost use Rattle.sf_actor.specs.Plain.{PlainOf, home_of, view_of};
-ghost use Rattle.sf_actor.specs.Scripts.{picture_at};
-ghost use Rattle.sf_actor.specs.Tries.{ActorOf};
-ghost use Rattle.sf_actor_steps.specs.declared.actor.Actor.{Actor};
-ghost use Rattle.sf_actor_steps.specs.Playable.{MayPlay};
+ghost use Rattle.sf_actor_set.specs.sf_commit.Handlers.{HandlerOf};
+ghost use Rattle.sf_actor_set.specs.sf_picture.declared.picture.Picture.{Picture};
+ghost use Rattle.sf_actor_set.specs.sf_script_scene.Scene.{SceneValue};
+ghost use Rattle.sf_actor_set.specs.sf_surface.Tokens.{ReadLeaseOf};
+ghost use Rattle.sf_actor_set.specs.sf_turns.Counts.{IsExact};
+ghost use Rattle.sf_actor_set.specs.sf_actor.declared.tried.Stepped.{Stepped};
+ghost use Rattle.sf_actor_set.specs.sf_actor.Desks.{DeskHome, DeskView};
+ghost use Rattle.sf_actor_set.specs.sf_actor.Plain.{PlainOf, home_of, view_of};
+ghost use Rattle.sf_actor_set.specs.sf_actor.Scripts.{picture_at};
+ghost use Rattle.sf_actor_set.specs.sf_actor.Tries.{ActorOf};
+ghost use Rattle.sf_actor_set.specs.sf_actor_steps.declared.actor.Actor.{Actor};
+ghost use Rattle.sf_actor_set.specs.sf_actor_steps.Playable.{MayPlay};
 ghost use Rattle.sf_actor_set.specs.ActorSets.{KeepAs, StepsAt, scripts_of};
 ghost use Rattle.law_played.specs.Actors.{AreActors, number_of, run_of};
 ghost use Rattle.law_played.specs.Stopping.{TellsOlder};
@@ -22,9 +22,9 @@ ghost use Rattle.law_rights.specs.MakerRuns.{AreDeclared, MakersPlay};
 ghost use Rattle.law_rights.specs.Older.{MakersTell};
 ghost use Rattle.law_rights.specs.Standing.{LedgerStands, VsyncIn, home_taken};
 
-use sf_surface::ReadLease;
-use sf_turns::TableName;
-use sf_txn::Lease;
+use sf_actor_set::sf_surface::ReadLease;
+use sf_actor_set::sf_turns::TableName;
+use sf_actor_set::sf_txn::Lease;
 
 /// Makers stand after a try of an actor's step.
 pub fn a_step_leaves_makers_standing<B: TableName>()

@@ -1,36 +1,36 @@
 ghost use Rattle.std.specs.Prelude.{◌≡◌, ◌<◌, ℕ, List, [], All, Contains, length, slice_set, true, false};
 ghost use Rattle.atomic_table.specs.Seated.{TableId};
-ghost use Rattle.sf_actor.specs.declared.tried.Stepped.{Stepped};
-ghost use Rattle.sf_actor.specs.Plain.{PlainOf, home_of, view_of};
-ghost use Rattle.sf_actor.specs.Scripts.{picture_at};
-ghost use Rattle.sf_actor_steps.specs.declared.actor.Actor.{Actor};
-ghost use Rattle.sf_actor_steps.specs.Playable.{MayPlay};
+ghost use Rattle.sf_actor_set.specs.sf_actor.declared.tried.Stepped.{Stepped};
+ghost use Rattle.sf_actor_set.specs.sf_actor.Plain.{PlainOf, home_of, view_of};
+ghost use Rattle.sf_actor_set.specs.sf_actor.Scripts.{picture_at};
+ghost use Rattle.sf_actor_set.specs.sf_actor_steps.declared.actor.Actor.{Actor};
+ghost use Rattle.sf_actor_set.specs.sf_actor_steps.Playable.{MayPlay};
 ghost use Rattle.sf_actor_set.specs.ActorSets.{KeepAs, StepsAt, scripts_of};
-ghost use Rattle.sf_commit.specs.Handlers.{HandlerOf};
-ghost use Rattle.sf_picture.specs.declared.picture.Picture.{Picture};
-ghost use Rattle.sf_script_scene.specs.Limits.{IsWithinLimits};
-ghost use Rattle.sf_surface.specs.Drawing.{MayEnter};
-ghost use Rattle.sf_surface.specs.Tokens.{ReadLeaseOf};
-ghost use Rattle.sf_turns.specs.Counts.{IsExact};
-ghost use Rattle.sf_turns.specs.Views.{SeatView};
-ghost use Rattle.sf_actor.specs.declared.holding.Holding.{Holding};
-ghost use Rattle.sf_actor.specs.Desks.{DeskHome, DeskView, has_queue};
-ghost use Rattle.sf_actor.specs.Parts.{token_of, turn_held};
-ghost use Rattle.sf_actor.specs.Traces.{DoneAt};
-ghost use Rattle.sf_actor.specs.Tries.{ActorOf};
+ghost use Rattle.sf_actor_set.specs.sf_commit.Handlers.{HandlerOf};
+ghost use Rattle.sf_actor_set.specs.sf_picture.declared.picture.Picture.{Picture};
+ghost use Rattle.sf_actor_set.specs.sf_script_scene.Limits.{IsWithinLimits};
+ghost use Rattle.sf_actor_set.specs.sf_surface.Drawing.{MayEnter};
+ghost use Rattle.sf_actor_set.specs.sf_surface.Tokens.{ReadLeaseOf};
+ghost use Rattle.sf_actor_set.specs.sf_turns.Counts.{IsExact};
+ghost use Rattle.sf_actor_set.specs.sf_turns.Views.{SeatView};
+ghost use Rattle.sf_actor_set.specs.sf_actor.declared.holding.Holding.{Holding};
+ghost use Rattle.sf_actor_set.specs.sf_actor.Desks.{DeskHome, DeskView, has_queue};
+ghost use Rattle.sf_actor_set.specs.sf_actor.Parts.{token_of, turn_held};
+ghost use Rattle.sf_actor_set.specs.sf_actor.Traces.{DoneAt};
+ghost use Rattle.sf_actor_set.specs.sf_actor.Tries.{ActorOf};
 ghost use Rattle.law_played.specs.Actors.{AreActors, run_of};
 ghost use Rattle.law_rights.specs.Actors.{AreOver};
 ghost use Rattle.law_rights.specs.Owed.{MayDraw};
 ghost use Rattle.law_rights.specs.Standing.{Begins, LedgerStands, VsyncIn, home_taken, state_of};
-ghost use Rattle.sf_script_scene.specs.Scene.{SceneValue};
+ghost use Rattle.sf_actor_set.specs.sf_script_scene.Scene.{SceneValue};
 ghost use Rattle.law_played.specs.Turns.{DrawAfterOwed, calls_in};
 ghost use Rattle.law_rights.specs.InTurn.{DrawsStand, IsInTurn};
 ghost use Rattle.law_rights.specs.MakerRuns.{AreDeclared, MakersPlay};
 ghost use Rattle.law_rights.specs.Makers.{MakersStand, places_of};
 
-use sf_surface::ReadLease;
-use sf_turns::TableName;
-use sf_txn::Lease;
+use sf_actor_set::sf_surface::ReadLease;
+use sf_actor_set::sf_turns::TableName;
+use sf_actor_set::sf_txn::Lease;
 
 /// A draw that enters pixels is in turn.
 pub fn a_draw_that_enters_is_in_turn<B: TableName>()

@@ -6,34 +6,34 @@ use Rattle.std.proofs.lemmas.Bool.{cases_Bool}
 use Rattle.std.proofs.lemmas.List.{append-nil}
 use Rattle.std.proofs.lemmas.List.Elements.{Contains-append_left}
 use Rattle.atomic_table.specs.Seated.{TableId}
-use Rattle.sf_calls.specs.declared.object.Entry.{Entry}
-use Rattle.sf_calls.specs.Histories.{IsLegal, calls_by}
-use Rattle.sf_picture.specs.declared.picture.Picture.{Picture}
+use Rattle.law_draws.specs.sf_calls.declared.object.Entry.{Entry}
+use Rattle.law_draws.specs.sf_calls.Histories.{IsLegal, calls_by}
+use Rattle.sf_script_scene.specs.sf_picture.declared.picture.Picture.{Picture}
 use Rattle.sf_script_scene.specs.Ranges.{IsStep}
 use Rattle.sf_script_scene.specs.declared.step.Step.{Step}
-use Rattle.sf_calls_stamped.specs.Stamps.{stamp_of, unstamped}
-use Rattle.sf_surface.specs.declared.mark.QueueMark.{QueueMark}
-use Rattle.sf_surface.specs.Histories.{Answers, Made}
-use Rattle.sf_surface.specs.Tokens.{ReadLeaseOf}
-use Rattle.sf_token.specs.declared.arrivals.ArriveCall.TheVariants as arrive
-use Rattle.sf_token.specs.Pending.{Arrival}
-use Rattle.sf_txn.specs.Transactions.{Contents}
-use Rattle.sf_actor.specs.Desks.{DeskHome, DeskView, mark_among}
-use Rattle.sf_actor.specs.Plain.{PlainOf, home_of as plain_home, view_of as plain_view}
-use Rattle.sf_actor.specs.Tries.{ActorOf}
-use Rattle.sf_actor_steps.specs.declared.bindings.Bindings.{Bindings}
-use Rattle.sf_actor_steps.specs.declared.tried.Tried.{Tried}
-use Rattle.sf_live_seats.specs.declared.first.FirstSeats.{FirstSeats}
-use Rattle.sf_live_seats.specs.declared.locks.Locks.{Locks}
-use Rattle.sf_live_seats.specs.declared.seats.Seats.{Seats}
-use Rattle.sf_live_seats.specs.Arriving.{ArrivalCalls, ArrivalEntry, Arrived, Arriving}
-use Rattle.sf_live_seats.specs.Closing.{Closes, IsOrdered}
-use Rattle.sf_live_seats.specs.First.{KnowsNothing}
-use Rattle.sf_live_seats.specs.Reuniting.{SendsAfter}
-use Rattle.sf_live_seats.proofs.IntakeHands.{none_arrived}
-use Rattle.sf_live_seats.specs.Seats.{AreSeats, QueuePass, calls_known, calls_made, is_at, marks_of, moment, moments_of, post_moment, posts_of, sent_in, takes_in, view_of}
-use Rattle.sf_live_threads.specs.Walks.{IsSound, Moment, Walk}
-use Rattle.law_rights.specs.States.{AreApart, State}
+use Rattle.sf_live_compositor.specs.sf_calls_stamped.Stamps.{stamp_of, unstamped}
+use Rattle.law_draws.specs.sf_surface.declared.mark.QueueMark.{QueueMark}
+use Rattle.law_draws.specs.sf_surface.Histories.{Answers, Made}
+use Rattle.law_draws.specs.sf_surface.Tokens.{ReadLeaseOf}
+use Rattle.law_draws.specs.sf_token.declared.arrivals.ArriveCall.TheVariants as arrive
+use Rattle.law_draws.specs.sf_token.Pending.{Arrival}
+use Rattle.law_draws.specs.sf_txn.Transactions.{Contents}
+use Rattle.law_draws.specs.sf_actor.Desks.{DeskHome, DeskView, mark_among}
+use Rattle.law_draws.specs.sf_actor.Plain.{PlainOf, home_of as plain_home, view_of as plain_view}
+use Rattle.law_draws.specs.sf_actor.Tries.{ActorOf}
+use Rattle.law_draws.specs.sf_actor_steps.declared.bindings.Bindings.{Bindings}
+use Rattle.law_draws.specs.sf_actor_steps.declared.tried.Tried.{Tried}
+use Rattle.sf_live_compositor.specs.sf_live_seats.declared.first.FirstSeats.{FirstSeats}
+use Rattle.sf_live_compositor.specs.sf_live_seats.declared.locks.Locks.{Locks}
+use Rattle.sf_live_compositor.specs.sf_live_seats.declared.seats.Seats.{Seats}
+use Rattle.sf_live_compositor.specs.sf_live_seats.Arriving.{ArrivalCalls, ArrivalEntry, Arrived, Arriving}
+use Rattle.sf_live_compositor.specs.sf_live_seats.Closing.{Closes, IsOrdered}
+use Rattle.sf_live_compositor.specs.sf_live_seats.First.{KnowsNothing}
+use Rattle.sf_live_compositor.specs.sf_live_seats.Reuniting.{SendsAfter}
+use Rattle.sf_live_compositor.proofs.sf_live_seats_lemmas.IntakeHands.{none_arrived}
+use Rattle.sf_live_compositor.specs.sf_live_seats.Seats.{AreSeats, QueuePass, calls_known, calls_made, is_at, marks_of, moment, moments_of, post_moment, posts_of, sent_in, takes_in, view_of}
+use Rattle.sf_live_compositor.specs.sf_live_threads.Walks.{IsSound, Moment, Walk}
+use Rattle.law_draws.specs.law_rights.States.{AreApart, State}
 use Rattle.law_threads.specs.Cuts.{HasLedger, MakesAt, many_of}
 use Rattle.law_threads.specs.Lifts.{Comes, local_of}
 use Rattle.law_threads.specs.Orders.{Spot}

@@ -1,6 +1,6 @@
 -- All callers together, from the beginning of a run to its end.
 use Rattle.std.proofs.Common.{◌≡◌, ℕ, zero, suc, ◌<◌, ◌≤◌, List, [], ◌∷◌, arith, ap, ◌∙◌, sym, refl, subst, map}
-use Rattle.law_rights.specs.States.{State}
+use Rattle.law_draws.specs.law_rights.States.{State}
 use Rattle.law_threads.specs.Cuts.{AreParts, Event, IsPart, Local, Whole, all_now, many_of, now, spot_of, state_at}
 use Rattle.law_threads.specs.Orders.{AreInTurn, IsCut, IsInTurn, Spot, StampsRise, all_events, events_in, times_at}
 use Rattle.law_threads.proofs.EventLaws.{carried}

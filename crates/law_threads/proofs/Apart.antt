@@ -7,10 +7,10 @@ use Rattle.std.proofs.lemmas.List.Elements.{Contains-append_cases}
 use Rattle.sf_script_scene.specs.Limits.{IsWithinLimits}
 use Rattle.sf_script_scene.specs.Scene.{SceneValue}
 use Rattle.sf_script_scene.specs.declared.declarations.QueueDecl.{QueueDecl}
-use Rattle.law_played.specs.Actors.{mark_declared}
-use Rattle.law_played.specs.Histories.{queue_number, rising_queues}
-use Rattle.law_played.proofs.Members.{filter_has, has_here, has_later, has_none}
-use Rattle.law_rights.specs.States.{AreApart, is_queue}
+use Rattle.law_draws.specs.law_played.Actors.{mark_declared}
+use Rattle.law_draws.specs.law_played.Histories.{queue_number, rising_queues}
+use Rattle.law_draws.proofs.law_played_lemmas.Members.{filter_has, has_here, has_later, has_none}
+use Rattle.law_draws.specs.law_rights.States.{AreApart, is_queue}
 
 abbrev Differ : List QueueDecl → Type 0
 Differ queues = AllPairs (λ (x y : QueueDecl). queue_number x ≢ queue_number y) queues

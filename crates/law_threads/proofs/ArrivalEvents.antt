@@ -2,24 +2,24 @@
 use Rattle.std.proofs.Common.{◌≡◌, ℕ, suc, ◌+◌, List, [], ◌∷◌, ◌++◌, arith, ap, ◌∙◌, sym, refl, subst, length, map}
 use Rattle.std.specs.List.{flat_map, sum_by}
 use Rattle.std.proofs.lemmas.List.Sums.{sum_by-append}
-use Rattle.sf_calls.specs.declared.object.Entry.{Entry}
-use Rattle.sf_surface.specs.Tokens.{Issued, ReadLeaseOf}
-use Rattle.sf_token.specs.Arrivals.{sent, waiting}
-use Rattle.sf_token.specs.declared.arrivals.ArriveCall.{ArriveCall}
-use Rattle.sf_token.specs.declared.arrivals.ArriveCall.TheVariants as arrive
-use Rattle.sf_token.specs.declared.arrivals.ArriveReply.{ArriveReply}
-use Rattle.sf_token.specs.Pending.{Arrival}
+use Rattle.law_draws.specs.sf_calls.declared.object.Entry.{Entry}
+use Rattle.law_draws.specs.sf_surface.Tokens.{Issued, ReadLeaseOf}
+use Rattle.law_draws.specs.sf_token.Arrivals.{sent, waiting}
+use Rattle.law_draws.specs.sf_token.declared.arrivals.ArriveCall.{ArriveCall}
+use Rattle.law_draws.specs.sf_token.declared.arrivals.ArriveCall.TheVariants as arrive
+use Rattle.law_draws.specs.sf_token.declared.arrivals.ArriveReply.{ArriveReply}
+use Rattle.law_draws.specs.sf_token.Pending.{Arrival}
 use Rattle.sf_turns.specs.Views.{SeatView}
-use Rattle.sf_txn.specs.Transactions.{Contents}
-use Rattle.sf_actor.specs.Tries.{ActorOf}
-use Rattle.law_rights.specs.Ledgers.{IsLedger}
-use Rattle.law_rights.specs.Makers.{RightAt, places_arrived, places_held, places_out, places_owed, right_read}
-use Rattle.law_rights.specs.Moves.{AreIn, Gets, HasAtMost}
-use Rattle.law_rights.specs.PlaceTries.{RestsIn}
-use Rattle.law_rights.specs.States.{State, all_owed, all_written, ledger_of}
-use Rattle.law_rights.proofs.OwedDrawings.{gets_same}
-use Rattle.law_rights.proofs.PlaceChanges.{most_rests, rest_turns}
-use Rattle.law_rights.proofs.SilentSteps.{quiet_keeps}
+use Rattle.law_draws.specs.sf_txn.Transactions.{Contents}
+use Rattle.law_draws.specs.sf_actor.Tries.{ActorOf}
+use Rattle.law_draws.specs.law_rights.Ledgers.{IsLedger}
+use Rattle.law_draws.specs.law_rights.Makers.{RightAt, places_arrived, places_held, places_out, places_owed, right_read}
+use Rattle.law_draws.specs.law_rights.Moves.{AreIn, Gets, HasAtMost}
+use Rattle.law_draws.specs.law_rights.PlaceTries.{RestsIn}
+use Rattle.law_draws.specs.law_rights.States.{State, all_owed, all_written, ledger_of}
+use Rattle.law_draws.proofs.law_rights_lemmas.OwedDrawings.{gets_same}
+use Rattle.law_draws.proofs.law_rights_lemmas.PlaceChanges.{most_rests, rest_turns}
+use Rattle.law_draws.proofs.law_rights_lemmas.SilentSteps.{quiet_keeps}
 use Rattle.law_threads.specs.Cuts.{GoesForward, Local, Whole, front, state_at}
 use Rattle.law_threads.specs.Orders.{raised}
 use Rattle.law_threads.proofs.CallLift.{front_after, front_before}

@@ -4,16 +4,16 @@ use Rattle.std.specs.Prelude.{if◌then◌else◌, nat_le, slice_get}
 use Rattle.std.proofs.lemmas.Bool.{cases_Bool, cases_lt, eq-eqb, eqb-true, le-leb, leb-true}
 use Rattle.std.proofs.lemmas.List.{append-nil, append_assoc, length-append, map-append}
 use Rattle.std.proofs.lemmas.List.Elements.{filter-append}
-use Rattle.sf_calls.specs.declared.object.Entry.{Entry}
-use Rattle.sf_calls.specs.Histories.{calls_by}
-use Rattle.sf_surface.specs.Tokens.{ReadLeaseOf}
-use Rattle.sf_token.specs.Arrivals.{is_take, sent}
-use Rattle.sf_token.specs.declared.arrivals.ArriveCall.TheVariants as arrive
-use Rattle.sf_token.specs.Pending.{Arrival}
-use Rattle.sf_txn.specs.Transactions.{Contents}
-use Rattle.sf_actor.specs.Known.{ArriveWithout, arrivals_told, is_sent_by}
-use Rattle.sf_actor.proofs.GoingOn.{own_arrivals}
-use Rattle.sf_live_seats.specs.Arriving.{ArrivalCalls, Arrived, Arriving}
+use Rattle.law_draws.specs.sf_calls.declared.object.Entry.{Entry}
+use Rattle.law_draws.specs.sf_calls.Histories.{calls_by}
+use Rattle.law_draws.specs.sf_surface.Tokens.{ReadLeaseOf}
+use Rattle.law_draws.specs.sf_token.Arrivals.{is_take, sent}
+use Rattle.law_draws.specs.sf_token.declared.arrivals.ArriveCall.TheVariants as arrive
+use Rattle.law_draws.specs.sf_token.Pending.{Arrival}
+use Rattle.law_draws.specs.sf_txn.Transactions.{Contents}
+use Rattle.law_draws.specs.sf_actor.Known.{ArriveWithout, arrivals_told, is_sent_by}
+use Rattle.law_draws.proofs.sf_actor_lemmas.GoingOn.{own_arrivals}
+use Rattle.sf_live_compositor.specs.sf_live_seats.Arriving.{ArrivalCalls, Arrived, Arriving}
 use Rattle.law_threads.proofs.CallCounts.{mine_more, others_mine}
 use Rattle.law_threads.specs.Members.{bit, mine}
 

@@ -5,27 +5,27 @@ use Rattle.std.specs.List.{AllZip, flat_map}
 use Rattle.std.proofs.lemmas.Bool.{cases_eq, eq-eqb, eqb-true, false≢true, ne_eqb}
 use Rattle.std.proofs.lemmas.List.{append_assoc}
 use Rattle.atomic_table.specs.Seated.{TableId}
-use Rattle.sf_calls.specs.declared.object.Entry.{Entry}
-use Rattle.sf_calls.specs.Histories.{GoesOnWithout, IsLegal}
-use Rattle.sf_picture.specs.declared.picture.Picture.{Picture}
+use Rattle.law_draws.specs.sf_calls.declared.object.Entry.{Entry}
+use Rattle.law_draws.specs.sf_calls.Histories.{GoesOnWithout, IsLegal}
+use Rattle.sf_script_scene.specs.sf_picture.declared.picture.Picture.{Picture}
 use Rattle.sf_script_scene.specs.Scene.{SceneValue}
-use Rattle.sf_surface.specs.declared.mark.QueueMark.{QueueMark}
-use Rattle.sf_surface.specs.Hands.{permit_of}
-use Rattle.sf_surface.specs.Histories.{Answers, Made, told_reply}
+use Rattle.law_draws.specs.sf_surface.declared.mark.QueueMark.{QueueMark}
+use Rattle.law_draws.specs.sf_surface.Hands.{permit_of}
+use Rattle.law_draws.specs.sf_surface.Histories.{Answers, Made, told_reply}
 use Rattle.sf_turns.specs.Views.{PermitView}
 use Rattle.sf_turns.specs.Counts.{stock_at}
-use Rattle.sf_actor.specs.Desks.{mark_among}
-use Rattle.sf_actor.specs.Known.{call_after, own_calls}
-use Rattle.sf_actor.specs.Plain.{PlainOf, view_of as plain_view}
-use Rattle.sf_actor.specs.Rights.{made_with}
-use Rattle.law_rights.specs.Calls.{made_of}
-use Rattle.law_rights.specs.Standing.{stock_of}
-use Rattle.law_rights.specs.States.{AreApart}
-use Rattle.law_rights.proofs.QueueCounts.{mark_only}
-use Rattle.law_played.proofs.Members.{has_cases, has_first, has_here, has_later}
-use Rattle.sf_live_seats.specs.declared.locks.Locks.{Locks}
-use Rattle.sf_live_seats.specs.Seats.{marks_of, view_of}
-use Rattle.sf_live_threads.specs.Walks.{IsSound, Moment}
+use Rattle.law_draws.specs.sf_actor.Desks.{mark_among}
+use Rattle.law_draws.specs.sf_actor.Known.{call_after, own_calls}
+use Rattle.law_draws.specs.sf_actor.Plain.{PlainOf, view_of as plain_view}
+use Rattle.law_draws.specs.sf_actor.Rights.{made_with}
+use Rattle.law_draws.specs.law_rights.Calls.{made_of}
+use Rattle.law_draws.specs.law_rights.Standing.{stock_of}
+use Rattle.law_draws.specs.law_rights.States.{AreApart}
+use Rattle.law_draws.proofs.law_rights_lemmas.QueueCounts.{mark_only}
+use Rattle.law_draws.proofs.law_played_lemmas.Members.{has_cases, has_first, has_here, has_later}
+use Rattle.sf_live_compositor.specs.sf_live_seats.declared.locks.Locks.{Locks}
+use Rattle.sf_live_compositor.specs.sf_live_seats.Seats.{marks_of, view_of}
+use Rattle.sf_live_compositor.specs.sf_live_threads.Walks.{IsSound, Moment}
 use Rattle.law_threads.specs.Cuts.{MakesAt}
 use Rattle.law_threads.specs.Joining.{CameBack, of_at}
 use Rattle.law_threads.specs.Members.{AllOnce, bit, count_of, mine, whole_of}

@@ -6,35 +6,35 @@ use Rattle.std.proofs.lemmas.Bool.{cases_Bool, eq-eqb, eqb-true}
 use Rattle.std.proofs.lemmas.List.{append-nil, append_assoc}
 use Rattle.std.proofs.lemmas.List.Elements.{Contains-append_left}
 use Rattle.sf_base.specs.declared.status.QStatus.{QStatus}
-use Rattle.sf_calls.specs.Histories.{GoesOnWithout, IsLegal, entry}
-use Rattle.sf_picture.specs.declared.picture.Picture.{Picture}
+use Rattle.law_draws.specs.sf_calls.Histories.{GoesOnWithout, IsLegal, entry}
+use Rattle.sf_script_scene.specs.sf_picture.declared.picture.Picture.{Picture}
 use Rattle.sf_script_scene.specs.declared.step.Step.{Step}
 use Rattle.sf_script_scene.specs.declared.step.Step.TheVariants as step
-use Rattle.sf_surface.specs.declared.mark.QueueMark.{QueueMark}
-use Rattle.sf_surface.specs.declared.call.QReply.{QReply}
-use Rattle.sf_surface.specs.Histories.{Answers, Made}
-use Rattle.sf_surface.specs.Tokens.{ReadLeaseOf}
-use Rattle.sf_token.specs.Arrivals.{waiting}
-use Rattle.sf_token.specs.Pending.{Arrival}
-use Rattle.sf_actor.specs.Desks.{DeskHome, DeskView, MadeCall, has_queue, mark_among}
-use Rattle.sf_actor.specs.Parts.{PartsOf}
-use Rattle.sf_actor.specs.Rights.{Turn}
-use Rattle.sf_actor.specs.Tests.{refusal_of}
-use Rattle.sf_actor.specs.Tries.{ActorOf}
-use Rattle.sf_actor_steps.specs.declared.bindings.Bindings.{Bindings}
-use Rattle.sf_actor_steps.specs.declared.tried.Tried.TheVariants as tried
-use Rattle.sf_actor_steps.specs.Acting.{Acts, Attempts}
-use Rattle.sf_actor_steps.specs.Calling.{Calls}
-use Rattle.sf_actor_steps.specs.Doing.{MakesCall}
-use Rattle.sf_actor_steps.specs.Forming.{permits_of}
-use Rattle.sf_actor_steps.specs.Bindings.{holdings_of}
-use Rattle.law_rights.specs.Calls.{buffers_in}
-use Rattle.law_rights.specs.Moves.{Gets}
-use Rattle.law_rights.specs.States.{AreApart, State, all_buffers}
-use Rattle.law_rights.specs.Tries.{TriesIn, WritesTry}
-use Rattle.law_rights.proofs.TryKeepsLedger.{try_keeps, try_places}
-use Rattle.law_rights.proofs.OwedAfterCall.{ending_left, turns_of}
-use Rattle.law_rights.proofs.QueueCounts.{in_some}
+use Rattle.law_draws.specs.sf_surface.declared.mark.QueueMark.{QueueMark}
+use Rattle.law_draws.specs.sf_surface.declared.call.QReply.{QReply}
+use Rattle.law_draws.specs.sf_surface.Histories.{Answers, Made}
+use Rattle.law_draws.specs.sf_surface.Tokens.{ReadLeaseOf}
+use Rattle.law_draws.specs.sf_token.Arrivals.{waiting}
+use Rattle.law_draws.specs.sf_token.Pending.{Arrival}
+use Rattle.law_draws.specs.sf_actor.Desks.{DeskHome, DeskView, MadeCall, has_queue, mark_among}
+use Rattle.law_draws.specs.sf_actor.Parts.{PartsOf}
+use Rattle.law_draws.specs.sf_actor.Rights.{Turn}
+use Rattle.law_draws.specs.sf_actor.Tests.{refusal_of}
+use Rattle.law_draws.specs.sf_actor.Tries.{ActorOf}
+use Rattle.law_draws.specs.sf_actor_steps.declared.bindings.Bindings.{Bindings}
+use Rattle.law_draws.specs.sf_actor_steps.declared.tried.Tried.TheVariants as tried
+use Rattle.law_draws.specs.sf_actor_steps.Acting.{Acts, Attempts}
+use Rattle.law_draws.specs.sf_actor_steps.Calling.{Calls}
+use Rattle.law_draws.specs.sf_actor_steps.Doing.{MakesCall}
+use Rattle.law_draws.specs.sf_actor_steps.Forming.{permits_of}
+use Rattle.law_draws.specs.sf_actor_steps.Bindings.{holdings_of}
+use Rattle.law_draws.specs.law_rights.Calls.{buffers_in}
+use Rattle.law_draws.specs.law_rights.Moves.{Gets}
+use Rattle.law_draws.specs.law_rights.States.{AreApart, State, all_buffers}
+use Rattle.law_draws.specs.law_rights.Tries.{TriesIn, WritesTry}
+use Rattle.law_draws.proofs.law_rights_lemmas.TryKeepsLedger.{try_keeps, try_places}
+use Rattle.law_draws.proofs.law_rights_lemmas.OwedAfterCall.{ending_left, turns_of}
+use Rattle.law_draws.proofs.law_rights_lemmas.QueueCounts.{in_some}
 use Rattle.law_threads.specs.Cuts.{AreUnused, Local, Whole, calls_at, front, state_at}
 use Rattle.law_threads.specs.Lifts.{LiftsCall, local_of}
 use Rattle.law_threads.specs.Orders.{raised}

@@ -4,18 +4,18 @@ use Rattle.std.specs.Prelude.{Contains}
 use Rattle.std.specs.List.{AllByRecursion, AllZip}
 use Rattle.std.proofs.lemmas.Bool.{cases_Bool, cases_lt, eq-eqb, eqb-true, false≢true}
 use Rattle.std.proofs.lemmas.List.Elements.{Contains-append_left, Contains-append_right}
-use Rattle.sf_calls.specs.declared.object.Entry.{Entry}
-use Rattle.sf_calls.specs.Histories.{GoesOnWithout, calls_by}
-use Rattle.sf_calls_stamped.specs.Stamps.{StampsRise, newest_stamp, stamp_of, unstamp, unstamped}
-use Rattle.sf_live_seats.specs.declared.locks.QueueLock.{QueueLock}
-use Rattle.sf_live_seats.specs.Arriving.{ArrivalEntry, Arriving}
-use Rattle.sf_live_seats.specs.Seats.{IsPassOf, QueueEntry, QueuePass, calls_known, calls_made, is_at, mark_in, moment, sent_in, takes_in}
-use Rattle.sf_token.specs.Arrivals.{is_take}
-use Rattle.sf_token.specs.declared.arrivals.ArriveCall.TheVariants as arrive
+use Rattle.law_draws.specs.sf_calls.declared.object.Entry.{Entry}
+use Rattle.law_draws.specs.sf_calls.Histories.{GoesOnWithout, calls_by}
+use Rattle.sf_live_compositor.specs.sf_calls_stamped.Stamps.{StampsRise, newest_stamp, stamp_of, unstamp, unstamped}
+use Rattle.sf_live_compositor.specs.sf_live_seats.declared.locks.QueueLock.{QueueLock}
+use Rattle.sf_live_compositor.specs.sf_live_seats.Arriving.{ArrivalEntry, Arriving}
+use Rattle.sf_live_compositor.specs.sf_live_seats.Seats.{IsPassOf, QueueEntry, QueuePass, calls_known, calls_made, is_at, mark_in, moment, sent_in, takes_in}
+use Rattle.law_draws.specs.sf_token.Arrivals.{is_take}
+use Rattle.law_draws.specs.sf_token.declared.arrivals.ArriveCall.TheVariants as arrive
 use Rattle.law_threads.proofs.Arrivals.{NoTakes}
-use Rattle.sf_surface.specs.Tokens.{ReadLeaseOf}
-use Rattle.sf_txn.specs.Transactions.{Contents}
-use Rattle.law_played.proofs.Members.{has_cases, has_here, has_later, has_map}
+use Rattle.law_draws.specs.sf_surface.Tokens.{ReadLeaseOf}
+use Rattle.law_draws.specs.sf_txn.Transactions.{Contents}
+use Rattle.law_draws.proofs.law_played_lemmas.Members.{has_cases, has_here, has_later, has_map}
 use Rattle.law_threads.specs.Members.{mine, seen_at, stamp_in}
 
 module _ {C R : Type 0} where

@@ -5,26 +5,26 @@ use Rattle.atomic_table.specs.Seated.{TableId}
 use Rattle.std.proofs.Common.{inl, inr}
 use Rattle.std.proofs.lemmas.Bool.{cases_Bool}
 use Rattle.std.proofs.lemmas.List.{append_assoc}
-use Rattle.sf_calls.specs.declared.object.Entry.{Entry}
-use Rattle.sf_calls.specs.Histories.{GoesOnWithout, IsLegal, calls_by}
-use Rattle.sf_commit.specs.Releases.{ReleaseOf}
+use Rattle.law_draws.specs.sf_calls.declared.object.Entry.{Entry}
+use Rattle.law_draws.specs.sf_calls.Histories.{GoesOnWithout, IsLegal, calls_by}
+use Rattle.law_draws.specs.sf_commit.Releases.{ReleaseOf}
 use Rattle.sf_script_scene.specs.declared.step.ActorScript.{ActorScript}
-use Rattle.sf_calls_stamped.specs.Stamps.{unstamp, unstamped}
-use Rattle.sf_surface.specs.Histories.{Answers}
-use Rattle.sf_surface.specs.Tokens.{Issued, ReadLeaseOf}
+use Rattle.sf_live_compositor.specs.sf_calls_stamped.Stamps.{unstamp, unstamped}
+use Rattle.law_draws.specs.sf_surface.Histories.{Answers}
+use Rattle.law_draws.specs.sf_surface.Tokens.{Issued, ReadLeaseOf}
 use Rattle.sf_turns.specs.Views.{SeatView}
-use Rattle.sf_txn.specs.declared.lease.Lease.{Ghosts}
-use Rattle.sf_actor.specs.Desks.{DeskHome, DeskView, mark_among}
-use Rattle.law_rights.specs.Standing.{GiveAll}
-use Rattle.law_rights.specs.PlaceTries.{TellsPlaces}
-use Rattle.law_rights.specs.States.{AreApart, State, is_queue}
+use Rattle.law_draws.specs.sf_txn.declared.lease.Lease.{Ghosts}
+use Rattle.law_draws.specs.sf_actor.Desks.{DeskHome, DeskView, mark_among}
+use Rattle.law_draws.specs.law_rights.Standing.{GiveAll}
+use Rattle.law_draws.specs.law_rights.PlaceTries.{TellsPlaces}
+use Rattle.law_draws.specs.law_rights.States.{AreApart, State, is_queue}
 use Rattle.law_threads.proofs.LedgerViews.{GivesKept, RestsKept}
-use Rattle.law_rights.specs.Vsyncs.{IsOfTurns}
-use Rattle.sf_live_seats.specs.declared.first.FirstSeats.{FirstSeats}
-use Rattle.sf_live_seats.specs.declared.locks.Locks.{Locks}
-use Rattle.sf_live_seats.specs.declared.seats.Seats.{Seats}
-use Rattle.sf_live_seats.specs.First.{KnowsNothing}
-use Rattle.sf_live_seats.specs.Seats.{home_of, view_of}
+use Rattle.law_draws.specs.law_rights.Vsyncs.{IsOfTurns}
+use Rattle.sf_live_compositor.specs.sf_live_seats.declared.first.FirstSeats.{FirstSeats}
+use Rattle.sf_live_compositor.specs.sf_live_seats.declared.locks.Locks.{Locks}
+use Rattle.sf_live_compositor.specs.sf_live_seats.declared.seats.Seats.{Seats}
+use Rattle.sf_live_compositor.specs.sf_live_seats.First.{KnowsNothing}
+use Rattle.sf_live_compositor.specs.sf_live_seats.Seats.{home_of, view_of}
 use Rattle.law_threads.specs.Cuts.{Event, Whole}
 use Rattle.law_threads.specs.Joining.{MeetsAll}
 use Rattle.law_threads.specs.Members.{AreBetween, AreTimed, back_spots, mine, seated, total_in}

@@ -3,25 +3,25 @@ use Rattle.std.proofs.Common.{◌≡◌, ◌≢◌, ℕ, ◌==◌, ◌⊎◌, tr
 use Rattle.std.specs.Prelude.{Contains}
 use Rattle.std.proofs.lemmas.Bool.{cases_Bool, cases_eq, eq-eqb, false≢true}
 use Rattle.atomic_table.specs.Seated.{TableId}
-use Rattle.sf_calls.specs.Histories.{GoesOnWithout, IsLegal, calls_by}
-use Rattle.sf_commit.specs.Releases.{ReleaseOf}
-use Rattle.sf_surface.specs.declared.mark.QueueMark.{QueueMark}
-use Rattle.sf_surface.specs.Hands.{permit_of}
-use Rattle.sf_surface.specs.Histories.{Answers, Made, told_reply}
-use Rattle.sf_surface.specs.Tokens.{Issued, ReadLeaseOf}
+use Rattle.law_draws.specs.sf_calls.Histories.{GoesOnWithout, IsLegal, calls_by}
+use Rattle.law_draws.specs.sf_commit.Releases.{ReleaseOf}
+use Rattle.law_draws.specs.sf_surface.declared.mark.QueueMark.{QueueMark}
+use Rattle.law_draws.specs.sf_surface.Hands.{permit_of}
+use Rattle.law_draws.specs.sf_surface.Histories.{Answers, Made, told_reply}
+use Rattle.law_draws.specs.sf_surface.Tokens.{Issued, ReadLeaseOf}
 use Rattle.sf_turns.specs.Views.{SeatView}
-use Rattle.sf_txn.specs.declared.lease.Lease.{Ghosts}
-use Rattle.sf_actor.specs.Desks.{DeskHome, DeskView, mark_among}
-use Rattle.sf_actor.specs.Plain.{PlainOf, view_of as plain_view}
-use Rattle.sf_actor.specs.Rights.{made_with}
-use Rattle.law_rights.specs.Calls.{made_of}
-use Rattle.law_rights.specs.Standing.{GiveAll}
-use Rattle.law_rights.specs.States.{AreApart}
-use Rattle.law_rights.proofs.QueueCounts.{mark_only}
-use Rattle.sf_live_seats.specs.declared.locks.Locks.{Locks}
-use Rattle.sf_live_seats.specs.declared.seats.Seats.{Seats}
-use Rattle.sf_live_seats.specs.First.{KnowsNothing}
-use Rattle.sf_live_seats.specs.Seats.{home_of, marks_of, view_of}
+use Rattle.law_draws.specs.sf_txn.declared.lease.Lease.{Ghosts}
+use Rattle.law_draws.specs.sf_actor.Desks.{DeskHome, DeskView, mark_among}
+use Rattle.law_draws.specs.sf_actor.Plain.{PlainOf, view_of as plain_view}
+use Rattle.law_draws.specs.sf_actor.Rights.{made_with}
+use Rattle.law_draws.specs.law_rights.Calls.{made_of}
+use Rattle.law_draws.specs.law_rights.Standing.{GiveAll}
+use Rattle.law_draws.specs.law_rights.States.{AreApart}
+use Rattle.law_draws.proofs.law_rights_lemmas.QueueCounts.{mark_only}
+use Rattle.sf_live_compositor.specs.sf_live_seats.declared.locks.Locks.{Locks}
+use Rattle.sf_live_compositor.specs.sf_live_seats.declared.seats.Seats.{Seats}
+use Rattle.sf_live_compositor.specs.sf_live_seats.First.{KnowsNothing}
+use Rattle.sf_live_compositor.specs.sf_live_seats.Seats.{home_of, marks_of, view_of}
 use Rattle.law_threads.specs.Cuts.{MakesAt}
 use Rattle.law_threads.specs.Members.{whole_of}
 use Rattle.sf_live_compositor.specs.Vsyncs.{Sitting, Vsyncs}

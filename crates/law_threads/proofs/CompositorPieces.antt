@@ -3,26 +3,26 @@ use Rattle.std.proofs.Common.{◌≡◌, ℕ, zero, suc, ◌+◌, ◌<◌, ◌�
 use Rattle.std.specs.List.{list_any}
 use Rattle.std.proofs.lemmas.List.{append_assoc}
 use Rattle.atomic_table.specs.Seated.{TableId}
-use Rattle.sf_calls.specs.Histories.{GoesOnWithout, IsLegal, entry}
+use Rattle.law_draws.specs.sf_calls.Histories.{GoesOnWithout, IsLegal, entry}
 use Rattle.sf_script_scene.specs.declared.step.ActorScript.{ActorScript}
-use Rattle.sf_calls_stamped.specs.Stamps.{unstamped}
-use Rattle.sf_surface.specs.declared.call.QCall.TheVariants as call
-use Rattle.sf_surface.specs.Histories.{Answers, Made}
-use Rattle.sf_surface.specs.Tokens.{Issued, ReadLeaseOf}
-use Rattle.sf_token.specs.declared.arrivals.ArriveCall.TheVariants as arrive
-use Rattle.sf_token.specs.declared.arrivals.ArriveReply.TheVariants as reply
+use Rattle.sf_live_compositor.specs.sf_calls_stamped.Stamps.{unstamped}
+use Rattle.law_draws.specs.sf_surface.declared.call.QCall.TheVariants as call
+use Rattle.law_draws.specs.sf_surface.Histories.{Answers, Made}
+use Rattle.law_draws.specs.sf_surface.Tokens.{Issued, ReadLeaseOf}
+use Rattle.law_draws.specs.sf_token.declared.arrivals.ArriveCall.TheVariants as arrive
+use Rattle.law_draws.specs.sf_token.declared.arrivals.ArriveReply.TheVariants as reply
 use Rattle.sf_turns.specs.Views.{SeatView}
-use Rattle.sf_txn.specs.declared.lease.Lease.{Ghosts}
-use Rattle.sf_commit.specs.Releases.{ReleaseOf}
-use Rattle.sf_actor.specs.Desks.{DeskHome, DeskView, mark_among}
-use Rattle.sf_live_seats.specs.declared.locks.Locks.{Locks}
-use Rattle.sf_live_seats.specs.declared.seats.Seats.{Seats}
-use Rattle.sf_live_seats.specs.Arriving.{ArrivalCalls}
-use Rattle.sf_live_seats.specs.Seats.{home_of, view_of}
-use Rattle.law_rights.specs.Standing.{GiveAll}
-use Rattle.law_rights.specs.States.{AreApart, State, is_queue}
-use Rattle.law_rights.specs.Vsyncs.{IsOfTurns, lease_back, lease_on}
-use Rattle.law_rights.proofs.TurnCounts.{none_in}
+use Rattle.law_draws.specs.sf_txn.declared.lease.Lease.{Ghosts}
+use Rattle.law_draws.specs.sf_commit.Releases.{ReleaseOf}
+use Rattle.law_draws.specs.sf_actor.Desks.{DeskHome, DeskView, mark_among}
+use Rattle.sf_live_compositor.specs.sf_live_seats.declared.locks.Locks.{Locks}
+use Rattle.sf_live_compositor.specs.sf_live_seats.declared.seats.Seats.{Seats}
+use Rattle.sf_live_compositor.specs.sf_live_seats.Arriving.{ArrivalCalls}
+use Rattle.sf_live_compositor.specs.sf_live_seats.Seats.{home_of, view_of}
+use Rattle.law_draws.specs.law_rights.Standing.{GiveAll}
+use Rattle.law_draws.specs.law_rights.States.{AreApart, State, is_queue}
+use Rattle.law_draws.specs.law_rights.Vsyncs.{IsOfTurns, lease_back, lease_on}
+use Rattle.law_draws.proofs.law_rights_lemmas.TurnCounts.{none_in}
 use Rattle.law_threads.specs.Cuts.{Event, Local, Whole, state_at}
 use Rattle.law_threads.specs.Lifts.{AllGiven, Given, GivesAll, given_lease}
 use Rattle.law_threads.specs.Orders.{Spot, raised}
@@ -31,7 +31,7 @@ use Rattle.sf_live_compositor.specs.Vsyncs.{Begin, More}
 use Rattle.law_threads.proofs.ReturnedFrames.{back_lifts}
 use Rattle.law_threads.proofs.TryOutcomes.{all_begin}
 use Rattle.law_threads.proofs.CallCounts.{mine_more, mine_without}
-use Rattle.law_rights.specs.PlaceTries.{TellsPlaces}
+use Rattle.law_draws.specs.law_rights.PlaceTries.{TellsPlaces}
 use Rattle.law_threads.proofs.LedgerViews.{GivesKept, RestsKept}
 use Rattle.law_threads.proofs.VsyncRights.{decides_kept}
 use Rattle.law_threads.proofs.Lines.{AllAfter, AllAt, Back, IsFresh, Piece, Post, Rest, backs_at, end_rest, leases_of, piece_rest, spot_at, with_piece}

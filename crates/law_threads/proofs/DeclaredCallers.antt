@@ -7,21 +7,21 @@ use Rattle.std.proofs.lemmas.Bool.{cases_Bool, cases_eq, eq-eqb, ne_eqb}
 use Rattle.std.proofs.lemmas.List.{append-nil, append_assoc}
 use Rattle.std.proofs.lemmas.List.Elements.{All-contains}
 use Rattle.std.proofs.lemmas.List.Sorted.{Contains-permutation, IsPermutation-sym}
-use Rattle.sf_calls.specs.Histories.{calls_by}
-use Rattle.sf_calls.specs.declared.object.Entry.{Entry}
+use Rattle.law_draws.specs.sf_calls.Histories.{calls_by}
+use Rattle.law_draws.specs.sf_calls.declared.object.Entry.{Entry}
 use Rattle.sf_script_scene.specs.Limits.{IsActor as IsScript, IsWithinLimits, most_actors}
 use Rattle.sf_script_scene.specs.Scene.{SceneValue}
 use Rattle.sf_script_scene.specs.declared.step.ActorScript.{ActorScript}
-use Rattle.sf_actor.specs.Tries.{ActorOf, dequeues_in}
-use Rattle.sf_actor_set.proofs.RisingLemmas.{sorted_rises}
-use Rattle.sf_actor_set.specs.Opening.{IsSortedFrom, new_actors}
-use Rattle.law_played.proofs.Members.{has_cases, has_here, has_later, has_map, map_has}
-use Rattle.law_played.proofs.RisingNumbers.{above, later_rises}
-use Rattle.sf_live_seats.specs.declared.first.FirstSeats.{FirstSeats}
-use Rattle.sf_live_seats.specs.declared.seats.Seats.{Seats}
-use Rattle.sf_live_seats.specs.First.{took_of}
-use Rattle.sf_live_seats.specs.Seats.{view_of}
-use Rattle.sf_live_threads.specs.Walks.{Moment}
+use Rattle.law_draws.specs.sf_actor.Tries.{ActorOf, dequeues_in}
+use Rattle.law_draws.proofs.sf_actor_set_lemmas.RisingLemmas.{sorted_rises}
+use Rattle.law_draws.specs.sf_actor_set.Opening.{IsSortedFrom, new_actors}
+use Rattle.law_draws.proofs.law_played_lemmas.Members.{has_cases, has_here, has_later, has_map, map_has}
+use Rattle.law_draws.proofs.law_played_lemmas.RisingNumbers.{above, later_rises}
+use Rattle.sf_live_compositor.specs.sf_live_seats.declared.first.FirstSeats.{FirstSeats}
+use Rattle.sf_live_compositor.specs.sf_live_seats.declared.seats.Seats.{Seats}
+use Rattle.sf_live_compositor.specs.sf_live_seats.First.{took_of}
+use Rattle.sf_live_compositor.specs.sf_live_seats.Seats.{view_of}
+use Rattle.sf_live_compositor.specs.sf_live_threads.Walks.{Moment}
 use Rattle.law_threads.specs.Joining.{MeetsAll, of_at}
 use Rattle.law_threads.specs.Members.{AllOnce, bit, count_of}
 

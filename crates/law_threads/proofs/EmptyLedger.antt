@@ -3,20 +3,20 @@ use Rattle.std.proofs.Common.{◌≡◌, ℕ, zero, suc, ◌+◌, ◌<◌, ◌�
 use Rattle.std.specs.Prelude.{Contains, take}
 use Rattle.std.specs.List.{All, flat_map, sum_by}
 use Rattle.std.proofs.lemmas.List.Elements.{All-cons, All-nil, Contains-append_cases}
-use Rattle.sf_commit.specs.Handlers.{HandlerOf}
+use Rattle.law_draws.specs.sf_commit.Handlers.{HandlerOf}
 use Rattle.sf_script_scene.specs.declared.step.ActorScript.{ActorScript}
-use Rattle.sf_surface.specs.Tokens.{ReadLeaseOf}
-use Rattle.sf_token.specs.Arrivals.{sent, waiting}
-use Rattle.sf_token.specs.Pending.{Arrival}
+use Rattle.law_draws.specs.sf_surface.Tokens.{ReadLeaseOf}
+use Rattle.law_draws.specs.sf_token.Arrivals.{sent, waiting}
+use Rattle.law_draws.specs.sf_token.Pending.{Arrival}
 use Rattle.sf_turns.specs.Counts.{stock_at}
-use Rattle.sf_actor.specs.Desks.{DeskHome, DeskView}
-use Rattle.sf_actor.specs.Tries.{dequeues_in}
-use Rattle.sf_actor_steps.specs.Actors.{new_actor}
-use Rattle.sf_actor_set.specs.Opening.{new_actors}
-use Rattle.law_played.proofs.Members.{has_cases, has_first, has_later}
-use Rattle.law_rights.specs.Standing.{Begins, IsFresh, state_of, stock_of}
-use Rattle.law_rights.specs.States.{AreApart, State}
-use Rattle.law_rights.specs.Vsyncs.{lease_on}
+use Rattle.law_draws.specs.sf_actor.Desks.{DeskHome, DeskView}
+use Rattle.law_draws.specs.sf_actor.Tries.{dequeues_in}
+use Rattle.law_draws.specs.sf_actor_steps.Actors.{new_actor}
+use Rattle.law_draws.specs.sf_actor_set.Opening.{new_actors}
+use Rattle.law_draws.proofs.law_played_lemmas.Members.{has_cases, has_first, has_later}
+use Rattle.law_draws.specs.law_rights.Standing.{Begins, IsFresh, state_of, stock_of}
+use Rattle.law_draws.specs.law_rights.States.{AreApart, State}
+use Rattle.law_draws.specs.law_rights.Vsyncs.{lease_on}
 use Rattle.law_threads.specs.Cuts.{Local, Whole, front, state_at}
 use Rattle.law_threads.proofs.LedgerViews.{IsClose}
 use Rattle.law_threads.proofs.FirstAndLastStates.{front_none}

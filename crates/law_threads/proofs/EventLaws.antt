@@ -3,12 +3,12 @@ use Rattle.std.proofs.Common.{◌≡◌, ℕ, suc, ◌≤◌, ◌⊎◌, List, [
 use Rattle.std.specs.Prelude.{Contains}
 use Rattle.std.proofs.lemmas.List.{append_assoc, length-append}
 use Rattle.std.proofs.lemmas.List.Elements.{Contains-append_cases}
-use Rattle.sf_surface.specs.declared.mark.QueueMark.{QueueMark}
-use Rattle.sf_surface.specs.Histories.{Made, told_reply}
-use Rattle.sf_surface.specs.Tokens.{ReadLeaseOf}
-use Rattle.sf_token.specs.Pending.{Arrival}
-use Rattle.law_rights.specs.Calls.{buffers_in, made_of}
-use Rattle.law_rights.specs.States.{State}
+use Rattle.law_draws.specs.sf_surface.declared.mark.QueueMark.{QueueMark}
+use Rattle.law_draws.specs.sf_surface.Histories.{Made, told_reply}
+use Rattle.law_draws.specs.sf_surface.Tokens.{ReadLeaseOf}
+use Rattle.law_draws.specs.sf_token.Pending.{Arrival}
+use Rattle.law_draws.specs.law_rights.Calls.{buffers_in, made_of}
+use Rattle.law_draws.specs.law_rights.States.{State}
 use Rattle.law_threads.specs.Cuts.{AllGoBack, AreParts, AreUnspent, AreUnused, Event, Forwards, GoesBack, GoesForward, IsBlock, IsPart, Lifts, Local, Moves, Returns, Whole, all_now, before, calls_at, heights_after, IsNext, many_of, now, spot_of, state_at, stock_in, with_back, with_sent}
 use Rattle.law_threads.specs.Orders.{AreDone, Does, IsCut, Order, Passes, Spot, all_events, events_in, raised, times_at}
 use Rattle.law_threads.specs.Orders.Order.{Call, End, Pass, Still}

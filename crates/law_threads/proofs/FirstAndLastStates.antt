@@ -4,17 +4,17 @@ use Rattle.std.specs.Prelude.{Contains, take}
 use Rattle.std.specs.List.{flat_map, list_any, sum_by}
 use Rattle.std.proofs.lemmas.Bool.{or_parts}
 use Rattle.std.proofs.lemmas.List.{length-append, nil_from_length}
-use Rattle.sf_surface.specs.Objects.{ObjectOf, mark_of}
-use Rattle.sf_surface.specs.Tokens.{ReadLeaseOf}
-use Rattle.sf_token.specs.Arrivals.{sent, waiting}
-use Rattle.sf_token.specs.Pending.{Arrival}
-use Rattle.sf_commit.specs.Handlers.{HandlerOf}
-use Rattle.sf_actor.specs.Plain.{PlainOf, calls_among, home_of, is_queue, taken_in, view_of}
-use Rattle.sf_actor.specs.Rights.{Turn}
-use Rattle.sf_actor.specs.Tries.{ActorOf}
-use Rattle.sf_actor_set.proofs.ArrivalLemmas.{sent_is, waiting_many}
-use Rattle.law_rights.specs.Standing.{state_of}
-use Rattle.law_rights.specs.Vsyncs.{lease_on}
+use Rattle.law_draws.specs.sf_surface.Objects.{ObjectOf, mark_of}
+use Rattle.law_draws.specs.sf_surface.Tokens.{ReadLeaseOf}
+use Rattle.law_draws.specs.sf_token.Arrivals.{sent, waiting}
+use Rattle.law_draws.specs.sf_token.Pending.{Arrival}
+use Rattle.law_draws.specs.sf_commit.Handlers.{HandlerOf}
+use Rattle.law_draws.specs.sf_actor.Plain.{PlainOf, calls_among, home_of, is_queue, taken_in, view_of}
+use Rattle.law_draws.specs.sf_actor.Rights.{Turn}
+use Rattle.law_draws.specs.sf_actor.Tries.{ActorOf}
+use Rattle.law_draws.proofs.sf_actor_set_lemmas.ArrivalLemmas.{sent_is, waiting_many}
+use Rattle.law_draws.specs.law_rights.Standing.{state_of}
+use Rattle.law_draws.specs.law_rights.Vsyncs.{lease_on}
 use Rattle.law_threads.specs.Cuts.{Local, front, many_of, state_at}
 use Rattle.law_threads.proofs.LedgerViews.{IsClose}
 use Rattle.law_threads.proofs.Fronts.{front_all, front_length}

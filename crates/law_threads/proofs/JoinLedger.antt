@@ -5,25 +5,25 @@ use Rattle.std.specs.List.{All, AllZip, flat_map}
 use Rattle.std.proofs.lemmas.List.{append-nil}
 use Rattle.std.proofs.lemmas.List.Elements.{All-contains, All-head, All-tail}
 use Rattle.atomic_table.specs.Seated.{TableId}
-use Rattle.sf_calls.specs.Histories.{IsLegal}
+use Rattle.law_draws.specs.sf_calls.Histories.{IsLegal}
 use Rattle.sf_script_scene.specs.Ranges.{IsStep}
 use Rattle.sf_script_scene.specs.Scene.{SceneValue}
 use Rattle.sf_script_scene.specs.declared.step.Step.{Step}
-use Rattle.sf_surface.specs.Histories.{Answers}
-use Rattle.sf_actor.specs.Desks.{mark_among}
-use Rattle.sf_actor.specs.Plain.{PlainOf, home_of as plain_home, view_of as plain_view}
-use Rattle.sf_actor.specs.Scripts.{picture_at}
-use Rattle.sf_actor.specs.Tries.{ActorOf}
-use Rattle.sf_actor_steps.specs.Playable.{IsPlayable, MayPlay}
-use Rattle.sf_live_seats.specs.declared.first.FirstSeats.{FirstSeats}
-use Rattle.sf_live_seats.specs.declared.locks.Locks.{Locks}
-use Rattle.sf_live_seats.specs.Closing.{Closes, IsOrdered}
-use Rattle.sf_live_seats.specs.Seats.{AreSeats, home_of, marks_of, view_of}
-use Rattle.sf_live_threads.specs.Walks.{Moment}
-use Rattle.law_rights.specs.Standing.{state_of}
-use Rattle.law_rights.specs.States.{AreApart, State}
-use Rattle.law_rights.specs.Vsyncs.{lease_on}
-use Rattle.law_played.proofs.Members.{has_here, has_later}
+use Rattle.law_draws.specs.sf_surface.Histories.{Answers}
+use Rattle.law_draws.specs.sf_actor.Desks.{mark_among}
+use Rattle.law_draws.specs.sf_actor.Plain.{PlainOf, home_of as plain_home, view_of as plain_view}
+use Rattle.law_draws.specs.sf_actor.Scripts.{picture_at}
+use Rattle.law_draws.specs.sf_actor.Tries.{ActorOf}
+use Rattle.law_draws.specs.sf_actor_steps.Playable.{IsPlayable, MayPlay}
+use Rattle.sf_live_compositor.specs.sf_live_seats.declared.first.FirstSeats.{FirstSeats}
+use Rattle.sf_live_compositor.specs.sf_live_seats.declared.locks.Locks.{Locks}
+use Rattle.sf_live_compositor.specs.sf_live_seats.Closing.{Closes, IsOrdered}
+use Rattle.sf_live_compositor.specs.sf_live_seats.Seats.{AreSeats, home_of, marks_of, view_of}
+use Rattle.sf_live_compositor.specs.sf_live_threads.Walks.{Moment}
+use Rattle.law_draws.specs.law_rights.Standing.{state_of}
+use Rattle.law_draws.specs.law_rights.States.{AreApart, State}
+use Rattle.law_draws.specs.law_rights.Vsyncs.{lease_on}
+use Rattle.law_draws.proofs.law_played_lemmas.Members.{has_here, has_later}
 use Rattle.law_threads.specs.Cuts.{Event, Local, MakesAt, many_of, state_at}
 use Rattle.law_threads.specs.Joining.{CameBack, HasNewSeats, of_at}
 use Rattle.law_threads.specs.Lifts.{local_of}

@@ -5,50 +5,50 @@ use Rattle.std.specs.List.{All, AllZip, flat_map, list_any}
 use Rattle.std.proofs.lemmas.List.Elements.{All-contains, All-head, All-tail}
 use Rattle.atomic_table.specs.Seated.{TableId}
 use Rattle.sf_script_scene.specs.Scene.{SceneValue}
-use Rattle.sf_surface.specs.Tokens.{Issued, ReadLeaseOf}
+use Rattle.law_draws.specs.sf_surface.Tokens.{Issued, ReadLeaseOf}
 use Rattle.sf_turns.specs.Counts.{stock_at}
 use Rattle.sf_turns.specs.Views.{SeatView}
-use Rattle.sf_token.specs.Pending.{Arrival}
-use Rattle.sf_txn.specs.declared.lease.Lease.{Ghosts}
-use Rattle.sf_actor.specs.Plain.{PlainOf, home_of as plain_home, view_of as plain_view}
-use Rattle.sf_actor.specs.Rights.{Turn}
-use Rattle.sf_actor.specs.Scripts.{picture_at}
-use Rattle.sf_actor.specs.Desks.{DeskHome, DeskView, mark_among}
-use Rattle.sf_actor.specs.Tries.{ActorOf}
-use Rattle.sf_actor_set.specs.Opening.{new_actors}
-use Rattle.law_rights.specs.States.{AreApart, State, ledger_of, is_queue}
-use Rattle.law_rights.specs.Standing.{Begins, LedgerStands, state_of, stock_of}
-use Rattle.law_rights.specs.Vsyncs.{lease_on, IsOfTurns}
-use Rattle.sf_live_seats.specs.declared.locks.Locks.{Locks}
-use Rattle.sf_live_seats.specs.Seats.{AreSeats, marks_of, view_of}
+use Rattle.law_draws.specs.sf_token.Pending.{Arrival}
+use Rattle.law_draws.specs.sf_txn.declared.lease.Lease.{Ghosts}
+use Rattle.law_draws.specs.sf_actor.Plain.{PlainOf, home_of as plain_home, view_of as plain_view}
+use Rattle.law_draws.specs.sf_actor.Rights.{Turn}
+use Rattle.law_draws.specs.sf_actor.Scripts.{picture_at}
+use Rattle.law_draws.specs.sf_actor.Desks.{DeskHome, DeskView, mark_among}
+use Rattle.law_draws.specs.sf_actor.Tries.{ActorOf}
+use Rattle.law_draws.specs.sf_actor_set.Opening.{new_actors}
+use Rattle.law_draws.specs.law_rights.States.{AreApart, State, ledger_of, is_queue}
+use Rattle.law_draws.specs.law_rights.Standing.{Begins, LedgerStands, state_of, stock_of}
+use Rattle.law_draws.specs.law_rights.Vsyncs.{lease_on, IsOfTurns}
+use Rattle.sf_live_compositor.specs.sf_live_seats.declared.locks.Locks.{Locks}
+use Rattle.sf_live_compositor.specs.sf_live_seats.Seats.{AreSeats, marks_of, view_of}
 use Rattle.law_threads.proofs.Apart.{rising_marks}
 use Rattle.law_threads.proofs.CompositorBuffers.{makes_none}
-use Rattle.sf_live_seats.specs.First.{gave_of, took_of}
-use Rattle.sf_live_seats.specs.declared.seats.Seats.{Seats}
-use Rattle.law_played.proofs.Members.{has_cases, has_first, has_later, has_map, map_has}
+use Rattle.sf_live_compositor.specs.sf_live_seats.First.{gave_of, took_of}
+use Rattle.sf_live_compositor.specs.sf_live_seats.declared.seats.Seats.{Seats}
+use Rattle.law_draws.proofs.law_played_lemmas.Members.{has_cases, has_first, has_later, has_map, map_has}
 use Rattle.law_threads.proofs.DeclaredCallers.{declared_once, each_once, left_all, moment_number, numbers_are, script_number, starts_numbered, took_all}
-use Rattle.sf_live_threads.specs.Walks.{Moment}
+use Rattle.sf_live_compositor.specs.sf_live_threads.Walks.{Moment}
 use Rattle.sf_script_scene.specs.declared.step.ActorScript.{ActorScript}
-use Rattle.sf_surface.specs.Histories.{Made, Answers}
+use Rattle.law_draws.specs.sf_surface.Histories.{Made, Answers}
 use Rattle.law_threads.proofs.ReturnedSeats.{AtJoin, at_join, reunited_at, reunited_leaves, reunited_numbers}
 use Rattle.law_threads.proofs.BufferOwners.{SeatedAs, seated_as, counted_there, once_there, one_stock, own_stock}
 use Rattle.law_threads.specs.Cuts.{Local, MakesAt, many_of, state_at}
 use Rattle.law_threads.specs.Joining.{CameBack, HasNewSeats, Joins, of_at}
 use Rattle.law_threads.specs.Members.{AllOnce, AreTied, count_of, number_at, seated, whole_of, stamps}
 use Rattle.sf_live_compositor.specs.Vsyncs.{Sitting}
-use Rattle.law_rights.specs.Ledgers.{IsLedger}
+use Rattle.law_draws.specs.law_rights.Ledgers.{IsLedger}
 use Rattle.law_threads.proofs.LedgerViews.{IsClose, GivesKept, RestsKept}
 use Rattle.law_threads.proofs.ActorAsCaller.{LiftsAll}
 use Rattle.law_threads.proofs.EmptyLedger.{new_among, new_once, starts_hold}
 use Rattle.law_threads.proofs.JoinLedger.{AreCallers, callers_of, joined_close, joined_holds, local_at}
 use Rattle.law_threads.proofs.WalkPieces.{walk_by, walk_same}
-use Rattle.sf_calls.specs.Histories.{GoesOnWithout, IsLegal}
-use Rattle.sf_calls_stamped.specs.Stamps.{unstamped}
-use Rattle.sf_surface.specs.declared.mark.QueueMark.{QueueMark}
+use Rattle.law_draws.specs.sf_calls.Histories.{GoesOnWithout, IsLegal}
+use Rattle.sf_live_compositor.specs.sf_calls_stamped.Stamps.{unstamped}
+use Rattle.law_draws.specs.sf_surface.declared.mark.QueueMark.{QueueMark}
 use Rattle.law_threads.proofs.AllCallers.{IsMember}
 use Rattle.law_threads.proofs.FirstAndLastStates.{not_called}
 use Rattle.law_threads.proofs.CompositorAsCaller.{Sits, log_by, met_by, met_on, nobody_script, sits_of, unstamped_on}
-use Rattle.law_rights.specs.PlaceTries.{TellsPlaces}
+use Rattle.law_draws.specs.law_rights.PlaceTries.{TellsPlaces}
 
 module _ {B : Type 0} (lease : Ghosts ReadLeaseOf SeatView ReadLeaseOf Issued) (scene : SceneValue) (table : TableId) (period most : ℕ) (locks : Locks B) (last : Sitting B) (ends : List (Moment B)) (desk : PlainOf B)
     (joins : Joins lease scene table period most locks last ends desk) (Holds : State B → Type 0) (tied : AreTied lease table period locks joins.begins last joins.log joins.first desk) where

@@ -2,21 +2,21 @@
 use Rattle.std.proofs.Common.{◌≡◌, ℕ, ◌+◌, List, [], ◌∷◌, ◌++◌, arith, ap, sym, subst, length, map}
 use Rattle.std.specs.List.{flat_map, sum_by}
 use Rattle.std.proofs.lemmas.List.Sums.{sum_by-append}
-use Rattle.sf_surface.specs.Tokens.{ReadLeaseOf}
-use Rattle.sf_token.specs.Pending.{Arrival}
-use Rattle.sf_actor.specs.Rights.{Turn}
-use Rattle.sf_actor.specs.Tries.{ActorOf}
-use Rattle.sf_actor_steps.specs.declared.bindings.Bindings.{Bindings}
+use Rattle.law_draws.specs.sf_surface.Tokens.{ReadLeaseOf}
+use Rattle.law_draws.specs.sf_token.Pending.{Arrival}
+use Rattle.law_draws.specs.sf_actor.Rights.{Turn}
+use Rattle.law_draws.specs.sf_actor.Tries.{ActorOf}
+use Rattle.law_draws.specs.sf_actor_steps.declared.bindings.Bindings.{Bindings}
 use Rattle.sf_script_scene.specs.declared.step.Step.{Step}
-use Rattle.sf_surface.specs.declared.call.QCall.TheVariants as call
-use Rattle.law_rights.specs.Ledgers.{IsLedger}
-use Rattle.law_rights.specs.Moves.{AreIn, Gets, HasAtMost}
-use Rattle.law_rights.specs.States.{State, all_owed, all_written, ledger_of, lease_turn, rights_arrived, rights_held, rights_of}
-use Rattle.law_rights.specs.PlaceTries.{RestsIn, ReturnsOne}
-use Rattle.law_rights.proofs.OwedDrawings.{gets_same}
-use Rattle.law_rights.proofs.PlaceChanges.{Went, sum_read}
-use Rattle.law_rights.proofs.SilentSteps.{quiet_keeps}
-use Rattle.law_rights.proofs.CallKeepsState.{call_keeps}
+use Rattle.law_draws.specs.sf_surface.declared.call.QCall.TheVariants as call
+use Rattle.law_draws.specs.law_rights.Ledgers.{IsLedger}
+use Rattle.law_draws.specs.law_rights.Moves.{AreIn, Gets, HasAtMost}
+use Rattle.law_draws.specs.law_rights.States.{State, all_owed, all_written, ledger_of, lease_turn, rights_arrived, rights_held, rights_of}
+use Rattle.law_draws.specs.law_rights.PlaceTries.{RestsIn, ReturnsOne}
+use Rattle.law_draws.proofs.law_rights_lemmas.OwedDrawings.{gets_same}
+use Rattle.law_draws.proofs.law_rights_lemmas.PlaceChanges.{Went, sum_read}
+use Rattle.law_draws.proofs.law_rights_lemmas.SilentSteps.{quiet_keeps}
+use Rattle.law_draws.proofs.law_rights_lemmas.CallKeepsState.{call_keeps}
 use Rattle.law_threads.specs.Cuts.{HasLedger, Local, Whole, state_at}
 use Rattle.law_threads.specs.Lifts.{local_of}
 

@@ -41,3 +41,12 @@ mod CompositorPieces
 mod WalkPieces
 mod WalkBlocks
 mod TryWrites
+pub use Rattle.law_draws.proofs as law_draws_lemmas
+pub use Rattle.law_draws.proofs.law_played_lemmas
+pub use Rattle.law_draws.proofs.law_rights_lemmas
+pub use Rattle.law_draws.proofs.sf_actor_lemmas
+pub use Rattle.law_draws.proofs.sf_actor_set_lemmas
+pub use Rattle.law_draws.proofs.sf_actor_steps_lemmas
+pub use Rattle.sf_live_compositor.proofs.sf_live_seats_lemmas
+pub use Rattle.sf_live_compositor.proofs.sf_live_threads_lemmas
+pub use Rattle.sf_live_compositor.proofs.sf_play_lemmas

@@ -2,10 +2,10 @@
 use Rattle.std.proofs.Common.{◌≡◌, ℕ, suc, ◌+◌, ◌<◌, ◌≤◌, ◌⊎◌, List, [], ◌∷◌, ◌++◌, arith, ap, ◌∙◌, sym, refl, inl, inr, subst, Option, Some, None}
 use Rattle.std.specs.Prelude.{Contains, if◌then◌else◌}
 use Rattle.std.proofs.lemmas.List.Elements.{Contains-append_cases}
-use Rattle.sf_surface.specs.Tokens.{ReadLeaseOf}
-use Rattle.sf_token.specs.Pending.{Arrival}
-use Rattle.law_rights.specs.States.{State}
-use Rattle.law_rights.proofs.TurnCounts.{in_front, none_in, the_only}
+use Rattle.law_draws.specs.sf_surface.Tokens.{ReadLeaseOf}
+use Rattle.law_draws.specs.sf_token.Pending.{Arrival}
+use Rattle.law_draws.specs.law_rights.States.{State}
+use Rattle.law_draws.proofs.law_rights_lemmas.TurnCounts.{in_front, none_in, the_only}
 use Rattle.law_threads.specs.Cuts.{AllGoBack, AreUnspent, Event, Forwards, GoesBack, GoesForward, IsPart, Lifts, Local, MakesAt, Moves, Returns, Whole, before, now, spot_of, stock_in, with_sent}
 use Rattle.law_threads.specs.Delays.{delayed}
 use Rattle.law_threads.specs.Orders.{ComesFirst, IsInTurn, Spot, events_in, is_spot, times_at}

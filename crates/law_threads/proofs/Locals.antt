@@ -5,7 +5,7 @@ use Rattle.std.specs.List.{flat_map, sum_by}
 use Rattle.std.proofs.lemmas.List.Concat.{flat_map-append}
 use Rattle.std.proofs.lemmas.List.Elements.{Contains-append_cases, Contains-append_left, Contains-append_right}
 use Rattle.std.proofs.lemmas.List.Sums.{sum_by-append}
-use Rattle.law_rights.specs.Moves.{AreIn, Gets}
+use Rattle.law_draws.specs.law_rights.Moves.{AreIn, Gets}
 
 module _ {X A : Type 0} (f : X → List A) (others later : List X) where
   -- what is read off all, at one of them

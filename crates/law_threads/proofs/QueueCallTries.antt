@@ -3,23 +3,23 @@ use Rattle.std.proofs.Common.{◌≡◌, ℕ, ◌+◌, ◌-◌, Bool, true, fals
 use Rattle.std.specs.Prelude.{if◌then◌else◌, nat_lt, slice_index}
 use Rattle.sf_base.specs.Fences.{Fence}
 use Rattle.sf_base.specs.declared.status.QStatus.{QStatus}
-use Rattle.sf_picture.specs.declared.picture.Picture.{Picture}
+use Rattle.sf_script_scene.specs.sf_picture.declared.picture.Picture.{Picture}
 use Rattle.sf_script_scene.specs.declared.step.Step.{Step}
 use Rattle.sf_script_scene.specs.declared.step.Step.TheVariants as step
-use Rattle.sf_surface.specs.Tokens.{EndingOf}
-use Rattle.sf_times.specs.declared.protocol.Knows.{Knows}
+use Rattle.law_draws.specs.sf_surface.Tokens.{EndingOf}
+use Rattle.law_draws.specs.sf_times.declared.protocol.Knows.{Knows}
 use Rattle.sf_turns.specs.Views.{SeatView}
-use Rattle.sf_actor.specs.Desks.{DeskHome, DeskView}
-use Rattle.sf_actor.specs.Names.{name_in}
-use Rattle.sf_actor.specs.Points.{frame_fence, requested_fence}
-use Rattle.sf_actor_steps.specs.declared.bindings.Bindings.{Bindings}
-use Rattle.sf_actor_steps.specs.declared.tried.Tried.{Tried}
-use Rattle.sf_actor_steps.specs.declared.tried.Tried.TheVariants as tried
-use Rattle.sf_actor_steps.specs.Acting.{Acts, Attempts}
-use Rattle.sf_actor_steps.specs.Calling.{Ends}
-use Rattle.sf_actor_steps.specs.Doing.{MakesCall}
-use Rattle.sf_actor_steps.specs.Bindings.{holdings_of}
-use Rattle.sf_actor_steps.specs.Leaving.{TriesToLeave}
+use Rattle.law_draws.specs.sf_actor.Desks.{DeskHome, DeskView}
+use Rattle.law_draws.specs.sf_actor.Names.{name_in}
+use Rattle.law_draws.specs.sf_actor.Points.{frame_fence, requested_fence}
+use Rattle.law_draws.specs.sf_actor_steps.declared.bindings.Bindings.{Bindings}
+use Rattle.law_draws.specs.sf_actor_steps.declared.tried.Tried.{Tried}
+use Rattle.law_draws.specs.sf_actor_steps.declared.tried.Tried.TheVariants as tried
+use Rattle.law_draws.specs.sf_actor_steps.Acting.{Acts, Attempts}
+use Rattle.law_draws.specs.sf_actor_steps.Calling.{Ends}
+use Rattle.law_draws.specs.sf_actor_steps.Doing.{MakesCall}
+use Rattle.law_draws.specs.sf_actor_steps.Bindings.{holdings_of}
+use Rattle.law_draws.specs.sf_actor_steps.Leaving.{TriesToLeave}
 use Rattle.law_threads.proofs.TimelineLooks.{knows_just, saw_just, sees_just}
 
 called_apart : (status : QStatus) (values : List ℕ) (other : ℕ) → tried.Called status values ≡ tried.Own other → ⊥

@@ -6,42 +6,42 @@ use Rattle.std.proofs.lemmas.List.{append-nil}
 use Rattle.std.proofs.lemmas.List.Sums.{sum_by-cons}
 use Rattle.sf_base.specs.Fences.{Fence}
 use Rattle.sf_base.specs.declared.fences.Seen.{Seen}
-use Rattle.sf_picture.specs.declared.picture.Picture.{Picture}
+use Rattle.sf_script_scene.specs.sf_picture.declared.picture.Picture.{Picture}
 use Rattle.sf_script_scene.specs.Ranges.{IsStep}
 use Rattle.sf_script_scene.specs.declared.step.Step.{Step}
-use Rattle.sf_slots.specs.declared.slot.Held.{Held}
-use Rattle.sf_surface.specs.Hands.{brought, permit_of}
-use Rattle.sf_surface.specs.Drawing.{Enters, Passes, drawn_with}
-use Rattle.sf_surface.specs.declared.work.Work.{Work}
-use Rattle.sf_surface.specs.declared.work.Work.TheVariants as work
-use Rattle.sf_surface.specs.Tokens.{OwingOf, ReadLeaseOf, WriteLeaseOf}
+use Rattle.law_draws.specs.sf_slots.declared.slot.Held.{Held}
+use Rattle.law_draws.specs.sf_surface.Hands.{brought, permit_of}
+use Rattle.law_draws.specs.sf_surface.Drawing.{Enters, Passes, drawn_with}
+use Rattle.law_draws.specs.sf_surface.declared.work.Work.{Work}
+use Rattle.law_draws.specs.sf_surface.declared.work.Work.TheVariants as work
+use Rattle.law_draws.specs.sf_surface.Tokens.{OwingOf, ReadLeaseOf, WriteLeaseOf}
 use Rattle.sf_turns.specs.Views.{SeatView}
-use Rattle.sf_txn.specs.Buffers.{Buffer}
-use Rattle.sf_txn.specs.Transactions.{Contents, all_replaced, empty, merged, replaced_by, set_buffer}
-use Rattle.sf_actor.specs.declared.holding.Holding.{Holding}
-use Rattle.sf_actor.specs.declared.holding.Holding.TheVariants as holding
-use Rattle.sf_actor.specs.Desks.{DeskHome, DeskView}
-use Rattle.sf_actor.specs.Rights.{Turn, issued_turn}
-use Rattle.sf_actor.specs.Tests.{refusal_of}
-use Rattle.sf_actor_steps.specs.declared.asking.Asking.{Asking}
-use Rattle.sf_actor_steps.specs.declared.bindings.Bindings.{Bindings}
-use Rattle.sf_actor_steps.specs.Actors.{parts_of}
-use Rattle.sf_actor_steps.specs.Calling.{taken_back, with_held}
-use Rattle.sf_actor_steps.specs.Drawing.{DrawsHolding, filled}
-use Rattle.sf_actor_steps.specs.Editing.{Edits, Merges, Shows, buffer_with, with_txn}
-use Rattle.sf_actor_steps.specs.Forming.{FormsCall, Takes}
-use Rattle.sf_actor_steps.specs.Bindings.{holdings_of}
-use Rattle.law_rights.specs.Makers.{RightAt, WriteAt, place_of, place_owed, places_held, places_sent, right_read}
-use Rattle.law_rights.specs.Moves.{AreIn, Gets}
-use Rattle.law_rights.proofs.TurnCounts.{first, none_in}
-use Rattle.law_rights.proofs.ReplyFits.{brought_back, brought_owes_none, fits_back}
-use Rattle.law_rights.proofs.Forms.{edits_names, edits_sum, names_owe, put_txn, take_txn}
-use Rattle.law_rights.proofs.FreeNames.{forms_free, forms_owe, takes_owes}
-use Rattle.law_rights.proofs.BindingChanges.{from_of, set_most, set_none, weight_is}
-use Rattle.law_rights.proofs.QueueCounts.{in_all}
-use Rattle.law_rights.proofs.OwedDrawings.{gets_more, gets_push, gets_same, gets_set, given_owes, got_there, bindings_owe, loses_set, nothing_owes, owes_at}
-use Rattle.law_rights.proofs.ReleasedFrames.{buffers_weight, lease_of, on_sum, with_sum, withs_sum}
-use Rattle.law_rights.proofs.CallTryLedger.{forms_then, bindings_weight}
+use Rattle.law_draws.specs.sf_txn.Buffers.{Buffer}
+use Rattle.law_draws.specs.sf_txn.Transactions.{Contents, all_replaced, empty, merged, replaced_by, set_buffer}
+use Rattle.law_draws.specs.sf_actor.declared.holding.Holding.{Holding}
+use Rattle.law_draws.specs.sf_actor.declared.holding.Holding.TheVariants as holding
+use Rattle.law_draws.specs.sf_actor.Desks.{DeskHome, DeskView}
+use Rattle.law_draws.specs.sf_actor.Rights.{Turn, issued_turn}
+use Rattle.law_draws.specs.sf_actor.Tests.{refusal_of}
+use Rattle.law_draws.specs.sf_actor_steps.declared.asking.Asking.{Asking}
+use Rattle.law_draws.specs.sf_actor_steps.declared.bindings.Bindings.{Bindings}
+use Rattle.law_draws.specs.sf_actor_steps.Actors.{parts_of}
+use Rattle.law_draws.specs.sf_actor_steps.Calling.{taken_back, with_held}
+use Rattle.law_draws.specs.sf_actor_steps.Drawing.{DrawsHolding, filled}
+use Rattle.law_draws.specs.sf_actor_steps.Editing.{Edits, Merges, Shows, buffer_with, with_txn}
+use Rattle.law_draws.specs.sf_actor_steps.Forming.{FormsCall, Takes}
+use Rattle.law_draws.specs.sf_actor_steps.Bindings.{holdings_of}
+use Rattle.law_draws.specs.law_rights.Makers.{RightAt, WriteAt, place_of, place_owed, places_held, places_sent, right_read}
+use Rattle.law_draws.specs.law_rights.Moves.{AreIn, Gets}
+use Rattle.law_draws.proofs.law_rights_lemmas.TurnCounts.{first, none_in}
+use Rattle.law_draws.proofs.law_rights_lemmas.ReplyFits.{brought_back, brought_owes_none, fits_back}
+use Rattle.law_draws.proofs.law_rights_lemmas.Forms.{edits_names, edits_sum, names_owe, put_txn, take_txn}
+use Rattle.law_draws.proofs.law_rights_lemmas.FreeNames.{forms_free, forms_owe, takes_owes}
+use Rattle.law_draws.proofs.law_rights_lemmas.BindingChanges.{from_of, set_most, set_none, weight_is}
+use Rattle.law_draws.proofs.law_rights_lemmas.QueueCounts.{in_all}
+use Rattle.law_draws.proofs.law_rights_lemmas.OwedDrawings.{gets_more, gets_push, gets_same, gets_set, given_owes, got_there, bindings_owe, loses_set, nothing_owes, owes_at}
+use Rattle.law_draws.proofs.law_rights_lemmas.ReleasedFrames.{buffers_weight, lease_of, on_sum, with_sum, withs_sum}
+use Rattle.law_draws.proofs.law_rights_lemmas.CallTryLedger.{forms_then, bindings_weight}
 
 -- a token is put back where it was, and another one in its place
 put_back : {A : Type 0} (xs : List (Option A)) (i : ℕ) (y : A) → get_or xs i None ≡ Some y → set (set xs i None) i (Some y) ≡ xs

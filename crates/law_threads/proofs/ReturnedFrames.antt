@@ -4,22 +4,22 @@ use Rattle.std.specs.List.{flat_map, list_any, sum_by}
 use Rattle.std.proofs.lemmas.Bool.{cases_Bool}
 use Rattle.std.proofs.lemmas.List.Sums.{sum_by-append, sum_by-cons}
 use Rattle.sf_base.specs.Fences.{Fence}
-use Rattle.sf_calls.specs.declared.object.Answer.{Answer}
-use Rattle.sf_calls.specs.declared.object.Entry.{Entry}
-use Rattle.sf_calls.specs.Histories.{IsLegal, entry}
-use Rattle.sf_surface.specs.declared.call.QCall.{QCall}
-use Rattle.sf_surface.specs.declared.call.QCall.TheVariants as call
-use Rattle.sf_surface.specs.declared.call.QReply.{QReply}
-use Rattle.sf_surface.specs.Histories.{Answers, Made}
-use Rattle.sf_surface.specs.Tokens.{ReadLeaseOf}
-use Rattle.sf_token.specs.Arrivals.{waiting}
-use Rattle.sf_token.specs.Pending.{Arrival}
-use Rattle.sf_actor.specs.Desks.{mark_among}
-use Rattle.sf_actor.specs.Rights.{Turn}
-use Rattle.law_rights.specs.Moves.{Gets}
-use Rattle.law_rights.specs.States.{AreApart, CallsOnce, State, is_queue}
-use Rattle.law_rights.proofs.OwedDrawings.{gets_same}
-use Rattle.law_rights.proofs.ReturnedFrames.{back_places}
+use Rattle.law_draws.specs.sf_calls.declared.object.Answer.{Answer}
+use Rattle.law_draws.specs.sf_calls.declared.object.Entry.{Entry}
+use Rattle.law_draws.specs.sf_calls.Histories.{IsLegal, entry}
+use Rattle.law_draws.specs.sf_surface.declared.call.QCall.{QCall}
+use Rattle.law_draws.specs.sf_surface.declared.call.QCall.TheVariants as call
+use Rattle.law_draws.specs.sf_surface.declared.call.QReply.{QReply}
+use Rattle.law_draws.specs.sf_surface.Histories.{Answers, Made}
+use Rattle.law_draws.specs.sf_surface.Tokens.{ReadLeaseOf}
+use Rattle.law_draws.specs.sf_token.Arrivals.{waiting}
+use Rattle.law_draws.specs.sf_token.Pending.{Arrival}
+use Rattle.law_draws.specs.sf_actor.Desks.{mark_among}
+use Rattle.law_draws.specs.sf_actor.Rights.{Turn}
+use Rattle.law_draws.specs.law_rights.Moves.{Gets}
+use Rattle.law_draws.specs.law_rights.States.{AreApart, CallsOnce, State, is_queue}
+use Rattle.law_draws.proofs.law_rights_lemmas.OwedDrawings.{gets_same}
+use Rattle.law_draws.proofs.law_rights_lemmas.ReturnedFrames.{back_places}
 use Rattle.law_threads.specs.Cuts.{GoesBack, Local, Whole, calls_at, front, state_at}
 use Rattle.law_threads.specs.Orders.{raised}
 use Rattle.law_threads.proofs.LedgerViews.{GivesKept, GivesTo}

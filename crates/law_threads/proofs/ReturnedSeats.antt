@@ -2,26 +2,26 @@
 use Rattle.std.proofs.Common.{◌≡◌, ℕ, Bool, true, false, List, [], ◌∷◌, ◌++◌, arith, ap, ◌∙◌, sym, refl, inl, inr, subst, map, filter}
 use Rattle.std.specs.Prelude.{Contains}
 use Rattle.std.specs.List.{AllZip, flat_map}
-use Rattle.sf_calls.specs.Histories.{GoesOnWithout}
-use Rattle.sf_surface.specs.Tokens.{ReadLeaseOf}
-use Rattle.sf_token.specs.declared.arrivals.ArriveCall.TheVariants as arrive
-use Rattle.sf_token.specs.Pending.{Arrival}
-use Rattle.sf_txn.specs.Transactions.{Contents}
-use Rattle.sf_actor.specs.Desks.{known_of}
-use Rattle.sf_actor.specs.Known.{GoesOn, Known, ShareGoesOn, arrivals_told, is_sent_by, share_of}
-use Rattle.sf_actor.specs.Plain.{PlainOf, home_of as plain_home, view_of as plain_view}
-use Rattle.sf_actor.specs.Rights.{Turn}
-use Rattle.sf_actor.proofs.GoingOn.{share_on}
-use Rattle.sf_live_seats.specs.Arriving.{ArrivalEntry, Arriving}
-use Rattle.sf_live_seats.specs.declared.first.FirstSeats.{FirstSeats}
-use Rattle.sf_live_seats.specs.declared.locks.Locks.{Locks}
-use Rattle.sf_live_seats.specs.declared.seats.Seats.{Seats}
-use Rattle.sf_live_seats.specs.Closing.{GoesOnIn, IsOrdered}
-use Rattle.sf_live_seats.specs.First.{took_of}
-use Rattle.sf_live_seats.specs.Reuniting.{Reunites, sent_of}
-use Rattle.sf_live_seats.specs.Seats.{home_of, takes_in, view_of}
-use Rattle.sf_live_threads.specs.Walks.{Moment}
-use Rattle.law_played.proofs.Members.{has_cases, has_here, has_later}
+use Rattle.law_draws.specs.sf_calls.Histories.{GoesOnWithout}
+use Rattle.law_draws.specs.sf_surface.Tokens.{ReadLeaseOf}
+use Rattle.law_draws.specs.sf_token.declared.arrivals.ArriveCall.TheVariants as arrive
+use Rattle.law_draws.specs.sf_token.Pending.{Arrival}
+use Rattle.law_draws.specs.sf_txn.Transactions.{Contents}
+use Rattle.law_draws.specs.sf_actor.Desks.{known_of}
+use Rattle.law_draws.specs.sf_actor.Known.{GoesOn, Known, ShareGoesOn, arrivals_told, is_sent_by, share_of}
+use Rattle.law_draws.specs.sf_actor.Plain.{PlainOf, home_of as plain_home, view_of as plain_view}
+use Rattle.law_draws.specs.sf_actor.Rights.{Turn}
+use Rattle.law_draws.proofs.sf_actor_lemmas.GoingOn.{share_on}
+use Rattle.sf_live_compositor.specs.sf_live_seats.Arriving.{ArrivalEntry, Arriving}
+use Rattle.sf_live_compositor.specs.sf_live_seats.declared.first.FirstSeats.{FirstSeats}
+use Rattle.sf_live_compositor.specs.sf_live_seats.declared.locks.Locks.{Locks}
+use Rattle.sf_live_compositor.specs.sf_live_seats.declared.seats.Seats.{Seats}
+use Rattle.sf_live_compositor.specs.sf_live_seats.Closing.{GoesOnIn, IsOrdered}
+use Rattle.sf_live_compositor.specs.sf_live_seats.First.{took_of}
+use Rattle.sf_live_compositor.specs.sf_live_seats.Reuniting.{Reunites, sent_of}
+use Rattle.sf_live_compositor.specs.sf_live_seats.Seats.{home_of, takes_in, view_of}
+use Rattle.sf_live_compositor.specs.sf_live_threads.Walks.{Moment}
+use Rattle.law_draws.proofs.law_played_lemmas.Members.{has_cases, has_here, has_later}
 use Rattle.law_threads.specs.Joining.{seats_at}
 use Rattle.law_threads.specs.Members.{number_at}
 use Rattle.law_threads.proofs.Arrivals.{own_without, sent_own}

@@ -6,29 +6,29 @@ use Rattle.std.specs.List.Sorted.{IsStrictlyIncreasing}
 use Rattle.std.proofs.lemmas.Bool.{eq-eqb}
 use Rattle.std.proofs.lemmas.List.Elements.{All-contains_itself, All-weaker}
 use Rattle.atomic_table.specs.Seated.{TableId}
-use Rattle.sf_surface.specs.Tokens.{Issued, ReadLeaseOf}
-use Rattle.sf_surface.specs.declared.mark.QueueMark.{QueueMark}
+use Rattle.law_draws.specs.sf_surface.Tokens.{Issued, ReadLeaseOf}
+use Rattle.law_draws.specs.sf_surface.declared.mark.QueueMark.{QueueMark}
 use Rattle.sf_turns.specs.Views.{SeatView}
-use Rattle.sf_txn.specs.declared.lease.Lease.{Ghosts}
+use Rattle.law_draws.specs.sf_txn.declared.lease.Lease.{Ghosts}
 use Rattle.sf_script_scene.specs.Scene.{SceneValue, has_queue}
 use Rattle.sf_script_scene.specs.declared.declarations.QueueDecl.{QueueDecl}
 use Rattle.sf_script_scene.specs.declared.step.ActorScript.{ActorScript}
-use Rattle.sf_actor.specs.Desks.{DeskHome, DeskView}
-use Rattle.sf_actor.specs.Plain.{PlainOf, home_of as plain_home, view_of as plain_view}
-use Rattle.sf_actor.specs.Scripts.{picture_at}
-use Rattle.sf_actor.specs.Tries.{dequeues_in}
-use Rattle.sf_actor_set.specs.Opening.{new_actors}
-use Rattle.sf_actor_set.proofs.RisingLemmas.{sorted_rises}
-use Rattle.law_played.specs.Actors.{mark_declared, number_of}
-use Rattle.law_played.specs.Histories.{queue_number, rising_queues}
-use Rattle.law_played.proofs.ArrivedFrames.{any_passes}
-use Rattle.law_played.proofs.Members.{filter_has, joined_has, map_has}
-use Rattle.sf_live_seats.specs.declared.locks.Locks.{Locks}
-use Rattle.sf_live_seats.specs.Seats.{marks_of}
-use Rattle.sf_live_threads.specs.Walks.{Moment}
-use Rattle.law_rights.specs.MakerRuns.{AreDeclared}
-use Rattle.law_rights.specs.Standing.{Begins, LedgerStands, state_of}
-use Rattle.law_rights.specs.States.{AreApart, State}
+use Rattle.law_draws.specs.sf_actor.Desks.{DeskHome, DeskView}
+use Rattle.law_draws.specs.sf_actor.Plain.{PlainOf, home_of as plain_home, view_of as plain_view}
+use Rattle.law_draws.specs.sf_actor.Scripts.{picture_at}
+use Rattle.law_draws.specs.sf_actor.Tries.{dequeues_in}
+use Rattle.law_draws.specs.sf_actor_set.Opening.{new_actors}
+use Rattle.law_draws.proofs.sf_actor_set_lemmas.RisingLemmas.{sorted_rises}
+use Rattle.law_draws.specs.law_played.Actors.{mark_declared, number_of}
+use Rattle.law_draws.specs.law_played.Histories.{queue_number, rising_queues}
+use Rattle.law_draws.proofs.law_played_lemmas.ArrivedFrames.{any_passes}
+use Rattle.law_draws.proofs.law_played_lemmas.Members.{filter_has, joined_has, map_has}
+use Rattle.sf_live_compositor.specs.sf_live_seats.declared.locks.Locks.{Locks}
+use Rattle.sf_live_compositor.specs.sf_live_seats.Seats.{marks_of}
+use Rattle.sf_live_compositor.specs.sf_live_threads.Walks.{Moment}
+use Rattle.law_draws.specs.law_rights.MakerRuns.{AreDeclared}
+use Rattle.law_draws.specs.law_rights.Standing.{Begins, LedgerStands, state_of}
+use Rattle.law_draws.specs.law_rights.States.{AreApart, State}
 use Rattle.law_draws.specs.Placed.{calls_of}
 use Rattle.law_draws.specs.Standing.{RightsStand}
 use Rattle.law_draws.proofs.EmptyRun.{rights_begin}
@@ -39,8 +39,8 @@ use Rattle.law_threads.specs.Rights.{calls_in}
 use Rattle.sf_live_compositor.specs.Vsyncs.{Sitting}
 use Rattle.law_threads.proofs.LedgerViews.{IsClose}
 use Rattle.law_threads.proofs.RightsOfEvents.{close_rights, comes_rights, rights_given, rights_rest}
-use Rattle.law_rights.specs.PlaceTries.{TellsPlaces}
-use Rattle.law_rights.specs.Vsyncs.{IsOfTurns}
+use Rattle.law_draws.specs.law_rights.PlaceTries.{TellsPlaces}
+use Rattle.law_draws.specs.law_rights.Vsyncs.{IsOfTurns}
 use Rattle.law_threads.proofs.LedgerAtTiedJoin.{own_apart, tied_close, tied_holds, tied_stands}
 use Rattle.law_threads.proofs.ActorAsCaller.{LiftsAll, absent_home, apart_home, ledger_lifted, legal_home, marks_home}
 use Rattle.law_threads.proofs.WalkBlocks.{comes_front, front_on}

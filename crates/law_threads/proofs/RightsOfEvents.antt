@@ -5,33 +5,33 @@ use Rattle.std.specs.List.{flat_map, sum_by}
 use Rattle.std.proofs.lemmas.Bool.{cases_Bool}
 use Rattle.std.proofs.lemmas.List.Elements.{Contains-append_left}
 use Rattle.std.proofs.lemmas.List.Sums.{sum_by-append}
-use Rattle.sf_calls.specs.Histories.{IsLegal}
-use Rattle.sf_picture.specs.declared.picture.Picture.{Picture}
+use Rattle.law_draws.specs.sf_calls.Histories.{IsLegal}
+use Rattle.sf_script_scene.specs.sf_picture.declared.picture.Picture.{Picture}
 use Rattle.sf_script_scene.specs.Scene.{SceneValue}
 use Rattle.sf_script_scene.specs.declared.step.ActorScript.{ActorScript}
 use Rattle.sf_script_scene.specs.declared.step.Step.{Step}
-use Rattle.sf_surface.specs.declared.mark.QueueMark.{QueueMark}
-use Rattle.sf_surface.specs.Histories.{Answers, Made}
-use Rattle.sf_surface.specs.Tokens.{ReadLeaseOf}
-use Rattle.sf_token.specs.Pending.{Arrival}
-use Rattle.sf_actor.specs.declared.done.Done.{Done}
-use Rattle.sf_actor.specs.declared.holding.Holding.{Holding}
-use Rattle.sf_actor.specs.Desks.{DeskHome, DeskView, has_queue, mark_among}
-use Rattle.sf_actor.specs.Known.{Call, call_after, own_calls}
-use Rattle.sf_actor.specs.Names.{Holdings}
-use Rattle.sf_actor.specs.Parts.{plain_of, turn_held}
-use Rattle.sf_actor.specs.Rights.{Turn, WasGivenAt}
-use Rattle.sf_actor.specs.Tries.{ActorOf, held_in, past_of}
-use Rattle.sf_actor_steps.specs.declared.bindings.Bindings.{Bindings}
-use Rattle.sf_actor_steps.specs.declared.tried.Tried.{Tried}
-use Rattle.sf_actor_steps.specs.Bindings.{holdings_of}
-use Rattle.law_rights.specs.MakerRuns.{AreDeclared}
-use Rattle.law_rights.specs.Makers.{places_arrived, places_held, places_of, places_out, places_owed, right_read}
-use Rattle.law_rights.specs.Moves.{AreIn, HasAtMost}
-use Rattle.law_rights.specs.PlaceTries.{PlacesGo, RestsIn}
-use Rattle.law_rights.specs.Ledgers.{IsLedger}
-use Rattle.law_rights.specs.States.{AreApart, State, ledger_of}
-use Rattle.law_rights.proofs.PlaceChanges.{most_rests, sum_read}
+use Rattle.law_draws.specs.sf_surface.declared.mark.QueueMark.{QueueMark}
+use Rattle.law_draws.specs.sf_surface.Histories.{Answers, Made}
+use Rattle.law_draws.specs.sf_surface.Tokens.{ReadLeaseOf}
+use Rattle.law_draws.specs.sf_token.Pending.{Arrival}
+use Rattle.law_draws.specs.sf_actor.declared.done.Done.{Done}
+use Rattle.law_draws.specs.sf_actor.declared.holding.Holding.{Holding}
+use Rattle.law_draws.specs.sf_actor.Desks.{DeskHome, DeskView, has_queue, mark_among}
+use Rattle.law_draws.specs.sf_actor.Known.{Call, call_after, own_calls}
+use Rattle.law_draws.specs.sf_actor.Names.{Holdings}
+use Rattle.law_draws.specs.sf_actor.Parts.{plain_of, turn_held}
+use Rattle.law_draws.specs.sf_actor.Rights.{Turn, WasGivenAt}
+use Rattle.law_draws.specs.sf_actor.Tries.{ActorOf, held_in, past_of}
+use Rattle.law_draws.specs.sf_actor_steps.declared.bindings.Bindings.{Bindings}
+use Rattle.law_draws.specs.sf_actor_steps.declared.tried.Tried.{Tried}
+use Rattle.law_draws.specs.sf_actor_steps.Bindings.{holdings_of}
+use Rattle.law_draws.specs.law_rights.MakerRuns.{AreDeclared}
+use Rattle.law_draws.specs.law_rights.Makers.{places_arrived, places_held, places_of, places_out, places_owed, right_read}
+use Rattle.law_draws.specs.law_rights.Moves.{AreIn, HasAtMost}
+use Rattle.law_draws.specs.law_rights.PlaceTries.{PlacesGo, RestsIn}
+use Rattle.law_draws.specs.law_rights.Ledgers.{IsLedger}
+use Rattle.law_draws.specs.law_rights.States.{AreApart, State, ledger_of}
+use Rattle.law_draws.proofs.law_rights_lemmas.PlaceChanges.{most_rests, sum_read}
 use Rattle.law_draws.specs.Doing.{DoesIn}
 use Rattle.law_draws.specs.Standing.{RightsStand}
 use Rattle.law_draws.proofs.RightsAtRest.{return_keeps, returns_keep}

@@ -5,10 +5,10 @@ use Rattle.std.specs.List.{flat_map}
 use Rattle.std.proofs.lemmas.Bool.{cases_Bool, false≢true, ltb-true}
 use Rattle.std.proofs.lemmas.List.{append_assoc}
 use Rattle.std.proofs.lemmas.List.Elements.{Contains-append_left, Contains-append_right}
-use Rattle.sf_surface.specs.Tokens.{ReadLeaseOf}
-use Rattle.sf_token.specs.Arrivals.{sent, waiting}
-use Rattle.sf_token.specs.Pending.{Arrival}
-use Rattle.law_rights.specs.States.{State}
+use Rattle.law_draws.specs.sf_surface.Tokens.{ReadLeaseOf}
+use Rattle.law_draws.specs.sf_token.Arrivals.{sent, waiting}
+use Rattle.law_draws.specs.sf_token.Pending.{Arrival}
+use Rattle.law_draws.specs.law_rights.States.{State}
 use Rattle.law_threads.specs.Cuts.{AllGoBack, AreUnspent, Event, Forwards, GoesForward, IsBlock, IsPart, Lifts, Local, Moves, Returns, Whole, before, calls_at, front, heights_after, now, spot_of, state_at, stock_in, with_back, with_sent}
 use Rattle.law_threads.specs.Sends.{meanwhile}
 use Rattle.law_threads.specs.Delays.{delayed, is_above, is_below, some_above, some_below}

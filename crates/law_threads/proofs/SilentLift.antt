@@ -6,22 +6,22 @@ use Rattle.std.proofs.lemmas.List.{append-nil}
 use Rattle.std.proofs.lemmas.List.Concat.{flat_map-append}
 use Rattle.std.proofs.lemmas.List.Sums.{sum_by-append}
 use Rattle.sf_script_scene.specs.declared.step.Step.{Step}
-use Rattle.sf_surface.specs.Tokens.{ReadLeaseOf}
-use Rattle.sf_token.specs.Arrivals.{waiting}
-use Rattle.sf_token.specs.Pending.{Arrival}
-use Rattle.sf_actor.specs.Rights.{Turn}
-use Rattle.sf_actor.specs.Tries.{ActorOf}
-use Rattle.sf_actor.specs.Written as written
-use Rattle.sf_actor_steps.specs.declared.bindings.Bindings.{Bindings}
-use Rattle.law_rights.specs.Ledgers.{Write}
-use Rattle.law_rights.specs.Makers.{RightAt, WriteAt, places_arrived, places_held, places_of, places_out, places_owed, right_read}
-use Rattle.law_rights.specs.Moves.{AreIn, Gets, HasAtMost}
-use Rattle.law_rights.specs.States.{State}
-use Rattle.law_rights.proofs.MakersTurns.{write_at}
-use Rattle.law_rights.proofs.PlaceChanges.{owed_gets, owed_in, owed_writes, rest_turns, rests_went, sum_read}
-use Rattle.law_rights.proofs.SilentSteps.{pay_keeps, quiet_keeps}
-use Rattle.law_rights.proofs.ListSums.{sum-flat_map}
-use Rattle.law_played.proofs.Members.{has_map}
+use Rattle.law_draws.specs.sf_surface.Tokens.{ReadLeaseOf}
+use Rattle.law_draws.specs.sf_token.Arrivals.{waiting}
+use Rattle.law_draws.specs.sf_token.Pending.{Arrival}
+use Rattle.law_draws.specs.sf_actor.Rights.{Turn}
+use Rattle.law_draws.specs.sf_actor.Tries.{ActorOf}
+use Rattle.law_draws.specs.sf_actor.Written as written
+use Rattle.law_draws.specs.sf_actor_steps.declared.bindings.Bindings.{Bindings}
+use Rattle.law_draws.specs.law_rights.Ledgers.{Write}
+use Rattle.law_draws.specs.law_rights.Makers.{RightAt, WriteAt, places_arrived, places_held, places_of, places_out, places_owed, right_read}
+use Rattle.law_draws.specs.law_rights.Moves.{AreIn, Gets, HasAtMost}
+use Rattle.law_draws.specs.law_rights.States.{State}
+use Rattle.law_draws.proofs.law_rights_lemmas.MakersTurns.{write_at}
+use Rattle.law_draws.proofs.law_rights_lemmas.PlaceChanges.{owed_gets, owed_in, owed_writes, rest_turns, rests_went, sum_read}
+use Rattle.law_draws.proofs.law_rights_lemmas.SilentSteps.{pay_keeps, quiet_keeps}
+use Rattle.law_draws.proofs.law_rights_lemmas.ListSums.{sum-flat_map}
+use Rattle.law_draws.proofs.law_played_lemmas.Members.{has_map}
 use Rattle.law_threads.specs.Cuts.{Local, Whole, front, state_at}
 use Rattle.law_threads.specs.Lifts.{local_of}
 use Rattle.law_threads.proofs.LedgerViews.{GoesTo}

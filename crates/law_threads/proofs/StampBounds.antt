@@ -6,21 +6,21 @@ use Rattle.std.proofs.lemmas.Bool.{cases_lt}
 use Rattle.std.proofs.lemmas.List.{append_assoc}
 use Rattle.std.proofs.lemmas.List.Elements.{Contains-append_left}
 use Rattle.atomic_table.specs.Seated.{TableId}
-use Rattle.sf_calls.specs.declared.object.Entry.{Entry}
-use Rattle.sf_calls.specs.Histories.{Begins, GoesOnWithout, calls_by, entry}
-use Rattle.sf_commit.specs.Releases.{ReleaseOf}
-use Rattle.sf_calls_stamped.specs.Stamps.{newest_stamp, stamp_of, unstamped}
-use Rattle.sf_surface.specs.Histories.{Made}
-use Rattle.sf_surface.specs.declared.call.QCall.TheVariants as call
-use Rattle.sf_surface.specs.Tokens.{Issued, ReadLeaseOf}
+use Rattle.law_draws.specs.sf_calls.declared.object.Entry.{Entry}
+use Rattle.law_draws.specs.sf_calls.Histories.{Begins, GoesOnWithout, calls_by, entry}
+use Rattle.law_draws.specs.sf_commit.Releases.{ReleaseOf}
+use Rattle.sf_live_compositor.specs.sf_calls_stamped.Stamps.{newest_stamp, stamp_of, unstamped}
+use Rattle.law_draws.specs.sf_surface.Histories.{Made}
+use Rattle.law_draws.specs.sf_surface.declared.call.QCall.TheVariants as call
+use Rattle.law_draws.specs.sf_surface.Tokens.{Issued, ReadLeaseOf}
 use Rattle.sf_turns.specs.Views.{SeatView}
-use Rattle.sf_txn.specs.declared.lease.Lease.{Ghosts}
-use Rattle.sf_actor.specs.Desks.{DeskHome, DeskView}
-use Rattle.law_rights.specs.Standing.{GiveAll}
-use Rattle.sf_live_seats.specs.declared.first.FirstSeats.{FirstSeats}
-use Rattle.sf_live_seats.specs.declared.locks.Locks.{Locks}
-use Rattle.sf_live_seats.specs.declared.seats.Seats.{Seats}
-use Rattle.sf_live_seats.specs.Seats.{QueuePass, calls_made, home_of, moment, moments_of, post_moment, posts_of, sent_in, view_of}
+use Rattle.law_draws.specs.sf_txn.declared.lease.Lease.{Ghosts}
+use Rattle.law_draws.specs.sf_actor.Desks.{DeskHome, DeskView}
+use Rattle.law_draws.specs.law_rights.Standing.{GiveAll}
+use Rattle.sf_live_compositor.specs.sf_live_seats.declared.first.FirstSeats.{FirstSeats}
+use Rattle.sf_live_compositor.specs.sf_live_seats.declared.locks.Locks.{Locks}
+use Rattle.sf_live_compositor.specs.sf_live_seats.declared.seats.Seats.{Seats}
+use Rattle.sf_live_compositor.specs.sf_live_seats.Seats.{QueuePass, calls_made, home_of, moment, moments_of, post_moment, posts_of, sent_in, view_of}
 use Rattle.law_threads.specs.Members.{AreBetween, AreTimed, IsTimed, back_spots, seen_at, stamp_in, stamps}
 use Rattle.law_threads.specs.Stamped.{AreStamped, IsStamped}
 use Rattle.sf_live_compositor.specs.Vsyncs.{IsVsync, Sitting, Vsyncs}

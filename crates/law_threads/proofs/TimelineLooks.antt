@@ -5,10 +5,10 @@ use Rattle.std.proofs.lemmas.Bool.{cases_Bool, eq-eqb, eqb-true}
 use Rattle.sf_base.specs.Fences.{value_of}
 use Rattle.sf_base.specs.Points.{greatest, points_from, value_at}
 use Rattle.sf_base.specs.declared.fences.Seen.{Seen}
-use Rattle.sf_times.specs.declared.protocol.Knows.{Knows}
-use Rattle.sf_times.specs.Seats.{all_loaded}
-use Rattle.sf_actor.specs.Desks.{DeskHome, DeskView}
-use Rattle.sf_actor.specs.Tries.{Sees}
+use Rattle.law_draws.specs.sf_times.declared.protocol.Knows.{Knows}
+use Rattle.law_draws.specs.sf_times.Seats.{all_loaded}
+use Rattle.law_draws.specs.sf_actor.Desks.{DeskHome, DeskView}
+use Rattle.law_draws.specs.sf_actor.Tries.{Sees}
 
 apart_from : (t v first : ℕ) → (t ≡ first → ⊥) → value_at t (first, v) ≡ 0
 apart_from t v first apart = elim (cases_Bool (first == t)) [

@@ -5,40 +5,40 @@ use Rattle.std.specs.List.{sum_by}
 use Rattle.std.proofs.lemmas.Bool.{cases_eq}
 use Rattle.std.proofs.lemmas.List.{append-nil}
 use Rattle.sf_base.specs.Fences.{Fence}
-use Rattle.sf_calls.specs.Histories.{GoesOnWithout}
-use Rattle.sf_picture.specs.declared.picture.Picture.{Picture}
+use Rattle.law_draws.specs.sf_calls.Histories.{GoesOnWithout}
+use Rattle.sf_script_scene.specs.sf_picture.declared.picture.Picture.{Picture}
 use Rattle.sf_script_scene.specs.declared.step.Step.{Step}
 use Rattle.sf_script_scene.specs.declared.step.Step.TheVariants as step
-use Rattle.sf_surface.specs.Histories.{Made}
-use Rattle.sf_surface.specs.Tokens.{OwingOf, ReadLeaseOf, WriteLeaseOf}
-use Rattle.sf_slots.specs.declared.slot.Held.{Held}
-use Rattle.sf_actor.specs.declared.done.Answered.{Answered}
-use Rattle.sf_actor.specs.declared.done.Answered.TheVariants as answered
-use Rattle.sf_actor.specs.declared.done.Done.{Done}
-use Rattle.sf_actor.specs.declared.holding.Holding.{Holding}
-use Rattle.sf_actor.specs.declared.holding.Holding.TheVariants as holding
-use Rattle.sf_actor.specs.Desks.{ChangesTimes, DeskHome, DeskView}
-use Rattle.sf_actor.specs.Parts.{PartsOf, token_of}
-use Rattle.sf_actor.specs.Rights.{Turn, issued_turn}
-use Rattle.sf_actor.specs.Tests.{refusal_of}
-use Rattle.sf_actor.specs.Tries.{ActorOf, ended_by, held_in, owed_turn}
-use Rattle.sf_actor.specs.Written as written
-use Rattle.sf_actor_steps.specs.declared.bindings.Bindings.{Bindings}
-use Rattle.sf_actor_steps.specs.declared.tried.Tried.{Tried}
-use Rattle.sf_actor_steps.specs.declared.tried.Tried.TheVariants as tried
-use Rattle.sf_actor_steps.specs.Doing.{MakesCall}
-use Rattle.sf_actor_steps.specs.Drawing.{Draws}
-use Rattle.sf_actor_steps.specs.Bindings.{holdings_of}
-use Rattle.sf_actor_steps.specs.Leaving.{FindsOpen, LooksFor}
-use Rattle.law_rights.specs.Makers.{RightAt, places_held, places_owed, right_read}
-use Rattle.law_rights.specs.Moves.{AreIn, Gets}
-use Rattle.law_rights.proofs.Draws.{draw_waits, draw_writes}
-use Rattle.law_rights.proofs.OwedDrawings.{gets_push, gets_same, bindings_owe}
+use Rattle.law_draws.specs.sf_surface.Histories.{Made}
+use Rattle.law_draws.specs.sf_surface.Tokens.{OwingOf, ReadLeaseOf, WriteLeaseOf}
+use Rattle.law_draws.specs.sf_slots.declared.slot.Held.{Held}
+use Rattle.law_draws.specs.sf_actor.declared.done.Answered.{Answered}
+use Rattle.law_draws.specs.sf_actor.declared.done.Answered.TheVariants as answered
+use Rattle.law_draws.specs.sf_actor.declared.done.Done.{Done}
+use Rattle.law_draws.specs.sf_actor.declared.holding.Holding.{Holding}
+use Rattle.law_draws.specs.sf_actor.declared.holding.Holding.TheVariants as holding
+use Rattle.law_draws.specs.sf_actor.Desks.{ChangesTimes, DeskHome, DeskView}
+use Rattle.law_draws.specs.sf_actor.Parts.{PartsOf, token_of}
+use Rattle.law_draws.specs.sf_actor.Rights.{Turn, issued_turn}
+use Rattle.law_draws.specs.sf_actor.Tests.{refusal_of}
+use Rattle.law_draws.specs.sf_actor.Tries.{ActorOf, ended_by, held_in, owed_turn}
+use Rattle.law_draws.specs.sf_actor.Written as written
+use Rattle.law_draws.specs.sf_actor_steps.declared.bindings.Bindings.{Bindings}
+use Rattle.law_draws.specs.sf_actor_steps.declared.tried.Tried.{Tried}
+use Rattle.law_draws.specs.sf_actor_steps.declared.tried.Tried.TheVariants as tried
+use Rattle.law_draws.specs.sf_actor_steps.Doing.{MakesCall}
+use Rattle.law_draws.specs.sf_actor_steps.Drawing.{Draws}
+use Rattle.law_draws.specs.sf_actor_steps.Bindings.{holdings_of}
+use Rattle.law_draws.specs.sf_actor_steps.Leaving.{FindsOpen, LooksFor}
+use Rattle.law_draws.specs.law_rights.Makers.{RightAt, places_held, places_owed, right_read}
+use Rattle.law_draws.specs.law_rights.Moves.{AreIn, Gets}
+use Rattle.law_draws.proofs.law_rights_lemmas.Draws.{draw_waits, draw_writes}
+use Rattle.law_draws.proofs.law_rights_lemmas.OwedDrawings.{gets_push, gets_same, bindings_owe}
 use Rattle.law_threads.specs.Cuts.{Lifts, Whole, state_at}
 use Rattle.law_threads.specs.Lifts.{Comes, LearnsOnly, local_of}
 use Rattle.law_threads.specs.Lifts.Comes.{Quietly}
 use Rattle.law_threads.specs.Tries.{DoesTry}
-use Rattle.law_rights.specs.States.{State}
+use Rattle.law_draws.specs.law_rights.States.{State}
 use Rattle.law_threads.proofs.LedgerViews.{GoesKept}
 use Rattle.law_threads.proofs.SilentLift.{pay_goes, quiet_goes}
 use Rattle.law_threads.proofs.Quiets.{Drew, BindingsPay, BindingsRest, drawn_back, drew, same_rest, waits_rest, write_of}

@@ -5,50 +5,50 @@ use Rattle.std.specs.List.{list_any, sum_by}
 use Rattle.std.proofs.lemmas.Bool.{cases_eq, false≢true}
 use Rattle.std.proofs.lemmas.List.{append-nil, append_assoc}
 use Rattle.sf_base.specs.Fences.{no_points, merged as with_points_of}
-use Rattle.sf_calls.specs.Histories.{IsLegal, entry}
-use Rattle.sf_picture.specs.declared.picture.Picture.{Picture}
+use Rattle.law_draws.specs.sf_calls.Histories.{IsLegal, entry}
+use Rattle.sf_script_scene.specs.sf_picture.declared.picture.Picture.{Picture}
 use Rattle.sf_script_scene.specs.declared.step.Step.{Step}
 use Rattle.sf_script_scene.specs.declared.step.Step.TheVariants as step
-use Rattle.sf_surface.specs.Calls.{may_wait}
-use Rattle.sf_surface.specs.declared.call.QCall.TheVariants as call
-use Rattle.sf_surface.specs.declared.mark.QueueMark.{QueueMark}
-use Rattle.sf_surface.specs.Histories.{Answers, Made, told_reply}
-use Rattle.sf_surface.specs.Tokens.{ReadLeaseOf}
-use Rattle.sf_token.specs.Pending.{Arrival}
-use Rattle.sf_txn.specs.Buffers.{Buffer}
-use Rattle.sf_txn.specs.Transactions.{Contents, all_replaced, replaced_by}
-use Rattle.sf_actor.specs.declared.done.Answered.{Answered}
-use Rattle.sf_actor.specs.declared.done.Answered.TheVariants as answered
-use Rattle.sf_actor.specs.Desks.{DeskHome, DeskView, has_queue, mark_among}
-use Rattle.sf_actor.specs.Names.{Holdings, name_in}
-use Rattle.sf_actor.specs.Parts.{PartsOf}
-use Rattle.sf_actor.specs.Points.{frame_fence, requested_fence}
-use Rattle.sf_actor.specs.Rights.{Turn}
-use Rattle.sf_actor.specs.Tests.{bad_value, first_met, refusal_of}
-use Rattle.sf_actor.specs.Tests as tests
-use Rattle.sf_actor.specs.Tries.{ActorOf}
-use Rattle.sf_actor.specs.Written as written
-use Rattle.sf_actor_steps.specs.declared.asking.Asking.{Asking}
-use Rattle.sf_actor_steps.specs.declared.bindings.Bindings.{Bindings}
-use Rattle.sf_actor_steps.specs.declared.tried.Tried.{Tried}
-use Rattle.sf_actor_steps.specs.declared.tried.Tried.TheVariants as tried
-use Rattle.sf_actor_steps.specs.Acting.{Acts, Attempts}
-use Rattle.sf_actor_steps.specs.Doing.{MakesCall}
-use Rattle.sf_actor_steps.specs.Editing.{Releases, ReleasesAll, Sends, buffer_with}
-use Rattle.sf_actor_steps.specs.Bindings.{holdings_of}
-use Rattle.law_rights.specs.Makers.{RightAt, places_arrived, places_held, places_owed, places_sent}
-use Rattle.law_rights.specs.Moves.{Gets}
-use Rattle.law_rights.specs.States.{AreApart, is_queue}
-use Rattle.law_rights.proofs.OwedAfterCall.{ending_left, ends_are, turns_of}
-use Rattle.law_rights.proofs.Forms.{names_owe, take_txn}
-use Rattle.law_rights.proofs.OwedDrawings.{gets_more, gets_same, bindings_owe}
-use Rattle.law_rights.proofs.ReleasedFrames.{lease_of}
+use Rattle.law_draws.specs.sf_surface.Calls.{may_wait}
+use Rattle.law_draws.specs.sf_surface.declared.call.QCall.TheVariants as call
+use Rattle.law_draws.specs.sf_surface.declared.mark.QueueMark.{QueueMark}
+use Rattle.law_draws.specs.sf_surface.Histories.{Answers, Made, told_reply}
+use Rattle.law_draws.specs.sf_surface.Tokens.{ReadLeaseOf}
+use Rattle.law_draws.specs.sf_token.Pending.{Arrival}
+use Rattle.law_draws.specs.sf_txn.Buffers.{Buffer}
+use Rattle.law_draws.specs.sf_txn.Transactions.{Contents, all_replaced, replaced_by}
+use Rattle.law_draws.specs.sf_actor.declared.done.Answered.{Answered}
+use Rattle.law_draws.specs.sf_actor.declared.done.Answered.TheVariants as answered
+use Rattle.law_draws.specs.sf_actor.Desks.{DeskHome, DeskView, has_queue, mark_among}
+use Rattle.law_draws.specs.sf_actor.Names.{Holdings, name_in}
+use Rattle.law_draws.specs.sf_actor.Parts.{PartsOf}
+use Rattle.law_draws.specs.sf_actor.Points.{frame_fence, requested_fence}
+use Rattle.law_draws.specs.sf_actor.Rights.{Turn}
+use Rattle.law_draws.specs.sf_actor.Tests.{bad_value, first_met, refusal_of}
+use Rattle.law_draws.specs.sf_actor.Tests as tests
+use Rattle.law_draws.specs.sf_actor.Tries.{ActorOf}
+use Rattle.law_draws.specs.sf_actor.Written as written
+use Rattle.law_draws.specs.sf_actor_steps.declared.asking.Asking.{Asking}
+use Rattle.law_draws.specs.sf_actor_steps.declared.bindings.Bindings.{Bindings}
+use Rattle.law_draws.specs.sf_actor_steps.declared.tried.Tried.{Tried}
+use Rattle.law_draws.specs.sf_actor_steps.declared.tried.Tried.TheVariants as tried
+use Rattle.law_draws.specs.sf_actor_steps.Acting.{Acts, Attempts}
+use Rattle.law_draws.specs.sf_actor_steps.Doing.{MakesCall}
+use Rattle.law_draws.specs.sf_actor_steps.Editing.{Releases, ReleasesAll, Sends, buffer_with}
+use Rattle.law_draws.specs.sf_actor_steps.Bindings.{holdings_of}
+use Rattle.law_draws.specs.law_rights.Makers.{RightAt, places_arrived, places_held, places_owed, places_sent}
+use Rattle.law_draws.specs.law_rights.Moves.{Gets}
+use Rattle.law_draws.specs.law_rights.States.{AreApart, is_queue}
+use Rattle.law_draws.proofs.law_rights_lemmas.OwedAfterCall.{ending_left, ends_are, turns_of}
+use Rattle.law_draws.proofs.law_rights_lemmas.Forms.{names_owe, take_txn}
+use Rattle.law_draws.proofs.law_rights_lemmas.OwedDrawings.{gets_more, gets_same, bindings_owe}
+use Rattle.law_draws.proofs.law_rights_lemmas.ReleasedFrames.{lease_of}
 use Rattle.law_threads.specs.Cuts.{Lifts, Whole}
 use Rattle.law_threads.specs.Lifts.{AllGiven, Comes, Given, GivesAll, GivesOne, LiftsSend, given_lease, local_of}
 use Rattle.law_threads.specs.Lifts.Comes.{Calling, Giving, Sending}
 use Rattle.law_threads.specs.Tries.{DoesTry}
 use Rattle.law_threads.proofs.ReturnedFrames.{back_lifts}
-use Rattle.law_rights.specs.States.{State}
+use Rattle.law_draws.specs.law_rights.States.{State}
 use Rattle.law_threads.proofs.LedgerViews.{GivesKept, GoesKept}
 use Rattle.law_threads.proofs.TryEvents.{draws_comes, edits_comes, finds_times, looked_calls, owes_after, owes_before, rest_lifts, rests, same_view, same_writes, times_comes, waits_comes}
 use Rattle.law_threads.proofs.CallLift.{lifts_call}

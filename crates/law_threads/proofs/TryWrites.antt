@@ -8,49 +8,49 @@ use Rattle.std.proofs.lemmas.List.{append-nil, map-append}
 use Rattle.std.proofs.lemmas.List.Concat.{flat_map-append}
 use Rattle.std.proofs.lemmas.List.Elements.{All-head, All-tail, filter-append}
 use Rattle.sf_base.specs.declared.fences.Seen.{Seen}
-use Rattle.sf_calls.specs.Histories.{GoesOnWithout, entry}
-use Rattle.sf_picture.specs.declared.picture.Picture.{Picture}
+use Rattle.law_draws.specs.sf_calls.Histories.{GoesOnWithout, entry}
+use Rattle.sf_script_scene.specs.sf_picture.declared.picture.Picture.{Picture}
 use Rattle.sf_script_scene.specs.declared.step.ActorScript.{ActorScript}
 use Rattle.sf_script_scene.specs.declared.step.Step.{Step}
 use Rattle.sf_script_scene.specs.declared.step.Step.TheVariants as step
-use Rattle.sf_slots.specs.declared.calls.Entry.{Entry}
-use Rattle.sf_slots.specs.declared.calls.PlainReply.{PlainReply}
-use Rattle.sf_surface.specs.declared.call.QCall.{QCall}
-use Rattle.sf_surface.specs.declared.call.QReply.{QReply}
-use Rattle.sf_surface.specs.declared.mark.QueueMark.{QueueMark}
-use Rattle.sf_surface.specs.Histories.{Made, told_reply}
-use Rattle.sf_surface.specs.Calls.{write_token}
+use Rattle.law_draws.specs.sf_slots.declared.calls.Entry.{Entry}
+use Rattle.law_draws.specs.sf_slots.declared.calls.PlainReply.{PlainReply}
+use Rattle.law_draws.specs.sf_surface.declared.call.QCall.{QCall}
+use Rattle.law_draws.specs.sf_surface.declared.call.QReply.{QReply}
+use Rattle.law_draws.specs.sf_surface.declared.mark.QueueMark.{QueueMark}
+use Rattle.law_draws.specs.sf_surface.Histories.{Made, told_reply}
+use Rattle.law_draws.specs.sf_surface.Calls.{write_token}
 use Rattle.sf_base.specs.declared.status.QStatus.{QStatus}
-use Rattle.sf_slots.specs.declared.calls.WriteToken.{WriteToken}
+use Rattle.law_draws.specs.sf_slots.declared.calls.WriteToken.{WriteToken}
 use Rattle.sf_base.specs.Fences.{Fence}
 use Rattle.sf_base.specs.declared.ids.QueueId.{QueueId}
-use Rattle.sf_surface.specs.Tokens.{WriteLeaseOf}
-use Rattle.sf_actor.specs.declared.done.Answered.{Answered}
-use Rattle.sf_actor.specs.declared.done.Answered.TheVariants as answered
-use Rattle.sf_actor.specs.declared.done.Done.{Done}
-use Rattle.sf_actor.specs.declared.holding.Holding.TheVariants as holding
-use Rattle.sf_actor.specs.Asking.{Asked, call_of, queueing_of}
-use Rattle.sf_actor.specs.Desks.{DeskHome, DeskView, known_of, mark_among}
-use Rattle.sf_actor.specs.Known.{Call, call_after, own_calls, share_of, told_by}
-use Rattle.sf_actor.specs.Names.{Holdings, Lent}
-use Rattle.sf_actor.specs.Parts.{drawn_picture, plain_of, token_of}
-use Rattle.sf_actor.specs.Steps.{used_by, was_done}
-use Rattle.sf_actor.specs.Scripts.{fence_of}
-use Rattle.sf_actor.specs.Tales.{IsMade, made_on, step_done}
-use Rattle.sf_actor.specs.Tests.{refusal_of}
-use Rattle.sf_actor.specs.Traces.{AnswersCall, AnswersTests, DoneAt, IsAnswered, MadeStep, Past, made_at, made_by, overtaken, own_call, past_after, places_of, source_in}
-use Rattle.sf_actor.specs.Tries.{ActorOf}
-use Rattle.sf_actor.specs.Written as written
-use Rattle.sf_actor_steps.specs.declared.bindings.Bindings.{Bindings}
-use Rattle.sf_actor_steps.specs.declared.tried.Tried.{Tried}
-use Rattle.sf_actor_steps.specs.declared.tried.Tried.TheVariants as tried
-use Rattle.sf_actor_steps.specs.Bindings.{holdings_of}
-use Rattle.sf_actor_steps.proofs.HoldingLemmas.{name_in-held}
-use Rattle.law_rights.specs.States.{CallsOnce, State}
-use Rattle.law_rights.specs.Tries.{WritesTry}
+use Rattle.law_draws.specs.sf_surface.Tokens.{WriteLeaseOf}
+use Rattle.law_draws.specs.sf_actor.declared.done.Answered.{Answered}
+use Rattle.law_draws.specs.sf_actor.declared.done.Answered.TheVariants as answered
+use Rattle.law_draws.specs.sf_actor.declared.done.Done.{Done}
+use Rattle.law_draws.specs.sf_actor.declared.holding.Holding.TheVariants as holding
+use Rattle.law_draws.specs.sf_actor.Asking.{Asked, call_of, queueing_of}
+use Rattle.law_draws.specs.sf_actor.Desks.{DeskHome, DeskView, known_of, mark_among}
+use Rattle.law_draws.specs.sf_actor.Known.{Call, call_after, own_calls, share_of, told_by}
+use Rattle.law_draws.specs.sf_actor.Names.{Holdings, Lent}
+use Rattle.law_draws.specs.sf_actor.Parts.{drawn_picture, plain_of, token_of}
+use Rattle.law_draws.specs.sf_actor.Steps.{used_by, was_done}
+use Rattle.law_draws.specs.sf_actor.Scripts.{fence_of}
+use Rattle.law_draws.specs.sf_actor.Tales.{IsMade, made_on, step_done}
+use Rattle.law_draws.specs.sf_actor.Tests.{refusal_of}
+use Rattle.law_draws.specs.sf_actor.Traces.{AnswersCall, AnswersTests, DoneAt, IsAnswered, MadeStep, Past, made_at, made_by, overtaken, own_call, past_after, places_of, source_in}
+use Rattle.law_draws.specs.sf_actor.Tries.{ActorOf}
+use Rattle.law_draws.specs.sf_actor.Written as written
+use Rattle.law_draws.specs.sf_actor_steps.declared.bindings.Bindings.{Bindings}
+use Rattle.law_draws.specs.sf_actor_steps.declared.tried.Tried.{Tried}
+use Rattle.law_draws.specs.sf_actor_steps.declared.tried.Tried.TheVariants as tried
+use Rattle.law_draws.specs.sf_actor_steps.Bindings.{holdings_of}
+use Rattle.law_draws.proofs.sf_actor_steps_lemmas.HoldingLemmas.{name_in-held}
+use Rattle.law_draws.specs.law_rights.States.{CallsOnce, State}
+use Rattle.law_draws.specs.law_rights.Tries.{WritesTry}
 use Rattle.law_threads.specs.Tries.{DoesTry}
-use Rattle.sf_actor.proofs.GoingOn.{own_same}
-use Rattle.law_rights.proofs.StepMoves.{at_end, places_with, written_with}
+use Rattle.law_draws.proofs.sf_actor_lemmas.GoingOn.{own_same}
+use Rattle.law_draws.proofs.law_rights_lemmas.StepMoves.{at_end, places_with, written_with}
 
 -- what is said step by step
 each_with : {A : Type 0} (f : DoneAt → List A) (trace : List Done) (done : Done) → flat_map f (places_of (trace ++ done ∷ [])) ≡ flat_map f (places_of trace) ++ f (at_end trace done)

@@ -6,32 +6,32 @@ use Rattle.std.proofs.lemmas.List.{append-nil}
 use Rattle.std.proofs.lemmas.List.Concat.{flat_map-append}
 use Rattle.std.proofs.lemmas.List.Sums.{sum_by-append, sum_by-cons}
 use Rattle.sf_base.specs.declared.fences.Seen.{Seen}
-use Rattle.sf_calls.specs.declared.object.Entry.{Entry}
+use Rattle.law_draws.specs.sf_calls.declared.object.Entry.{Entry}
 use Rattle.sf_script_scene.specs.declared.step.ActorScript.{ActorScript}
-use Rattle.sf_surface.specs.Tokens.{Issued, ReadLeaseOf}
-use Rattle.sf_token.specs.Arrivals.{waiting}
-use Rattle.sf_token.specs.declared.arrivals.ArriveCall.TheVariants as arrive
-use Rattle.sf_token.specs.Pending.{Arrival}
+use Rattle.law_draws.specs.sf_surface.Tokens.{Issued, ReadLeaseOf}
+use Rattle.law_draws.specs.sf_token.Arrivals.{waiting}
+use Rattle.law_draws.specs.sf_token.declared.arrivals.ArriveCall.TheVariants as arrive
+use Rattle.law_draws.specs.sf_token.Pending.{Arrival}
 use Rattle.sf_turns.specs.Views.{SeatView}
-use Rattle.sf_txn.specs.Transactions.{Contents, empty}
-use Rattle.sf_txn.specs.declared.lease.Lease.{Ghosts}
-use Rattle.sf_commit.specs.Handlers.{Decides, HandlerOf}
-use Rattle.sf_commit.specs.Lending.{ends_of, left_if, reads_of}
-use Rattle.sf_commit.specs.Releases.{VsyncOf}
-use Rattle.sf_actor.specs.Desks.{DeskView}
-use Rattle.sf_actor.specs.Rights.{Turn}
-use Rattle.sf_actor.specs.Traces.{places_from}
-use Rattle.sf_actor.specs.Tries.{ActorOf}
-use Rattle.sf_actor.specs.Written as written
-use Rattle.sf_actor_steps.specs.Editing.{buffer_with}
-use Rattle.sf_live_seats.specs.Arriving.{ArrivalCalls, Arrived, Arriving}
-use Rattle.law_rights.specs.Moves.{Gets, HasAtMost}
-use Rattle.law_rights.specs.States.{State, all_owed, all_written, lease_turn, owed_of, rights_arrived, rights_held, rights_in, rights_of}
-use Rattle.law_rights.specs.Vsyncs.{DecidesIn, IsOfTurns, lease_back, lease_on}
-use Rattle.law_rights.proofs.OwedDrawings.{gets_end, gets_same}
-use Rattle.law_rights.proofs.PlaceChanges.{sum_read}
-use Rattle.law_rights.proofs.ReadLeases.{vsync_keeps}
-use Rattle.law_rights.proofs.SilentSteps.{quiet_keeps}
+use Rattle.law_draws.specs.sf_txn.Transactions.{Contents, empty}
+use Rattle.law_draws.specs.sf_txn.declared.lease.Lease.{Ghosts}
+use Rattle.law_draws.specs.sf_commit.Handlers.{Decides, HandlerOf}
+use Rattle.law_draws.specs.sf_commit.Lending.{ends_of, left_if, reads_of}
+use Rattle.law_draws.specs.sf_commit.Releases.{VsyncOf}
+use Rattle.law_draws.specs.sf_actor.Desks.{DeskView}
+use Rattle.law_draws.specs.sf_actor.Rights.{Turn}
+use Rattle.law_draws.specs.sf_actor.Traces.{places_from}
+use Rattle.law_draws.specs.sf_actor.Tries.{ActorOf}
+use Rattle.law_draws.specs.sf_actor.Written as written
+use Rattle.law_draws.specs.sf_actor_steps.Editing.{buffer_with}
+use Rattle.sf_live_compositor.specs.sf_live_seats.Arriving.{ArrivalCalls, Arrived, Arriving}
+use Rattle.law_draws.specs.law_rights.Moves.{Gets, HasAtMost}
+use Rattle.law_draws.specs.law_rights.States.{State, all_owed, all_written, lease_turn, owed_of, rights_arrived, rights_held, rights_in, rights_of}
+use Rattle.law_draws.specs.law_rights.Vsyncs.{DecidesIn, IsOfTurns, lease_back, lease_on}
+use Rattle.law_draws.proofs.law_rights_lemmas.OwedDrawings.{gets_end, gets_same}
+use Rattle.law_draws.proofs.law_rights_lemmas.PlaceChanges.{sum_read}
+use Rattle.law_draws.proofs.law_rights_lemmas.ReadLeases.{vsync_keeps}
+use Rattle.law_draws.proofs.law_rights_lemmas.SilentSteps.{quiet_keeps}
 use Rattle.law_threads.specs.Cuts.{HasLedger, Local, Whole, front, state_at}
 use Rattle.law_threads.specs.Orders.{raised}
 use Rattle.law_threads.proofs.CallLift.{front_after, front_before}

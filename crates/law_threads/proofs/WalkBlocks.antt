@@ -5,42 +5,42 @@ use Rattle.std.proofs.lemmas.Bool.{cases_Bool, cases_eq, eq-eqb}
 use Rattle.std.proofs.lemmas.List.{append-nil, append_assoc, length-append, length-map}
 use Rattle.std.proofs.lemmas.List.Elements.{Contains-append_left, Contains-append_right}
 use Rattle.sf_base.specs.Fences.{Fence, merged as with_points_of, no_points}
-use Rattle.sf_calls.specs.Histories.{GoesOnWithout, calls_by, entry}
-use Rattle.sf_picture.specs.declared.picture.Picture.{Picture}
+use Rattle.law_draws.specs.sf_calls.Histories.{GoesOnWithout, calls_by, entry}
+use Rattle.sf_script_scene.specs.sf_picture.declared.picture.Picture.{Picture}
 use Rattle.sf_script_scene.specs.declared.step.Step.{Step}
 use Rattle.sf_script_scene.specs.declared.step.Step.TheVariants as step
-use Rattle.sf_slots.specs.declared.calls.PlainReply.{PlainReply}
-use Rattle.sf_slots.specs.declared.calls.PlainReply.TheVariants as plain
+use Rattle.law_draws.specs.sf_slots.declared.calls.PlainReply.{PlainReply}
+use Rattle.law_draws.specs.sf_slots.declared.calls.PlainReply.TheVariants as plain
 use Rattle.sf_base.specs.declared.ids.QueueId.{QueueId}
-use Rattle.sf_surface.specs.declared.call.QCall.{QCall}
-use Rattle.sf_surface.specs.declared.call.QCall.TheVariants as call
-use Rattle.sf_surface.specs.declared.call.QReply.{QReply}
-use Rattle.sf_surface.specs.declared.mark.QueueMark.{QueueMark}
-use Rattle.sf_surface.specs.Hands.{IsReply, permit_of}
-use Rattle.sf_surface.specs.Histories.{Made}
-use Rattle.sf_token.specs.Pending.{Arrival}
+use Rattle.law_draws.specs.sf_surface.declared.call.QCall.{QCall}
+use Rattle.law_draws.specs.sf_surface.declared.call.QCall.TheVariants as call
+use Rattle.law_draws.specs.sf_surface.declared.call.QReply.{QReply}
+use Rattle.law_draws.specs.sf_surface.declared.mark.QueueMark.{QueueMark}
+use Rattle.law_draws.specs.sf_surface.Hands.{IsReply, permit_of}
+use Rattle.law_draws.specs.sf_surface.Histories.{Made}
+use Rattle.law_draws.specs.sf_token.Pending.{Arrival}
 use Rattle.sf_turns.specs.Views.{PermitView}
-use Rattle.sf_actor.specs.Desks.{DeskHome, DeskView, mark_among}
-use Rattle.sf_actor.specs.Known.{call_after, own_calls, told_by}
-use Rattle.sf_actor.specs.Names.{name_in}
-use Rattle.sf_actor.specs.Points.{frame_fence, requested_fence}
-use Rattle.sf_actor.specs.Rights.{made_with}
-use Rattle.sf_actor.specs.Tales.{IsMade, made_on}
-use Rattle.sf_actor.specs.Traces.{made_by}
-use Rattle.sf_actor.specs.Tries.{ActorOf, Keeps}
-use Rattle.sf_actor_steps.specs.declared.bindings.Bindings.{Bindings}
-use Rattle.sf_actor_steps.specs.declared.tried.Tried.{Tried}
-use Rattle.sf_actor_steps.specs.declared.tried.Tried.TheVariants as tried
-use Rattle.sf_actor_steps.specs.Acting.{Acts as StepActs, Attempts}
-use Rattle.sf_actor_steps.specs.Doing.{MakesCall}
-use Rattle.sf_actor_steps.specs.Editing.{ReleasesAll, TriesSend}
-use Rattle.sf_actor_steps.specs.Bindings.{holdings_of}
-use Rattle.sf_actor_steps.specs.Leaving.{FindsOpen, LooksFor, TriesToLeave}
-use Rattle.sf_live_seats.proofs.QueuePass.{as_long}
-use Rattle.law_rights.specs.Calls.{made_of}
-use Rattle.law_rights.specs.States.{State}
-use Rattle.law_rights.proofs.TurnCounts.{first, none_in, the_only}
-use Rattle.law_rights.proofs.OwedAfterCall.{ending_left}
+use Rattle.law_draws.specs.sf_actor.Desks.{DeskHome, DeskView, mark_among}
+use Rattle.law_draws.specs.sf_actor.Known.{call_after, own_calls, told_by}
+use Rattle.law_draws.specs.sf_actor.Names.{name_in}
+use Rattle.law_draws.specs.sf_actor.Points.{frame_fence, requested_fence}
+use Rattle.law_draws.specs.sf_actor.Rights.{made_with}
+use Rattle.law_draws.specs.sf_actor.Tales.{IsMade, made_on}
+use Rattle.law_draws.specs.sf_actor.Traces.{made_by}
+use Rattle.law_draws.specs.sf_actor.Tries.{ActorOf, Keeps}
+use Rattle.law_draws.specs.sf_actor_steps.declared.bindings.Bindings.{Bindings}
+use Rattle.law_draws.specs.sf_actor_steps.declared.tried.Tried.{Tried}
+use Rattle.law_draws.specs.sf_actor_steps.declared.tried.Tried.TheVariants as tried
+use Rattle.law_draws.specs.sf_actor_steps.Acting.{Acts as StepActs, Attempts}
+use Rattle.law_draws.specs.sf_actor_steps.Doing.{MakesCall}
+use Rattle.law_draws.specs.sf_actor_steps.Editing.{ReleasesAll, TriesSend}
+use Rattle.law_draws.specs.sf_actor_steps.Bindings.{holdings_of}
+use Rattle.law_draws.specs.sf_actor_steps.Leaving.{FindsOpen, LooksFor, TriesToLeave}
+use Rattle.sf_live_compositor.proofs.sf_live_seats_lemmas.QueuePass.{as_long}
+use Rattle.law_draws.specs.law_rights.Calls.{made_of}
+use Rattle.law_draws.specs.law_rights.States.{State}
+use Rattle.law_draws.proofs.law_rights_lemmas.TurnCounts.{first, none_in, the_only}
+use Rattle.law_draws.proofs.law_rights_lemmas.OwedAfterCall.{ending_left}
 use Rattle.law_threads.specs.Cuts.{Whole}
 use Rattle.law_threads.specs.Lifts.{Comes, GivesAll, Given, LearnsOnly}
 use Rattle.law_threads.specs.Lifts.Comes.{Calling, Giving, Quietly, Sending}

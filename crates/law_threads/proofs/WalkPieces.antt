@@ -4,38 +4,38 @@ use Rattle.std.specs.Prelude.{Contains, slice_get}
 use Rattle.std.specs.List.{list_any}
 use Rattle.std.proofs.lemmas.List.{append-nil, append_assoc, length-append}
 use Rattle.atomic_table.specs.Seated.{TableId}
-use Rattle.sf_calls.specs.Histories.{IsLegal}
-use Rattle.sf_picture.specs.declared.picture.Picture.{Picture}
+use Rattle.law_draws.specs.sf_calls.Histories.{IsLegal}
+use Rattle.sf_script_scene.specs.sf_picture.declared.picture.Picture.{Picture}
 use Rattle.sf_script_scene.specs.Ranges.{IsStep}
 use Rattle.sf_script_scene.specs.declared.step.ActorScript.{ActorScript}
 use Rattle.sf_script_scene.specs.declared.step.Step.{Step}
-use Rattle.sf_surface.specs.declared.mark.QueueMark.{QueueMark}
-use Rattle.sf_surface.specs.Histories.{Answers, Made, told_reply}
-use Rattle.sf_token.specs.Arrivals.{sent}
-use Rattle.sf_token.specs.Pending.{Arrival}
-use Rattle.sf_actor.specs.declared.done.Done.{Done}
-use Rattle.sf_actor.specs.declared.tried.Stepped.{Stepped}
-use Rattle.sf_actor.specs.declared.tried.Stepped.TheVariants as stepped
-use Rattle.sf_actor.specs.Desks.{DeskHome, DeskView, mark_among}
-use Rattle.sf_actor.specs.Known.{call_after, own_calls}
-use Rattle.sf_actor.specs.Tries.{ActorOf, Keeps, Tries, next_step}
-use Rattle.sf_actor_steps.specs.Actors.{Acts, IsActor}
-use Rattle.sf_live_seats.specs.declared.locks.Locks.{Locks}
-use Rattle.sf_live_seats.specs.declared.seats.Seats.{Seats}
-use Rattle.sf_live_seats.specs.Seats.{home_of, marks_of, view_of}
-use Rattle.sf_live_threads.specs.Walks.{IsSound, IsTry, Moment, Walk}
-use Rattle.sf_live_threads.specs.Walks.Walk.{Begin, More}
-use Rattle.law_rights.specs.States.{AreApart, State}
-use Rattle.law_rights.proofs.QueueCounts.{mark_only}
-use Rattle.law_rights.proofs.StepLedger.{got_has, next_done}
+use Rattle.law_draws.specs.sf_surface.declared.mark.QueueMark.{QueueMark}
+use Rattle.law_draws.specs.sf_surface.Histories.{Answers, Made, told_reply}
+use Rattle.law_draws.specs.sf_token.Arrivals.{sent}
+use Rattle.law_draws.specs.sf_token.Pending.{Arrival}
+use Rattle.law_draws.specs.sf_actor.declared.done.Done.{Done}
+use Rattle.law_draws.specs.sf_actor.declared.tried.Stepped.{Stepped}
+use Rattle.law_draws.specs.sf_actor.declared.tried.Stepped.TheVariants as stepped
+use Rattle.law_draws.specs.sf_actor.Desks.{DeskHome, DeskView, mark_among}
+use Rattle.law_draws.specs.sf_actor.Known.{call_after, own_calls}
+use Rattle.law_draws.specs.sf_actor.Tries.{ActorOf, Keeps, Tries, next_step}
+use Rattle.law_draws.specs.sf_actor_steps.Actors.{Acts, IsActor}
+use Rattle.sf_live_compositor.specs.sf_live_seats.declared.locks.Locks.{Locks}
+use Rattle.sf_live_compositor.specs.sf_live_seats.declared.seats.Seats.{Seats}
+use Rattle.sf_live_compositor.specs.sf_live_seats.Seats.{home_of, marks_of, view_of}
+use Rattle.sf_live_compositor.specs.sf_live_threads.Walks.{IsSound, IsTry, Moment, Walk}
+use Rattle.sf_live_compositor.specs.sf_live_threads.Walks.Walk.{Begin, More}
+use Rattle.law_draws.specs.law_rights.States.{AreApart, State}
+use Rattle.law_draws.proofs.law_rights_lemmas.QueueCounts.{mark_only}
+use Rattle.law_draws.proofs.law_rights_lemmas.StepLedger.{got_has, next_done}
 use Rattle.law_threads.specs.Cuts.{Event, Local, MakesAt, Whole}
 use Rattle.law_threads.specs.Lifts.{Comes, LearnsOnly, local_of}
-use Rattle.sf_actor_steps.specs.declared.bindings.Bindings.{Bindings}
-use Rattle.sf_actor_steps.specs.declared.tried.Tried.{Tried}
+use Rattle.law_draws.specs.sf_actor_steps.declared.bindings.Bindings.{Bindings}
+use Rattle.law_draws.specs.sf_actor_steps.declared.tried.Tried.{Tried}
 use Rattle.law_threads.proofs.ReturnedFrames.{legal_front}
-use Rattle.sf_actor.specs.Rights.{MadeWith, made_with}
-use Rattle.sf_surface.specs.Hands.{permit_of}
-use Rattle.law_rights.specs.Calls.{made_of}
+use Rattle.law_draws.specs.sf_actor.Rights.{MadeWith, made_with}
+use Rattle.law_draws.specs.sf_surface.Hands.{permit_of}
+use Rattle.law_draws.specs.law_rights.Calls.{made_of}
 use Rattle.law_threads.proofs.TryEvents.{goes_same}
 use Rattle.law_threads.specs.Orders.{Spot}
 use Rattle.law_threads.specs.Tries.{DoesTry}

@@ -1,18 +1,18 @@
 -- The common state of several callers between two of their events, over the fronts of what was called in the whole run.
 use Rattle.std.specs.Prelude.{◌≡◌, ℕ, zero, suc, ◌≤◌, nat_le, if◌then◌else◌, List, [], ◌∷◌, ◌++◌, length, Contains, Option, Some, None}
 use Rattle.std.specs.List.{flat_map}
-use Rattle.sf_surface.specs.declared.mark.QueueMark.{QueueMark}
-use Rattle.sf_surface.specs.Histories.{Made, told_reply}
-use Rattle.sf_surface.specs.Tokens.{Issued, ReadLeaseOf}
-use Rattle.sf_token.specs.Arrivals.{Calls, sent, waiting}
-use Rattle.sf_token.specs.Pending.{Arrival}
+use Rattle.law_draws.specs.sf_surface.declared.mark.QueueMark.{QueueMark}
+use Rattle.law_draws.specs.sf_surface.Histories.{Made, told_reply}
+use Rattle.law_draws.specs.sf_surface.Tokens.{Issued, ReadLeaseOf}
+use Rattle.law_draws.specs.sf_token.Arrivals.{Calls, sent, waiting}
+use Rattle.law_draws.specs.sf_token.Pending.{Arrival}
 use Rattle.sf_turns.specs.Views.{SeatView}
-use Rattle.sf_actor.specs.Desks.{DeskView}
-use Rattle.sf_actor.specs.Rights.{Turn}
-use Rattle.sf_actor.specs.Tries.{ActorOf}
-use Rattle.law_rights.specs.Calls.{buffers_in, made_of}
-use Rattle.law_rights.specs.Ledgers.{IsLedger}
-use Rattle.law_rights.specs.States.{State, ledger_of}
+use Rattle.law_draws.specs.sf_actor.Desks.{DeskView}
+use Rattle.law_draws.specs.sf_actor.Rights.{Turn}
+use Rattle.law_draws.specs.sf_actor.Tries.{ActorOf}
+use Rattle.law_draws.specs.law_rights.Calls.{buffers_in, made_of}
+use Rattle.law_draws.specs.law_rights.Ledgers.{IsLedger}
+use Rattle.law_draws.specs.law_rights.States.{State, ledger_of}
 use Rattle.law_threads.specs.Orders.{Spot, events_in, raised, times_at}
 
 -- the earliest calls of a history, which has the newest first

@@ -2,32 +2,32 @@
 use Rattle.std.specs.Prelude.{◌≡◌, ℕ, ◌<◌, ◌≤◌, List, [], ◌∷◌, map, Contains}
 use Rattle.std.specs.List.{All, AllZip, FoldsTo}
 use Rattle.atomic_table.specs.Seated.{TableId}
-use Rattle.sf_surface.specs.Tokens.{Issued, ReadLeaseOf}
+use Rattle.law_draws.specs.sf_surface.Tokens.{Issued, ReadLeaseOf}
 use Rattle.sf_turns.specs.Counts.{stock_at}
 use Rattle.sf_turns.specs.Views.{SeatView}
-use Rattle.sf_txn.specs.declared.lease.Lease.{Ghosts}
-use Rattle.sf_commit.specs.Handlers.{new_handler}
+use Rattle.law_draws.specs.sf_txn.declared.lease.Lease.{Ghosts}
+use Rattle.law_draws.specs.sf_commit.Handlers.{new_handler}
 use Rattle.sf_script_scene.specs.Limits.{IsWithinLimits}
 use Rattle.sf_script_scene.specs.Scene.{SceneValue}
 use Rattle.sf_script_scene.specs.declared.step.ActorScript.{ActorScript}
-use Rattle.sf_actor.specs.Known.{GoesOn}
-use Rattle.sf_actor.specs.Desks.{known_of}
-use Rattle.sf_actor.specs.Plain.{PlainOf, home_of as plain_home, view_of as plain_view}
-use Rattle.sf_actor.specs.Scripts.{picture_at}
-use Rattle.sf_actor.specs.Tries.{ActorOf}
-use Rattle.sf_actor_steps.specs.Playable.{MayPlay}
-use Rattle.sf_actor_steps.specs.declared.actor.Actor.{Actor}
-use Rattle.sf_actor_set.specs.Opening.{IsSortedFrom, new_actors}
-use Rattle.law_played.specs.Actors.{mark_declared}
-use Rattle.law_played.specs.Histories.{rising_queues}
-use Rattle.sf_live_seats.specs.declared.first.FirstSeats.{FirstSeats}
-use Rattle.sf_live_seats.specs.declared.locks.Locks.{Locks}
-use Rattle.sf_live_seats.specs.declared.seats.Seats.{Seats}
-use Rattle.sf_live_seats.specs.Closing.{Closes, HasNoEntry, IsOrdered}
-use Rattle.sf_live_seats.specs.First.{HasAll, IsFirst, KnowsNothing, Meets, gave_of, took_of}
-use Rattle.sf_live_seats.specs.Reuniting.{Reunites}
-use Rattle.sf_live_seats.specs.Seats.{AreSeats, home_of, marks_of, view_of}
-use Rattle.sf_live_threads.specs.Walks.{IsSound, Moment, Walk}
+use Rattle.law_draws.specs.sf_actor.Known.{GoesOn}
+use Rattle.law_draws.specs.sf_actor.Desks.{known_of}
+use Rattle.law_draws.specs.sf_actor.Plain.{PlainOf, home_of as plain_home, view_of as plain_view}
+use Rattle.law_draws.specs.sf_actor.Scripts.{picture_at}
+use Rattle.law_draws.specs.sf_actor.Tries.{ActorOf}
+use Rattle.law_draws.specs.sf_actor_steps.Playable.{MayPlay}
+use Rattle.law_draws.specs.sf_actor_steps.declared.actor.Actor.{Actor}
+use Rattle.law_draws.specs.sf_actor_set.Opening.{IsSortedFrom, new_actors}
+use Rattle.law_draws.specs.law_played.Actors.{mark_declared}
+use Rattle.law_draws.specs.law_played.Histories.{rising_queues}
+use Rattle.sf_live_compositor.specs.sf_live_seats.declared.first.FirstSeats.{FirstSeats}
+use Rattle.sf_live_compositor.specs.sf_live_seats.declared.locks.Locks.{Locks}
+use Rattle.sf_live_compositor.specs.sf_live_seats.declared.seats.Seats.{Seats}
+use Rattle.sf_live_compositor.specs.sf_live_seats.Closing.{Closes, HasNoEntry, IsOrdered}
+use Rattle.sf_live_compositor.specs.sf_live_seats.First.{HasAll, IsFirst, KnowsNothing, Meets, gave_of, took_of}
+use Rattle.sf_live_compositor.specs.sf_live_seats.Reuniting.{Reunites}
+use Rattle.sf_live_compositor.specs.sf_live_seats.Seats.{AreSeats, home_of, marks_of, view_of}
+use Rattle.sf_live_compositor.specs.sf_live_threads.Walks.{IsSound, Moment, Walk}
 use Rattle.sf_live_compositor.specs.Vsyncs.{Sitting, Vsyncs}
 
 module _ {B : Type 0} where

@@ -1,15 +1,15 @@
 -- What a done try of an actor does, as an event of it: wherever it is next among those of all callers, something is kept.
 use Rattle.std.specs.Prelude.{◌≡◌, ℕ, suc, ◌+◌, List, [], ◌∷◌, ◌++◌, length, map, Some, None}
-use Rattle.sf_calls.specs.Histories.{GoesOnWithout}
-use Rattle.sf_surface.specs.Histories.{Made}
-use Rattle.sf_surface.specs.Tokens.{ReadLeaseOf}
-use Rattle.sf_token.specs.Pending.{Arrival}
-use Rattle.sf_txn.specs.Transactions.{Contents}
-use Rattle.sf_actor.specs.Desks.{DeskView}
-use Rattle.sf_actor.specs.Known.{ArriveWithout}
-use Rattle.sf_actor.specs.Rights.{Turn}
-use Rattle.sf_actor.specs.Tries.{ActorOf}
-use Rattle.law_rights.specs.States.{State}
+use Rattle.law_draws.specs.sf_calls.Histories.{GoesOnWithout}
+use Rattle.law_draws.specs.sf_surface.Histories.{Made}
+use Rattle.law_draws.specs.sf_surface.Tokens.{ReadLeaseOf}
+use Rattle.law_draws.specs.sf_token.Pending.{Arrival}
+use Rattle.law_draws.specs.sf_txn.Transactions.{Contents}
+use Rattle.law_draws.specs.sf_actor.Desks.{DeskView}
+use Rattle.law_draws.specs.sf_actor.Known.{ArriveWithout}
+use Rattle.law_draws.specs.sf_actor.Rights.{Turn}
+use Rattle.law_draws.specs.sf_actor.Tries.{ActorOf}
+use Rattle.law_draws.specs.law_rights.States.{State}
 use Rattle.law_threads.specs.Cuts.{GoesBack, Lifts, Local, Whole, with_sent}
 
 module _ {B : Type 0} where

@@ -1,25 +1,25 @@
 -- The callers of a run in threads, each with just its own calls to do, in the order of their stamps.
 use Rattle.std.specs.Prelude.{Contains, ◌≡◌, ◌≤◌, ℕ, zero, suc, ◌+◌, ◌==◌, ◌&&◌, Bool, if◌then◌else◌, List, [], ◌∷◌, length, map}
 use Rattle.atomic_table.specs.Seated.{TableId}
-use Rattle.sf_calls.specs.declared.object.Entry.{Entry}
-use Rattle.sf_calls.specs.Histories.{GoesOnWithout, IsLegal, calls_by}
-use Rattle.sf_live_seats.specs.First.{gave_of}
-use Rattle.sf_calls_stamped.specs.Stamps.{stamp_of}
-use Rattle.sf_surface.specs.Histories.{Answers}
-use Rattle.sf_surface.specs.Tokens.{ReadLeaseOf}
-use Rattle.sf_token.specs.Pending.{Arrival}
-use Rattle.sf_actor.specs.Desks.{DeskHome, DeskView, mark_among}
-use Rattle.sf_actor.specs.Plain.{PlainOf, home_of as plain_home, view_of as plain_view}
-use Rattle.sf_actor.specs.Rights.{Turn}
-use Rattle.sf_live_seats.specs.declared.first.FirstSeats.{FirstSeats}
-use Rattle.sf_live_seats.specs.declared.locks.Locks.{Locks}
-use Rattle.sf_live_seats.specs.Seats.{QueueEntry, QueuePass, home_of, is_at, marks_of, view_of}
-use Rattle.sf_live_threads.specs.Walks.{Moment}
-use Rattle.law_rights.specs.Vsyncs.{lease_on}
-use Rattle.law_rights.specs.Standing.{GiveAll}
-use Rattle.sf_surface.specs.Tokens.{Issued}
-use Rattle.sf_commit.specs.Releases.{ReleaseOf}
-use Rattle.sf_txn.specs.declared.lease.Lease.{Ghosts}
+use Rattle.law_draws.specs.sf_calls.declared.object.Entry.{Entry}
+use Rattle.law_draws.specs.sf_calls.Histories.{GoesOnWithout, IsLegal, calls_by}
+use Rattle.sf_live_compositor.specs.sf_live_seats.First.{gave_of}
+use Rattle.sf_live_compositor.specs.sf_calls_stamped.Stamps.{stamp_of}
+use Rattle.law_draws.specs.sf_surface.Histories.{Answers}
+use Rattle.law_draws.specs.sf_surface.Tokens.{ReadLeaseOf}
+use Rattle.law_draws.specs.sf_token.Pending.{Arrival}
+use Rattle.law_draws.specs.sf_actor.Desks.{DeskHome, DeskView, mark_among}
+use Rattle.law_draws.specs.sf_actor.Plain.{PlainOf, home_of as plain_home, view_of as plain_view}
+use Rattle.law_draws.specs.sf_actor.Rights.{Turn}
+use Rattle.sf_live_compositor.specs.sf_live_seats.declared.first.FirstSeats.{FirstSeats}
+use Rattle.sf_live_compositor.specs.sf_live_seats.declared.locks.Locks.{Locks}
+use Rattle.sf_live_compositor.specs.sf_live_seats.Seats.{QueueEntry, QueuePass, home_of, is_at, marks_of, view_of}
+use Rattle.sf_live_compositor.specs.sf_live_threads.Walks.{Moment}
+use Rattle.law_draws.specs.law_rights.Vsyncs.{lease_on}
+use Rattle.law_draws.specs.law_rights.Standing.{GiveAll}
+use Rattle.law_draws.specs.sf_surface.Tokens.{Issued}
+use Rattle.law_draws.specs.sf_commit.Releases.{ReleaseOf}
+use Rattle.law_draws.specs.sf_txn.declared.lease.Lease.{Ghosts}
 use Rattle.sf_turns.specs.Views.{SeatView}
 use Rattle.law_threads.specs.Cuts.{Local, Whole}
 use Rattle.law_threads.specs.Orders.{Spot}

@@ -1,6 +1,6 @@
 -- What an event of a caller is while something that the caller sent is on its way.
-use Rattle.sf_surface.specs.Tokens.{ReadLeaseOf}
-use Rattle.sf_token.specs.Pending.{Arrival}
+use Rattle.law_draws.specs.sf_surface.Tokens.{ReadLeaseOf}
+use Rattle.law_draws.specs.sf_token.Pending.{Arrival}
 use Rattle.law_threads.specs.Cuts.{Event, Forwards, Moves, Returns, with_sent}
 
 -- while it is on its way

@@ -1,12 +1,12 @@
 -- What ties the stamps of a compositor's calls to the whole run: its seats knew a front of each history, with stamps.
 use Rattle.std.specs.Prelude.{ℕ}
 use Rattle.atomic_table.specs.Seated.{TableId}
-use Rattle.sf_calls.specs.Histories.{Begins}
-use Rattle.sf_surface.specs.Tokens.{Issued, ReadLeaseOf}
+use Rattle.law_draws.specs.sf_calls.Histories.{Begins}
+use Rattle.law_draws.specs.sf_surface.Tokens.{Issued, ReadLeaseOf}
 use Rattle.sf_turns.specs.Views.{SeatView}
-use Rattle.sf_txn.specs.declared.lease.Lease.{Ghosts}
-use Rattle.sf_live_seats.specs.declared.first.FirstSeats.{FirstSeats}
-use Rattle.sf_live_seats.specs.declared.locks.Locks.{Locks}
+use Rattle.law_draws.specs.sf_txn.declared.lease.Lease.{Ghosts}
+use Rattle.sf_live_compositor.specs.sf_live_seats.declared.first.FirstSeats.{FirstSeats}
+use Rattle.sf_live_compositor.specs.sf_live_seats.declared.locks.Locks.{Locks}
 use Rattle.law_threads.specs.Members.{seen_at}
 use Rattle.sf_live_compositor.specs.Vsyncs.{IsVsync, Sitting, Vsyncs}
 use Rattle.sf_live_compositor.specs.Vsyncs.{Begin, More}

@@ -1,17 +1,17 @@
 -- What is known of a try that is done, over its actor's own desk.
 use Rattle.std.specs.Prelude.{◌≡◌, ℕ, ◌+◌, length, Some}
-use Rattle.sf_picture.specs.declared.picture.Picture.{Picture}
+use Rattle.sf_script_scene.specs.sf_picture.declared.picture.Picture.{Picture}
 use Rattle.sf_script_scene.specs.Ranges.{IsStep}
 use Rattle.sf_script_scene.specs.declared.step.Step.{Step}
-use Rattle.sf_actor.specs.declared.tried.Reply.{Reply}
-use Rattle.sf_actor.specs.Desks.{DeskHome, DeskView}
-use Rattle.sf_actor.specs.Tests.{refusal_of}
-use Rattle.sf_actor.specs.Tries.{ActorOf, DoesStep, Keeps, next_step}
-use Rattle.sf_actor_steps.specs.Acting.{Attempts}
-use Rattle.sf_actor_steps.specs.Actors.{parts_of}
-use Rattle.sf_actor_steps.specs.Bindings.{holdings_of}
-use Rattle.sf_actor_steps.specs.declared.bindings.Bindings.{Bindings}
-use Rattle.sf_actor_steps.specs.declared.tried.Tried.{Tried}
+use Rattle.law_draws.specs.sf_actor.declared.tried.Reply.{Reply}
+use Rattle.law_draws.specs.sf_actor.Desks.{DeskHome, DeskView}
+use Rattle.law_draws.specs.sf_actor.Tests.{refusal_of}
+use Rattle.law_draws.specs.sf_actor.Tries.{ActorOf, DoesStep, Keeps, next_step}
+use Rattle.law_draws.specs.sf_actor_steps.Acting.{Attempts}
+use Rattle.law_draws.specs.sf_actor_steps.Actors.{parts_of}
+use Rattle.law_draws.specs.sf_actor_steps.Bindings.{holdings_of}
+use Rattle.law_draws.specs.sf_actor_steps.declared.bindings.Bindings.{Bindings}
+use Rattle.law_draws.specs.sf_actor_steps.declared.tried.Tried.{Tried}
 
 -- an actor tried its next step and did it, with the tokens in its bindings; it kept what it keeps
 pub record DoesTry {B : Type 0} (pictures : ℕ → Picture) (home : DeskHome) (was is : ActorOf B) (next : Step) (before after : Bindings B)

@@ -1,12 +1,12 @@
 ghost use Rattle.std.specs.Prelude.{◌≡◌, ◌+◌, ◌++◌, ◌∷◌, ℕ, List, length};
-ghost use Rattle.sf_calls.specs.declared.object.Entry.{Entry};
-ghost use Rattle.sf_surface.specs.Tokens.{Issued, ReadLeaseOf};
-ghost use Rattle.sf_token.specs.Arrivals.{sent};
-ghost use Rattle.sf_token.specs.declared.arrivals.ArriveCall.{ArriveCall};
-ghost use Rattle.sf_token.specs.declared.arrivals.ArriveCall.TheVariants as arrive;
-ghost use Rattle.sf_token.specs.declared.arrivals.ArriveReply.{ArriveReply};
+ghost use Rattle.law_draws.specs.sf_calls.declared.object.Entry.{Entry};
+ghost use Rattle.law_draws.specs.sf_surface.Tokens.{Issued, ReadLeaseOf};
+ghost use Rattle.law_draws.specs.sf_token.Arrivals.{sent};
+ghost use Rattle.law_draws.specs.sf_token.declared.arrivals.ArriveCall.{ArriveCall};
+ghost use Rattle.law_draws.specs.sf_token.declared.arrivals.ArriveCall.TheVariants as arrive;
+ghost use Rattle.law_draws.specs.sf_token.declared.arrivals.ArriveReply.{ArriveReply};
 ghost use Rattle.sf_turns.specs.Views.{SeatView};
-ghost use Rattle.sf_txn.specs.Transactions.{Contents};
+ghost use Rattle.law_draws.specs.sf_txn.Transactions.{Contents};
 ghost use Rattle.law_threads.specs.Cuts.{GoesForward, HasLedger, Whole};
 
 use sf_turns::TableName;

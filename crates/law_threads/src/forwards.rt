@@ -1,6 +1,6 @@
 ghost use Rattle.std.specs.Prelude.{◌≡◌, ◌<◌, ℕ, List, Contains};
-ghost use Rattle.sf_surface.specs.Tokens.{ReadLeaseOf};
-ghost use Rattle.sf_token.specs.Pending.{Arrival};
+ghost use Rattle.law_draws.specs.sf_surface.Tokens.{ReadLeaseOf};
+ghost use Rattle.law_draws.specs.sf_token.Pending.{Arrival};
 ghost use Rattle.law_threads.specs.Cuts.{Event, Forwards, GoesForward, HasLedger, IsPart, Local, Whole, now, spot_of, with_sent};
 ghost use Rattle.law_threads.specs.Delays.{delayed};
 ghost use Rattle.law_threads.specs.Orders.{Spot, events_in};

@@ -1,19 +1,19 @@
 ghost use Rattle.std.specs.Prelude.{◌≡◌, ℕ, ◌≤◌, List, map};
 ghost use Rattle.atomic_table.specs.Seated.{TableId};
-ghost use Rattle.sf_actor.specs.Plain.{PlainOf, home_of, view_of};
+ghost use Rattle.law_draws.specs.sf_actor.Plain.{PlainOf, home_of, view_of};
 ghost use Rattle.sf_script_scene.specs.Scene.{SceneValue};
-ghost use Rattle.sf_live_seats.specs.declared.locks.Locks.{Locks};
-ghost use Rattle.sf_live_threads.specs.Walks.{Moment};
-ghost use Rattle.law_rights.specs.Standing.{LedgerStands};
+ghost use Rattle.sf_live_compositor.specs.sf_live_seats.declared.locks.Locks.{Locks};
+ghost use Rattle.sf_live_compositor.specs.sf_live_threads.Walks.{Moment};
+ghost use Rattle.law_draws.specs.law_rights.Standing.{LedgerStands};
 ghost use Rattle.law_threads.specs.Joining.{Joins, of_at};
 ghost use Rattle.law_threads.specs.Members.{AreTied, AreTimed, stamps};
-ghost use Rattle.sf_live_seats.specs.declared.first.FirstSeats.{FirstSeats};
+ghost use Rattle.sf_live_compositor.specs.sf_live_seats.declared.first.FirstSeats.{FirstSeats};
 ghost use Rattle.law_threads.specs.Stamped.{AreStamped};
 ghost use Rattle.sf_live_compositor.specs.Vsyncs.{Sitting, Vsyncs};
 
-use sf_surface::ReadLease;
+use law_draws::sf_surface::ReadLease;
+use law_draws::sf_txn::Lease;
 use sf_turns::TableName;
-use sf_txn::Lease;
 
 /// At the join of a run in threads the ledger of rights stands, over the desk that is left, the
 /// actors as they came back, and the compositor, where what `AreTied` says holds too.

@@ -1,26 +1,26 @@
 ghost use Rattle.std.specs.Prelude.{◌≡◌, ◌++◌, ℕ, List, [], false, map};
-ghost use Rattle.sf_calls.specs.Histories.{IsLegal};
-ghost use Rattle.sf_picture.specs.declared.picture.Picture.{Picture};
+ghost use Rattle.law_draws.specs.sf_calls.Histories.{IsLegal};
+ghost use Rattle.sf_script_scene.specs.sf_picture.declared.picture.Picture.{Picture};
 ghost use Rattle.sf_script_scene.specs.Scene.{SceneValue};
 ghost use Rattle.sf_script_scene.specs.declared.step.Step.{Step};
-ghost use Rattle.sf_surface.specs.Histories.{Answers, Made};
-ghost use Rattle.sf_actor.specs.Desks.{DeskHome, DeskView, has_queue, mark_among};
-ghost use Rattle.sf_actor.specs.Tries.{ActorOf};
-ghost use Rattle.sf_actor_steps.specs.declared.bindings.Bindings.{Bindings as BindingsOf};
-ghost use Rattle.sf_actor_steps.specs.declared.tried.Tried.{Tried};
-ghost use Rattle.law_rights.specs.MakerRuns.{AreDeclared, MakersPlay};
-ghost use Rattle.law_rights.specs.States.{AreApart};
+ghost use Rattle.law_draws.specs.sf_surface.Histories.{Answers, Made};
+ghost use Rattle.law_draws.specs.sf_actor.Desks.{DeskHome, DeskView, has_queue, mark_among};
+ghost use Rattle.law_draws.specs.sf_actor.Tries.{ActorOf};
+ghost use Rattle.law_draws.specs.sf_actor_steps.declared.bindings.Bindings.{Bindings as BindingsOf};
+ghost use Rattle.law_draws.specs.sf_actor_steps.declared.tried.Tried.{Tried};
+ghost use Rattle.law_draws.specs.law_rights.MakerRuns.{AreDeclared, MakersPlay};
+ghost use Rattle.law_draws.specs.law_rights.States.{AreApart};
 ghost use Rattle.law_draws.specs.Standing.{RightsStand};
 ghost use Rattle.atomic_table.specs.Seated.{TableId};
 ghost use Rattle.sf_turns.specs.Counts.{IsExact};
-ghost use Rattle.sf_actor.specs.Plain.{PlainOf, home_of, view_of};
-ghost use Rattle.sf_actor.specs.Scripts.{picture_at};
-ghost use Rattle.sf_live_seats.specs.declared.locks.Locks.{Locks};
-ghost use Rattle.sf_live_threads.specs.Walks.{Moment};
-ghost use Rattle.law_played.specs.Actors.{AreActors};
-ghost use Rattle.law_rights.specs.Actors.{AreOver};
-ghost use Rattle.law_rights.specs.InTurn.{DrawsStand};
-ghost use Rattle.law_rights.specs.Standing.{LedgerStands};
+ghost use Rattle.law_draws.specs.sf_actor.Plain.{PlainOf, home_of, view_of};
+ghost use Rattle.law_draws.specs.sf_actor.Scripts.{picture_at};
+ghost use Rattle.sf_live_compositor.specs.sf_live_seats.declared.locks.Locks.{Locks};
+ghost use Rattle.sf_live_compositor.specs.sf_live_threads.Walks.{Moment};
+ghost use Rattle.law_draws.specs.law_played.Actors.{AreActors};
+ghost use Rattle.law_draws.specs.law_rights.Actors.{AreOver};
+ghost use Rattle.law_draws.specs.law_rights.InTurn.{DrawsStand};
+ghost use Rattle.law_draws.specs.law_rights.Standing.{LedgerStands};
 ghost use Rattle.law_threads.specs.Joining.{Joins, of_at};
 ghost use Rattle.law_threads.specs.Members.{AreTied};
 ghost use Rattle.sf_live_compositor.specs.Vsyncs.{Sitting};
@@ -29,9 +29,9 @@ ghost use Rattle.law_threads.specs.Lifts.{Comes};
 ghost use Rattle.law_threads.specs.Rights.{calls_in};
 ghost use Rattle.law_threads.specs.Tries.{DoesTry};
 
-use sf_surface::ReadLease;
+use law_draws::sf_surface::ReadLease;
+use law_draws::sf_txn::Lease;
 use sf_turns::TableName;
-use sf_txn::Lease;
 
 /// Any try that was done keeps, with the ledger, that makers are followed and draws are placed,
 /// wherever its calls are the next ones on their queues; what it sent is on its way then.

@@ -5,10 +5,10 @@ use Rattle.std.specs.Option.{option_map}
 use Rattle.std.proofs.Math.ListN.{get_or-map}
 use Rattle.sf_base.specs.Fences.{IsSignalled}
 use Rattle.sf_base.specs.declared.status.QStatus.{QStatus}
-use Rattle.sf_picture.specs.declared.picture.Picture.{Picture}
+use Rattle.sf_script_scene.specs.sf_picture.declared.picture.Picture.{Picture}
 use Rattle.sf_script_scene.specs.declared.step.Step.{Step}
-use Rattle.sf_slots.specs.declared.calls.PlainReply.{PlainReply}
-use Rattle.sf_slots.specs.declared.calls.PlainReply.TheVariants as reply
+use Rattle.sf_surface.specs.sf_slots.declared.calls.PlainReply.{PlainReply}
+use Rattle.sf_surface.specs.sf_slots.declared.calls.PlainReply.TheVariants as reply
 use Rattle.sf_surface.specs.declared.call.QCall.{QCall}
 use Rattle.sf_actor.specs.declared.done.Answered.TheVariants as answered
 use Rattle.sf_actor.specs.declared.done.Done.{Done}

@@ -7,15 +7,15 @@ use Rattle.std.specs.Option.{option_map}
 use Rattle.std.proofs.lemmas.Bool.{false≢true}
 use Rattle.std.proofs.lemmas.List.{append-nil, length-set, map-set}
 use Rattle.std.proofs.lemmas.List.Elements.{All-map}
-use Rattle.sf_picture.specs.declared.picture.Picture.{Picture}
+use Rattle.sf_script_scene.specs.sf_picture.declared.picture.Picture.{Picture}
 use Rattle.sf_script_scene.specs.declared.step.Step.{Step}
 use Rattle.sf_script_scene.specs.declared.step.Step.TheVariants as step
 use Rattle.sf_surface.specs.declared.call.QCall.{QCall}
 use Rattle.sf_surface.specs.Hands.{permit_of}
 use Rattle.sf_surface.specs.Tokens.{EndingOf, ReadLeaseOf}
-use Rattle.sf_turns.specs.Views.{PermitView}
-use Rattle.sf_txn.specs.Buffers.{Buffer}
-use Rattle.sf_txn.specs.Transactions.{Contents, all_replaced, empty, merged, replaced_by, set_buffer}
+use Rattle.sf_surface.specs.sf_turns.Views.{PermitView}
+use Rattle.sf_token.specs.sf_txn.Buffers.{Buffer}
+use Rattle.sf_token.specs.sf_txn.Transactions.{Contents, all_replaced, empty, merged, replaced_by, set_buffer}
 use Rattle.sf_actor.specs.declared.done.Answered.TheVariants as answered
 use Rattle.sf_actor.specs.declared.done.Done.{Done}
 use Rattle.sf_actor.specs.declared.holding.Holding.TheVariants as holding

@@ -8,7 +8,7 @@ use Rattle.std.proofs.lemmas.List.FromFn.{get_or-map-range_with_len}
 use Rattle.sf_base.specs.Fences.{value_of}
 use Rattle.sf_base.specs.Points.{greatest}
 use Rattle.sf_base.proofs.PointLemmas.{greatest-append}
-use Rattle.sf_calls.specs.Histories.{GoesOnWithout, calls_by, entry}
+use Rattle.sf_token.specs.sf_calls.Histories.{GoesOnWithout, calls_by, entry}
 use Rattle.sf_surface.specs.declared.call.QCall.{QCall}
 use Rattle.sf_surface.specs.declared.call.QReply.{QReply}
 use Rattle.sf_surface.specs.Histories.{Made}
@@ -16,8 +16,8 @@ use Rattle.sf_surface.specs.Tokens.{ReadLeaseOf}
 use Rattle.sf_times.specs.declared.protocol.Knows.{Knows}
 use Rattle.sf_times.specs.Seats.{all_loaded, raised}
 use Rattle.sf_token.specs.Pending.{Arrival}
-use Rattle.sf_turns.specs.Views.{Leaves, Observes, SeatView}
-use Rattle.sf_txn.specs.Transactions.{Contents}
+use Rattle.sf_surface.specs.sf_turns.Views.{Leaves, Observes, SeatView}
+use Rattle.sf_token.specs.sf_txn.Transactions.{Contents}
 use Rattle.sf_actor.specs.Desks.{ChangesTimes, ChangesTurns, DeskHome, DeskView, IsAsBefore, MadeCall, MadeSend, WaitsForCall, known_of, values_of}
 use Rattle.sf_actor.specs.Known.{AreAmong, ArriveWithout, CountsRise, GoesOn, Known, Rise, is_sent_by}
 

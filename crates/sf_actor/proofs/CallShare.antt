@@ -5,14 +5,14 @@ use Rattle.std.specs.List.{AllZip}
 use Rattle.std.proofs.lemmas.Bool.{cases_Bool, eq-eqb, eqb-true, false≢true}
 use Rattle.std.proofs.lemmas.List.{append-nil}
 use Rattle.sf_base.specs.declared.fences.Seen.{Seen}
-use Rattle.sf_calls.specs.Histories.{IsLegal, entry}
-use Rattle.sf_picture.specs.declared.picture.Picture.{Picture}
+use Rattle.sf_token.specs.sf_calls.Histories.{IsLegal, entry}
+use Rattle.sf_script_scene.specs.sf_picture.declared.picture.Picture.{Picture}
 use Rattle.sf_surface.specs.declared.call.QCall.{QCall}
 use Rattle.sf_surface.specs.declared.call.QReply.{QReply}
 use Rattle.sf_surface.specs.declared.mark.QueueMark.{QueueMark}
 use Rattle.sf_surface.specs.Hands.{IsReply, permit_of}
 use Rattle.sf_surface.specs.Histories.{Answers, Made}
-use Rattle.sf_turns.specs.Views.{PermitView}
+use Rattle.sf_surface.specs.sf_turns.Views.{PermitView}
 use Rattle.sf_actor.specs.declared.done.Answered.{Answered}
 use Rattle.sf_actor.specs.declared.done.Answered.TheVariants as answered
 use Rattle.sf_actor.specs.declared.done.Done.{Done}

@@ -8,13 +8,13 @@ use Rattle.sf_base.specs.Fences.{Fence, IsSignalled, merged}
 use Rattle.sf_base.specs.declared.ids.QueueId.{QueueId}
 use Rattle.sf_base.specs.declared.ids.SlotId.{SlotId}
 use Rattle.sf_base.specs.declared.status.QStatus.{QStatus}
-use Rattle.sf_calls.specs.Histories.{IsLegal, entry}
-use Rattle.sf_picture.specs.declared.picture.Picture.{Picture}
+use Rattle.sf_token.specs.sf_calls.Histories.{IsLegal, entry}
+use Rattle.sf_script_scene.specs.sf_picture.declared.picture.Picture.{Picture}
 use Rattle.sf_script_scene.specs.declared.step.Step.{Step}
 use Rattle.sf_script_scene.specs.declared.step.Step.TheVariants as step
-use Rattle.sf_slots.specs.declared.calls.PlainReply.{PlainReply}
-use Rattle.sf_slots.specs.declared.calls.PlainReply.TheVariants as plain
-use Rattle.sf_slots.specs.declared.slot.Held.{Held}
+use Rattle.sf_surface.specs.sf_slots.declared.calls.PlainReply.{PlainReply}
+use Rattle.sf_surface.specs.sf_slots.declared.calls.PlainReply.TheVariants as plain
+use Rattle.sf_surface.specs.sf_slots.declared.slot.Held.{Held}
 use Rattle.sf_surface.specs.declared.call.Gives.TheVariants as gives
 use Rattle.sf_surface.specs.declared.call.QCall.{QCall}
 use Rattle.sf_surface.specs.declared.call.QCall.TheVariants as call
@@ -23,8 +23,8 @@ use Rattle.sf_surface.specs.Calls.{told_call, write_token}
 use Rattle.sf_surface.specs.Hands.{IsReply, done_reply, lent_lease, new_turn, points_of, refused_reply}
 use Rattle.sf_surface.specs.Histories.{Answers, Made}
 use Rattle.sf_surface.specs.Tokens.{EndingOf, Right}
-use Rattle.sf_turns.specs.Counts.{same, stock_at}
-use Rattle.sf_turns.specs.Views.{PermitView}
+use Rattle.sf_surface.specs.sf_turns.Counts.{same, stock_at}
+use Rattle.sf_surface.specs.sf_turns.Views.{PermitView}
 use Rattle.sf_actor.specs.declared.done.Answered.TheVariants as answered
 use Rattle.sf_actor.specs.declared.done.Done.{Done}
 use Rattle.sf_actor.specs.declared.holding.Holding.TheVariants as holding

@@ -10,17 +10,17 @@ use Rattle.sf_base.specs.Points.{greatest}
 use Rattle.sf_base.proofs.PointLemmas.{greatest-append, has_le}
 use Rattle.sf_base.specs.declared.fences.Seen.{Seen}
 use Rattle.sf_base.specs.declared.ids.QueueId.{QueueId}
-use Rattle.sf_picture.specs.declared.picture.Picture.{Picture}
+use Rattle.sf_script_scene.specs.sf_picture.declared.picture.Picture.{Picture}
 use Rattle.sf_script_scene.specs.declared.step.Step.{Step}
 use Rattle.sf_script_scene.specs.declared.step.Step.TheVariants as step
-use Rattle.sf_slots.specs.declared.calls.WriteToken.{WriteToken}
-use Rattle.sf_slots.specs.declared.slot.Held.{Held}
+use Rattle.sf_surface.specs.sf_slots.declared.calls.WriteToken.{WriteToken}
+use Rattle.sf_surface.specs.sf_slots.declared.slot.Held.{Held}
 use Rattle.sf_surface.specs.declared.work.Work.{Work}
 use Rattle.sf_surface.specs.declared.work.Work.TheVariants as work
 use Rattle.sf_surface.specs.Calls.{write_token}
 use Rattle.sf_surface.specs.Drawing.{Enters, MayEnter, Passes, drawn_with}
 use Rattle.sf_surface.specs.Tokens.{OwingOf, WriteLeaseOf, turn_of}
-use Rattle.sf_turns.specs.Views.{Leaves, SeatView}
+use Rattle.sf_surface.specs.sf_turns.Views.{Leaves, SeatView}
 use Rattle.sf_actor.specs.declared.done.Answered.TheVariants as answered
 use Rattle.sf_actor.specs.declared.done.Done.{Done}
 use Rattle.sf_actor.specs.declared.holding.Holding.{Holding}

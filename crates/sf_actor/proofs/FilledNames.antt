@@ -8,15 +8,15 @@ use Rattle.std.proofs.lemmas.List.{get_or-set_other, get_or-set_same, length-rep
 use Rattle.std.proofs.lemmas.List.Elements.{All-weaker, Contains-append_right}
 use Rattle.sf_base.specs.Fences.{IsSignalled, merged, no_points}
 use Rattle.sf_base.specs.declared.ids.QueueId.{QueueId}
-use Rattle.sf_picture.specs.declared.picture.Picture.{Picture}
+use Rattle.sf_script_scene.specs.sf_picture.declared.picture.Picture.{Picture}
 use Rattle.sf_script_scene.specs.declared.step.Step.{Step}
-use Rattle.sf_slots.specs.declared.calls.PlainReply.{PlainReply}
+use Rattle.sf_surface.specs.sf_slots.declared.calls.PlainReply.{PlainReply}
 use Rattle.sf_surface.specs.declared.call.QCall.{QCall}
 use Rattle.sf_surface.specs.declared.call.QReply.{QReply}
 use Rattle.sf_surface.specs.Hands.{IsReply}
 use Rattle.sf_surface.specs.Tokens.{ReadLeaseOf}
-use Rattle.sf_txn.specs.Buffers.{Buffer}
-use Rattle.sf_txn.specs.Transactions.{Contents}
+use Rattle.sf_token.specs.sf_txn.Buffers.{Buffer}
+use Rattle.sf_token.specs.sf_txn.Transactions.{Contents}
 use Rattle.sf_actor.specs.declared.done.Answered.TheVariants as answered
 use Rattle.sf_actor.specs.declared.done.Done.{Done}
 use Rattle.sf_actor.specs.declared.holding.Holding.{Holding}

@@ -6,12 +6,12 @@ use Rattle.std.proofs.lemmas.Bool.{cases_Bool, false≢true}
 use Rattle.std.proofs.lemmas.List.{append-nil}
 use Rattle.sf_base.specs.Fences.{Fence, IsSignalled, no_points}
 use Rattle.sf_base.specs.declared.fences.Seen.{Seen}
-use Rattle.sf_picture.specs.declared.picture.Picture.{Picture}
+use Rattle.sf_script_scene.specs.sf_picture.declared.picture.Picture.{Picture}
 use Rattle.sf_script_scene.specs.declared.step.Step.{Step}
-use Rattle.sf_slots.specs.declared.calls.PlainReply.{PlainReply}
+use Rattle.sf_surface.specs.sf_slots.declared.calls.PlainReply.{PlainReply}
 use Rattle.sf_surface.specs.Hands.{permit_of}
 use Rattle.sf_surface.specs.Tokens.{EndingOf}
-use Rattle.sf_turns.specs.Views.{PermitView}
+use Rattle.sf_surface.specs.sf_turns.Views.{PermitView}
 use Rattle.sf_actor.specs.declared.done.Answered.TheVariants as answered
 use Rattle.sf_actor.specs.declared.done.Done.{Done}
 use Rattle.sf_actor.specs.Asking.{Asked, call_of, overtaken_by}

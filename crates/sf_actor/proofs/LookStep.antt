@@ -6,7 +6,7 @@ use Rattle.sf_base.specs.Fences.{Fence, IsSignalled, merged, value_of}
 use Rattle.sf_base.specs.Points.{greatest, points_from}
 use Rattle.sf_base.specs.declared.fences.Seen.{Seen}
 use Rattle.sf_base.proofs.PointLemmas.{greatest-append}
-use Rattle.sf_picture.specs.declared.picture.Picture.{Picture}
+use Rattle.sf_script_scene.specs.sf_picture.declared.picture.Picture.{Picture}
 use Rattle.sf_script_scene.specs.declared.step.Step.{Step}
 use Rattle.sf_times.specs.declared.protocol.Knows.{Knows}
 use Rattle.sf_actor.specs.declared.done.Answered.{Answered}

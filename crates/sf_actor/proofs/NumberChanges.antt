@@ -7,9 +7,9 @@ use Rattle.std.proofs.Math.ListN.{get_or-map}
 use Rattle.std.proofs.lemmas.Bool.{cases_Bool, eq-eqb, eqb-true, false≢true}
 use Rattle.std.proofs.lemmas.List.{get_or-set_other, get_or-set_same, map-set}
 use Rattle.sf_base.specs.Fences.{IsSignalled}
-use Rattle.sf_picture.specs.declared.picture.Picture.{Picture}
+use Rattle.sf_script_scene.specs.sf_picture.declared.picture.Picture.{Picture}
 use Rattle.sf_surface.specs.Tokens.{ReadLeaseOf}
-use Rattle.sf_txn.specs.Transactions.{Contents}
+use Rattle.sf_token.specs.sf_txn.Transactions.{Contents}
 use Rattle.sf_actor.specs.declared.done.Done.{Done}
 use Rattle.sf_actor.specs.Known.{Call, Share, plain_txn}
 use Rattle.sf_actor.specs.Names.{FrameOf, Holdings, transaction_in, with_transaction}

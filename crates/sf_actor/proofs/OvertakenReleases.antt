@@ -7,10 +7,10 @@ use Rattle.std.proofs.lemmas.List.{append-nil}
 use Rattle.std.proofs.lemmas.List.Elements.{Contains-append_cases}
 use Rattle.sf_base.specs.Fences.{Fence, merged, no_points}
 use Rattle.sf_base.specs.declared.ids.QueueId.{QueueId}
-use Rattle.sf_slots.specs.declared.calls.PlainCall.TheVariants as plain_call
-use Rattle.sf_slots.specs.declared.calls.PlainReply.{PlainReply}
-use Rattle.sf_slots.specs.declared.calls.PlainReply.TheVariants as plain
-use Rattle.sf_slots.specs.declared.calls.ReadToken.{ReadToken}
+use Rattle.sf_surface.specs.sf_slots.declared.calls.PlainCall.TheVariants as plain_call
+use Rattle.sf_surface.specs.sf_slots.declared.calls.PlainReply.{PlainReply}
+use Rattle.sf_surface.specs.sf_slots.declared.calls.PlainReply.TheVariants as plain
+use Rattle.sf_surface.specs.sf_slots.declared.calls.ReadToken.{ReadToken}
 use Rattle.sf_surface.specs.declared.call.Gives.{Gives}
 use Rattle.sf_surface.specs.declared.call.Gives.TheVariants as gives
 use Rattle.sf_surface.specs.declared.call.QCall.{QCall}

@@ -7,10 +7,10 @@ use Rattle.std.proofs.lemmas.Bool.{cases_Bool, eqb-true, false≢true, ne_eqb}
 use Rattle.std.proofs.lemmas.Bool.Decides.{nat_tests}
 use Rattle.std.proofs.lemmas.Option.{cond_some}
 use borrow.Author.Tests.{ltb-true}
-use Rattle.sf_calls.specs.Calling.{IfFaultNoMemory, IfFaultNotYet}
-use Rattle.sf_calls.specs.declared.fault.CallFault.{CallFault}
-use Rattle.sf_calls.specs.declared.fault.CallFault.TheVariants as fault
-use Rattle.sf_calls.specs.Histories.{IsLegal, calls_by, entry, waits as pending}
+use Rattle.sf_token.specs.sf_calls.Calling.{IfFaultNoMemory, IfFaultNotYet}
+use Rattle.sf_token.specs.sf_calls.declared.fault.CallFault.{CallFault}
+use Rattle.sf_token.specs.sf_calls.declared.fault.CallFault.TheVariants as fault
+use Rattle.sf_token.specs.sf_calls.Histories.{IsLegal, calls_by, entry, waits as pending}
 use Rattle.sf_surface.specs.declared.call.QCall.{QCall}
 use Rattle.sf_surface.specs.declared.call.QReply.{QReply}
 use Rattle.sf_surface.specs.declared.mark.QueueMark.{QueueMark}

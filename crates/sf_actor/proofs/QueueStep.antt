@@ -6,13 +6,13 @@ use Rattle.std.specs.Option.{option_map}
 use Rattle.std.proofs.lemmas.Bool.{cases_Bool, eq-eqb, eqb-true, false≢true}
 use Rattle.sf_base.specs.declared.ids.QueueId.{QueueId}
 use Rattle.sf_base.specs.declared.status.QStatus.{QStatus}
-use Rattle.sf_picture.specs.declared.picture.Picture.{Picture}
+use Rattle.sf_script_scene.specs.sf_picture.declared.picture.Picture.{Picture}
 use Rattle.sf_script_scene.specs.declared.step.Step.{Step}
 use Rattle.sf_script_scene.specs.declared.step.Step.TheVariants as step
-use Rattle.sf_slots.specs.declared.calls.PlainCall.TheVariants as plain_call
-use Rattle.sf_slots.specs.declared.calls.PlainReply.{PlainReply}
-use Rattle.sf_slots.specs.declared.calls.PlainReply.TheVariants as plain
-use Rattle.sf_slots.specs.declared.calls.WriteToken.{WriteToken}
+use Rattle.sf_surface.specs.sf_slots.declared.calls.PlainCall.TheVariants as plain_call
+use Rattle.sf_surface.specs.sf_slots.declared.calls.PlainReply.{PlainReply}
+use Rattle.sf_surface.specs.sf_slots.declared.calls.PlainReply.TheVariants as plain
+use Rattle.sf_surface.specs.sf_slots.declared.calls.WriteToken.{WriteToken}
 use Rattle.sf_surface.specs.declared.call.QCall.{QCall}
 use Rattle.sf_surface.specs.declared.call.QCall.TheVariants as call
 use Rattle.sf_surface.specs.declared.call.QReply.{QReply}
@@ -23,7 +23,7 @@ use Rattle.sf_surface.specs.Hands.{IsReply, done_reply, owes, owing_of, refused_
 use Rattle.sf_surface.specs.Pictures.{same_picture}
 use Rattle.sf_surface.specs.Tokens.{WriteLeaseOf, ending_of}
 use Rattle.sf_surface.proofs.SamePictures.{other_picture}
-use Rattle.sf_turns.specs.Views.{PermitView}
+use Rattle.sf_surface.specs.sf_turns.Views.{PermitView}
 use Rattle.sf_actor.specs.declared.done.Answered.TheVariants as answered
 use Rattle.sf_actor.specs.declared.done.Done.{Done}
 use Rattle.sf_actor.specs.declared.holding.Holding.{Holding}

@@ -8,7 +8,7 @@ use Rattle.sf_base.specs.Fences.{IsSignalled, no_points, value_of, with_point}
 use Rattle.sf_base.specs.Points.{greatest, points_from, value_at}
 use Rattle.sf_base.specs.declared.fences.Seen.{Seen}
 use Rattle.sf_base.proofs.PointLemmas.{greatest-append, greatest-last, value_here}
-use Rattle.sf_picture.specs.declared.picture.Picture.{Picture}
+use Rattle.sf_script_scene.specs.sf_picture.declared.picture.Picture.{Picture}
 use Rattle.sf_script_scene.specs.declared.step.Step.{Step}
 use Rattle.sf_script_scene.specs.declared.step.Step.TheVariants as step
 use Rattle.sf_times.specs.declared.protocol.Knows.{Knows}

@@ -6,15 +6,15 @@ use Rattle.std.proofs.lemmas.Grind.{flat_map-append}
 use Rattle.std.proofs.lemmas.List.{append-nil, length-append, map-append}
 use Rattle.std.proofs.lemmas.List.Elements.{All-append, All-push, All-weaker, Contains-append_cases, Contains-append_left, filter-append}
 use Rattle.std.proofs.lemmas.List.Quantifiers.{all_pairs_push}
-use Rattle.sf_picture.specs.declared.picture.Picture.{Picture}
+use Rattle.sf_script_scene.specs.sf_picture.declared.picture.Picture.{Picture}
 use Rattle.sf_script_scene.specs.declared.step.ActorScript.{ActorScript}
 use Rattle.sf_script_scene.specs.declared.step.Step.{Step}
-use Rattle.sf_slots.specs.declared.calls.Entry.{Entry}
+use Rattle.sf_surface.specs.sf_slots.declared.calls.Entry.{Entry}
 use Rattle.sf_surface.specs.Hands.{permit_of}
 use Rattle.sf_surface.specs.Tokens.{ReadLeaseOf}
 use Rattle.sf_token.specs.Pending.{Arrival}
-use Rattle.sf_turns.specs.Views.{PermitView}
-use Rattle.sf_txn.specs.Buffers.{Buffer}
+use Rattle.sf_surface.specs.sf_turns.Views.{PermitView}
+use Rattle.sf_token.specs.sf_txn.Buffers.{Buffer}
 use Rattle.sf_actor.specs.declared.done.Done.{Done}
 use Rattle.sf_actor.specs.declared.holding.Holding.{Holding}
 use Rattle.sf_actor.specs.declared.holding.Holding.TheVariants as holding

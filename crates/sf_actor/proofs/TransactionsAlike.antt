@@ -8,8 +8,8 @@ use Rattle.std.proofs.lemmas.List.{map-append}
 use Rattle.std.proofs.lemmas.List.Elements.{All-append, All-push}
 use Rattle.sf_base.specs.declared.ids.LayerId.{LayerId}
 use Rattle.sf_surface.specs.Tokens.{ReadLeaseOf}
-use Rattle.sf_txn.specs.Buffers.{Buffer}
-use Rattle.sf_txn.specs.Transactions.{Contents, all_replaced, is_for, merged, replaced_by, set_buffer, with_buffer, with_buffers, without_first}
+use Rattle.sf_token.specs.sf_txn.Buffers.{Buffer}
+use Rattle.sf_token.specs.sf_txn.Transactions.{Contents, all_replaced, is_for, merged, replaced_by, set_buffer, with_buffer, with_buffers, without_first}
 use Rattle.sf_actor.specs.Asking.{lease_of}
 use Rattle.sf_actor.specs.Known.{frame_of, plain_buffer, plain_txn}
 use Rattle.sf_actor.specs.Names.{FrameOf}

@@ -2,8 +2,8 @@
 use Rattle.std.proofs.Common.{◌≡◌, ℕ, true, false, List, refl, ap}
 use Rattle.sf_base.specs.declared.ids.QueueId.{QueueId}
 use Rattle.sf_base.specs.declared.status.QStatus.TheVariants as status
-use Rattle.sf_slots.specs.declared.calls.PlainReply.{PlainReply}
-use Rattle.sf_slots.specs.declared.calls.PlainReply.TheVariants as plain
+use Rattle.sf_surface.specs.sf_slots.declared.calls.PlainReply.{PlainReply}
+use Rattle.sf_surface.specs.sf_slots.declared.calls.PlainReply.TheVariants as plain
 use Rattle.sf_surface.specs.declared.call.QCall.{QCall}
 use Rattle.sf_surface.specs.declared.call.QCall.TheVariants as call
 use Rattle.sf_surface.specs.declared.call.QReply.{QReply}

@@ -2,12 +2,12 @@
 use Rattle.std.specs.Prelude.{ℕ, Bool, true, false, List, [], map, option_to_list, Option, Some, None, unwrap_or}
 use Rattle.sf_base.specs.Fences.{Fence, merged}
 use Rattle.sf_base.specs.declared.ids.QueueId.{QueueId}
-use Rattle.sf_layer.specs.declared.shown.Shown.{Shown}
-use Rattle.sf_picture.specs.declared.picture.Picture.{Picture}
-use Rattle.sf_slots.specs.declared.calls.PlainCall.{PlainCall}
-use Rattle.sf_slots.specs.declared.calls.PlainCall.TheVariants as call
-use Rattle.sf_txn.specs.Buffers.{Buffer}
-use Rattle.sf_txn.specs.Transactions.{Contents, all_replaced, replaced_by}
+use Rattle.sf_token.specs.sf_layer.declared.shown.Shown.{Shown}
+use Rattle.sf_script_scene.specs.sf_picture.declared.picture.Picture.{Picture}
+use Rattle.sf_surface.specs.sf_slots.declared.calls.PlainCall.{PlainCall}
+use Rattle.sf_surface.specs.sf_slots.declared.calls.PlainCall.TheVariants as call
+use Rattle.sf_token.specs.sf_txn.Buffers.{Buffer}
+use Rattle.sf_token.specs.sf_txn.Transactions.{Contents, all_replaced, replaced_by}
 use Rattle.sf_script_scene.specs.declared.step.Step.{Step}
 use Rattle.sf_script_scene.specs.declared.step.Step.TheVariants as step
 use Rattle.sf_actor.specs.Names.{Holdings, FrameOf, Token, Lent, Frame, Apart, name_in, transaction_in}

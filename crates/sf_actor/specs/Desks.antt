@@ -5,7 +5,7 @@ use Rattle.std.specs.List.{list_any, range_with_len}
 use Rattle.atomic_table.specs.Seated.{TableId}
 use Rattle.sf_base.specs.Points.{greatest}
 use Rattle.sf_base.specs.declared.fences.Seen.{Seen}
-use Rattle.sf_calls.specs.Histories.{GoesOnWithout, IsLegal, entry, waits}
+use Rattle.sf_token.specs.sf_calls.Histories.{GoesOnWithout, IsLegal, entry, waits}
 use Rattle.sf_surface.specs.declared.call.QCall.{QCall}
 use Rattle.sf_surface.specs.declared.call.QReply.{QReply}
 use Rattle.sf_surface.specs.declared.mark.QueueMark.{QueueMark}
@@ -14,9 +14,9 @@ use Rattle.sf_surface.specs.Tokens.{ReadLeaseOf}
 use Rattle.sf_times.specs.declared.protocol.Knows.{Knows}
 use Rattle.sf_times.specs.Seats.{IsAlone, OnlyOwnSignals}
 use Rattle.sf_token.specs.Pending.{Arrival}
-use Rattle.sf_turns.specs.Counts.{IsExact}
-use Rattle.sf_turns.specs.Views.{SeatView}
-use Rattle.sf_txn.specs.Transactions.{Contents}
+use Rattle.sf_surface.specs.sf_turns.Counts.{IsExact}
+use Rattle.sf_surface.specs.sf_turns.Views.{SeatView}
+use Rattle.sf_token.specs.sf_txn.Transactions.{Contents}
 use Rattle.sf_actor.specs.Known.{ArriveWithout, Known, number_told}
 
 -- What no call of a desk changes: the marks of its queues; whether all that happens goes through it, so that what it knows

@@ -2,10 +2,10 @@
 -- that its calls brought, and of the signals and turns that they made. It says nothing of steps that are not done.
 use Rattle.std.specs.Prelude.{◌≡◌, ℕ, List, Contains, Some}
 use Rattle.std.specs.List.{All, AllZip}
-use Rattle.sf_picture.specs.declared.picture.Picture.{Picture}
+use Rattle.sf_script_scene.specs.sf_picture.declared.picture.Picture.{Picture}
 use Rattle.sf_script_scene.specs.declared.step.ActorScript.{ActorScript}
 use Rattle.sf_surface.specs.Hands.{permit_of}
-use Rattle.sf_turns.specs.Views.{PermitView}
+use Rattle.sf_surface.specs.sf_turns.Views.{PermitView}
 use Rattle.sf_actor.specs.declared.done.Done.{Done}
 use Rattle.sf_actor.specs.declared.tried.Reply.{Reply}
 use Rattle.sf_actor.specs.Draws.{DrawInTurn}

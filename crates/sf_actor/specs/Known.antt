@@ -5,14 +5,14 @@ use Rattle.std.specs.List.{list_any}
 use Rattle.sf_base.specs.Fences.{value_of}
 use Rattle.sf_base.specs.Points.{greatest}
 use Rattle.sf_base.specs.declared.fences.Seen.{Seen}
-use Rattle.sf_calls.specs.Histories.{GoesOnWithout}
-use Rattle.sf_slots.specs.declared.calls.Entry.{Entry}
+use Rattle.sf_token.specs.sf_calls.Histories.{GoesOnWithout}
+use Rattle.sf_surface.specs.sf_slots.declared.calls.Entry.{Entry}
 use Rattle.sf_surface.specs.declared.mark.QueueMark.{QueueMark}
 use Rattle.sf_surface.specs.Histories.{Made, told, told_entry}
 use Rattle.sf_surface.specs.Tokens.{ReadLeaseOf}
 use Rattle.sf_token.specs.Pending.{Arrival}
-use Rattle.sf_txn.specs.Buffers.{Buffer}
-use Rattle.sf_txn.specs.Transactions.{Contents}
+use Rattle.sf_token.specs.sf_txn.Buffers.{Buffer}
+use Rattle.sf_token.specs.sf_txn.Transactions.{Contents}
 use Rattle.sf_actor.specs.Names.{FrameOf}
 use Rattle.sf_actor.specs.Tales.{OwnOf}
 

@@ -2,9 +2,9 @@
 use Rattle.std.specs.Prelude.{ℕ, ◌+◌, ◌-◌, ◌==◌, nat_lt, ◌&&◌, ◌||◌, Bool, true, false, if◌then◌else◌}
 use Rattle.std.specs.Prelude.{zero, suc, List, find, Option, Some, None, slice_get}
 use Rattle.std.specs.Option.{option_map_or}
-use Rattle.sf_slots.specs.declared.calls.Entry.{Entry}
-use Rattle.sf_slots.specs.declared.calls.PlainReply.{PlainReply}
-use Rattle.sf_slots.specs.declared.calls.PlainReply.TheVariants as reply
+use Rattle.sf_surface.specs.sf_slots.declared.calls.Entry.{Entry}
+use Rattle.sf_surface.specs.sf_slots.declared.calls.PlainReply.{PlainReply}
+use Rattle.sf_surface.specs.sf_slots.declared.calls.PlainReply.TheVariants as reply
 use Rattle.sf_actor.specs.declared.done.Done.{Done}
 use Rattle.sf_actor.specs.Names.{Token, Lent, Owing, Frame, Apart, name_in}
 use Rattle.sf_actor.specs.Steps.{used_by}

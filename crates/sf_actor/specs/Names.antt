@@ -3,10 +3,10 @@ use Rattle.std.specs.Prelude.{ℕ, Bool, true, false, ◌==◌, List, map, get_o
 use Rattle.sf_base.specs.Fences.{Fence}
 use Rattle.sf_base.specs.declared.ids.QueueId.{QueueId}
 use Rattle.sf_base.specs.declared.ids.SlotId.{SlotId}
-use Rattle.sf_slots.specs.declared.calls.ReadToken.{ReadToken}
-use Rattle.sf_slots.specs.declared.calls.WriteToken.{WriteToken}
-use Rattle.sf_slots.specs.declared.slot.Held.{Held}
-use Rattle.sf_txn.specs.Transactions.{Contents}
+use Rattle.sf_surface.specs.sf_slots.declared.calls.ReadToken.{ReadToken}
+use Rattle.sf_surface.specs.sf_slots.declared.calls.WriteToken.{WriteToken}
+use Rattle.sf_surface.specs.sf_slots.declared.slot.Held.{Held}
+use Rattle.sf_token.specs.sf_txn.Transactions.{Contents}
 
 -- a frame that was queued before it was drawn: its slot and number, the fence of its dequeue, its buffer, and the number of
 -- the picture that was promised

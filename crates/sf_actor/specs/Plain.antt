@@ -1,7 +1,7 @@
 -- A desk of one thread: the objects themselves, and the only seats.
 use Rattle.std.specs.Prelude.{◌≡◌, ℕ, ◌+◌, ◌==◌, Bool, true, if◌then◌else◌, None, List, [], ◌∷◌, ◌++◌, length, map}
 use Rattle.atomic_table.specs.Seated.{TableId}
-use Rattle.sf_calls.specs.Histories.{waits}
+use Rattle.sf_token.specs.sf_calls.Histories.{waits}
 use Rattle.sf_surface.specs.declared.call.QCall.{QCall}
 use Rattle.sf_surface.specs.Histories.{Answers, Made}
 use Rattle.sf_surface.specs.Objects.{ObjectOf, mark_of}
@@ -9,8 +9,8 @@ use Rattle.sf_surface.specs.Tokens.{Issued, ReadLeaseOf}
 use Rattle.sf_times.specs.Seats.{IsAlone}
 use Rattle.sf_times.specs.Views.{SeatView as TimesView}
 use Rattle.sf_token.specs.Arrivals.{Calls, is_take, sent}
-use Rattle.sf_turns.specs.Views.{SeatView}
-use Rattle.sf_txn.specs.Transactions.{Contents}
+use Rattle.sf_surface.specs.sf_turns.Views.{SeatView}
+use Rattle.sf_token.specs.sf_txn.Transactions.{Contents}
 use Rattle.sf_actor.specs.Desks.{DeskHome, DeskView}
 
 -- its queues, the calls on the arrivals, its seats at the timelines and at the turns, and whether it tells a sender the place of

@@ -1,6 +1,6 @@
 -- The turns of tokens: which turn a call brings, and which turn its reply gives.
 use Rattle.std.specs.Prelude.{◌≡◌, ◌≢◌, ℕ, ◌==◌, Bool, true, false, List, Option, Some, None, Contains}
-use Rattle.sf_picture.specs.declared.picture.Picture.{Picture}
+use Rattle.sf_script_scene.specs.sf_picture.declared.picture.Picture.{Picture}
 use Rattle.sf_surface.specs.declared.call.Gives.{Gives}
 use Rattle.sf_surface.specs.declared.call.Gives.TheVariants as gives
 use Rattle.sf_surface.specs.declared.call.QCall.{QCall}
@@ -8,8 +8,8 @@ use Rattle.sf_surface.specs.declared.call.QCall.TheVariants as call
 use Rattle.sf_surface.specs.Hands.{permit_of}
 use Rattle.sf_surface.specs.Tokens.{EndingOf, Issued, OwingOf, ReadLeaseOf, Right, turn_of}
 use Rattle.sf_token.specs.Pending.{Arrival}
-use Rattle.sf_turns.specs.Views.{PermitView}
-use Rattle.sf_txn.specs.Buffers.{Buffer}
+use Rattle.sf_surface.specs.sf_turns.Views.{PermitView}
+use Rattle.sf_token.specs.sf_txn.Buffers.{Buffer}
 use Rattle.std.specs.List.{All}
 use Rattle.sf_actor.specs.declared.holding.Holding.{Holding}
 use Rattle.sf_actor.specs.declared.holding.Holding.TheVariants as holding

@@ -5,13 +5,13 @@ use Rattle.sf_base.specs.declared.format.Format.TheVariants as format
 use Rattle.sf_base.specs.declared.geometry.Rect.{Rect}
 use Rattle.sf_base.specs.declared.ids.LayerId.{LayerId}
 use Rattle.sf_base.specs.declared.ids.QueueId.{QueueId}
-use Rattle.sf_layer.specs.declared.kind.Kind.TheVariants as kind
-use Rattle.sf_layer.specs.declared.op.Op.{Op}
-use Rattle.sf_layer.specs.declared.op.Op.TheVariants as op
-use Rattle.sf_layer.specs.declared.parent.Parent.{Parent}
-use Rattle.sf_layer.specs.declared.parent.Parent.TheVariants as parent
-use Rattle.sf_picture.specs.declared.picture.Picture.{Picture}
-use Rattle.sf_slots.specs.declared.slot.Held.{Held}
+use Rattle.sf_token.specs.sf_layer.declared.kind.Kind.TheVariants as kind
+use Rattle.sf_token.specs.sf_layer.declared.op.Op.{Op}
+use Rattle.sf_token.specs.sf_layer.declared.op.Op.TheVariants as op
+use Rattle.sf_token.specs.sf_layer.declared.parent.Parent.{Parent}
+use Rattle.sf_token.specs.sf_layer.declared.parent.Parent.TheVariants as parent
+use Rattle.sf_script_scene.specs.sf_picture.declared.picture.Picture.{Picture}
+use Rattle.sf_surface.specs.sf_slots.declared.slot.Held.{Held}
 use Rattle.sf_script_scene.specs.declared.change.Change.{Change}
 use Rattle.sf_script_scene.specs.declared.change.Change.TheVariants as change
 

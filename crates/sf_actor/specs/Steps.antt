@@ -3,9 +3,9 @@ use Rattle.std.specs.Prelude.{ℕ, Bool, true, false, not, ◌==◌, if◌then�
 use Rattle.std.specs.Option.{option_map}
 use Rattle.sf_base.specs.Fences.{no_points}
 use Rattle.sf_base.specs.declared.geometry.Rect.{Rect}
-use Rattle.sf_slots.specs.declared.calls.PlainReply.{PlainReply}
-use Rattle.sf_slots.specs.declared.calls.PlainReply.TheVariants as reply
-use Rattle.sf_txn.specs.Transactions.{Contents, empty, merged, set, set_buffer}
+use Rattle.sf_surface.specs.sf_slots.declared.calls.PlainReply.{PlainReply}
+use Rattle.sf_surface.specs.sf_slots.declared.calls.PlainReply.TheVariants as reply
+use Rattle.sf_token.specs.sf_txn.Transactions.{Contents, empty, merged, set, set_buffer}
 use Rattle.sf_actor.specs.declared.done.Answered.{Answered}
 use Rattle.sf_actor.specs.declared.done.Answered.TheVariants as answered
 use Rattle.sf_actor.specs.declared.done.Done.{Done}

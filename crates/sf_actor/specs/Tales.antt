@@ -3,9 +3,9 @@
 use Rattle.std.specs.Prelude.{◌≡◌, ℕ, ◌==◌, List, length, map, take, filter, Option, Some, None}
 use Rattle.std.specs.List.{AllZip}
 use Rattle.sf_base.specs.declared.fences.Seen.{Seen}
-use Rattle.sf_picture.specs.declared.picture.Picture.{Picture}
-use Rattle.sf_slots.specs.declared.calls.Entry.{Entry}
-use Rattle.sf_slots.specs.declared.calls.PlainReply.{PlainReply}
+use Rattle.sf_script_scene.specs.sf_picture.declared.picture.Picture.{Picture}
+use Rattle.sf_surface.specs.sf_slots.declared.calls.Entry.{Entry}
+use Rattle.sf_surface.specs.sf_slots.declared.calls.PlainReply.{PlainReply}
 use Rattle.sf_token.specs.Pending.{Arrival}
 use Rattle.sf_script_scene.specs.declared.step.ActorScript.{ActorScript}
 use Rattle.sf_script_scene.specs.declared.step.Step.{Step}

@@ -5,7 +5,7 @@ use Rattle.std.specs.List.{All}
 use Rattle.sf_base.specs.Fences.{Fence, IsSignalled, value_of}
 use Rattle.sf_base.specs.Points.{greatest, points_from}
 use Rattle.sf_base.specs.declared.fences.Seen.{Seen}
-use Rattle.sf_picture.specs.declared.picture.Picture.{Picture}
+use Rattle.sf_script_scene.specs.sf_picture.declared.picture.Picture.{Picture}
 use Rattle.sf_script_scene.specs.declared.step.ActorScript.{ActorScript}
 use Rattle.sf_script_scene.specs.declared.step.Step.{Step}
 use Rattle.sf_script_scene.specs.declared.step.Step.TheVariants as step
@@ -16,9 +16,9 @@ use Rattle.sf_surface.specs.Calls.{told_call}
 use Rattle.sf_surface.specs.Drawing.{IsShort, MayEnter, Passes}
 use Rattle.sf_surface.specs.Tokens.{ReadLeaseOf}
 use Rattle.sf_times.specs.Seats.{all_loaded}
-use Rattle.sf_turns.specs.Counts.{stock_at}
-use Rattle.sf_txn.specs.Buffers.{Buffer}
-use Rattle.sf_txn.specs.Transactions.{Contents}
+use Rattle.sf_surface.specs.sf_turns.Counts.{stock_at}
+use Rattle.sf_token.specs.sf_txn.Buffers.{Buffer}
+use Rattle.sf_token.specs.sf_txn.Transactions.{Contents}
 use Rattle.sf_actor.specs.declared.done.Answered.TheVariants as answered
 use Rattle.sf_actor.specs.declared.done.Done.{Done}
 use Rattle.sf_actor.specs.declared.holding.Holding.{Holding}

@@ -1,16 +1,16 @@
 ghost use Rattle.std.specs.Prelude.{◌≡◌, ℕ, ◌-◌, ◌≤◌, true, IfOk, IfErr, slice_index};
 ghost use Rattle.sf_base.specs.Points.{greatest, points_from};
-ghost use Rattle.sf_calls.specs.Calling.{IfFaultNoMemory, IfFaultNotYet};
+ghost use Rattle.sf_token.specs.sf_calls.Calling.{IfFaultNoMemory, IfFaultNotYet};
 ghost use Rattle.sf_surface.specs.Marks.{PermitFits, SpareFits};
 ghost use Rattle.sf_times.specs.Seats.{all_loaded, raised};
-ghost use Rattle.sf_turns.specs.Views.{Leaves};
+ghost use Rattle.sf_surface.specs.sf_turns.Views.{Leaves};
 ghost use Rattle.sf_actor.specs.Desks.{ChangesTimes, ChangesTurns, DeskHome, DeskView, IsAsBefore, KnowsAll, MadeCall, MadeSend, WaitsForCall, has_queue};
 
 use crate::tokens::Tokens;
 use sf_base::{ActorId, NoMemory, QueueId, Seen, TimelineId};
-use sf_calls::CallFault;
-use sf_picture::Picture;
+use sf_script_scene::sf_picture::Picture;
 use sf_surface::DrawFault;
+use sf_token::sf_calls::CallFault;
 use std::alloc::Global;
 
 /// What an actor steps over: queues to call, arrivals to send transactions to, timelines, and turns

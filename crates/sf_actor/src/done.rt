@@ -1,5 +1,5 @@
 use sf_script_scene::Step;
-use sf_slots::PlainReply;
+use sf_surface::sf_slots::PlainReply;
 
 /// What a step answered.
 #[derive(Drop)]

@@ -1,7 +1,7 @@
 use sf_base::QueueId;
-use sf_slots::Held;
+use sf_surface::sf_slots::Held;
+use sf_surface::sf_turns::TableName;
 use sf_surface::{Loose, Owing, ReadLease, WriteLease};
-use sf_turns::TableName;
 
 /// What a name of an actor holds.
 #[derive(Drop)]

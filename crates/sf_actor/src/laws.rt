@@ -1,5 +1,5 @@
 ghost use Rattle.std.specs.Prelude.{ℕ, List};
-ghost use Rattle.sf_picture.specs.declared.picture.Picture.{Picture};
+ghost use Rattle.sf_script_scene.specs.sf_picture.declared.picture.Picture.{Picture};
 ghost use Rattle.sf_actor.specs.declared.done.Done.{Done};
 ghost use Rattle.sf_script_scene.specs.declared.step.ActorScript.{ActorScript};
 ghost use Rattle.sf_actor.specs.declared.tried.Reply.{Reply};
@@ -7,7 +7,7 @@ ghost use Rattle.sf_actor.specs.Keeping.{TraceKept};
 ghost use Rattle.sf_actor.specs.Known.{GoesOn, Known, share_of};
 ghost use Rattle.sf_actor.specs.Tries.{ActorKept, ActorOf};
 
-use sf_turns::TableName;
+use sf_surface::sf_turns::TableName;
 
 /// What an actor's trace keeps stays true where the histories go on without an entry of it, where
 /// values rise, and where signals and turns left are added.

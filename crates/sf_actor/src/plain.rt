@@ -1,7 +1,7 @@
 ghost use Rattle.std.specs.Prelude.{◌≡◌, ◌∷◌, IfOk, IfErr};
 ghost use Rattle.std.specs.List.{position};
-ghost use Rattle.sf_calls.specs.Calling.{IfFaultNoMemory, IfFaultNotYet};
-ghost use Rattle.sf_calls.specs.Histories.{IsLegal, entry};
+ghost use Rattle.sf_token.specs.sf_calls.Calling.{IfFaultNoMemory, IfFaultNotYet};
+ghost use Rattle.sf_token.specs.sf_calls.Histories.{IsLegal, entry};
 ghost use Rattle.sf_surface.specs.Histories.{Answers};
 ghost use Rattle.sf_surface.specs.Marks.{PermitFits, SpareFits};
 ghost use Rattle.sf_surface.specs.Objects.{mark_of};
@@ -10,13 +10,13 @@ ghost use Rattle.sf_actor.specs.Plain.{IsSentTo, WaitsOn, is_queue, taken_in};
 use crate::desk::Desk;
 use crate::tokens::TokensOf;
 use sf_base::{ActorId, NoMemory, QueueId, Seen, TimelineId};
-use sf_calls::{CallFault, Object, Outcome};
-use sf_picture::{Painted, Picture};
+use sf_script_scene::sf_picture::{Painted, Picture};
+use sf_surface::sf_turns::{TableName, TurnSeat};
 use sf_surface::{DrawFault, Ending, Owing, QCall, QReply, QueueObject, ReadLease, WriteLease};
 use sf_times::{TimeSeat, Timelines};
+use sf_token::sf_calls::{CallFault, Object, Outcome};
+use sf_token::sf_txn::Transaction;
 use sf_token::{Arrivals, ArriveCall, ArriveReply};
-use sf_turns::{TableName, TurnSeat};
-use sf_txn::Transaction;
 use std::alloc::Global;
 use std::marker::{Brand, Model};
 
@@ -133,11 +133,11 @@ impl<B: TableName> PlainDesk<B> {
 impl<B: TableName> Desk<TokensOf<B>> for PlainDesk<B> {
     ghost use Rattle.std.specs.Prelude.{◌≡◌, ℕ, ◌-◌, ◌≤◌, true, IfOk, IfErr, slice_index};
     ghost use Rattle.sf_base.specs.Points.{greatest, points_from};
-    ghost use Rattle.sf_calls.specs.Calling.{IfFaultNoMemory, IfFaultNotYet};
+    ghost use Rattle.sf_token.specs.sf_calls.Calling.{IfFaultNoMemory, IfFaultNotYet};
     ghost use Rattle.sf_surface.specs.Drawing.{DrawsLease, PaysOwing};
     ghost use Rattle.sf_surface.specs.Marks.{PermitFits, SpareFits};
     ghost use Rattle.sf_times.specs.Seats.{all_loaded, raised};
-    ghost use Rattle.sf_turns.specs.Views.{Leaves};
+    ghost use Rattle.sf_surface.specs.sf_turns.Views.{Leaves};
     ghost use Rattle.sf_actor.specs.Desks.{ChangesTimes, ChangesTurns, IsAsBefore, KnowsAll, MadeCall, MadeSend, WaitsForCall, has_queue};
     ghost use Rattle.sf_actor.specs.Plain.{home_of, view_of};
 

@@ -1,17 +1,17 @@
 ghost use Rattle.std.specs.Prelude.{Result};
 ghost use Rattle.atomic_table.specs.Seated.{TableId};
 ghost use Rattle.sf_base.specs.declared.fences.Seen.{Seen};
-ghost use Rattle.sf_picture.specs.declared.picture.Picture.{Picture};
+ghost use Rattle.sf_script_scene.specs.sf_picture.declared.picture.Picture.{Picture};
 ghost use Rattle.sf_surface.specs.declared.call.QCall.{QCall};
 ghost use Rattle.sf_surface.specs.declared.call.QReply.{QReply};
 ghost use Rattle.sf_surface.specs.declared.drawing.DrawFault.{DrawFault};
 ghost use Rattle.sf_surface.specs.Tokens.{EndingOf, ReadLeaseOf};
-ghost use Rattle.sf_turns.specs.Views.{SeatView};
-ghost use Rattle.sf_txn.specs.Transactions.{Contents};
+ghost use Rattle.sf_surface.specs.sf_turns.Views.{SeatView};
+ghost use Rattle.sf_token.specs.sf_txn.Transactions.{Contents};
 
+use sf_surface::sf_turns::TableName;
 use sf_surface::{Ending, Owing, QCall, QReply, ReadLease, WriteLease};
-use sf_turns::TableName;
-use sf_txn::Transaction;
+use sf_token::sf_txn::Transaction;
 use std::marker::PhantomData;
 
 /// The types of what a desk's calls bring and give. A desk's clauses speak of each by what contracts

@@ -5,22 +5,22 @@ use Rattle.std.specs.List.Sorted.{IsStrictlyIncreasing}
 use Rattle.std.proofs.lemmas.List.Elements.{All-weaker}
 use Rattle.std.proofs.lemmas.List.Sorted.{All-permutation, sum_by-IsPermutation}
 use Rattle.atomic_table.specs.Seated.{TableId}
-use Rattle.sf_picture.specs.declared.picture.Picture.{Picture}
-use Rattle.sf_script_scene.specs.Limits.{IsActor as IsActorOf, most_actors}
-use Rattle.sf_script_scene.specs.Scene.{has_queue}
-use Rattle.sf_script_scene.specs.declared.declarations.QueueDecl.{QueueDecl}
-use Rattle.sf_script_scene.specs.declared.step.ActorScript.{ActorScript}
-use Rattle.sf_surface.specs.Objects.{ObjectOf}
-use Rattle.sf_times.specs.Seats.{opened as unraised}
-use Rattle.sf_token.specs.Arrivals.{sent}
-use Rattle.sf_turns.specs.Counts.{range, stock_at}
-use Rattle.sf_turns.specs.Views.{SeatView}
-use Rattle.sf_turns.proofs.Tallies.{length-range, stock_at-range}
-use Rattle.sf_actor.specs.Desks.{DeskHome}
-use Rattle.sf_actor.specs.Desks.{has_queue as has_mark}
-use Rattle.sf_actor.specs.Plain.{PlainOf, calls_among, home_of, view_of}
-use Rattle.sf_actor.specs.Scripts.{picture_at}
-use Rattle.sf_actor.specs.Tries.{dequeues_in}
+use Rattle.sf_commit.specs.sf_picture.declared.picture.Picture.{Picture}
+use Rattle.sf_actor_steps.specs.sf_script_scene.Limits.{IsActor as IsActorOf, most_actors}
+use Rattle.sf_actor_steps.specs.sf_script_scene.Scene.{has_queue}
+use Rattle.sf_actor_steps.specs.sf_script_scene.declared.declarations.QueueDecl.{QueueDecl}
+use Rattle.sf_actor_steps.specs.sf_script_scene.declared.step.ActorScript.{ActorScript}
+use Rattle.sf_actor_steps.specs.sf_surface.Objects.{ObjectOf}
+use Rattle.sf_actor_steps.specs.sf_times.Seats.{opened as unraised}
+use Rattle.sf_commit.specs.sf_token.Arrivals.{sent}
+use Rattle.sf_actor_steps.specs.sf_turns.Counts.{range, stock_at}
+use Rattle.sf_actor_steps.specs.sf_turns.Views.{SeatView}
+use Rattle.sf_actor_steps.proofs.sf_turns_lemmas.Tallies.{length-range, stock_at-range}
+use Rattle.sf_actor_steps.specs.sf_actor.Desks.{DeskHome}
+use Rattle.sf_actor_steps.specs.sf_actor.Desks.{has_queue as has_mark}
+use Rattle.sf_actor_steps.specs.sf_actor.Plain.{PlainOf, calls_among, home_of, view_of}
+use Rattle.sf_actor_steps.specs.sf_actor.Scripts.{picture_at}
+use Rattle.sf_actor_steps.specs.sf_actor.Tries.{dequeues_in}
 use Rattle.sf_actor_steps.specs.Playable.{MayPlay}
 use Rattle.sf_actor_steps.specs.declared.actor.Actor.{Actor}
 use Rattle.sf_actor_set.specs.ActorSets.{IsActorSet, KeepAs, Opens, numbers_of, scripts_of}

@@ -2,16 +2,16 @@
 use Rattle.std.proofs.Common.{◌≡◌, ℕ, zero, suc, ◌+◌, ◌<◌, ◌≤◌, List, [], ◌∷◌, ◌++◌, length, map, take, refl, ap, ◌∙◌, sym, subst, arith, append_assoc, add-zero}
 use Rattle.std.proofs.lemmas.List.{append-nil, length-append}
 use Rattle.std.specs.List.{range_with_len}
-use Rattle.sf_calls.specs.Histories.{entry}
+use Rattle.sf_commit.specs.sf_calls.Histories.{entry}
 use Rattle.sf_commit.specs.Handlers.{last_of}
-use Rattle.sf_surface.specs.Tokens.{Issued, ReadLeaseOf}
-use Rattle.sf_token.specs.Arrivals.{Calls, sent, waiting}
-use Rattle.sf_token.specs.Pending.{Arrival, IsRisingFrom}
-use Rattle.sf_token.specs.declared.arrivals.ArriveCall.{ArriveCall}
-use Rattle.sf_token.specs.declared.arrivals.ArriveCall.TheVariants as call
-use Rattle.sf_token.specs.declared.arrivals.ArriveReply.{ArriveReply}
-use Rattle.sf_turns.specs.Views.{SeatView}
-use Rattle.sf_actor.specs.Plain.{taken_in}
+use Rattle.sf_actor_steps.specs.sf_surface.Tokens.{Issued, ReadLeaseOf}
+use Rattle.sf_commit.specs.sf_token.Arrivals.{Calls, sent, waiting}
+use Rattle.sf_commit.specs.sf_token.Pending.{Arrival, IsRisingFrom}
+use Rattle.sf_commit.specs.sf_token.declared.arrivals.ArriveCall.{ArriveCall}
+use Rattle.sf_commit.specs.sf_token.declared.arrivals.ArriveCall.TheVariants as call
+use Rattle.sf_commit.specs.sf_token.declared.arrivals.ArriveReply.{ArriveReply}
+use Rattle.sf_actor_steps.specs.sf_turns.Views.{SeatView}
+use Rattle.sf_actor_steps.specs.sf_actor.Plain.{taken_in}
 
 abbrev pub Sent : Type 0
 Sent = List (Arrival ReadLeaseOf)

@@ -10,37 +10,37 @@ use Rattle.sf_base.specs.Fences.{Fence}
 use Rattle.sf_base.specs.declared.fences.Seen.{Seen}
 use Rattle.sf_base.specs.declared.ids.QueueId.{QueueId}
 use Rattle.sf_base.specs.declared.memory.NoMemory.{NoMemory}
-use Rattle.sf_calls.specs.declared.fault.CallFault.{CallFault}
-use Rattle.sf_calls.specs.declared.fault.CallFault.TheVariants as fault
-use Rattle.sf_calls.specs.Calling.{IfFaultNoMemory, IfFaultNotYet}
-use Rattle.sf_calls.specs.Histories.{IsLegal}
+use Rattle.sf_commit.specs.sf_calls.declared.fault.CallFault.{CallFault}
+use Rattle.sf_commit.specs.sf_calls.declared.fault.CallFault.TheVariants as fault
+use Rattle.sf_commit.specs.sf_calls.Calling.{IfFaultNoMemory, IfFaultNotYet}
+use Rattle.sf_commit.specs.sf_calls.Histories.{IsLegal}
 use Rattle.sf_commit.specs.Handlers.{Decides, HandlerOf, Stops}
 use Rattle.sf_commit.specs.Releases.{VsyncOf}
-use Rattle.sf_picture.specs.declared.picture.Picture.{Picture}
-use Rattle.sf_script_scene.specs.declared.step.ActorScript.{ActorScript}
-use Rattle.sf_slots.specs.declared.calls.PlainReply.{PlainReply}
-use Rattle.sf_slots.specs.declared.calls.PlainReply.TheVariants as plain
-use Rattle.sf_slots.specs.declared.slot.Held.{Held}
-use Rattle.sf_surface.specs.declared.call.QCall.{QCall}
-use Rattle.sf_surface.specs.declared.call.QCall.TheVariants as call
-use Rattle.sf_surface.specs.declared.call.QReply.{QReply}
-use Rattle.sf_surface.specs.Hands.{IsReply, blank_of, own_lease}
-use Rattle.sf_surface.specs.Histories.{Answers, Made}
-use Rattle.sf_surface.specs.Objects.{ObjectOf, mark_of}
-use Rattle.sf_surface.specs.Reading.{eye_mark}
-use Rattle.sf_surface.specs.Tokens.{Issued, ReadLeaseOf}
-use Rattle.sf_times.specs.Seats.{all_loaded}
-use Rattle.sf_times.specs.Views.{SeatView as TimesView}
-use Rattle.sf_token.specs.Arrivals.{Calls, sent}
-use Rattle.sf_token.specs.Pending.{Arrival}
-use Rattle.sf_turns.specs.Views.{SeatView}
-use Rattle.sf_txn.specs.declared.lease.Lease.{Ghosts}
-use Rattle.sf_actor.specs.Desks.{DeskHome, DeskView, IsAsBefore, MadeCall, WaitsForCall, known_of, mark_among}
-use Rattle.sf_actor.specs.Known.{GoesOn}
-use Rattle.sf_actor.specs.Plain.{PlainOf, calls_among, home_of, is_queue, taken_in, view_of}
-use Rattle.sf_actor.specs.Scripts.{picture_at}
-use Rattle.sf_actor.specs.Tries.{ActorOf}
-use Rattle.sf_actor.proofs.CallGrowth.{call_alone, goes_same, memory_goes, see_goes}
+use Rattle.sf_commit.specs.sf_picture.declared.picture.Picture.{Picture}
+use Rattle.sf_actor_steps.specs.sf_script_scene.declared.step.ActorScript.{ActorScript}
+use Rattle.sf_actor_steps.specs.sf_slots.declared.calls.PlainReply.{PlainReply}
+use Rattle.sf_actor_steps.specs.sf_slots.declared.calls.PlainReply.TheVariants as plain
+use Rattle.sf_actor_steps.specs.sf_slots.declared.slot.Held.{Held}
+use Rattle.sf_actor_steps.specs.sf_surface.declared.call.QCall.{QCall}
+use Rattle.sf_actor_steps.specs.sf_surface.declared.call.QCall.TheVariants as call
+use Rattle.sf_actor_steps.specs.sf_surface.declared.call.QReply.{QReply}
+use Rattle.sf_actor_steps.specs.sf_surface.Hands.{IsReply, blank_of, own_lease}
+use Rattle.sf_actor_steps.specs.sf_surface.Histories.{Answers, Made}
+use Rattle.sf_actor_steps.specs.sf_surface.Objects.{ObjectOf, mark_of}
+use Rattle.sf_actor_steps.specs.sf_surface.Reading.{eye_mark}
+use Rattle.sf_actor_steps.specs.sf_surface.Tokens.{Issued, ReadLeaseOf}
+use Rattle.sf_actor_steps.specs.sf_times.Seats.{all_loaded}
+use Rattle.sf_actor_steps.specs.sf_times.Views.{SeatView as TimesView}
+use Rattle.sf_commit.specs.sf_token.Arrivals.{Calls, sent}
+use Rattle.sf_commit.specs.sf_token.Pending.{Arrival}
+use Rattle.sf_actor_steps.specs.sf_turns.Views.{SeatView}
+use Rattle.sf_commit.specs.sf_txn.declared.lease.Lease.{Ghosts}
+use Rattle.sf_actor_steps.specs.sf_actor.Desks.{DeskHome, DeskView, IsAsBefore, MadeCall, WaitsForCall, known_of, mark_among}
+use Rattle.sf_actor_steps.specs.sf_actor.Known.{GoesOn}
+use Rattle.sf_actor_steps.specs.sf_actor.Plain.{PlainOf, calls_among, home_of, is_queue, taken_in, view_of}
+use Rattle.sf_actor_steps.specs.sf_actor.Scripts.{picture_at}
+use Rattle.sf_actor_steps.specs.sf_actor.Tries.{ActorOf}
+use Rattle.sf_actor_steps.proofs.sf_actor_lemmas.CallGrowth.{call_alone, goes_same, memory_goes, see_goes}
 use Rattle.sf_actor_steps.specs.Playable.{MayPlay}
 use Rattle.sf_actor_steps.specs.declared.actor.Actor.{Actor}
 use Rattle.sf_actor_set.specs.ActorSets.{ActorSetOf, IsActorSet, KeepAs, scripts_of}

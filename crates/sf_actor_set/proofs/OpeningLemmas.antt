@@ -5,19 +5,19 @@ use Rattle.std.specs.List.{All, AllZip}
 use Rattle.std.proofs.lemmas.List.{append-nil, drop_more, length-take-le, map-append, take-append-drop, take_more}
 use Rattle.std.proofs.lemmas.List.Sums.{count_by-le-length, length-filter, sum_by-cons}
 use Rattle.atomic_table.specs.Seated.{TableId}
-use Rattle.sf_picture.specs.declared.picture.Picture.{Picture}
-use Rattle.sf_script_scene.specs.declared.declarations.QueueDecl.{QueueDecl}
-use Rattle.sf_script_scene.specs.declared.step.ActorScript.{ActorScript}
-use Rattle.sf_script_scene.specs.declared.step.Step.{Step}
-use Rattle.sf_surface.specs.Histories.{Made}
-use Rattle.sf_surface.specs.Tokens.{ReadLeaseOf}
-use Rattle.sf_token.specs.Pending.{Arrival}
-use Rattle.sf_turns.specs.Counts.{stock_at}
-use Rattle.sf_turns.proofs.Tallies.{stock_at-append}
-use Rattle.sf_actor.specs.Desks.{DeskHome, DeskView, mark_among}
-use Rattle.sf_actor.specs.Known.{arrivals_told, is_sent_by, own_calls}
-use Rattle.sf_actor.specs.Plain.{calls_among}
-use Rattle.sf_actor.specs.Tries.{dequeues_in, is_dequeue}
+use Rattle.sf_commit.specs.sf_picture.declared.picture.Picture.{Picture}
+use Rattle.sf_actor_steps.specs.sf_script_scene.declared.declarations.QueueDecl.{QueueDecl}
+use Rattle.sf_actor_steps.specs.sf_script_scene.declared.step.ActorScript.{ActorScript}
+use Rattle.sf_actor_steps.specs.sf_script_scene.declared.step.Step.{Step}
+use Rattle.sf_actor_steps.specs.sf_surface.Histories.{Made}
+use Rattle.sf_actor_steps.specs.sf_surface.Tokens.{ReadLeaseOf}
+use Rattle.sf_commit.specs.sf_token.Pending.{Arrival}
+use Rattle.sf_actor_steps.specs.sf_turns.Counts.{stock_at}
+use Rattle.sf_actor_steps.proofs.sf_turns_lemmas.Tallies.{stock_at-append}
+use Rattle.sf_actor_steps.specs.sf_actor.Desks.{DeskHome, DeskView, mark_among}
+use Rattle.sf_actor_steps.specs.sf_actor.Known.{arrivals_told, is_sent_by, own_calls}
+use Rattle.sf_actor_steps.specs.sf_actor.Plain.{calls_among}
+use Rattle.sf_actor_steps.specs.sf_actor.Tries.{dequeues_in, is_dequeue}
 use Rattle.sf_actor_steps.specs.Actors.{IsActor, IsNew, new_actor}
 use Rattle.sf_actor_steps.specs.declared.actor.Actor.{Actor}
 use Rattle.sf_actor_steps.proofs.NewLemmas.{new_keeps}

@@ -6,21 +6,21 @@ use Rattle.std.specs.List.Sorted.{IsPermutation}
 use Rattle.std.proofs.lemmas.Bool.{eqb-true, false≢true}
 use Rattle.std.proofs.lemmas.List.Elements.{All-head, All-tail}
 use Rattle.std.proofs.lemmas.List.Sorted.{list_any-IsPermutation}
-use Rattle.sf_layer.specs.Ranges.{IsInRange}
-use Rattle.sf_script_scene.specs.Limits.{IsWithinLimits}
-use Rattle.sf_script_scene.specs.Named.{queue_named, timelines_named}
-use Rattle.sf_script_scene.specs.Ranges.{IsChange, IsStep, IsTimeline}
-use Rattle.sf_script_scene.specs.Scene.{SceneValue, has_queue, has_timeline}
-use Rattle.sf_script_scene.specs.declared.change.Change.{Change}
-use Rattle.sf_script_scene.specs.declared.change.Change.TheVariants as change
-use Rattle.sf_script_scene.specs.declared.declarations.QueueDecl.{QueueDecl}
-use Rattle.sf_script_scene.specs.declared.step.Step.{Step}
-use Rattle.sf_script_scene.specs.declared.step.Step.TheVariants as step
-use Rattle.sf_surface.specs.Objects.{mark_of}
-use Rattle.sf_surface.specs.declared.mark.QueueMark.{QueueMark}
-use Rattle.sf_actor.specs.Desks.{DeskHome}
-use Rattle.sf_actor.specs.Desks.{has_queue as has_mark}
-use Rattle.sf_actor.specs.Scripts.{op_of}
+use Rattle.sf_commit.specs.sf_layer.Ranges.{IsInRange}
+use Rattle.sf_actor_steps.specs.sf_script_scene.Limits.{IsWithinLimits}
+use Rattle.sf_actor_steps.specs.sf_script_scene.Named.{queue_named, timelines_named}
+use Rattle.sf_actor_steps.specs.sf_script_scene.Ranges.{IsChange, IsStep, IsTimeline}
+use Rattle.sf_actor_steps.specs.sf_script_scene.Scene.{SceneValue, has_queue, has_timeline}
+use Rattle.sf_actor_steps.specs.sf_script_scene.declared.change.Change.{Change}
+use Rattle.sf_actor_steps.specs.sf_script_scene.declared.change.Change.TheVariants as change
+use Rattle.sf_actor_steps.specs.sf_script_scene.declared.declarations.QueueDecl.{QueueDecl}
+use Rattle.sf_actor_steps.specs.sf_script_scene.declared.step.Step.{Step}
+use Rattle.sf_actor_steps.specs.sf_script_scene.declared.step.Step.TheVariants as step
+use Rattle.sf_actor_steps.specs.sf_surface.Objects.{mark_of}
+use Rattle.sf_actor_steps.specs.sf_surface.declared.mark.QueueMark.{QueueMark}
+use Rattle.sf_actor_steps.specs.sf_actor.Desks.{DeskHome}
+use Rattle.sf_actor_steps.specs.sf_actor.Desks.{has_queue as has_mark}
+use Rattle.sf_actor_steps.specs.sf_actor.Scripts.{op_of}
 use Rattle.sf_actor_steps.specs.Playable.{IsTaken, MayPlay}
 use Rattle.sf_actor_set.specs.Opening.{new_queue}
 

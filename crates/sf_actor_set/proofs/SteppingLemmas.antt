@@ -8,16 +8,16 @@ use Rattle.std.proofs.lemmas.List.{get_or-map, length-map}
 use Rattle.std.proofs.lemmas.List.Elements.{All-cons, All-head, All-nil, All-tail}
 use Rattle.atomic_table.specs.Seated.{TableId}
 use Rattle.sf_base.specs.declared.memory.NoMemory.{NoMemory}
-use Rattle.sf_picture.specs.declared.picture.Picture.{Picture}
-use Rattle.sf_script_scene.specs.declared.step.ActorScript.{ActorScript}
-use Rattle.sf_actor.specs.declared.tried.Stepped.{Stepped}
-use Rattle.sf_actor.specs.declared.tried.Stepped.TheVariants as stepped
-use Rattle.sf_actor.specs.Desks.{DeskHome, DeskView, known_of}
-use Rattle.sf_actor.specs.Known.{GoesOn}
-use Rattle.sf_actor.specs.Plain.{PlainOf, home_of, view_of}
-use Rattle.sf_actor.specs.Scripts.{picture_at}
-use Rattle.sf_actor.specs.Tries.{ActorOf, Keeps, Tries}
-use Rattle.sf_actor.proofs.GoingOn.{keeps_on}
+use Rattle.sf_commit.specs.sf_picture.declared.picture.Picture.{Picture}
+use Rattle.sf_actor_steps.specs.sf_script_scene.declared.step.ActorScript.{ActorScript}
+use Rattle.sf_actor_steps.specs.sf_actor.declared.tried.Stepped.{Stepped}
+use Rattle.sf_actor_steps.specs.sf_actor.declared.tried.Stepped.TheVariants as stepped
+use Rattle.sf_actor_steps.specs.sf_actor.Desks.{DeskHome, DeskView, known_of}
+use Rattle.sf_actor_steps.specs.sf_actor.Known.{GoesOn}
+use Rattle.sf_actor_steps.specs.sf_actor.Plain.{PlainOf, home_of, view_of}
+use Rattle.sf_actor_steps.specs.sf_actor.Scripts.{picture_at}
+use Rattle.sf_actor_steps.specs.sf_actor.Tries.{ActorOf, Keeps, Tries}
+use Rattle.sf_actor_steps.proofs.sf_actor_lemmas.GoingOn.{keeps_on}
 use Rattle.sf_actor_steps.specs.Actors.{IsActor, IsKept, Steps}
 use Rattle.sf_actor_steps.specs.Playable.{MayPlay}
 use Rattle.sf_actor_steps.specs.declared.actor.Actor.{Actor}

@@ -4,17 +4,17 @@ use Rattle.std.specs.Prelude.{◌≡◌, ℕ, ◌+◌, ◌≤◌, Bool, true, fa
 use Rattle.std.specs.List.{All, AllZip}
 use Rattle.std.specs.List.Sorted.{IsStrictlyIncreasing}
 use Rattle.atomic_table.specs.Seated.{TableId}
-use Rattle.sf_picture.specs.declared.picture.Picture.{Picture}
-use Rattle.sf_script_scene.specs.declared.declarations.QueueDecl.{QueueDecl}
-use Rattle.sf_script_scene.specs.declared.step.ActorScript.{ActorScript}
-use Rattle.sf_script_scene.specs.declared.step.Step.{Step}
-use Rattle.sf_times.specs.Seats.{opened}
-use Rattle.sf_turns.specs.Views.{SeatView}
-use Rattle.sf_actor.specs.declared.tried.Stepped.{Stepped}
-use Rattle.sf_actor.specs.Desks.{DeskHome, DeskView}
-use Rattle.sf_actor.specs.Plain.{PlainOf, home_of, view_of}
-use Rattle.sf_actor.specs.Scripts.{picture_at}
-use Rattle.sf_actor.specs.Tries.{ActorOf, Keeps, Tries, next_step}
+use Rattle.sf_commit.specs.sf_picture.declared.picture.Picture.{Picture}
+use Rattle.sf_actor_steps.specs.sf_script_scene.declared.declarations.QueueDecl.{QueueDecl}
+use Rattle.sf_actor_steps.specs.sf_script_scene.declared.step.ActorScript.{ActorScript}
+use Rattle.sf_actor_steps.specs.sf_script_scene.declared.step.Step.{Step}
+use Rattle.sf_actor_steps.specs.sf_times.Seats.{opened}
+use Rattle.sf_actor_steps.specs.sf_turns.Views.{SeatView}
+use Rattle.sf_actor_steps.specs.sf_actor.declared.tried.Stepped.{Stepped}
+use Rattle.sf_actor_steps.specs.sf_actor.Desks.{DeskHome, DeskView}
+use Rattle.sf_actor_steps.specs.sf_actor.Plain.{PlainOf, home_of, view_of}
+use Rattle.sf_actor_steps.specs.sf_actor.Scripts.{picture_at}
+use Rattle.sf_actor_steps.specs.sf_actor.Tries.{ActorOf, Keeps, Tries, next_step}
 use Rattle.sf_actor_steps.specs.Actors.{Acts, IsActor, IsKept}
 use Rattle.sf_actor_steps.specs.Playable.{MayPlay}
 use Rattle.sf_actor_steps.specs.declared.actor.Actor.{Actor}

@@ -1,16 +1,16 @@
 -- What a compositor that shares the desk of one thread with the actors does to it.
 use Rattle.std.specs.Prelude.{◌≡◌, ◌≢◌, ℕ, List, [], length}
 use Rattle.atomic_table.specs.Seated.{TableId}
-use Rattle.sf_surface.specs.Reading.{eye_mark}
-use Rattle.sf_surface.specs.Tokens.{Issued, ReadLeaseOf}
-use Rattle.sf_token.specs.Arrivals.{Calls, sent, waiting}
-use Rattle.sf_token.specs.Pending.{Arrival}
-use Rattle.sf_turns.specs.Views.{SeatView}
-use Rattle.sf_actor.specs.Desks.{DeskHome, DeskView, known_of}
-use Rattle.sf_actor.specs.Known.{AreAmong, CountsRise, GoesOn}
-use Rattle.sf_actor.specs.Plain.{PlainOf, home_of, taken_in, view_of}
-use Rattle.sf_actor.specs.Scripts.{picture_at}
-use Rattle.sf_actor.specs.Tries.{ActorOf}
+use Rattle.sf_actor_steps.specs.sf_surface.Reading.{eye_mark}
+use Rattle.sf_actor_steps.specs.sf_surface.Tokens.{Issued, ReadLeaseOf}
+use Rattle.sf_commit.specs.sf_token.Arrivals.{Calls, sent, waiting}
+use Rattle.sf_commit.specs.sf_token.Pending.{Arrival}
+use Rattle.sf_actor_steps.specs.sf_turns.Views.{SeatView}
+use Rattle.sf_actor_steps.specs.sf_actor.Desks.{DeskHome, DeskView, known_of}
+use Rattle.sf_actor_steps.specs.sf_actor.Known.{AreAmong, CountsRise, GoesOn}
+use Rattle.sf_actor_steps.specs.sf_actor.Plain.{PlainOf, home_of, taken_in, view_of}
+use Rattle.sf_actor_steps.specs.sf_actor.Scripts.{picture_at}
+use Rattle.sf_actor_steps.specs.sf_actor.Tries.{ActorOf}
 use Rattle.sf_actor_set.specs.ActorSets.{ActorSetOf, KeepAs}
 
 -- what waited was taken: nothing waits any more, all that was sent stays, and all of it was taken

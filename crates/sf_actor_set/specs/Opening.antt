@@ -3,12 +3,12 @@ use Rattle.std.specs.Prelude.{◌≡◌, ℕ, List, [], ◌∷◌, map, take, dr
 use Rattle.std.specs.List.{AllZip}
 use Rattle.std.specs.List.Sorted.{IsNonDecreasingBy, IsPermutation}
 use Rattle.atomic_table.specs.Seated.{TableId}
-use Rattle.sf_script_scene.specs.declared.declarations.QueueDecl.{QueueDecl}
-use Rattle.sf_script_scene.specs.declared.step.ActorScript.{ActorScript}
-use Rattle.sf_slots.specs.Queue.{empty_queue}
-use Rattle.sf_surface.specs.Objects.{ObjectOf}
-use Rattle.sf_actor.specs.Scripts.{queue_of}
-use Rattle.sf_actor.specs.Tries.{ActorOf, dequeues_in}
+use Rattle.sf_actor_steps.specs.sf_script_scene.declared.declarations.QueueDecl.{QueueDecl}
+use Rattle.sf_actor_steps.specs.sf_script_scene.declared.step.ActorScript.{ActorScript}
+use Rattle.sf_actor_steps.specs.sf_slots.Queue.{empty_queue}
+use Rattle.sf_actor_steps.specs.sf_surface.Objects.{ObjectOf}
+use Rattle.sf_actor_steps.specs.sf_actor.Scripts.{queue_of}
+use Rattle.sf_actor_steps.specs.sf_actor.Tries.{ActorOf, dequeues_in}
 use Rattle.sf_actor_steps.specs.Actors.{IsActor, new_actor}
 use Rattle.sf_actor_steps.specs.declared.actor.Actor.{Actor}
 

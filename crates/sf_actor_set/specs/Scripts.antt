@@ -1,12 +1,12 @@
 -- What an actor set needs of the scripts that it plays.
 use Rattle.std.specs.Prelude.{◌≡◌, ℕ, List}
 use Rattle.std.specs.List.{sum_by}
-use Rattle.sf_picture.specs.declared.picture.Picture.{Picture}
-use Rattle.sf_script_scene.specs.Limits.{IsWithinLimits}
-use Rattle.sf_script_scene.specs.Scene.{SceneValue}
-use Rattle.sf_script_scene.specs.declared.declarations.QueueDecl.{QueueDecl}
-use Rattle.sf_script_scene.specs.declared.step.ActorScript.{ActorScript}
-use Rattle.sf_actor.specs.Tries.{dequeues_in}
+use Rattle.sf_commit.specs.sf_picture.declared.picture.Picture.{Picture}
+use Rattle.sf_actor_steps.specs.sf_script_scene.Limits.{IsWithinLimits}
+use Rattle.sf_actor_steps.specs.sf_script_scene.Scene.{SceneValue}
+use Rattle.sf_actor_steps.specs.sf_script_scene.declared.declarations.QueueDecl.{QueueDecl}
+use Rattle.sf_actor_steps.specs.sf_script_scene.declared.step.ActorScript.{ActorScript}
+use Rattle.sf_actor_steps.specs.sf_actor.Tries.{dequeues_in}
 
 -- how many permits the scripts need: one for each dequeue
 abbrev pub permits_of : List ActorScript → ℕ

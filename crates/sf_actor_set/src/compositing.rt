@@ -1,30 +1,30 @@
 //! The calls of a compositor that shares the desk of one thread with the actors. It calls as number
 //! 0, which no actor has, so that every actor keeps what it keeps.
 ghost use Rattle.std.specs.Prelude.{◌≡◌, false, true, is_ok, IfErr, IfOk, IsErr, None, OnErr};
-ghost use Rattle.sf_actor.specs.Desks.{IsAsBefore, MadeCall, has_queue};
-ghost use Rattle.sf_actor.specs.Plain.{home_of, taken_in, view_of};
-ghost use Rattle.sf_actor.specs.Tries.{Sees};
-ghost use Rattle.sf_calls.specs.Calling.{IfFaultNotYet};
+ghost use Rattle.sf_actor_steps.specs.sf_actor.Desks.{IsAsBefore, MadeCall, has_queue};
+ghost use Rattle.sf_actor_steps.specs.sf_actor.Plain.{home_of, taken_in, view_of};
+ghost use Rattle.sf_actor_steps.specs.sf_actor.Tries.{Sees};
+ghost use Rattle.sf_commit.specs.sf_calls.Calling.{IfFaultNotYet};
 ghost use Rattle.sf_actor_set.specs.Compositing.{GoesOnDesk, SeatGoesOn, Takes};
 ghost use Rattle.sf_commit.specs.Handlers.{Decides, Stops, last_of};
 ghost use Rattle.std.specs.List.{All};
-ghost use Rattle.sf_calls.specs.Histories.{IsLegal};
-ghost use Rattle.sf_surface.specs.Histories.{Answers};
-ghost use Rattle.sf_surface.specs.Objects.{ObjectOf, mark_of};
-ghost use Rattle.sf_surface.specs.declared.call.QCall.TheVariants as call;
-ghost use Rattle.sf_surface.specs.declared.call.QReply.{QReply as ReplyOf};
-ghost use Rattle.sf_token.specs.Arrivals.{sent};
-ghost use Rattle.sf_token.specs.Pending.{IsRisingFrom};
+ghost use Rattle.sf_commit.specs.sf_calls.Histories.{IsLegal};
+ghost use Rattle.sf_actor_steps.specs.sf_surface.Histories.{Answers};
+ghost use Rattle.sf_actor_steps.specs.sf_surface.Objects.{ObjectOf, mark_of};
+ghost use Rattle.sf_actor_steps.specs.sf_surface.declared.call.QCall.TheVariants as call;
+ghost use Rattle.sf_actor_steps.specs.sf_surface.declared.call.QReply.{QReply as ReplyOf};
+ghost use Rattle.sf_commit.specs.sf_token.Arrivals.{sent};
+ghost use Rattle.sf_commit.specs.sf_token.Pending.{IsRisingFrom};
 
-use sf_actor::{Desk, PlainDesk};
+use sf_actor_steps::sf_actor::{Desk, PlainDesk};
+use sf_actor_steps::sf_surface::{QCall, QReply, QueueObject, ReadLease};
+use sf_actor_steps::sf_turns::{TableName, TurnSeat};
 use sf_base::{ActorId, NoMemory, Seen};
-use sf_calls::{CallFault, Object, Outcome};
+use sf_commit::sf_calls::{CallFault, Object, Outcome};
+use sf_commit::sf_picture::Painted;
+use sf_commit::sf_token::{Arrivals, ArriveCall, ArriveReply, Arrived, Batch};
+use sf_commit::sf_txn::Lease;
 use sf_commit::{Handler, Release, Vsync};
-use sf_picture::Painted;
-use sf_surface::{QCall, QReply, QueueObject, ReadLease};
-use sf_token::{Arrivals, ArriveCall, ArriveReply, Arrived, Batch};
-use sf_turns::{TableName, TurnSeat};
-use sf_txn::Lease;
 use std::marker::Brand;
 
 /// The compositor's number as a caller.

@@ -1,20 +1,20 @@
 ghost use Rattle.std.specs.Prelude.{◌≡◌, ◌≤◌, length, map, take, drop, All, IfOk};
 ghost use Rattle.std.specs.List.{AllZip};
-ghost use Rattle.sf_script_scene.specs.Ranges.{IsQueue};
-ghost use Rattle.sf_script_scene.specs.declared.step.ActorScript.{ActorScript as Script};
-ghost use Rattle.sf_script_scene.specs.declared.declarations.QueueDecl.{QueueDecl as Decl};
-ghost use Rattle.sf_actor.specs.Tries.{dequeues_in};
+ghost use Rattle.sf_actor_steps.specs.sf_script_scene.Ranges.{IsQueue};
+ghost use Rattle.sf_actor_steps.specs.sf_script_scene.declared.step.ActorScript.{ActorScript as Script};
+ghost use Rattle.sf_actor_steps.specs.sf_script_scene.declared.declarations.QueueDecl.{QueueDecl as Decl};
+ghost use Rattle.sf_actor_steps.specs.sf_actor.Tries.{dequeues_in};
 ghost use Rattle.sf_actor_steps.specs.Actors.{IsActor, new_actor};
 ghost use Rattle.sf_actor_set.specs.Opening.{IsSortedFrom, OpensActors, OpensQueues, new_actors, new_queue};
 ghost use Rattle.sf_actor_set.specs.Scripts.{permits_of};
 
 use crate::permits::dequeues;
-use sf_base::{NoMemory, QueueId};
-use sf_picture::Painted;
-use sf_script_scene::{ActorScript, QueueDecl};
 use sf_actor_steps::Actor;
-use sf_surface::QueueObject;
-use sf_turns::{Stock, TableName};
+use sf_actor_steps::sf_script_scene::{ActorScript, QueueDecl};
+use sf_actor_steps::sf_surface::QueueObject;
+use sf_actor_steps::sf_turns::{Stock, TableName};
+use sf_base::{NoMemory, QueueId};
+use sf_commit::sf_picture::Painted;
 use std::alloc::Global;
 
 /// The declared queues by rising number.

@@ -1,8 +1,8 @@
 ghost use Rattle.std.specs.Prelude.{◌≡◌, ◌<◌, MatchOption};
-ghost use Rattle.sf_actor.specs.Tries.{dequeues_in, is_dequeue};
+ghost use Rattle.sf_actor_steps.specs.sf_actor.Tries.{dequeues_in, is_dequeue};
 ghost use Rattle.sf_actor_set.specs.Scripts.{permits_of};
 
-use sf_script_scene::{ActorScript, Step};
+use sf_actor_steps::sf_script_scene::{ActorScript, Step};
 
 /// Whether a step needs the permit to open a buffer.
 fn is_dequeue(step: &Step) -> bool

@@ -9,14 +9,14 @@ use Rattle.sf_base.specs.Statuses.{number_of}
 use Rattle.sf_base.specs.Fences.{Fence}
 use Rattle.sf_base.specs.declared.fences.Seen.{Seen}
 use Rattle.sf_base.specs.declared.ids.QueueId.{QueueId}
-use Rattle.sf_picture.specs.declared.picture.Picture.{Picture}
-use Rattle.sf_script_scene.specs.declared.step.Step.{Step}
-use Rattle.sf_slots.specs.declared.calls.PlainReply.{PlainReply}
-use Rattle.sf_surface.specs.declared.call.QCall.{QCall}
-use Rattle.sf_surface.specs.declared.call.QReply.{QReply}
-use Rattle.sf_surface.specs.Calls.{may_wait}
-use Rattle.sf_surface.specs.Hands.{IsReply}
-use Rattle.sf_surface.specs.Tokens.{EndingOf}
+use Rattle.sf_actor.specs.sf_picture.declared.picture.Picture.{Picture}
+use Rattle.sf_actor.specs.sf_script_scene.declared.step.Step.{Step}
+use Rattle.sf_actor.specs.sf_slots.declared.calls.PlainReply.{PlainReply}
+use Rattle.sf_actor.specs.sf_surface.declared.call.QCall.{QCall}
+use Rattle.sf_actor.specs.sf_surface.declared.call.QReply.{QReply}
+use Rattle.sf_actor.specs.sf_surface.Calls.{may_wait}
+use Rattle.sf_actor.specs.sf_surface.Hands.{IsReply}
+use Rattle.sf_actor.specs.sf_surface.Tokens.{EndingOf}
 use Rattle.sf_actor.specs.declared.done.Answered.TheVariants as answered
 use Rattle.sf_actor.specs.declared.done.Done.{Done}
 use Rattle.sf_actor.specs.declared.holding.Holding.{Holding}

@@ -6,16 +6,16 @@ use Rattle.std.proofs.lemmas.List.{append-nil, length-append, set-get_or, set-se
 use Rattle.sf_base.specs.Fences.{Fence, IsSignalled}
 use Rattle.sf_base.specs.Points.{points_from}
 use Rattle.sf_base.specs.declared.fences.Seen.{Seen}
-use Rattle.sf_picture.specs.declared.picture.Picture.{Picture}
-use Rattle.sf_script_scene.specs.declared.step.Step.TheVariants as step
-use Rattle.sf_slots.specs.declared.slot.Held.{Held}
-use Rattle.sf_surface.specs.declared.work.Work.{Work}
-use Rattle.sf_surface.specs.declared.work.Work.TheVariants as work
-use Rattle.sf_surface.specs.Calls.{write_token}
-use Rattle.sf_surface.specs.Drawing.{Enters, IsShort, MayEnter, MustWait, Passes, drawn_with}
-use Rattle.sf_surface.specs.Drawing.{Waits as WaitsIn}
-use Rattle.sf_surface.specs.Tokens.{OwingOf, WriteLeaseOf, turn_of}
-use Rattle.sf_turns.specs.Views.{SeatView}
+use Rattle.sf_actor.specs.sf_picture.declared.picture.Picture.{Picture}
+use Rattle.sf_actor.specs.sf_script_scene.declared.step.Step.TheVariants as step
+use Rattle.sf_actor.specs.sf_slots.declared.slot.Held.{Held}
+use Rattle.sf_actor.specs.sf_surface.declared.work.Work.{Work}
+use Rattle.sf_actor.specs.sf_surface.declared.work.Work.TheVariants as work
+use Rattle.sf_actor.specs.sf_surface.Calls.{write_token}
+use Rattle.sf_actor.specs.sf_surface.Drawing.{Enters, IsShort, MayEnter, MustWait, Passes, drawn_with}
+use Rattle.sf_actor.specs.sf_surface.Drawing.{Waits as WaitsIn}
+use Rattle.sf_actor.specs.sf_surface.Tokens.{OwingOf, WriteLeaseOf, turn_of}
+use Rattle.sf_actor.specs.sf_turns.Views.{SeatView}
 use Rattle.sf_actor.specs.declared.done.Answered.TheVariants as answered
 use Rattle.sf_actor.specs.declared.done.Done.{Done}
 use Rattle.sf_actor.specs.declared.holding.Holding.{Holding}

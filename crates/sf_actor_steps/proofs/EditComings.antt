@@ -7,18 +7,18 @@ use Rattle.std.proofs.lemmas.Bool.{cases_Bool, eq-eqb}
 use Rattle.std.proofs.lemmas.List.{append-nil, get_or-set_other, length-set, set-set, set_comm}
 use Rattle.sf_base.specs.Fences.{no_points, merged as with_points_of}
 use Rattle.sf_base.specs.declared.ids.QueueId.{QueueId}
-use Rattle.sf_picture.specs.declared.picture.Picture.{Picture}
-use Rattle.sf_script_scene.specs.declared.change.Change.{Change}
-use Rattle.sf_script_scene.specs.declared.step.Step.{Step}
-use Rattle.sf_script_scene.specs.declared.step.Step.TheVariants as step
-use Rattle.sf_slots.specs.declared.calls.ReadToken.{ReadToken}
-use Rattle.sf_surface.specs.declared.call.QCall.{QCall}
-use Rattle.sf_surface.specs.declared.call.QCall.TheVariants as call
-use Rattle.sf_surface.specs.Tokens.{EndingOf, ReadLeaseOf}
-use Rattle.sf_times.specs.declared.protocol.Knows.{Knows}
-use Rattle.sf_turns.specs.Views.{SeatView}
-use Rattle.sf_txn.specs.Buffers.{Buffer}
-use Rattle.sf_txn.specs.Transactions.{Contents, all_replaced, empty, merged, replaced_by, set_buffer, set as with_op}
+use Rattle.sf_actor.specs.sf_picture.declared.picture.Picture.{Picture}
+use Rattle.sf_actor.specs.sf_script_scene.declared.change.Change.{Change}
+use Rattle.sf_actor.specs.sf_script_scene.declared.step.Step.{Step}
+use Rattle.sf_actor.specs.sf_script_scene.declared.step.Step.TheVariants as step
+use Rattle.sf_actor.specs.sf_slots.declared.calls.ReadToken.{ReadToken}
+use Rattle.sf_actor.specs.sf_surface.declared.call.QCall.{QCall}
+use Rattle.sf_actor.specs.sf_surface.declared.call.QCall.TheVariants as call
+use Rattle.sf_actor.specs.sf_surface.Tokens.{EndingOf, ReadLeaseOf}
+use Rattle.sf_actor.specs.sf_times.declared.protocol.Knows.{Knows}
+use Rattle.sf_actor.specs.sf_turns.Views.{SeatView}
+use Rattle.sf_actor.specs.sf_txn.Buffers.{Buffer}
+use Rattle.sf_actor.specs.sf_txn.Transactions.{Contents, all_replaced, empty, merged, replaced_by, set_buffer, set as with_op}
 use Rattle.sf_actor.specs.declared.done.Answered.TheVariants as answered
 use Rattle.sf_actor.specs.declared.done.Done.{Done}
 use Rattle.sf_actor.specs.declared.holding.Holding.{Holding}

@@ -3,12 +3,12 @@ use Rattle.std.proofs.Common.{◌≡◌, ℕ, Bool, true, false, List, [], ◌�
 use Rattle.std.specs.Prelude.{find, option_to_list, if◌then◌else◌}
 use Rattle.std.specs.List.{All}
 use Rattle.std.proofs.lemmas.List.Elements.{All-append, All-cons, All-head, All-nil, All-push, All-tail}
-use Rattle.sf_script_scene.specs.declared.change.Change.{Change}
-use Rattle.sf_script_scene.specs.declared.change.Change.TheVariants as change
+use Rattle.sf_actor.specs.sf_script_scene.declared.change.Change.{Change}
+use Rattle.sf_actor.specs.sf_script_scene.declared.change.Change.TheVariants as change
 use Rattle.sf_base.specs.declared.ids.LayerId.{LayerId}
-use Rattle.sf_surface.specs.Tokens.{ReadLeaseOf}
-use Rattle.sf_txn.specs.Buffers.{Buffer}
-use Rattle.sf_txn.specs.Transactions.{all_replaced, is_for, replaced_by, shows_of, with_buffer, without_first}
+use Rattle.sf_actor.specs.sf_surface.Tokens.{ReadLeaseOf}
+use Rattle.sf_actor.specs.sf_txn.Buffers.{Buffer}
+use Rattle.sf_actor.specs.sf_txn.Transactions.{all_replaced, is_for, replaced_by, shows_of, with_buffer, without_first}
 use Rattle.sf_actor.specs.Desks.{DeskHome, DeskView}
 use Rattle.sf_actor.specs.Scripts.{op_of}
 use Rattle.sf_actor_steps.specs.Editing.{IsThere, Releases, ReleasesAll}

@@ -2,8 +2,8 @@
 use Rattle.std.proofs.Common.{ℕ, Option}
 use Rattle.std.specs.Prelude.{IfOk, Result, Ok, Err}
 use Rattle.sf_base.specs.Fences.{Fence}
-use Rattle.sf_picture.specs.declared.picture.Picture.{Picture}
-use Rattle.sf_script_scene.specs.declared.step.Step.{Step}
+use Rattle.sf_actor.specs.sf_picture.declared.picture.Picture.{Picture}
+use Rattle.sf_actor.specs.sf_script_scene.declared.step.Step.{Step}
 use Rattle.sf_actor.specs.Desks.{DeskHome, DeskView}
 use Rattle.sf_actor_steps.specs.Doing.{MakesCall}
 use Rattle.sf_actor_steps.specs.Leaving.{LooksFor, TriesToLeave}

@@ -20,3 +20,11 @@ pub mod DropComings
 pub mod StepOutcomes
 pub mod TryingLemmas
 pub mod NewLemmas
+pub use Rattle.sf_actor.proofs as sf_actor_lemmas
+pub use Rattle.sf_actor.proofs.sf_layer_lemmas
+pub use Rattle.sf_actor.proofs.sf_script_scene_lemmas
+pub use Rattle.sf_actor.proofs.sf_slots_lemmas
+pub use Rattle.sf_actor.proofs.sf_surface_lemmas
+pub use Rattle.sf_actor.proofs.sf_times_lemmas
+pub use Rattle.sf_actor.proofs.sf_token_lemmas
+pub use Rattle.sf_actor.proofs.sf_turns_lemmas

@@ -4,16 +4,16 @@ use Rattle.std.proofs.Common.{◌≡◌, ℕ, ◌+◌, ◌<◌, true, List, [], 
 use Rattle.std.proofs.lemmas.List.{append-nil}
 use Rattle.sf_base.specs.Fences.{Fence, IsSignalled}
 use Rattle.sf_base.specs.declared.ids.QueueId.{QueueId}
-use Rattle.sf_picture.specs.declared.picture.Picture.{Picture}
-use Rattle.sf_script_scene.specs.declared.step.Step.{Step}
-use Rattle.sf_script_scene.specs.declared.step.Step.TheVariants as step
-use Rattle.sf_slots.specs.declared.calls.PlainReply.{PlainReply}
-use Rattle.sf_slots.specs.declared.calls.PlainReply.TheVariants as plain
-use Rattle.sf_surface.specs.declared.call.QCall.{QCall}
-use Rattle.sf_surface.specs.declared.call.QCall.TheVariants as call
-use Rattle.sf_surface.specs.declared.call.QReply.{QReply}
-use Rattle.sf_surface.specs.Hands.{IsReply, attached_lease, own_lease}
-use Rattle.sf_surface.specs.Tokens.{WriteLeaseOf}
+use Rattle.sf_actor.specs.sf_picture.declared.picture.Picture.{Picture}
+use Rattle.sf_actor.specs.sf_script_scene.declared.step.Step.{Step}
+use Rattle.sf_actor.specs.sf_script_scene.declared.step.Step.TheVariants as step
+use Rattle.sf_actor.specs.sf_slots.declared.calls.PlainReply.{PlainReply}
+use Rattle.sf_actor.specs.sf_slots.declared.calls.PlainReply.TheVariants as plain
+use Rattle.sf_actor.specs.sf_surface.declared.call.QCall.{QCall}
+use Rattle.sf_actor.specs.sf_surface.declared.call.QCall.TheVariants as call
+use Rattle.sf_actor.specs.sf_surface.declared.call.QReply.{QReply}
+use Rattle.sf_actor.specs.sf_surface.Hands.{IsReply, attached_lease, own_lease}
+use Rattle.sf_actor.specs.sf_surface.Tokens.{WriteLeaseOf}
 use Rattle.sf_actor.specs.declared.done.Answered.TheVariants as answered
 use Rattle.sf_actor.specs.declared.done.Done.{Done}
 use Rattle.sf_actor.specs.declared.holding.Holding.{Holding}

@@ -6,10 +6,10 @@ use Rattle.std.proofs.lemmas.List.{append-nil, get_or-set_same, length-append, l
 use Rattle.sf_base.specs.Fences.{Fence, no_points, value_of, with_point}
 use Rattle.sf_base.specs.Points.{points_from}
 use Rattle.sf_base.specs.declared.fences.Seen.{Seen}
-use Rattle.sf_picture.specs.declared.picture.Picture.{Picture}
-use Rattle.sf_script_scene.specs.declared.step.Step.{Step}
-use Rattle.sf_script_scene.specs.declared.step.Step.TheVariants as step
-use Rattle.sf_times.specs.declared.protocol.Knows.{Knows}
+use Rattle.sf_actor.specs.sf_picture.declared.picture.Picture.{Picture}
+use Rattle.sf_actor.specs.sf_script_scene.declared.step.Step.{Step}
+use Rattle.sf_actor.specs.sf_script_scene.declared.step.Step.TheVariants as step
+use Rattle.sf_actor.specs.sf_times.declared.protocol.Knows.{Knows}
 use Rattle.sf_actor.specs.declared.done.Answered.TheVariants as answered
 use Rattle.sf_actor.specs.declared.done.Done.{Done}
 use Rattle.sf_actor.specs.declared.tried.Reply.{Reply}

@@ -2,9 +2,9 @@
 use Rattle.std.proofs.Common.{◌≡◌, ℕ, false, List, [], ◌∷◌, Some, None, refl, inl, inr}
 use Rattle.std.specs.List.{find}
 use Rattle.std.proofs.lemmas.Bool.{cases_Bool}
-use Rattle.sf_picture.specs.declared.picture.Picture.{Picture}
+use Rattle.sf_actor.specs.sf_picture.declared.picture.Picture.{Picture}
 use Rattle.sf_actor.specs.Scripts.{picture_at}
-use Rattle.sf_script_scene.specs.Scene.{has_picture}
+use Rattle.sf_actor.specs.sf_script_scene.Scene.{has_picture}
 use Rattle.sf_actor_steps.specs.Bindings.{is_numbered}
 
 pub not_found : (pictures : List Picture) (number : ℕ) → find (is_numbered number) pictures ≡ None → has_picture pictures number ≡ false

@@ -2,10 +2,10 @@
 use Rattle.std.proofs.Common.{◌≡◌, ℕ, true, false, cond, not, ◌||◌, [], ◌∷◌, Option, Some, None, refl, sym}
 use Rattle.std.specs.Prelude.{◌==◌, is_some, is_none}
 use Rattle.std.proofs.lemmas.Bool.{false≢true}
-use Rattle.sf_picture.specs.declared.picture.Picture.{Picture}
-use Rattle.sf_script_scene.specs.declared.step.Step.TheVariants as step
-use Rattle.sf_surface.specs.Tokens.{OwingOf, ReadLeaseOf, WriteLeaseOf, is_size_of}
-use Rattle.sf_slots.specs.declared.slot.Held.{Held}
+use Rattle.sf_actor.specs.sf_picture.declared.picture.Picture.{Picture}
+use Rattle.sf_actor.specs.sf_script_scene.declared.step.Step.TheVariants as step
+use Rattle.sf_actor.specs.sf_surface.Tokens.{OwingOf, ReadLeaseOf, WriteLeaseOf, is_size_of}
+use Rattle.sf_actor.specs.sf_slots.declared.slot.Held.{Held}
 use Rattle.sf_actor.specs.Names.{Holdings, Token, is_frame, is_lent, is_owing, name_in, transaction_in}
 use Rattle.sf_actor.specs.Tests.{bad_value, empty, first_met, is_frameless, refusal_of}
 use Rattle.sf_actor_steps.specs.Bindings.{lent_of, owing_of, shown_of}

@@ -5,12 +5,12 @@ use Rattle.std.specs.Option.{option_map}
 use Rattle.std.specs.List.{All}
 use Rattle.std.proofs.lemmas.List.{get_or-set_other}
 use Rattle.std.proofs.lemmas.List.Elements.{All-head}
-use Rattle.sf_layer.specs.declared.op.Op.{Op}
-use Rattle.sf_script_scene.specs.declared.change.Change.{Change}
+use Rattle.sf_actor.specs.sf_layer.declared.op.Op.{Op}
+use Rattle.sf_actor.specs.sf_script_scene.declared.change.Change.{Change}
 use Rattle.sf_base.specs.declared.ids.LayerId.{LayerId}
-use Rattle.sf_surface.specs.Tokens.{ReadLeaseOf}
-use Rattle.sf_txn.specs.Buffers.{Buffer}
-use Rattle.sf_txn.specs.Transactions.{Contents, is_for, replaced_by, shows_of}
+use Rattle.sf_actor.specs.sf_surface.Tokens.{ReadLeaseOf}
+use Rattle.sf_actor.specs.sf_txn.Buffers.{Buffer}
+use Rattle.sf_actor.specs.sf_txn.Transactions.{Contents, is_for, replaced_by, shows_of}
 use Rattle.sf_actor.specs.declared.holding.Holding.{Holding}
 use Rattle.sf_actor.specs.declared.holding.Holding.TheVariants as holding
 use Rattle.sf_actor.specs.Desks.{DeskHome}

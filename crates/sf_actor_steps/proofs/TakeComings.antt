@@ -4,20 +4,20 @@ use Rattle.std.specs.Prelude.{option_to_list, slice_set, unwrap_or}
 use Rattle.std.specs.Option.{option_map}
 use Rattle.std.proofs.lemmas.Bool.{cases_Bool, eqb-true, eq-eqb, false≢true}
 use Rattle.sf_base.specs.declared.ids.QueueId.{QueueId}
-use Rattle.sf_picture.specs.declared.picture.Picture.{Picture}
-use Rattle.sf_script_scene.specs.declared.step.Step.{Step}
-use Rattle.sf_script_scene.specs.declared.step.Step.TheVariants as step
-use Rattle.sf_slots.specs.declared.calls.PlainCall.TheVariants as plain_call
-use Rattle.sf_slots.specs.declared.calls.PlainReply.{PlainReply}
-use Rattle.sf_slots.specs.declared.calls.PlainReply.TheVariants as plain
-use Rattle.sf_surface.specs.declared.call.Gives.{Gives}
-use Rattle.sf_surface.specs.declared.call.Gives.TheVariants as gives
-use Rattle.sf_surface.specs.declared.call.QCall.{QCall}
-use Rattle.sf_surface.specs.declared.call.QCall.TheVariants as call
-use Rattle.sf_surface.specs.declared.call.QReply.{QReply}
-use Rattle.sf_surface.specs.Hands.{IsReply, lent_lease}
-use Rattle.sf_surface.specs.Tokens.{ReadLeaseOf}
-use Rattle.sf_turns.specs.Views.{PermitView}
+use Rattle.sf_actor.specs.sf_picture.declared.picture.Picture.{Picture}
+use Rattle.sf_actor.specs.sf_script_scene.declared.step.Step.{Step}
+use Rattle.sf_actor.specs.sf_script_scene.declared.step.Step.TheVariants as step
+use Rattle.sf_actor.specs.sf_slots.declared.calls.PlainCall.TheVariants as plain_call
+use Rattle.sf_actor.specs.sf_slots.declared.calls.PlainReply.{PlainReply}
+use Rattle.sf_actor.specs.sf_slots.declared.calls.PlainReply.TheVariants as plain
+use Rattle.sf_actor.specs.sf_surface.declared.call.Gives.{Gives}
+use Rattle.sf_actor.specs.sf_surface.declared.call.Gives.TheVariants as gives
+use Rattle.sf_actor.specs.sf_surface.declared.call.QCall.{QCall}
+use Rattle.sf_actor.specs.sf_surface.declared.call.QCall.TheVariants as call
+use Rattle.sf_actor.specs.sf_surface.declared.call.QReply.{QReply}
+use Rattle.sf_actor.specs.sf_surface.Hands.{IsReply, lent_lease}
+use Rattle.sf_actor.specs.sf_surface.Tokens.{ReadLeaseOf}
+use Rattle.sf_actor.specs.sf_turns.Views.{PermitView}
 use Rattle.sf_actor.specs.declared.holding.Holding.{Holding}
 use Rattle.sf_actor.specs.declared.holding.Holding.TheVariants as holding
 use Rattle.sf_actor.specs.Desks.{DeskHome, DeskView, MadeCall, WaitsForCall, has_queue, known_of, looks, mark_among}

@@ -3,12 +3,12 @@ use Rattle.std.specs.Prelude.{◌≡◌, ◌≢◌, ℕ, ◌-◌, ◌<◌, ◌�
 use Rattle.std.specs.Prelude.{[], ◌∷◌, ◌++◌, get_or, length, slice_index, Option, Some, None, is_some}
 use Rattle.atomic_table.specs.Seated.{TableId}
 use Rattle.sf_base.specs.declared.fences.Seen.{Seen}
-use Rattle.sf_picture.specs.declared.picture.Picture.{Picture}
-use Rattle.sf_layer.specs.Ranges.{IsOperation}
-use Rattle.sf_script_scene.specs.declared.step.Step.{Step}
-use Rattle.sf_script_scene.specs.declared.step.Step.TheVariants as step
-use Rattle.sf_times.specs.Seats.{raised}
-use Rattle.sf_txn.specs.Transactions.{empty, set}
+use Rattle.sf_actor.specs.sf_picture.declared.picture.Picture.{Picture}
+use Rattle.sf_actor.specs.sf_layer.Ranges.{IsOperation}
+use Rattle.sf_actor.specs.sf_script_scene.declared.step.Step.{Step}
+use Rattle.sf_actor.specs.sf_script_scene.declared.step.Step.TheVariants as step
+use Rattle.sf_actor.specs.sf_times.Seats.{raised}
+use Rattle.sf_actor.specs.sf_txn.Transactions.{empty, set}
 use Rattle.sf_actor.specs.Desks.{ChangesTimes, DeskHome, DeskView, has_queue}
 use Rattle.sf_actor.specs.Names.{is_apart, is_frame, is_lent, name_in}
 use Rattle.sf_actor.specs.Points.{frame_fence, requested_fence}

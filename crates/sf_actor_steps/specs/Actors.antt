@@ -2,12 +2,12 @@
 use Rattle.std.specs.Prelude.{◌≡◌, ℕ, ◌+◌, ◌≤◌, Bool, false, true, List, [], length, replicate, slice_get, Option, None, Some}
 use Rattle.atomic_table.specs.Seated.{TableId}
 use Rattle.sf_base.specs.declared.ids.ActorId.{ActorId}
-use Rattle.sf_picture.specs.declared.picture.Picture.{Picture}
-use Rattle.sf_script_scene.specs.declared.step.ActorScript.{ActorScript}
-use Rattle.sf_script_scene.specs.declared.step.Step.{Step}
-use Rattle.sf_script_scene.specs.declared.step.Step.TheVariants as step
-use Rattle.sf_turns.specs.Counts.{stock_at}
-use Rattle.sf_turns.specs.Views.{StockView}
+use Rattle.sf_actor.specs.sf_picture.declared.picture.Picture.{Picture}
+use Rattle.sf_actor.specs.sf_script_scene.declared.step.ActorScript.{ActorScript}
+use Rattle.sf_actor.specs.sf_script_scene.declared.step.Step.{Step}
+use Rattle.sf_actor.specs.sf_script_scene.declared.step.Step.TheVariants as step
+use Rattle.sf_actor.specs.sf_turns.Counts.{stock_at}
+use Rattle.sf_actor.specs.sf_turns.Views.{StockView}
 use Rattle.sf_actor.specs.declared.tried.Stepped.{Stepped}
 use Rattle.sf_actor.specs.Desks.{DeskHome, DeskView, known_of}
 use Rattle.sf_actor.specs.Known.{share_of}

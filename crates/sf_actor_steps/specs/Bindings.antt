@@ -1,9 +1,9 @@
 -- What an actor's names and transaction numbers are bound to, without the rights to pixels.
 use Rattle.std.specs.Prelude.{ℕ, ◌==◌, Bool, []}
-use Rattle.sf_picture.specs.declared.picture.Picture.{Picture}
-use Rattle.sf_slots.specs.declared.slot.Held.{Held}
-use Rattle.sf_surface.specs.Tokens.{OwingOf, ReadLeaseOf, WriteLeaseOf}
-use Rattle.sf_surface.specs.Calls.{write_token}
+use Rattle.sf_actor.specs.sf_picture.declared.picture.Picture.{Picture}
+use Rattle.sf_actor.specs.sf_slots.declared.slot.Held.{Held}
+use Rattle.sf_actor.specs.sf_surface.Tokens.{OwingOf, ReadLeaseOf, WriteLeaseOf}
+use Rattle.sf_actor.specs.sf_surface.Calls.{write_token}
 use Rattle.sf_actor.specs.Known.{frame_of}
 use Rattle.sf_actor.specs.Names.{Frame, Holdings, Lent, Owing, Token}
 use Rattle.sf_actor.specs.Parts.{drawn_picture, plain_of}

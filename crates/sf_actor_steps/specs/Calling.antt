@@ -1,12 +1,12 @@
 -- What an actor has after a call on a queue.
 use Rattle.std.specs.Prelude.{◌≡◌, ℕ, slice_set, Option, Some, None}
-use Rattle.sf_surface.specs.declared.call.Gives.{Gives}
-use Rattle.sf_surface.specs.declared.call.Gives.TheVariants as gives
-use Rattle.sf_surface.specs.declared.call.QCall.{QCall}
-use Rattle.sf_surface.specs.declared.call.QReply.{QReply}
-use Rattle.sf_surface.specs.Hands.{brought, permit_of}
-use Rattle.sf_surface.specs.Tokens.{EndingOf}
-use Rattle.sf_turns.specs.Views.{Leaves, PermitView}
+use Rattle.sf_actor.specs.sf_surface.declared.call.Gives.{Gives}
+use Rattle.sf_actor.specs.sf_surface.declared.call.Gives.TheVariants as gives
+use Rattle.sf_actor.specs.sf_surface.declared.call.QCall.{QCall}
+use Rattle.sf_actor.specs.sf_surface.declared.call.QReply.{QReply}
+use Rattle.sf_actor.specs.sf_surface.Hands.{brought, permit_of}
+use Rattle.sf_actor.specs.sf_surface.Tokens.{EndingOf}
+use Rattle.sf_actor.specs.sf_turns.Views.{Leaves, PermitView}
 use Rattle.sf_actor.specs.declared.holding.Holding.{Holding}
 use Rattle.sf_actor.specs.declared.holding.Holding.TheVariants as holding
 use Rattle.sf_actor.specs.Desks.{ChangesTurns, DeskHome, DeskView, MadeCall, WaitsForCall}

@@ -1,7 +1,7 @@
 -- What a step that makes a call on a queue does.
 use Rattle.std.specs.Prelude.{◌≡◌, ℕ, true, Option, Some}
-use Rattle.sf_picture.specs.declared.picture.Picture.{Picture}
-use Rattle.sf_script_scene.specs.declared.step.Step.{Step}
+use Rattle.sf_actor.specs.sf_picture.declared.picture.Picture.{Picture}
+use Rattle.sf_actor.specs.sf_script_scene.declared.step.Step.{Step}
 use Rattle.sf_actor.specs.Desks.{DeskHome, DeskView, has_queue}
 use Rattle.sf_actor.specs.Names.{Frame, Lent, Token}
 use Rattle.sf_actor_steps.specs.Calling.{TriesCall}

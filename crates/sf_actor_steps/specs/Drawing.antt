@@ -1,11 +1,11 @@
 -- What a step does that draws, that waits for a timeline, or that takes a buffer out of its queue behind its fence.
 use Rattle.std.specs.Prelude.{◌≡◌, ℕ, true, Option, Some, None, Ok, Err, get_or}
 use Rattle.sf_base.specs.declared.fences.Seen.{Seen}
-use Rattle.sf_picture.specs.declared.picture.Picture.{Picture}
-use Rattle.sf_surface.specs.declared.drawing.DrawFault.TheVariants.{NotYet as Waits}
-use Rattle.sf_surface.specs.Drawing.{DrawsLease, PaysOwing}
-use Rattle.sf_surface.specs.Tokens.{WriteLeaseOf, is_size_of}
-use Rattle.sf_turns.specs.Views.{SeatView}
+use Rattle.sf_actor.specs.sf_picture.declared.picture.Picture.{Picture}
+use Rattle.sf_actor.specs.sf_surface.declared.drawing.DrawFault.TheVariants.{NotYet as Waits}
+use Rattle.sf_actor.specs.sf_surface.Drawing.{DrawsLease, PaysOwing}
+use Rattle.sf_actor.specs.sf_surface.Tokens.{WriteLeaseOf, is_size_of}
+use Rattle.sf_actor.specs.sf_turns.Views.{SeatView}
 use Rattle.sf_actor.specs.declared.holding.Holding.{Holding}
 use Rattle.sf_actor.specs.declared.holding.Holding.TheVariants as holding
 use Rattle.sf_actor.specs.Desks.{ChangesTimes, ChangesTurns, DeskHome, DeskView}

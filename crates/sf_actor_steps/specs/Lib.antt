@@ -9,3 +9,13 @@ pub mod Actors
 pub mod Acting
 pub mod Playable
 pub mod Coming
+pub use Rattle.sf_actor.specs as sf_actor
+pub use Rattle.sf_actor.specs.sf_calls
+pub use Rattle.sf_actor.specs.sf_layer
+pub use Rattle.sf_actor.specs.sf_script_scene
+pub use Rattle.sf_actor.specs.sf_slots
+pub use Rattle.sf_actor.specs.sf_surface
+pub use Rattle.sf_actor.specs.sf_times
+pub use Rattle.sf_actor.specs.sf_token
+pub use Rattle.sf_actor.specs.sf_turns
+pub use Rattle.sf_actor.specs.sf_txn

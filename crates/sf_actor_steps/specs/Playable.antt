@@ -1,12 +1,12 @@
 -- What a step needs of the desk and of the pictures. A scene's reader and its limits give it.
 use Rattle.std.specs.Prelude.{◌≡◌, ◌≤◌, true, List, length, All, IfSome}
-use Rattle.sf_layer.specs.Ranges.{IsOperation}
-use Rattle.sf_picture.specs.declared.picture.Picture.{Picture}
-use Rattle.sf_script_scene.specs.declared.step.ActorScript.{ActorScript}
-use Rattle.sf_script_scene.specs.declared.step.Step.{Step}
-use Rattle.sf_script_scene.specs.declared.step.Step.TheVariants as step
-use Rattle.sf_script_scene.specs.Named.{KnowsPicture, queue_named, timelines_named}
-use Rattle.sf_script_scene.specs.Ranges.{IsStep}
+use Rattle.sf_actor.specs.sf_layer.Ranges.{IsOperation}
+use Rattle.sf_actor.specs.sf_picture.declared.picture.Picture.{Picture}
+use Rattle.sf_actor.specs.sf_script_scene.declared.step.ActorScript.{ActorScript}
+use Rattle.sf_actor.specs.sf_script_scene.declared.step.Step.{Step}
+use Rattle.sf_actor.specs.sf_script_scene.declared.step.Step.TheVariants as step
+use Rattle.sf_actor.specs.sf_script_scene.Named.{KnowsPicture, queue_named, timelines_named}
+use Rattle.sf_actor.specs.sf_script_scene.Ranges.{IsStep}
 use Rattle.sf_actor.specs.Desks.{DeskHome, has_queue}
 use Rattle.sf_actor.specs.Scripts.{layer_of, op_of}
 

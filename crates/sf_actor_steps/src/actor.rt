@@ -1,10 +1,10 @@
 use crate::bindings::Bindings;
 use crate::tried::{Tried, reply_to};
+use sf_actor::sf_picture::{Painted, Picture};
+use sf_actor::sf_script_scene::{ActorScript, Step};
+use sf_actor::sf_turns::{Stock, TableName};
 use sf_actor::{Desk, Reply, Stepped, TokensOf};
 use sf_base::{ActorId, NoMemory};
-use sf_picture::{Painted, Picture};
-use sf_script_scene::{ActorScript, Step};
-use sf_turns::{Stock, TableName};
 use std::alloc::Global;
 
 /// An actor: the steps of its script, of which the first are done, with its replies.
@@ -18,7 +18,7 @@ pub struct Actor<B: TableName> {
 
 impl<B: TableName> Bindings<B> {
     ghost use Rattle.std.specs.Prelude.{◌≡◌, true, None, IfOk};
-    ghost use Rattle.sf_script_scene.specs.Named.{KnowsPicture};
+    ghost use Rattle.sf_actor.specs.sf_script_scene.Named.{KnowsPicture};
     ghost use Rattle.sf_actor.specs.Scripts.{picture_at};
     ghost use Rattle.sf_actor.specs.Tests.{refusal_of};
     ghost use Rattle.sf_actor_steps.specs.Acting.{Attempts, MayAct};

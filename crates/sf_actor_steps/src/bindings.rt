@@ -1,10 +1,10 @@
 use crate::table::Table;
 use sf_actor::Holding;
+use sf_actor::sf_picture::Painted;
+use sf_actor::sf_surface::ReadLease;
+use sf_actor::sf_turns::{Permit, Stock, TableName};
+use sf_actor::sf_txn::Transaction;
 use sf_base::{ActorId, NoMemory};
-use sf_picture::Painted;
-use sf_surface::ReadLease;
-use sf_turns::{Permit, Stock, TableName};
-use sf_txn::Transaction;
 use std::alloc::Global;
 
 /// How many names an actor has, from 0 on.

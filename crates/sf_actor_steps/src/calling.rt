@@ -1,16 +1,16 @@
 ghost use Rattle.std.specs.Prelude.{◌≡◌};
-ghost use Rattle.sf_surface.specs.Hands.{brought};
+ghost use Rattle.sf_actor.specs.sf_surface.Hands.{brought};
 ghost use Rattle.sf_actor_steps.specs.Calling.{Ends};
 
 use crate::asking::{Asking, Homes};
 use crate::bindings::Bindings;
 use crate::tried::Tried;
+use sf_actor::sf_calls::CallFault;
+use sf_actor::sf_picture::Painted;
+use sf_actor::sf_surface::{Ending, Gives, QCall, QReply};
+use sf_actor::sf_turns::{Permit, TableName};
 use sf_actor::{Desk, Holding, TokensOf};
 use sf_base::NoMemory;
-use sf_calls::CallFault;
-use sf_picture::Painted;
-use sf_surface::{Ending, Gives, QCall, QReply};
-use sf_turns::{Permit, TableName};
 
 /// What a queue call brought, as what it would give.
 fn brought<B: TableName>(call: QCall<B>) -> Gives<B>
@@ -48,7 +48,7 @@ pub fn leave<B: TableName, D: Desk<TokensOf<B>>>(desk: &mut D, ends: Option<Endi
 
 impl<B: TableName> Bindings<B> {
     ghost use Rattle.std.specs.Prelude.{◌≡◌, true, IfOk};
-    ghost use Rattle.sf_surface.specs.Marks.{PermitFits};
+    ghost use Rattle.sf_actor.specs.sf_surface.Marks.{PermitFits};
     ghost use Rattle.sf_actor.specs.Desks.{has_queue};
     ghost use Rattle.sf_actor_steps.specs.Calling.{Ends, TriesCall, placed, received, taken_back, with_spare};
     ghost use Rattle.sf_actor_steps.specs.declared.tried.Tried.TheVariants as tried;

@@ -1,16 +1,16 @@
 use crate::asking::{fence_of, joining, named, release};
 use crate::bindings::Bindings;
 use crate::tried::Tried;
+use sf_actor::sf_script_scene::Points;
+use sf_actor::sf_surface::QCall;
+use sf_actor::sf_turns::TableName;
 use sf_actor::{Desk, TokensOf};
 use sf_base::{NoMemory, QueueId};
-use sf_script_scene::Points;
-use sf_surface::QCall;
-use sf_turns::TableName;
 
 impl<B: TableName> Bindings<B> {
     ghost use Rattle.std.specs.Prelude.{◌≡◌, ℕ, true, IfOk};
-    ghost use Rattle.sf_picture.specs.declared.picture.Picture.{Picture};
-    ghost use Rattle.sf_script_scene.specs.declared.step.Step.TheVariants as step;
+    ghost use Rattle.sf_actor.specs.sf_picture.declared.picture.Picture.{Picture};
+    ghost use Rattle.sf_actor.specs.sf_script_scene.declared.step.Step.TheVariants as step;
     ghost use Rattle.sf_actor.specs.Desks.{has_queue};
     ghost use Rattle.sf_actor.specs.Names.{is_apart, is_frame, name_in};
     ghost use Rattle.sf_actor_steps.specs.Doing.{HasQueueOf, MakesCall};

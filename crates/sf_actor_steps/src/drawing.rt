@@ -1,16 +1,16 @@
 ghost use Rattle.std.specs.Prelude.{◌≡◌, ◌-◌, ◌<◌, ◌≤◌, slice_index, nat_lt};
 ghost use Rattle.sf_actor.specs.Desks.{ChangesTimes};
 ghost use Rattle.sf_actor.specs.Tries.{Sees};
-ghost use Rattle.sf_times.specs.Seats.{raised};
+ghost use Rattle.sf_actor.specs.sf_times.Seats.{raised};
 
 use crate::bindings::Bindings;
 use crate::tried::Tried;
+use sf_actor::sf_picture::Picture;
+use sf_actor::sf_slots::Held;
+use sf_actor::sf_surface::{DrawFault, Owing, WriteLease};
+use sf_actor::sf_turns::TableName;
 use sf_actor::{Desk, Holding, TokensOf};
 use sf_base::{NoMemory, Seen, TimelineId};
-use sf_picture::Picture;
-use sf_slots::Held;
-use sf_surface::{DrawFault, Owing, WriteLease};
-use sf_turns::TableName;
 
 /// Looks at the timelines.
 pub fn look<B: TableName, D: Desk<TokensOf<B>>>(desk: &mut D) -> Seen
@@ -43,7 +43,7 @@ pub fn is_below(seen: &Seen, timeline: u32, value: u64) -> bool
 
 impl<B: TableName> Bindings<B> {
     ghost use Rattle.std.specs.Prelude.{◌≡◌, IfOk, None, get_or};
-    ghost use Rattle.sf_surface.specs.Tokens.{is_size_of};
+    ghost use Rattle.sf_actor.specs.sf_surface.Tokens.{is_size_of};
     ghost use Rattle.std.specs.Prelude.{true};
     ghost use Rattle.sf_actor.specs.Desks.{ChangesTurns};
     ghost use Rattle.sf_actor.specs.declared.holding.Holding.TheVariants as holding;

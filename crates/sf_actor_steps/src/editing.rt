@@ -7,14 +7,14 @@ ghost use Rattle.sf_actor_steps.specs.Editing.{IsThere, Releases, ReleasesAll, b
 use crate::bindings::Bindings;
 use crate::calling::leave;
 use crate::tried::Tried;
+use sf_actor::sf_calls::CallFault;
+use sf_actor::sf_layer::{Kind, Op, Parent, Shown};
+use sf_actor::sf_script_scene::Change;
+use sf_actor::sf_surface::{QCall, QReply, ReadLease};
+use sf_actor::sf_turns::TableName;
+use sf_actor::sf_txn::{BufferOp, Transaction};
 use sf_actor::{Desk, TokensOf};
 use sf_base::{ActorId, Fence, LayerId, NoMemory, Rect, TokenId};
-use sf_calls::CallFault;
-use sf_layer::{Kind, Op, Parent, Shown};
-use sf_script_scene::Change;
-use sf_surface::{QCall, QReply, ReadLease};
-use sf_turns::TableName;
-use sf_txn::{BufferOp, Transaction};
 use std::alloc::Global;
 
 /// The parent that a change names.
@@ -138,8 +138,8 @@ fn release_all<B: TableName, D: Desk<TokensOf<B>>>(
 
 impl<B: TableName> Bindings<B> {
     ghost use Rattle.std.specs.Prelude.{◌≡◌, ◌≢◌, ◌≤◌, ◌++◌, ◌∷◌, [], true, IfOk, None, Some, get_or, is_some};
-    ghost use Rattle.sf_layer.specs.Ranges.{IsOperation};
-    ghost use Rattle.sf_txn.specs.Transactions.{empty, set};
+    ghost use Rattle.sf_actor.specs.sf_layer.Ranges.{IsOperation};
+    ghost use Rattle.sf_actor.specs.sf_txn.Transactions.{empty, set};
     ghost use Rattle.sf_actor.specs.Scripts.{layer_of, op_of};
     ghost use Rattle.sf_actor_steps.specs.Editing.{AreThere, Edits, HoldsShown, Merges, Shows, TakesTxn, TriesSend, with_txn};
     ghost use Rattle.sf_actor_steps.specs.declared.tried.Tried.TheVariants as tried;

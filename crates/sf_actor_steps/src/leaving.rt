@@ -7,10 +7,10 @@ use crate::bindings::Bindings;
 use crate::drawing::look;
 use crate::refusal::BAD_VALUE;
 use crate::tried::Tried;
+use sf_actor::sf_surface::QCall;
+use sf_actor::sf_turns::TableName;
 use sf_actor::{Desk, Holding, TokensOf};
 use sf_base::{Fence, NoMemory, QueueId};
-use sf_surface::QCall;
-use sf_turns::TableName;
 
 /// Whether a point of a fence is not signalled, as a look shows, if there is a fence.
 fn is_open<B: TableName, D: Desk<TokensOf<B>>>(desk: &mut D, fence: Option<&Fence>) -> bool
@@ -36,8 +36,8 @@ fn was_ok(tried: &Tried) -> bool
 impl<B: TableName> Bindings<B> {
     ghost use Rattle.std.specs.Prelude.{◌≡◌, ℕ, true, IfOk, None, get_or, length};
     ghost use Rattle.std.specs.Option.{option_copied};
-    ghost use Rattle.sf_picture.specs.declared.picture.Picture.{Picture};
-    ghost use Rattle.sf_script_scene.specs.declared.step.Step.TheVariants as step;
+    ghost use Rattle.sf_actor.specs.sf_picture.declared.picture.Picture.{Picture};
+    ghost use Rattle.sf_actor.specs.sf_script_scene.declared.step.Step.TheVariants as step;
     ghost use Rattle.sf_actor.specs.Desks.{has_queue};
     ghost use Rattle.sf_actor.specs.Names.{is_frame, is_lent, name_in};
     ghost use Rattle.sf_actor.specs.Points.{frame_fence, requested_fence};

@@ -1,18 +1,18 @@
 ghost use Rattle.std.specs.Prelude.{◌≡◌, ◌==◌, not, None, Some, if◌then◌else◌, true};
 ghost use Rattle.std.specs.List.{find};
 ghost use Rattle.std.specs.Option.{option_copied};
-ghost use Rattle.sf_surface.specs.Tokens.{is_size_of};
+ghost use Rattle.sf_actor.specs.sf_surface.Tokens.{is_size_of};
 ghost use Rattle.sf_actor.specs.Scripts.{picture_at};
 ghost use Rattle.sf_actor.specs.Tests.{shows_other};
-ghost use Rattle.sf_script_scene.specs.Scene.{has_picture};
+ghost use Rattle.sf_actor.specs.sf_script_scene.Scene.{has_picture};
 ghost use Rattle.sf_actor_steps.specs.Bindings.{is_numbered, lent_of};
 
 use crate::bindings::Bindings;
 use sf_actor::Holding;
-use sf_picture::Picture;
-use sf_script_scene::Step;
-use sf_surface::{Owing, ReadLease, Work, WriteLease};
-use sf_turns::TableName;
+use sf_actor::sf_picture::Picture;
+use sf_actor::sf_script_scene::Step;
+use sf_actor::sf_surface::{Owing, ReadLease, Work, WriteLease};
+use sf_actor::sf_turns::TableName;
 
 /// The picture can't be drawn there, another one was drawn, or the frame has no number.
 pub const BAD_VALUE: u32 = 11;
@@ -74,14 +74,14 @@ fn owes_other<B: TableName>(owing: &Owing<B>, picture: u32) -> bool
 
 impl<B: TableName> Bindings<B> {
     ghost use Rattle.std.specs.Prelude.{◌≡◌, ℕ, MatchOption, Some, None, false, true, is_some, not, ◌==◌, if◌then◌else◌};
-    ghost use Rattle.sf_picture.specs.declared.picture.Picture.{Picture};
-    ghost use Rattle.sf_script_scene.specs.declared.step.Step.TheVariants as step;
-    ghost use Rattle.sf_slots.specs.declared.slot.Held.{Held};
+    ghost use Rattle.sf_actor.specs.sf_picture.declared.picture.Picture.{Picture};
+    ghost use Rattle.sf_actor.specs.sf_script_scene.declared.step.Step.TheVariants as step;
+    ghost use Rattle.sf_actor.specs.sf_slots.declared.slot.Held.{Held};
     ghost use Rattle.sf_actor.specs.Names.{is_apart, is_frame, is_lent, is_owing, name_in, transaction_in};
     ghost use Rattle.sf_actor.specs.Scripts.{picture_at};
     ghost use Rattle.sf_actor.specs.Tests.{is_taken, refusal_of};
-    ghost use Rattle.sf_script_scene.specs.Named.{KnowsPicture};
-    ghost use Rattle.sf_script_scene.specs.Scene.{has_picture};
+    ghost use Rattle.sf_actor.specs.sf_script_scene.Named.{KnowsPicture};
+    ghost use Rattle.sf_actor.specs.sf_script_scene.Scene.{has_picture};
     ghost use Rattle.sf_actor_steps.specs.Bindings.{holdings_of, lent_of, owing_of, shown_of};
 
     /// Whether a name holds something.

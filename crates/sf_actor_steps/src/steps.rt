@@ -2,17 +2,17 @@ use crate::bindings::Bindings;
 use crate::drawing::{is_below, look, signal};
 use crate::refusal::picture_of;
 use crate::tried::Tried;
+use sf_actor::sf_picture::Picture;
+use sf_actor::sf_script_scene::Step;
+use sf_actor::sf_turns::TableName;
 use sf_actor::{Desk, TokensOf};
 use sf_base::NoMemory;
-use sf_picture::Picture;
-use sf_script_scene::Step;
-use sf_turns::TableName;
 
 impl<B: TableName> Bindings<B> {
     ghost use Rattle.std.specs.Prelude.{◌≡◌, ◌≤◌, true, IfOk};
     ghost use Rattle.sf_actor.specs.Scripts.{picture_at};
     ghost use Rattle.sf_actor_steps.specs.Acting.{Acts, MayAct, Signals, Waits};
-    ghost use Rattle.sf_script_scene.specs.Named.{KnowsPicture};
+    ghost use Rattle.sf_actor.specs.sf_script_scene.Named.{KnowsPicture};
 
     /// Raises a timeline.
     fn signal<D: Desk<TokensOf<B>>>(&mut self, desk: &mut D, timeline: u32, value: u64) -> Tried

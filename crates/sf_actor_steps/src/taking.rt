@@ -1,9 +1,9 @@
 use crate::bindings::Bindings;
 use sf_actor::Holding;
+use sf_actor::sf_picture::Painted;
+use sf_actor::sf_surface::{Loose, ReadLease, WriteLease};
+use sf_actor::sf_turns::{Permit, TableName};
 use sf_base::{NoMemory, QueueId};
-use sf_picture::Painted;
-use sf_surface::{Loose, ReadLease, WriteLease};
-use sf_turns::{Permit, TableName};
 
 impl<B: TableName> Bindings<B> {
     ghost use Rattle.std.specs.Prelude.{◌≡◌, ◌<◌, true, length, IfOk};

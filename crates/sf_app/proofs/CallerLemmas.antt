@@ -6,24 +6,24 @@ use Rattle.std.proofs.lemmas.List.Concat.{flat_map-append}
 use Rattle.std.proofs.lemmas.List.Elements.{All-append, All-cons, All-head, All-nil, All-push, All-tail}
 use Rattle.std.specs.List.{flat_map, range_with_len}
 use Rattle.std.specs.Prelude.{filter}
-use Rattle.sf_slots.specs.declared.calls.Entry.{Entry}
+use Rattle.sf_live.specs.sf_slots.declared.calls.Entry.{Entry}
 use Rattle.sf_script_scene.specs.Scene.{SceneValue}
 use Rattle.sf_script_scene.specs.declared.declarations.QueueDecl.{QueueDecl}
-use Rattle.sf_record.specs.Events.{closing, event_records, events_records, output_record}
-use Rattle.sf_output.specs.declared.output.Output.{Output}
-use Rattle.sf_output.specs.declared.output.Output.TheVariants as out
-use Rattle.sf_record.specs.declared.event.Event.{Event}
-use Rattle.sf_record.specs.declared.event.Event.TheVariants as event
-use Rattle.sf_record.specs.declared.record.Commit.{Commit}
-use Rattle.sf_record.specs.declared.record.HeldEntry.{HeldEntry}
-use Rattle.sf_record.specs.declared.record.HistoryEntry.{HistoryEntry}
-use Rattle.sf_record.specs.declared.record.QueueHistory.{QueueHistory}
-use Rattle.sf_record.specs.declared.record.Record.{Record}
-use Rattle.sf_record.specs.declared.record.Record.TheVariants as rec
-use Rattle.sf_record.specs.declared.record.StuckEntry.{StuckEntry}
-use Rattle.sf_actor.specs.Makers.{Run}
-use Rattle.law_played.specs.Histories.{IsCaller, IsHistory, entry_shown, history_shown, queue_number, released_in, rising_queues}
-use Rattle.law_played.specs.Played.{Shows, opening, records_of, vsyncs_told}
+use Rattle.sf_record_sums.specs.sf_record.Events.{closing, event_records, events_records, output_record}
+use Rattle.sf_record_sums.specs.sf_output.declared.output.Output.{Output}
+use Rattle.sf_record_sums.specs.sf_output.declared.output.Output.TheVariants as out
+use Rattle.sf_record_sums.specs.sf_record.declared.event.Event.{Event}
+use Rattle.sf_record_sums.specs.sf_record.declared.event.Event.TheVariants as event
+use Rattle.sf_record_sums.specs.sf_record.declared.record.Commit.{Commit}
+use Rattle.sf_record_sums.specs.sf_record.declared.record.HeldEntry.{HeldEntry}
+use Rattle.sf_record_sums.specs.sf_record.declared.record.HistoryEntry.{HistoryEntry}
+use Rattle.sf_record_sums.specs.sf_record.declared.record.QueueHistory.{QueueHistory}
+use Rattle.sf_record_sums.specs.sf_record.declared.record.Record.{Record}
+use Rattle.sf_record_sums.specs.sf_record.declared.record.Record.TheVariants as rec
+use Rattle.sf_record_sums.specs.sf_record.declared.record.StuckEntry.{StuckEntry}
+use Rattle.sf_live.specs.sf_actor.Makers.{Run}
+use Rattle.sf_live.specs.law_played.Histories.{IsCaller, IsHistory, entry_shown, history_shown, queue_number, released_in, rising_queues}
+use Rattle.sf_live.specs.law_played.Played.{Shows, opening, records_of, vsyncs_told}
 use Rattle.sf_app.specs.Callers.{CallersAreKnown, IsKnown, histories_in, history_in}
 
 histories_in-append : (rs ss : List Record) → histories_in (rs ++ ss) ≡ histories_in rs ++ histories_in ss

@@ -2,23 +2,23 @@
 use Rattle.std.proofs.Common.{◌≡◌, ℕ, ◌+◌, ◌≤◌, ◌==◌, Bool, true, false, List, [], ◌∷◌, length, Option, None, Some, Result, Ok, Err, refl, ap, subst, arith}
 use Rattle.std.specs.Prelude.{nat_lt}
 use Rattle.std.specs.Str.{is_utf8}
-use Rattle.sf_script_words.specs.Numbers.{decimal_of, in_range}
-use Rattle.sf_script_words.specs.Reading.{◌>>=◌, demand, end_at, good, number_at, some_or, word_at}
-use Rattle.sf_script_words.specs.Text.{Text, lines_of, trimmed, words_of}
-use Rattle.sf_script_words.specs.declared.fault.WordFault.{WordFault}
-use Rattle.sf_script_words.specs.declared.fault.Cause.TheVariants.{Limit, NotUtf8, OutOfOrder, UnknownWord}
+use Rattle.sf_app_options.specs.sf_script_words.Numbers.{decimal_of, in_range}
+use Rattle.sf_app_options.specs.sf_script_words.Reading.{◌>>=◌, demand, end_at, good, number_at, some_or, word_at}
+use Rattle.sf_app_options.specs.sf_script_words.Text.{Text, lines_of, trimmed, words_of}
+use Rattle.sf_app_options.specs.sf_script_words.declared.fault.WordFault.{WordFault}
+use Rattle.sf_app_options.specs.sf_script_words.declared.fault.Cause.TheVariants.{Limit, NotUtf8, OutOfOrder, UnknownWord}
 use Rattle.sf_script_scene.specs.Scene.{SceneValue}
-use Rattle.sf_script.specs.Declarations.{header_at, version_at}
-use Rattle.sf_script.specs.Draft.{DraftValue, draft_after, has_room, is_any, is_ended, may_follow, no_lines, scene_after}
-use Rattle.sf_script.specs.Keywords.{keyword_of}
-use Rattle.sf_script.specs.Parse.{parsed_of}
-use Rattle.sf_script.specs.Script.{after_line, draft_at, form_at, is_skipped, line_at, lined, lines_at, scene_at, script_of, words_at}
-use Rattle.sf_script.specs.declared.fault.ScriptFault.{ScriptFault}
-use Rattle.sf_script.specs.declared.line.Header.{Header}
-use Rattle.sf_script.specs.declared.line.Keyword.{Keyword}
-use Rattle.sf_script.specs.declared.line.Keyword.TheVariants as key
-use Rattle.sf_script.specs.declared.line.Line.{Line}
-use Rattle.sf_script.specs.declared.line.Line.TheVariants as line
+use Rattle.law_generated.specs.sf_script.Declarations.{header_at, version_at}
+use Rattle.law_generated.specs.sf_script.Draft.{DraftValue, draft_after, has_room, is_any, is_ended, may_follow, no_lines, scene_after}
+use Rattle.law_generated.specs.sf_script.Keywords.{keyword_of}
+use Rattle.law_generated.specs.sf_script.Parse.{parsed_of}
+use Rattle.law_generated.specs.sf_script.Script.{after_line, draft_at, form_at, is_skipped, line_at, lined, lines_at, scene_at, script_of, words_at}
+use Rattle.law_generated.specs.sf_script.declared.fault.ScriptFault.{ScriptFault}
+use Rattle.law_generated.specs.sf_script.declared.line.Header.{Header}
+use Rattle.law_generated.specs.sf_script.declared.line.Keyword.{Keyword}
+use Rattle.law_generated.specs.sf_script.declared.line.Keyword.TheVariants as key
+use Rattle.law_generated.specs.sf_script.declared.line.Line.{Line}
+use Rattle.law_generated.specs.sf_script.declared.line.Line.TheVariants as line
 
 -- a period in its range
 pub record IsPeriod (period : ℕ) : Type 0 where

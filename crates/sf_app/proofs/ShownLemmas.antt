@@ -5,18 +5,18 @@ use Rattle.sf_app_options.specs.Options.{is_live}
 use Rattle.sf_app_options.specs.declared.options.Run.{Run}
 use Rattle.sf_app_options.specs.declared.options.Run.TheVariants as run
 use Rattle.sf_script_scene.specs.Scene.{SceneValue}
-use Rattle.sf_record.specs.Fitting.{RecordFits}
-use Rattle.sf_record.specs.Records.{bytes_of}
-use Rattle.sf_record.specs.declared.encode.RunFault.{RunFault}
-use Rattle.sf_record.specs.declared.record.Record.{Record}
-use Rattle.sf_record.specs.declared.record.Record.TheVariants as rec
-use Rattle.sf_record.specs.declared.record.Summary.{Summary}
-use Rattle.law_played.specs.Played.{PlayedWhere}
-use Rattle.sf_play_write.specs.Runs.{CutRun, WroteRun}
-use Rattle.sf_play_write.specs.Writing.{Writes, WritesPart}
+use Rattle.sf_record_sums.specs.sf_record.Fitting.{RecordFits}
+use Rattle.sf_record_sums.specs.sf_record.Records.{bytes_of}
+use Rattle.sf_record_sums.specs.sf_record.declared.encode.RunFault.{RunFault}
+use Rattle.sf_record_sums.specs.sf_record.declared.record.Record.{Record}
+use Rattle.sf_record_sums.specs.sf_record.declared.record.Record.TheVariants as rec
+use Rattle.sf_record_sums.specs.sf_record.declared.record.Summary.{Summary}
+use Rattle.sf_live.specs.law_played.Played.{PlayedWhere}
+use Rattle.sf_live.specs.sf_play_write.Runs.{CutRun, WroteRun}
+use Rattle.sf_live.specs.sf_play_write.Writing.{Writes, WritesPart}
 use Rattle.sf_record_sums.specs.Summaries.{summary_of, wrapped}
 use Rattle.sf_app.specs.Shown.{ShowsPart, ShowsPlay, ShowsRun, bytes_shown, records_shown}
-use Rattle.sf_play_write.proofs.WritingLemmas.{one_record, part_none}
+use Rattle.sf_live.proofs.sf_play_write_lemmas.WritingLemmas.{one_record, part_none}
 
 pub ok_then : {A B : Type 0} (r : Result (Unit {0}) RunFault) → (A → B) → OnOk r A → OnOk r B
 ok_then (Ok u) f h = f h

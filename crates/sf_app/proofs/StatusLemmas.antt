@@ -13,17 +13,17 @@ use Rattle.sf_app_options.specs.declared.options.Run.{Run}
 use Rattle.sf_app_options.specs.declared.options.Run.TheVariants as run
 use Rattle.sf_script_scene.specs.Limits.{IsWithinLimits}
 use Rattle.sf_script_scene.specs.Scene.{SceneValue}
-use Rattle.sf_script.specs.declared.fault.ScriptFault.{ScriptFault}
-use Rattle.sf_script.specs.Parse.{parsed_of}
+use Rattle.law_generated.specs.sf_script.declared.fault.ScriptFault.{ScriptFault}
+use Rattle.law_generated.specs.sf_script.Parse.{parsed_of}
 use Rattle.law_generated.proofs.SceneLemmas.{text_is_scene}
-use Rattle.sf_record.specs.Fitting.{RecordFits}
-use Rattle.sf_record.specs.declared.encode.RunFault.{RunFault}
-use Rattle.sf_record.specs.declared.encode.RunFault.TheVariants as run_fault
-use Rattle.sf_record.specs.declared.record.Record.TheVariants as rec
-use Rattle.law_played.proofs.PlayEnds.{timed_records}
-use Rattle.sf_play_write.proofs.WritingLemmas.{cut_none as none_cut, cut_part, one_part, one_written, part_none as none_of, part_whole as all_as_part, some_cut}
-use Rattle.sf_play_write.specs.Runs.{CutRun}
-use Rattle.sf_play_write.specs.Writing.{CutSome}
+use Rattle.sf_record_sums.specs.sf_record.Fitting.{RecordFits}
+use Rattle.sf_record_sums.specs.sf_record.declared.encode.RunFault.{RunFault}
+use Rattle.sf_record_sums.specs.sf_record.declared.encode.RunFault.TheVariants as run_fault
+use Rattle.sf_record_sums.specs.sf_record.declared.record.Record.TheVariants as rec
+use Rattle.sf_live.proofs.law_played_lemmas.PlayEnds.{timed_records}
+use Rattle.sf_live.proofs.sf_play_write_lemmas.WritingLemmas.{cut_none as none_cut, cut_part, one_part, one_written, part_none as none_of, part_whole as all_as_part, some_cut}
+use Rattle.sf_live.specs.sf_play_write.Runs.{CutRun}
+use Rattle.sf_live.specs.sf_play_write.Writing.{CutSome}
 use Rattle.sf_app.proofs.HeaderLemmas.{IsPeriod, parsed_timed}
 use Rattle.sf_app.specs.Shown.{ShowsPart, ShowsPlay, ShowsRun, ShowsRunPart, records_shown}
 use Rattle.sf_app.specs.Statuses.{NoScene, PlayedScript, PrefixOf, RefusedScript, RunEnded, ScriptEnded, WritesPrefix, at_no_place, fault_bytes, misspelled, too_long}

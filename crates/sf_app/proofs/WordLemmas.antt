@@ -6,7 +6,7 @@ use Rattle.sf_app_options.specs.Options.{do_conflict, is_live, is_queue, options
 use Rattle.sf_app_options.specs.declared.options.Intake.{Intake}
 use Rattle.sf_app_options.specs.declared.options.Options.{Options}
 use Rattle.sf_app_options.specs.declared.options.Run.{Run}
-use Rattle.sf_script_words.specs.Text.{Text}
+use Rattle.sf_app_options.specs.sf_script_words.Text.{Text}
 
 some_is : {A : Type 0} (x y : A) → Some x ≡ Some y → x ≡ y
 some_is x y e = cc

@@ -2,11 +2,11 @@
 use Rattle.std.specs.Prelude.{Bool, ◌≡◌, ◌==◌, ◌||◌, true, List, [], ◌∷◌, All}
 use Rattle.std.specs.List.{flat_map}
 use Rattle.sf_script_scene.specs.Scene.{SceneValue, has_actor}
-use Rattle.sf_record.specs.declared.record.HistoryEntry.{HistoryEntry}
-use Rattle.sf_record.specs.declared.record.QueueHistory.{QueueHistory}
-use Rattle.sf_record.specs.declared.record.Record.{Record}
-use Rattle.sf_record.specs.declared.record.Record.TheVariants as rec
-use Rattle.law_played.specs.Played.{PlayedWhere}
+use Rattle.sf_record_sums.specs.sf_record.declared.record.HistoryEntry.{HistoryEntry}
+use Rattle.sf_record_sums.specs.sf_record.declared.record.QueueHistory.{QueueHistory}
+use Rattle.sf_record_sums.specs.sf_record.declared.record.Record.{Record}
+use Rattle.sf_record_sums.specs.sf_record.declared.record.Record.TheVariants as rec
+use Rattle.sf_live.specs.law_played.Played.{PlayedWhere}
 
 -- the histories among records
 abbrev pub history_in : Record → List QueueHistory

@@ -4,12 +4,12 @@ use Rattle.sf_live.specs.Runs.{WroteLive}
 use Rattle.sf_app_options.specs.declared.options.Run.{Run}
 use Rattle.sf_app_options.specs.declared.options.Run.TheVariants as run
 use Rattle.sf_script_scene.specs.Scene.{SceneValue}
-use Rattle.sf_record.specs.Records.{bytes_of, record_bytes}
-use Rattle.sf_record.specs.declared.record.Record.{Record}
-use Rattle.sf_record.specs.declared.record.Record.TheVariants as rec
-use Rattle.law_played.specs.Ends.{ArePlayRecords}
-use Rattle.law_played.specs.Played.{Played}
-use Rattle.sf_play_write.specs.Writing.{CutSome, Writes, WritesPart}
+use Rattle.sf_record_sums.specs.sf_record.Records.{bytes_of, record_bytes}
+use Rattle.sf_record_sums.specs.sf_record.declared.record.Record.{Record}
+use Rattle.sf_record_sums.specs.sf_record.declared.record.Record.TheVariants as rec
+use Rattle.sf_live.specs.law_played.Ends.{ArePlayRecords}
+use Rattle.sf_live.specs.law_played.Played.{Played}
+use Rattle.sf_live.specs.sf_play_write.Writing.{CutSome, Writes, WritesPart}
 use Rattle.sf_record_sums.specs.Summaries.{summary_of, wrapped}
 
 -- what is written of records: they themselves, or under `--summary` the one record of what they come to, each number told modulo 2^64

@@ -5,13 +5,13 @@ use Rattle.sf_io.specs.Causes.{Rose}
 use Rattle.sf_io.specs.Streams.{Took, TookPrefix}
 use Rattle.sf_app_options.specs.declared.options.Options.{Options}
 use Rattle.sf_script_scene.specs.Scene.{SceneValue}
-use Rattle.sf_script.specs.Parse.{parsed_of}
-use Rattle.sf_script.specs.declared.fault.ScriptFault.{ScriptFault}
-use Rattle.sf_record.specs.declared.record.Record.TheVariants as rec
-use Rattle.sf_record.specs.declared.record.Record.{Record}
-use Rattle.sf_record.specs.Records.{record_bytes}
-use Rattle.law_played.specs.Played.{PlayedWhere}
-use Rattle.sf_play_write.specs.Writing.{CutSome}
+use Rattle.law_generated.specs.sf_script.Parse.{parsed_of}
+use Rattle.law_generated.specs.sf_script.declared.fault.ScriptFault.{ScriptFault}
+use Rattle.sf_record_sums.specs.sf_record.declared.record.Record.TheVariants as rec
+use Rattle.sf_record_sums.specs.sf_record.declared.record.Record.{Record}
+use Rattle.sf_record_sums.specs.sf_record.Records.{record_bytes}
+use Rattle.sf_live.specs.law_played.Played.{PlayedWhere}
+use Rattle.sf_live.specs.sf_play_write.Writing.{CutSome}
 use Rattle.sf_app.specs.Shown.{ShowsRun, ShowsRunPart, bytes_shown}
 use Rattle.sf_app.specs.Words.{IsScript, IsTold, is_gen, tells_place}
 

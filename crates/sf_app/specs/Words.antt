@@ -2,12 +2,12 @@
 use Rattle.std.specs.Prelude.{◌≡◌, ℕ, Bool, true, false, not, List, Option, Some}
 use Rattle.std.specs.Io.KnownBytes.{Consumes, IsAtEnd}
 use Rattle.std.specs.List.{concat}
-use Rattle.sf_script_generate.specs.Generator.{lines_of}
+use Rattle.law_generated.specs.sf_script_generate.Generator.{lines_of}
 use Rattle.sf_app_options.specs.Options.{is_queue}
 use Rattle.sf_app_options.specs.declared.options.Options.{Options}
 use Rattle.sf_app_options.specs.declared.options.Run.{Run}
 use Rattle.sf_app_options.specs.declared.options.Run.TheVariants as run
-use Rattle.sf_script_words.specs.Text.{Text}
+use Rattle.sf_app_options.specs.sf_script_words.Text.{Text}
 
 -- a generated script is played
 abbrev pub is_gen : Run → Bool

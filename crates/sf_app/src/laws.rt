@@ -1,7 +1,7 @@
 ghost use Rattle.std.specs.Prelude.{◌≡◌, List};
 ghost use Rattle.sf_script_scene.specs.Scene.{SceneValue};
-ghost use Rattle.sf_record.specs.declared.record.Record.{Record};
-ghost use Rattle.law_played.specs.Ends.{ArePlayRecords};
+ghost use Rattle.sf_record_sums.specs.sf_record.declared.record.Record.{Record};
+ghost use Rattle.sf_live.specs.law_played.Ends.{ArePlayRecords};
 ghost use Rattle.sf_app.specs.Callers.{CallersAreKnown};
 
 /// The law that a scene has one play: its records are determined by the scene alone.

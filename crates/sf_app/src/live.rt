@@ -1,16 +1,15 @@
 ghost use Rattle.std.specs.Prelude.{◌≡◌, ◌≤◌, not};
-ghost use Rattle.sf_actor_set.specs.Scripts.{permits_of};
+ghost use Rattle.sf_live.specs.sf_actor_set.Scripts.{permits_of};
 ghost use Rattle.sf_live.specs.Runs.{LiveEnded};
 ghost use Rattle.sf_app_options.specs.Options.{is_queue};
 
-use sf_actor_set::permits_for;
+use sf_app_options::Intake;
 use sf_base::NoMemory;
 use sf_io::{Gate, Sink};
-use sf_app_options::Intake;
-use sf_picture::Painted;
-use sf_record::RunFault;
+use sf_live::{Stock, TurnSeat, open_turns, permits_for};
+use sf_record_sums::sf_record::RunFault;
 use sf_script_scene::Scene;
-use sf_turns::{Stock, TurnSeat, open_turns};
+use sf_script_scene::sf_picture::Painted;
 use std::alloc::Global;
 use std::marker::Brand;
 use std::sync::Wait;

@@ -1,17 +1,15 @@
 ghost use Rattle.std.specs.Prelude.{◌≡◌, ◌≤◌, OnErr, OnOk, IsErrOf};
 ghost use Rattle.sf_io.specs.Causes.{Rose};
-ghost use Rattle.sf_record.specs.declared.encode.RunFault.TheVariants.{WriteFault};
-ghost use Rattle.sf_actor_set.specs.Scripts.{permits_of};
-ghost use Rattle.sf_play_write.specs.Runs.{CutRun, WroteRun};
+ghost use Rattle.sf_record_sums.specs.sf_record.declared.encode.RunFault.TheVariants.{WriteFault};
+ghost use Rattle.sf_live.specs.sf_actor_set.Scripts.{permits_of};
+ghost use Rattle.sf_live.specs.sf_play_write.Runs.{CutRun, WroteRun};
 
-use sf_actor_set::permits_for;
 use sf_base::NoMemory;
 use sf_io::Sink;
-use sf_picture::Painted;
-use sf_record::RunFault;
+use sf_live::{Stock, TurnSeat, open_turns, permits_for, show_play};
+use sf_record_sums::sf_record::RunFault;
 use sf_script_scene::Scene;
-use sf_play_write::show_play;
-use sf_turns::{Stock, TurnSeat, open_turns};
+use sf_script_scene::sf_picture::Painted;
 use std::alloc::Global;
 use std::marker::Brand;
 use std::thread::Threads;

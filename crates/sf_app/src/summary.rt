@@ -1,13 +1,13 @@
 ghost use Rattle.std.specs.Prelude.{◌≡◌, ◌≤◌, false, true, OnErr, OnOk, IsErrOf};
 ghost use Rattle.sf_io.specs.Causes.{Rose};
-ghost use Rattle.sf_record.specs.declared.encode.RunFault.TheVariants.{WriteFault};
+ghost use Rattle.sf_record_sums.specs.sf_record.declared.encode.RunFault.TheVariants.{WriteFault};
 ghost use Rattle.sf_app.specs.Shown.{ShowsPart, ShowsPlay};
 
 use crate::play::play;
 use sf_io::Sink;
-use sf_record::{Record, RunFault, write_record};
-use sf_script_scene::Scene;
 use sf_record_sums::Tally;
+use sf_record_sums::sf_record::{Record, RunFault, write_record};
+use sf_script_scene::Scene;
 use std::alloc::Global;
 use std::thread::Threads;
 

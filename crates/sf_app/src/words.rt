@@ -3,10 +3,10 @@ ghost use Rattle.sf_io.specs.Causes.{Rose};
 ghost use Rattle.sf_io.specs.Streams.{Took};
 ghost use Rattle.sf_app.specs.Words.{IsScript, generated, is_gen};
 
-use sf_script_generate::generate;
-use sf_io::{ReadFault, Source, read_all};
+use law_generated::sf_script::LONGEST_SCRIPT;
+use law_generated::sf_script_generate::generate;
 use sf_app_options::{Options, Run};
-use sf_script::LONGEST_SCRIPT;
+use sf_io::{ReadFault, Source, read_all};
 use std::alloc::Global;
 
 fn is_gen(run: Run) -> bool

@@ -6,15 +6,15 @@ use Rattle.std.proofs.lemmas.List.{length-map}
 use Rattle.std.proofs.lemmas.List.Elements.{All-filter, All-map, All-weaker, filter_passes}
 use Rattle.std.proofs.lemmas.Option.{slice_get-get_or}
 use Rattle.sf_base.specs.declared.ids.LayerId.{LayerId}
-use Rattle.sf_layer.specs.declared.layer.Layer.{Layer}
-use Rattle.sf_layer.specs.declared.parent.Parent.{Parent}
-use Rattle.sf_layer.specs.declared.parent.Parent.TheVariants as parent
-use Rattle.sf_tree.specs.Kept.{IsLayerInRange, IsOfKind, IsRanked, IsTied, IsTree}
-use Rattle.sf_tree.specs.Layers.{has_layer, has_parent, is_numbered, layer_of, parent_layer}
-use Rattle.sf_tree.proofs.TreeKept.{IsDistinct-filter, IsDistinct-map}
-use Rattle.sf_tree.proofs.ShowLemmas.{Outranks-tree}
-use Rattle.sf_view.specs.Ancestry.{ancestry, and_above}
-use Rattle.sf_view.proofs.AncestryLemmas.{ancestry-is}
+use Rattle.sf_output_shown.specs.sf_layer.declared.layer.Layer.{Layer}
+use Rattle.sf_output_shown.specs.sf_layer.declared.parent.Parent.{Parent}
+use Rattle.sf_output_shown.specs.sf_layer.declared.parent.Parent.TheVariants as parent
+use Rattle.sf_output_shown.specs.sf_tree.Kept.{IsLayerInRange, IsOfKind, IsRanked, IsTied, IsTree}
+use Rattle.sf_output_shown.specs.sf_tree.Layers.{has_layer, has_parent, is_numbered, layer_of, parent_layer}
+use Rattle.sf_output_shown.proofs.sf_tree_lemmas.TreeKept.{IsDistinct-filter, IsDistinct-map}
+use Rattle.sf_output_shown.proofs.sf_tree_lemmas.ShowLemmas.{Outranks-tree}
+use Rattle.sf_output_shown.specs.sf_view.Ancestry.{ancestry, and_above}
+use Rattle.sf_output_shown.proofs.sf_view_lemmas.AncestryLemmas.{ancestry-is}
 use Rattle.sf_output_shown.specs.Cuts.{cut, cut_layer, is_under, relative_in, under}
 use Rattle.sf_output_shown.proofs.KeepingLemmas.{either, origin, under-few}
 

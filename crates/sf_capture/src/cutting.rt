@@ -1,12 +1,12 @@
 ghost use Rattle.std.specs.Prelude.{◌≡◌, IfOk, map};
 ghost use Rattle.std.specs.Option.{option_copied};
 ghost use Rattle.sf_output_shown.specs.Cuts.{cut_layer, cut_of, relative_in};
-ghost use Rattle.sf_tree.specs.Layers.{layer_of};
+ghost use Rattle.sf_output_shown.specs.sf_tree.Layers.{layer_of};
 
 use sf_base::{LayerId, NoMemory};
-use sf_layer::{Layer, Parent};
+use sf_output_shown::sf_layer::{Layer, Parent};
+use sf_output_shown::sf_tree::Tree;
 use sf_output_shown::{tree_of, under};
-use sf_tree::Tree;
 use std::alloc::Global;
 
 /// The layer of this number, if it is one of these.

@@ -1,10 +1,10 @@
 ghost use Rattle.std.specs.Prelude.{◌≡◌, find, reverse};
 ghost use Rattle.std.specs.Option.{option_copied};
 ghost use Rattle.sf_output_shown.specs.Hits.{hit_in};
-ghost use Rattle.sf_view.specs.Views.{IsView, is_in_clip};
+ghost use Rattle.sf_output_shown.specs.sf_view.Views.{IsView, is_in_clip};
 
 use sf_base::{LayerId, is_within};
-use sf_view::{Drawn, View};
+use sf_output_shown::sf_view::{Drawn, View};
 
 /// Whether a drawn layer's clip has a point.
 #[tactic(auto, unfolding(sf_base::specs::Geometry::covers))]

@@ -1,14 +1,14 @@
 -- A transaction that was followed is committed, or rejected.
 use Rattle.std.proofs.Common.{◌≡◌, ℕ, List, [], map, Result, Ok, Err, refl, sym, subst}
 use Rattle.sf_base.specs.declared.ids.LayerId.{LayerId}
-use Rattle.sf_layer.specs.declared.shown.Shown.{Shown}
-use Rattle.sf_layer.specs.declared.op.Op.{Op}
-use Rattle.sf_ready.specs.Facts.{FactsOf, HasSame}
-use Rattle.sf_token.specs.Pending.{Arrival}
-use Rattle.sf_tree.specs.Changes.{Rejection, after}
-use Rattle.sf_tree.specs.Trees.{TreeOf}
-use Rattle.sf_txn.specs.Buffers.{Buffer}
-use Rattle.sf_txn.specs.Transactions.{shown_by}
+use Rattle.sf_view.specs.sf_layer.declared.shown.Shown.{Shown}
+use Rattle.sf_view.specs.sf_layer.declared.op.Op.{Op}
+use Rattle.sf_commit_next.specs.sf_ready.Facts.{FactsOf, HasSame}
+use Rattle.sf_commit_next.specs.sf_token.Pending.{Arrival}
+use Rattle.sf_view.specs.sf_tree.Changes.{Rejection, after}
+use Rattle.sf_view.specs.sf_tree.Trees.{TreeOf}
+use Rattle.sf_commit_next.specs.sf_txn.Buffers.{Buffer}
+use Rattle.sf_commit_next.specs.sf_txn.Transactions.{shown_by}
 use Rattle.sf_commit.specs.Inside.{Follows, Notes}
 use Rattle.sf_commit.specs.Rounds.{StageOf, accepted, pressed_in, shown_if, stage_with, told_of}
 

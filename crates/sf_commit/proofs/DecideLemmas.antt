@@ -10,14 +10,14 @@ use Rattle.std.proofs.lemmas.Option.{none-some}
 use Rattle.sf_base.specs.declared.fences.Seen.{Seen}
 use Rattle.sf_base.specs.declared.ids.LayerId.{LayerId}
 use Rattle.sf_base.specs.declared.ids.TokenId.{TokenId}
-use Rattle.sf_ready.specs.Facts.{FactsOf, HasSame, TellsSame, has_layer, is_met, meets}
-use Rattle.sf_ready.specs.Holds.{barrier_hold, fence_hold, hold_of, pressure_hold, time_hold, undrawn_hold}
-use Rattle.sf_ready.specs.declared.hold.Hold.TheVariants as hold
-use Rattle.sf_token.specs.Pending.{Arrival, head_of, is_of}
-use Rattle.sf_token.specs.declared.looks.Looks.{Looks}
-use Rattle.sf_tree.specs.Changes.{after}
-use Rattle.sf_txn.specs.Buffers.{Buffer}
-use Rattle.sf_txn.specs.Transactions.{Contents, without_first}
+use Rattle.sf_commit_next.specs.sf_ready.Facts.{FactsOf, HasSame, TellsSame, has_layer, is_met, meets}
+use Rattle.sf_commit_next.specs.sf_ready.Holds.{barrier_hold, fence_hold, hold_of, pressure_hold, time_hold, undrawn_hold}
+use Rattle.sf_commit_next.specs.sf_ready.declared.hold.Hold.TheVariants as hold
+use Rattle.sf_commit_next.specs.sf_token.Pending.{Arrival, head_of, is_of}
+use Rattle.sf_commit_next.specs.sf_token.declared.looks.Looks.{Looks}
+use Rattle.sf_view.specs.sf_tree.Changes.{after}
+use Rattle.sf_commit_next.specs.sf_txn.Buffers.{Buffer}
+use Rattle.sf_commit_next.specs.sf_txn.Transactions.{Contents, without_first}
 use Rattle.sf_commit.specs.Deciding.{Comes, CommitsOne, DecidesSame, Goes, IsState, ShowsIts, round_of}
 use Rattle.sf_commit_next.specs.Next.{IsLookedAt, IsNextToken}
 use Rattle.sf_commit.specs.Rounds.{IsNext, Leads, Round, StageOf, committed, facts_of, frames_in, layers_in, pressed_in, shown_if, stage_after}

@@ -7,15 +7,15 @@ use Rattle.std.proofs.lemmas.Bool.{eq-eqb, ne_eqb}
 use Rattle.std.proofs.lemmas.List.{append-nil, take_more}
 use Rattle.std.proofs.lemmas.List.Elements.{All-cons, All-head, All-nil, All-tail, All-weaker, filter_map-append}
 use Rattle.sf_base.specs.declared.fences.Seen.{Seen}
-use Rattle.sf_ready.specs.Facts.{FactsOf}
-use Rattle.sf_ready.specs.declared.hold.Hold.{Hold}
-use Rattle.sf_ready.specs.declared.hold.Hold.TheVariants as hold
-use Rattle.sf_txn.specs.Buffers.{Buffer}
-use Rattle.sf_txn.specs.Transactions.{without_first}
-use Rattle.sf_txn.specs.declared.lease.Lease.{Ghosts}
-use Rattle.sf_token.specs.Looking.{IsLookedArrival, looks_at, looks_of}
-use Rattle.sf_token.specs.Pending.{Arrival, IsRisingFrom, has_number, is_of}
-use Rattle.sf_token.specs.declared.looks.Looks.{Looks}
+use Rattle.sf_commit_next.specs.sf_ready.Facts.{FactsOf}
+use Rattle.sf_commit_next.specs.sf_ready.declared.hold.Hold.{Hold}
+use Rattle.sf_commit_next.specs.sf_ready.declared.hold.Hold.TheVariants as hold
+use Rattle.sf_commit_next.specs.sf_txn.Buffers.{Buffer}
+use Rattle.sf_commit_next.specs.sf_txn.Transactions.{without_first}
+use Rattle.sf_commit_next.specs.sf_txn.declared.lease.Lease.{Ghosts}
+use Rattle.sf_commit_next.specs.sf_token.Looking.{IsLookedArrival, looks_at, looks_of}
+use Rattle.sf_commit_next.specs.sf_token.Pending.{Arrival, IsRisingFrom, has_number, is_of}
+use Rattle.sf_commit_next.specs.sf_token.declared.looks.Looks.{Looks}
 use Rattle.sf_commit.proofs.DecideLemmas.{hold_same}
 use Rattle.sf_commit.specs.Deciding.{Comes, IsState}
 use Rattle.sf_commit.specs.Holding.{AreLooks, IsPart, held_of, is_first, told_in}

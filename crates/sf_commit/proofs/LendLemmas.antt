@@ -10,16 +10,16 @@ use Rattle.std.proofs.lemmas.List.Sums.{sum_by-append, sum_by-cons}
 use Rattle.std.proofs.lemmas.Option.{none-some}
 use Rattle.sf_base.specs.declared.fences.Seen.{Seen}
 use Rattle.sf_base.specs.declared.ids.LayerId.{LayerId}
-use Rattle.sf_layer.specs.declared.op.Op.{Op}
-use Rattle.sf_layer.specs.declared.op.Op.TheVariants as op
-use Rattle.sf_picture.specs.declared.picture.Picture.{Picture}
-use Rattle.sf_token.specs.Pending.{Arrival}
-use Rattle.sf_tree.specs.Changes.{Rejection, after}
-use Rattle.sf_tree.specs.Trees.{TreeOf}
-use Rattle.sf_txn.specs.Buffers.{Buffer}
-use Rattle.sf_txn.specs.Leases.{IsEyeAfter}
-use Rattle.sf_txn.specs.Transactions.{without_first}
-use Rattle.sf_txn.specs.declared.lease.Lease.{Ghosts}
+use Rattle.sf_view.specs.sf_layer.declared.op.Op.{Op}
+use Rattle.sf_view.specs.sf_layer.declared.op.Op.TheVariants as op
+use Rattle.sf_view.specs.sf_picture.declared.picture.Picture.{Picture}
+use Rattle.sf_commit_next.specs.sf_token.Pending.{Arrival}
+use Rattle.sf_view.specs.sf_tree.Changes.{Rejection, after}
+use Rattle.sf_view.specs.sf_tree.Trees.{TreeOf}
+use Rattle.sf_commit_next.specs.sf_txn.Buffers.{Buffer}
+use Rattle.sf_commit_next.specs.sf_txn.Leases.{IsEyeAfter}
+use Rattle.sf_commit_next.specs.sf_txn.Transactions.{without_first}
+use Rattle.sf_commit_next.specs.sf_txn.declared.lease.Lease.{Ghosts}
 use Rattle.sf_commit.proofs.SettleLemmas.{then_after}
 use Rattle.sf_commit.specs.Inside.{cleared, here_of, place_of, taken_from}
 use Rattle.sf_commit.specs.declared.on.Image.{Image}

@@ -13,3 +13,4 @@ pub mod SettleLemmas
 pub mod StandingAlong
 pub mod StandingLemmas
 pub mod VsyncLemmas
+pub use Rattle.sf_view.proofs.sf_tree_lemmas

@@ -6,10 +6,10 @@ use Rattle.std.specs.Option.{option_map}
 use Rattle.std.proofs.lemmas.List.{length-map}
 use Rattle.std.proofs.lemmas.List.Elements.{All-cons, All-head, All-nil, All-tail}
 use Rattle.sf_base.specs.declared.ids.LayerId.{LayerId}
-use Rattle.sf_layer.specs.declared.layer.Layer.{Layer}
-use Rattle.sf_layer.specs.declared.shown.Shown.{Shown}
-use Rattle.sf_picture.specs.declared.picture.Picture.{Picture}
-use Rattle.sf_txn.specs.declared.lease.Lease.{Ghosts}
+use Rattle.sf_view.specs.sf_layer.declared.layer.Layer.{Layer}
+use Rattle.sf_view.specs.sf_layer.declared.shown.Shown.{Shown}
+use Rattle.sf_view.specs.sf_picture.declared.picture.Picture.{Picture}
+use Rattle.sf_commit_next.specs.sf_txn.declared.lease.Lease.{Ghosts}
 use Rattle.sf_commit.proofs.LendLemmas.{here_all, here_lent, length_lent, pictures_lent, pictures_unlent, there_at_hand, there_lent}
 use Rattle.sf_commit.specs.Handlers.{FitsHandler, HandlerOf, IsHandler, IsKept, lent_pixels}
 use Rattle.sf_commit.specs.Inside.{HasRoom}

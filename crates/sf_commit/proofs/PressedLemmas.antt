@@ -10,19 +10,19 @@ use Rattle.std.proofs.lemmas.List.{drop_all}
 use Rattle.std.proofs.lemmas.Bool.Decides.{nat_tests}
 use Rattle.std.proofs.lemmas.Option.{none-some}
 use Rattle.sf_base.specs.declared.ids.LayerId.{LayerId}
-use Rattle.sf_layer.specs.declared.kind.Kind.{Kind}
-use Rattle.sf_layer.specs.declared.layer.Layer.{Layer}
-use Rattle.sf_layer.specs.declared.op.Op.{Op}
-use Rattle.sf_layer.specs.declared.op.Op.TheVariants as op
-use Rattle.sf_layer.specs.declared.parent.Parent.{Parent}
-use Rattle.sf_ready.specs.Facts.{HasSame, has_layer}
-use Rattle.sf_ready.proofs.FactLemmas.{has_key}
-use Rattle.sf_tree.specs.declared.reject.Reject.{Reject}
-use Rattle.sf_tree.specs.declared.reject.Reject.TheVariants as reject
-use Rattle.sf_tree.specs.Changes.{Rejection, after, after_from, changed, created, destroyed, edited, edited_layer, fits_kind, made_relative, new_layer, reparented, then_after, with_layer, with_layers, without, without_steps_to}
-use Rattle.sf_tree.specs.Layers.{has_layer as is_there, has_parent, is_numbered, layer_of}
-use Rattle.sf_tree.specs.Steps.{all_steps, parent_steps, reaches_itself}
-use Rattle.sf_tree.specs.Trees.{TreeOf}
+use Rattle.sf_view.specs.sf_layer.declared.kind.Kind.{Kind}
+use Rattle.sf_view.specs.sf_layer.declared.layer.Layer.{Layer}
+use Rattle.sf_view.specs.sf_layer.declared.op.Op.{Op}
+use Rattle.sf_view.specs.sf_layer.declared.op.Op.TheVariants as op
+use Rattle.sf_view.specs.sf_layer.declared.parent.Parent.{Parent}
+use Rattle.sf_commit_next.specs.sf_ready.Facts.{HasSame, has_layer}
+use Rattle.sf_commit_next.proofs.sf_ready_lemmas.FactLemmas.{has_key}
+use Rattle.sf_view.specs.sf_tree.declared.reject.Reject.{Reject}
+use Rattle.sf_view.specs.sf_tree.declared.reject.Reject.TheVariants as reject
+use Rattle.sf_view.specs.sf_tree.Changes.{Rejection, after, after_from, changed, created, destroyed, edited, edited_layer, fits_kind, made_relative, new_layer, reparented, then_after, with_layer, with_layers, without, without_steps_to}
+use Rattle.sf_view.specs.sf_tree.Layers.{has_layer as is_there, has_parent, is_numbered, layer_of}
+use Rattle.sf_view.specs.sf_tree.Steps.{all_steps, parent_steps, reaches_itself}
+use Rattle.sf_view.specs.sf_tree.Trees.{TreeOf}
 use Rattle.sf_commit.proofs.StandingAlong.{no_cause, same_layers}
 use Rattle.sf_commit.specs.Rounds.{pressed_in}
 

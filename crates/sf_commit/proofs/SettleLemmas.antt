@@ -4,9 +4,9 @@ use Rattle.std.specs.List.{All, AllZip}
 use Rattle.std.specs.Prelude.{filter}
 use Rattle.std.proofs.lemmas.List.{append-nil, append_assoc, map-append}
 use Rattle.std.proofs.lemmas.List.Elements.{All-append, All-cons, All-nil, All-tail, All-weaker, filter-append}
-use Rattle.sf_picture.specs.declared.picture.Picture.{Picture}
-use Rattle.sf_txn.specs.Leases.{IsEyeAfter}
-use Rattle.sf_txn.specs.declared.lease.Lease.{Ghosts}
+use Rattle.sf_view.specs.sf_picture.declared.picture.Picture.{Picture}
+use Rattle.sf_commit_next.specs.sf_txn.Leases.{IsEyeAfter}
+use Rattle.sf_commit_next.specs.sf_txn.declared.lease.Lease.{Ghosts}
 use Rattle.sf_commit.specs.Leases.{AllOn, IsKnownOn, IsReleaseOf, ShowsLease, here_if, pictures_here}
 use Rattle.sf_commit.specs.Lending.{KeepsSome, KeptRead, read_of, reads_of}
 use Rattle.sf_commit.specs.Inside.{ShowsHere, here_of, place_of}

@@ -5,23 +5,23 @@ use Rattle.std.specs.Prelude.{if◌then◌else◌, ◌&&◌, nat_le}
 use Rattle.std.proofs.lemmas.List.Elements.{All-head, All-tail}
 use Rattle.sf_base.specs.declared.fences.Seen.{Seen}
 use Rattle.sf_base.specs.declared.ids.LayerId.{LayerId}
-use Rattle.sf_layer.specs.declared.kind.Kind.{Kind}
-use Rattle.sf_layer.specs.declared.layer.Layer.{Layer}
-use Rattle.sf_layer.specs.declared.op.Op.{Op}
-use Rattle.sf_layer.specs.declared.op.Op.TheVariants as op
-use Rattle.sf_layer.specs.declared.parent.Parent.{Parent}
-use Rattle.sf_layer.specs.declared.shown.Shown.{Shown}
-use Rattle.sf_token.specs.Pending.{Arrival}
-use Rattle.sf_tree.specs.declared.reject.Reject.{Reject}
-use Rattle.sf_tree.specs.declared.reject.Reject.TheVariants as reject
-use Rattle.sf_tree.specs.Changes.{Rejection, after, after_from, created, destroyed, edited, edited_layer, fits_kind, made_relative, new_layer, reparented, then_after, with_layer, with_layers, without_steps_to}
-use Rattle.sf_tree.specs.Kept.{IsDistinct}
-use Rattle.sf_tree.specs.Layers.{has_layer, has_parent, is_numbered, layer_of}
-use Rattle.sf_tree.specs.Steps.{all_steps, parent_steps, reaches_itself}
-use Rattle.sf_tree.specs.Trees.{TreeOf}
-use Rattle.sf_tree.proofs.TreeKept.{found_itself}
-use Rattle.sf_txn.specs.Buffers.{Buffer}
-use Rattle.sf_txn.specs.Transactions.{shown_by, shows}
+use Rattle.sf_view.specs.sf_layer.declared.kind.Kind.{Kind}
+use Rattle.sf_view.specs.sf_layer.declared.layer.Layer.{Layer}
+use Rattle.sf_view.specs.sf_layer.declared.op.Op.{Op}
+use Rattle.sf_view.specs.sf_layer.declared.op.Op.TheVariants as op
+use Rattle.sf_view.specs.sf_layer.declared.parent.Parent.{Parent}
+use Rattle.sf_view.specs.sf_layer.declared.shown.Shown.{Shown}
+use Rattle.sf_commit_next.specs.sf_token.Pending.{Arrival}
+use Rattle.sf_view.specs.sf_tree.declared.reject.Reject.{Reject}
+use Rattle.sf_view.specs.sf_tree.declared.reject.Reject.TheVariants as reject
+use Rattle.sf_view.specs.sf_tree.Changes.{Rejection, after, after_from, created, destroyed, edited, edited_layer, fits_kind, made_relative, new_layer, reparented, then_after, with_layer, with_layers, without_steps_to}
+use Rattle.sf_view.specs.sf_tree.Kept.{IsDistinct}
+use Rattle.sf_view.specs.sf_tree.Layers.{has_layer, has_parent, is_numbered, layer_of}
+use Rattle.sf_view.specs.sf_tree.Steps.{all_steps, parent_steps, reaches_itself}
+use Rattle.sf_view.specs.sf_tree.Trees.{TreeOf}
+use Rattle.sf_view.proofs.sf_tree_lemmas.TreeKept.{found_itself}
+use Rattle.sf_commit_next.specs.sf_txn.Buffers.{Buffer}
+use Rattle.sf_commit_next.specs.sf_txn.Transactions.{shown_by, shows}
 use Rattle.sf_commit.proofs.StandingLemmas.{stands_edited, stands_last, stands_read, stands_shown, stands_without}
 use Rattle.sf_commit.specs.Deciding.{ShowsIts}
 use Rattle.sf_commit.specs.Standing.{Stands, shown_at}

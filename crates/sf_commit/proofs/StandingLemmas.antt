@@ -7,9 +7,9 @@ use Rattle.std.proofs.lemmas.Bool.{eqb-true, eq-eqb}
 use Rattle.std.proofs.lemmas.Bool.Decides.{nat_tests}
 use Rattle.std.proofs.lemmas.Option.{none-some}
 use Rattle.sf_base.specs.declared.ids.LayerId.{LayerId}
-use Rattle.sf_layer.specs.declared.layer.Layer.{Layer}
-use Rattle.sf_tree.specs.Changes.{with_layer, without_steps_to}
-use Rattle.sf_tree.specs.Layers.{is_numbered, layer_of}
+use Rattle.sf_view.specs.sf_layer.declared.layer.Layer.{Layer}
+use Rattle.sf_view.specs.sf_tree.Changes.{with_layer, without_steps_to}
+use Rattle.sf_view.specs.sf_tree.Layers.{is_numbered, layer_of}
 use Rattle.sf_commit.specs.OnLayers.{OnLayer, is_on, shown_on, without}
 use Rattle.sf_commit.specs.Standing.{IsOnce, Stands, shown_at, shown_for}
 

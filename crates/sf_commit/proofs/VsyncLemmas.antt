@@ -5,16 +5,16 @@ use Rattle.std.proofs.lemmas.List.{append-nil, append_assoc}
 use Rattle.std.specs.List.{All, AllZip}
 use Rattle.std.proofs.lemmas.List.Elements.{All-append, All-cons, All-head, All-nil, All-tail}
 use Rattle.sf_base.specs.declared.fences.Seen.{Seen}
-use Rattle.sf_picture.specs.declared.picture.Picture.{Picture}
-use Rattle.sf_ready.specs.Facts.{FactsOf}
-use Rattle.sf_ready.specs.declared.hold.Hold.{Hold}
-use Rattle.sf_token.specs.Looking.{AllLeases, IsLookedArrival}
-use Rattle.sf_token.specs.Pending.{Arrival, IsRisingFrom, QueuesOf, is_of}
-use Rattle.sf_tree.specs.Trees.{TreeOf}
-use Rattle.sf_txn.specs.Buffers.{Buffer}
-use Rattle.sf_txn.specs.Leases.{IsEyeAfter, IsLookedBuffer, IsShownTo}
-use Rattle.sf_txn.specs.Transactions.{without_first}
-use Rattle.sf_txn.specs.declared.lease.Lease.{Ghosts}
+use Rattle.sf_view.specs.sf_picture.declared.picture.Picture.{Picture}
+use Rattle.sf_commit_next.specs.sf_ready.Facts.{FactsOf}
+use Rattle.sf_commit_next.specs.sf_ready.declared.hold.Hold.{Hold}
+use Rattle.sf_commit_next.specs.sf_token.Looking.{AllLeases, IsLookedArrival}
+use Rattle.sf_commit_next.specs.sf_token.Pending.{Arrival, IsRisingFrom, QueuesOf, is_of}
+use Rattle.sf_view.specs.sf_tree.Trees.{TreeOf}
+use Rattle.sf_commit_next.specs.sf_txn.Buffers.{Buffer}
+use Rattle.sf_commit_next.specs.sf_txn.Leases.{IsEyeAfter, IsLookedBuffer, IsShownTo}
+use Rattle.sf_commit_next.specs.sf_txn.Transactions.{without_first}
+use Rattle.sf_commit_next.specs.sf_txn.declared.lease.Lease.{Ghosts}
 use Rattle.sf_view.specs.Views.{ViewOf, Views}
 use Rattle.sf_commit.proofs.DecideLemmas.{all_left}
 use Rattle.sf_commit.proofs.FollowLemmas.{lower, rising_append, rising_looked}

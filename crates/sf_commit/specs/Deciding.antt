@@ -2,11 +2,11 @@
 use Rattle.std.specs.Prelude.{◌≡◌, ℕ, Bool, List, map}
 use Rattle.std.specs.List.{All}
 use Rattle.sf_base.specs.declared.fences.Seen.{Seen}
-use Rattle.sf_ready.specs.Facts.{FactsOf, HasSame, TellsSame}
-use Rattle.sf_token.specs.Pending.{Arrival}
-use Rattle.sf_token.specs.declared.looks.Looks.{Looks}
-use Rattle.sf_tree.specs.Changes.{after}
-use Rattle.sf_txn.specs.Transactions.{shown_by, shows}
+use Rattle.sf_commit_next.specs.sf_ready.Facts.{FactsOf, HasSame, TellsSame}
+use Rattle.sf_commit_next.specs.sf_token.Pending.{Arrival}
+use Rattle.sf_commit_next.specs.sf_token.declared.looks.Looks.{Looks}
+use Rattle.sf_view.specs.sf_tree.Changes.{after}
+use Rattle.sf_commit_next.specs.sf_txn.Transactions.{shown_by, shows}
 use Rattle.sf_commit.specs.Inside.{Notes}
 use Rattle.sf_commit_next.specs.Next.{IsLookedAt}
 use Rattle.sf_commit.specs.Rounds.{Decided, Leads, Round, StageOf, facts_of, shown_if, stage_after}

@@ -3,14 +3,14 @@ use Rattle.std.specs.Prelude.{◌≡◌, ◌⊎◌, ℕ, ◌≤◌, Bool, true, 
 use Rattle.std.specs.List.{All, AllZip, find, position}
 use Rattle.std.specs.Option.{option_map, unwrap_or}
 use Rattle.sf_base.specs.declared.fences.Seen.{Seen}
-use Rattle.sf_layer.specs.declared.layer.Layer.{Layer}
-use Rattle.sf_picture.specs.declared.picture.Picture.{Picture}
-use Rattle.sf_txn.specs.Leases.{IsEyeAfter, IsShownTo}
-use Rattle.sf_txn.specs.declared.lease.Lease.{Ghosts}
-use Rattle.sf_tree.specs.Trees.{TreeOf}
-use Rattle.sf_ready.specs.Facts.{TellsSame}
-use Rattle.sf_token.specs.Looking.{AllLeases, IsLookedArrival}
-use Rattle.sf_token.specs.Pending.{Arrival, IsRisingFrom}
+use Rattle.sf_view.specs.sf_layer.declared.layer.Layer.{Layer}
+use Rattle.sf_view.specs.sf_picture.declared.picture.Picture.{Picture}
+use Rattle.sf_commit_next.specs.sf_txn.Leases.{IsEyeAfter, IsShownTo}
+use Rattle.sf_commit_next.specs.sf_txn.declared.lease.Lease.{Ghosts}
+use Rattle.sf_view.specs.sf_tree.Trees.{TreeOf}
+use Rattle.sf_commit_next.specs.sf_ready.Facts.{TellsSame}
+use Rattle.sf_commit_next.specs.sf_token.Looking.{AllLeases, IsLookedArrival}
+use Rattle.sf_commit_next.specs.sf_token.Pending.{Arrival, IsRisingFrom}
 use Rattle.sf_view.specs.Views.{IsDisplay, Views}
 use Rattle.sf_view.specs.declared.drawn.Drawn.{Drawn}
 use Rattle.sf_commit.specs.OnLayers.{OnLayer, is_on, shown_on}

@@ -2,13 +2,13 @@
 use Rattle.std.specs.Prelude.{◌≡◌, ℕ, ◌==◌, ◌⊎◌, Bool, false, if◌then◌else◌, List, [], ◌∷◌, filter_map, Option, Some}
 use Rattle.std.specs.Option.{option_map, option_map_or}
 use Rattle.sf_base.specs.declared.fences.Seen.{Seen}
-use Rattle.sf_ready.specs.Facts.{FactsOf}
-use Rattle.sf_ready.specs.declared.hold.Hold.{Hold}
-use Rattle.sf_ready.specs.declared.hold.Hold.TheVariants as hold
-use Rattle.sf_txn.specs.declared.lease.Lease.{Ghosts}
-use Rattle.sf_token.specs.Looking.{looks_of}
-use Rattle.sf_token.specs.Pending.{Arrival, IsRisingFrom, head_of}
-use Rattle.sf_token.specs.declared.looks.Looks.{Looks}
+use Rattle.sf_commit_next.specs.sf_ready.Facts.{FactsOf}
+use Rattle.sf_commit_next.specs.sf_ready.declared.hold.Hold.{Hold}
+use Rattle.sf_commit_next.specs.sf_ready.declared.hold.Hold.TheVariants as hold
+use Rattle.sf_commit_next.specs.sf_txn.declared.lease.Lease.{Ghosts}
+use Rattle.sf_commit_next.specs.sf_token.Looking.{looks_of}
+use Rattle.sf_commit_next.specs.sf_token.Pending.{Arrival, IsRisingFrom, head_of}
+use Rattle.sf_commit_next.specs.sf_token.declared.looks.Looks.{Looks}
 use Rattle.sf_commit_next.specs.Heads.{head_hold}
 
 module _ {L : Type 0} where

@@ -3,16 +3,16 @@
 use Rattle.std.specs.Prelude.{◌≡◌, ℕ, ◌≤◌, Bool, true, false, List, [], ◌∷◌, ◌++◌, get_or, map, set, Option, Some, None, Result, Ok, Err}
 use Rattle.sf_base.specs.Fences.{no_points}
 use Rattle.sf_base.specs.declared.ids.LayerId.{LayerId}
-use Rattle.sf_layer.specs.declared.layer.Layer.{Layer}
-use Rattle.sf_layer.specs.declared.op.Op.{Op}
-use Rattle.sf_layer.specs.declared.shown.Shown.{Shown}
-use Rattle.sf_ready.specs.Facts.{FactsOf, HasSame, TellsSame}
-use Rattle.sf_tree.specs.Changes.{Rejection}
-use Rattle.sf_tree.specs.Trees.{TreeOf}
-use Rattle.sf_txn.specs.Buffers.{Buffer, Shows}
-use Rattle.sf_txn.specs.Transactions.{shown_by}
-use Rattle.sf_txn.specs.declared.lease.Lease.{Ghosts}
-use Rattle.sf_picture.specs.declared.picture.Picture.{Picture}
+use Rattle.sf_view.specs.sf_layer.declared.layer.Layer.{Layer}
+use Rattle.sf_view.specs.sf_layer.declared.op.Op.{Op}
+use Rattle.sf_view.specs.sf_layer.declared.shown.Shown.{Shown}
+use Rattle.sf_commit_next.specs.sf_ready.Facts.{FactsOf, HasSame, TellsSame}
+use Rattle.sf_view.specs.sf_tree.Changes.{Rejection}
+use Rattle.sf_view.specs.sf_tree.Trees.{TreeOf}
+use Rattle.sf_commit_next.specs.sf_txn.Buffers.{Buffer, Shows}
+use Rattle.sf_commit_next.specs.sf_txn.Transactions.{shown_by}
+use Rattle.sf_commit_next.specs.sf_txn.declared.lease.Lease.{Ghosts}
+use Rattle.sf_view.specs.sf_picture.declared.picture.Picture.{Picture}
 use Rattle.sf_commit.specs.Leases.{here_if}
 use Rattle.sf_commit.specs.OnLayers.{OnLayer}
 use Rattle.sf_commit.specs.Rounds.{StageOf, accepted, frames_in, layers_in, pressed_in, rejected}

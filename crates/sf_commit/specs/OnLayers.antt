@@ -4,11 +4,11 @@ use Rattle.std.specs.List.{All, find}
 use Rattle.std.specs.Option.{option_to_list}
 use Rattle.sf_base.specs.Fences.{Fence, no_points}
 use Rattle.sf_base.specs.declared.ids.LayerId.{LayerId}
-use Rattle.sf_layer.specs.declared.op.Op.{Op}
-use Rattle.sf_layer.specs.declared.op.Op.TheVariants as op
-use Rattle.sf_layer.specs.declared.shown.Shown.{Shown}
-use Rattle.sf_txn.specs.Buffers.{Buffer}
-use Rattle.sf_txn.specs.Transactions.{without_first}
+use Rattle.sf_view.specs.sf_layer.declared.op.Op.{Op}
+use Rattle.sf_view.specs.sf_layer.declared.op.Op.TheVariants as op
+use Rattle.sf_view.specs.sf_layer.declared.shown.Shown.{Shown}
+use Rattle.sf_commit_next.specs.sf_txn.Buffers.{Buffer}
+use Rattle.sf_commit_next.specs.sf_txn.Transactions.{without_first}
 
 -- a buffer that a layer shows, with the lease of its pixels and the fence with which it goes back unread. It is read
 -- where a layer showed it at the end of an earlier vsync; it has no fence then. Where its pixels are lent, it has their

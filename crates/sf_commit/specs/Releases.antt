@@ -2,7 +2,7 @@
 use Rattle.std.specs.Prelude.{ℕ, List}
 use Rattle.sf_base.specs.Fences.{Fence}
 use Rattle.sf_base.specs.declared.ids.QueueId.{QueueId}
-use Rattle.sf_ready.specs.declared.hold.Hold.{Hold}
+use Rattle.sf_commit_next.specs.sf_ready.declared.hold.Hold.{Hold}
 use Rattle.sf_view.specs.Views.{ViewOf}
 use Rattle.sf_commit.specs.declared.vsync.Commit.{Commit}
 

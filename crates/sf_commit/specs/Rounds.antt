@@ -5,18 +5,18 @@ use Rattle.std.specs.Option.{option_map, option_map_or}
 use Rattle.sf_base.specs.declared.fences.Seen.{Seen}
 use Rattle.sf_base.specs.declared.ids.LayerId.{LayerId}
 use Rattle.sf_base.specs.declared.ids.TokenId.{TokenId}
-use Rattle.sf_layer.specs.declared.layer.Layer.{Layer}
-use Rattle.sf_layer.specs.declared.op.Op.{Op}
-use Rattle.sf_layer.specs.declared.shown.Shown.{Shown}
-use Rattle.sf_tree.specs.Changes.{Rejection, after}
-use Rattle.sf_tree.specs.Trees.{TreeOf}
-use Rattle.sf_txn.specs.Buffers.{Buffer}
-use Rattle.sf_txn.specs.Transactions.{shown_by, without_first}
-use Rattle.sf_ready.specs.Facts.{FactsOf}
-use Rattle.sf_ready.specs.Holds.{hold_of}
-use Rattle.sf_ready.specs.declared.hold.Hold.{Hold}
-use Rattle.sf_ready.specs.declared.hold.Hold.TheVariants as hold
-use Rattle.sf_token.specs.Pending.{Arrival, head_of, is_of}
+use Rattle.sf_view.specs.sf_layer.declared.layer.Layer.{Layer}
+use Rattle.sf_view.specs.sf_layer.declared.op.Op.{Op}
+use Rattle.sf_view.specs.sf_layer.declared.shown.Shown.{Shown}
+use Rattle.sf_view.specs.sf_tree.Changes.{Rejection, after}
+use Rattle.sf_view.specs.sf_tree.Trees.{TreeOf}
+use Rattle.sf_commit_next.specs.sf_txn.Buffers.{Buffer}
+use Rattle.sf_commit_next.specs.sf_txn.Transactions.{shown_by, without_first}
+use Rattle.sf_commit_next.specs.sf_ready.Facts.{FactsOf}
+use Rattle.sf_commit_next.specs.sf_ready.Holds.{hold_of}
+use Rattle.sf_commit_next.specs.sf_ready.declared.hold.Hold.{Hold}
+use Rattle.sf_commit_next.specs.sf_ready.declared.hold.Hold.TheVariants as hold
+use Rattle.sf_commit_next.specs.sf_token.Pending.{Arrival, head_of, is_of}
 use Rattle.sf_commit_next.specs.Heads.{head_hold, ready_of}
 use Rattle.sf_commit.specs.OnLayers.{OnLayer, brought, gone_with, on_after}
 use Rattle.sf_commit.specs.declared.vsync.Commit.{Commit}

@@ -3,9 +3,9 @@ use Rattle.std.specs.Prelude.{◌≡◌, List, [], ◌∷◌, Option, Some, None
 use Rattle.std.specs.List.{find}
 use Rattle.std.specs.Option.{option_map}
 use Rattle.sf_base.specs.declared.ids.LayerId.{LayerId}
-use Rattle.sf_layer.specs.declared.layer.Layer.{Layer}
-use Rattle.sf_layer.specs.declared.shown.Shown.{Shown}
-use Rattle.sf_tree.specs.Layers.{layer_of}
+use Rattle.sf_view.specs.sf_layer.declared.layer.Layer.{Layer}
+use Rattle.sf_view.specs.sf_layer.declared.shown.Shown.{Shown}
+use Rattle.sf_view.specs.sf_tree.Layers.{layer_of}
 use Rattle.sf_commit.specs.OnLayers.{OnLayer, is_on}
 
 -- what a layer shows that was found, or nothing where there is none

@@ -1,24 +1,24 @@
 ghost use Rattle.std.specs.Prelude.{◌≡◌, ◌++◌, ◌∷◌, [], ◌≤◌, IfOk, OnOk, length, map};
 ghost use Rattle.sf_commit.specs.OnLayers.{brought};
 ghost use Rattle.std.specs.List.{All};
-ghost use Rattle.sf_layer.specs.Ranges.{IsOperation};
+ghost use Rattle.sf_view.specs.sf_layer.Ranges.{IsOperation};
 ghost use Rattle.sf_commit.specs.Deciding.{ShowsIts};
 ghost use Rattle.sf_commit.specs.Inside.{Follows, Notes};
 ghost use Rattle.sf_commit.specs.Rounds.{accepted, pressed_in, rejected, shown_if, stage_after, told_of};
-ghost use Rattle.sf_ready.specs.Facts.{HasSame};
-ghost use Rattle.sf_tree.specs.Changes.{after};
-ghost use Rattle.sf_txn.specs.Transactions.{shown_by};
+ghost use Rattle.sf_commit_next.specs.sf_ready.Facts.{HasSame};
+ghost use Rattle.sf_view.specs.sf_tree.Changes.{after};
+ghost use Rattle.sf_commit_next.specs.sf_txn.Transactions.{shown_by};
 
 use crate::note::note;
 use crate::on::OnLayer;
 use crate::stage::show_all;
 use crate::vsync::Commit;
 use sf_base::{Items, LayerId, NoMemory};
-use sf_layer::Shown;
-use sf_ready::Facts;
-use sf_token::Arrived;
-use sf_tree::{ApplyFault, Tree};
-use sf_txn::{BufferOp, Lease, Parts};
+use sf_commit_next::sf_ready::Facts;
+use sf_commit_next::sf_token::Arrived;
+use sf_commit_next::sf_txn::{BufferOp, Lease, Parts};
+use sf_view::sf_layer::Shown;
+use sf_view::sf_tree::{ApplyFault, Tree};
 use std::alloc::Global;
 use std::marker::Model;
 

@@ -5,16 +5,16 @@ ghost use Rattle.sf_commit_next.specs.Asking.{has_token};
 ghost use Rattle.sf_commit.specs.Deciding.{Comes, CommitsOne, round_of};
 ghost use Rattle.sf_commit_next.specs.Next.{AreRising, IsLookedAt};
 ghost use Rattle.sf_commit.specs.Rounds.{pressed_in};
-ghost use Rattle.sf_ready.specs.Facts.{HasSame};
-ghost use Rattle.sf_token.specs.Pending.{Arrival, head_of, is_of};
-ghost use Rattle.sf_txn.specs.Transactions.{without_first};
+ghost use Rattle.sf_commit_next.specs.sf_ready.Facts.{HasSame};
+ghost use Rattle.sf_commit_next.specs.sf_token.Pending.{Arrival, head_of, is_of};
+ghost use Rattle.sf_commit_next.specs.sf_txn.Transactions.{without_first};
 
 use crate::commit::Stage;
 use sf_base::{NoMemory, Seen, TokenId};
+use sf_commit_next::sf_ready::Facts;
+use sf_commit_next::sf_token::{Looks, TokenQueues};
+use sf_commit_next::sf_txn::Lease;
 use sf_commit_next::{Asking, next_token};
-use sf_ready::Facts;
-use sf_token::{Looks, TokenQueues};
-use sf_txn::Lease;
 use std::alloc::Global;
 
 /// The tokens with something pending.

@@ -3,7 +3,7 @@ ghost use Rattle.std.specs.Prelude.{◌≡◌, [], IfOk};
 ghost use Rattle.sf_commit.specs.Following.{SettlesAll};
 ghost use Rattle.sf_commit.specs.Leases.{AllOn, IsKnownOn};
 ghost use Rattle.sf_commit.specs.Lending.{KeepsSome};
-ghost use Rattle.sf_txn.specs.Leases.{IsEyeAfter};
+ghost use Rattle.sf_commit_next.specs.sf_txn.Leases.{IsEyeAfter};
 ghost use Rattle.sf_view.specs.Views.{IsDisplay};
 
 use crate::keeping::KeptRead;
@@ -13,9 +13,9 @@ use crate::settle::release_all;
 use crate::sources::sources;
 use crate::vsync::Release;
 use sf_base::NoMemory;
-use sf_picture::Painted;
-use sf_tree::Tree;
-use sf_txn::Lease;
+use sf_commit_next::sf_txn::Lease;
+use sf_view::sf_picture::Painted;
+use sf_view::sf_tree::Tree;
 use sf_view::{View, view_of};
 use std::alloc::Global;
 

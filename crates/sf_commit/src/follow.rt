@@ -1,9 +1,9 @@
 ghost use Rattle.std.specs.Prelude.{[], IfOk};
 ghost use Rattle.sf_commit.specs.Following.{DecidesAll};
 ghost use Rattle.sf_commit.specs.Handlers.{last_of};
-ghost use Rattle.sf_token.specs.Looking.{AllLeases};
-ghost use Rattle.sf_token.specs.Pending.{IsRisingFrom};
-ghost use Rattle.sf_txn.specs.Leases.{IsEyeAfter};
+ghost use Rattle.sf_commit_next.specs.sf_token.Looking.{AllLeases};
+ghost use Rattle.sf_commit_next.specs.sf_token.Pending.{IsRisingFrom};
+ghost use Rattle.sf_commit_next.specs.sf_txn.Leases.{IsEyeAfter};
 
 use crate::commit::Stage;
 use crate::decide::decide;
@@ -12,10 +12,10 @@ use crate::note::note_pressed;
 use crate::on::OnLayer;
 use crate::receive::receive;
 use sf_base::{NoMemory, Seen};
-use sf_ready::{Facts, Hold};
-use sf_token::{Arrived, TokenQueues};
-use sf_tree::Tree;
-use sf_txn::Lease;
+use sf_commit_next::sf_ready::{Facts, Hold};
+use sf_commit_next::sf_token::{Arrived, TokenQueues};
+use sf_commit_next::sf_txn::Lease;
+use sf_view::sf_tree::Tree;
 use std::alloc::Global;
 
 /// Takes what arrived, looks once at each pending lease, and commits until nothing is left to

@@ -5,7 +5,7 @@ ghost use Rattle.sf_commit.specs.Leases.{HandsBack};
 
 use crate::on::Image;
 use sf_base::NoMemory;
-use sf_txn::Lease;
+use sf_commit_next::sf_txn::Lease;
 use std::alloc::Global;
 use std::marker::Model;
 use std::snapshot::Snapshot;

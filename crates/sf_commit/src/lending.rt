@@ -5,14 +5,14 @@ ghost use Rattle.sf_commit.specs.Inside.{HasRoom, cleared, place_of, taken_from}
 ghost use Rattle.sf_commit.specs.Leases.{pictures, pictures_here};
 ghost use Rattle.sf_commit.specs.Lending.{AllKept, AreThere, IsThere, KeptRead as Kept, ends_of, read_of};
 ghost use Rattle.sf_commit.specs.OnLayers.{at_hand, lent_from};
-ghost use Rattle.sf_txn.specs.Leases.{IsEyeAfter};
+ghost use Rattle.sf_commit_next.specs.sf_txn.Leases.{IsEyeAfter};
 
 use crate::keeping::KeptRead;
 use crate::on::Image;
 use crate::opening::{Reading, image_at};
 use sf_base::NoMemory;
-use sf_picture::Painted;
-use sf_txn::Lease;
+use sf_commit_next::sf_txn::Lease;
+use sf_view::sf_picture::Painted;
 use std::alloc::Global;
 use std::marker::Model;
 use std::mem;
@@ -26,7 +26,7 @@ pub struct Contents {
 
 impl Model for Contents {
     ghost use Rattle.std.specs.Prelude.{List};
-    ghost use Rattle.sf_picture.specs.declared.picture.Picture.{Picture};
+    ghost use Rattle.sf_view.specs.sf_picture.declared.picture.Picture.{Picture};
 
     ghost Value = { List Picture };
 

@@ -23,4 +23,6 @@ mod vsync;
 
 pub use handler::Handler;
 pub use lending::Contents;
+pub use sf_commit_next::{sf_calls, sf_ready, sf_token, sf_txn};
+pub use sf_view::sf_picture;
 pub use vsync::{Commit, Release, Vsync};

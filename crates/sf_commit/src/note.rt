@@ -2,14 +2,14 @@ ghost use Rattle.std.specs.Prelude.{◌≡◌, ◌++◌, ◌==◌, ℕ, List, Ok
 ghost use Rattle.sf_base.specs.declared.ids.LayerId.{LayerId as LayerIdValue};
 ghost use Rattle.sf_commit.specs.Inside.{Notes};
 ghost use Rattle.sf_commit.specs.Rounds.{frames_in, layers_in, pressed_in};
-ghost use Rattle.sf_layer.specs.declared.layer.Layer.{Layer as LayerValue};
-ghost use Rattle.sf_ready.specs.Facts.{HasSame, TellsSame, has_layer};
-ghost use Rattle.sf_tree.specs.Changes.{after, changed};
-ghost use Rattle.sf_tree.specs.Trees.{TreeOf};
+ghost use Rattle.sf_view.specs.sf_layer.declared.layer.Layer.{Layer as LayerValue};
+ghost use Rattle.sf_commit_next.specs.sf_ready.Facts.{HasSame, TellsSame, has_layer};
+ghost use Rattle.sf_view.specs.sf_tree.Changes.{after, changed};
+ghost use Rattle.sf_view.specs.sf_tree.Trees.{TreeOf};
 
 use sf_base::{LayerId, NoMemory};
-use sf_layer::{Layer, Op, Shown};
-use sf_ready::Facts;
+use sf_commit_next::sf_ready::Facts;
+use sf_view::sf_layer::{Layer, Op, Shown};
 
 /// Buffers were committed for their layers.
 fn note_shown(facts: &mut Facts, shown: &[(LayerId, Shown)]) -> Result<(), NoMemory>

@@ -1,7 +1,7 @@
 use sf_base::{Fence, LayerId};
-use sf_layer::Shown;
-use sf_picture::Painted;
-use sf_txn::{BufferOp, Lease};
+use sf_commit_next::sf_txn::{BufferOp, Lease};
+use sf_view::sf_layer::Shown;
+use sf_view::sf_picture::Painted;
 use std::marker::Model;
 
 /// The pixels of a buffer that the compositor reads.

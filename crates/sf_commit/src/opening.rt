@@ -4,13 +4,13 @@ ghost use Rattle.std.specs.Prelude.{◌≡◌, ◌<◌, ◌++◌, false, [], IfO
 ghost use Rattle.sf_commit.specs.Inside.{here_of, place_of};
 ghost use Rattle.sf_commit.specs.Leases.{AllOn, IsKnownOn, ShowsLease, here_if, pictures_here};
 ghost use Rattle.sf_commit.specs.OnLayers.{shown_on};
-ghost use Rattle.sf_txn.specs.Leases.{IsEyeAfter};
+ghost use Rattle.sf_commit_next.specs.sf_txn.Leases.{IsEyeAfter};
 
 use crate::on::{Image, OnLayer, Pixels};
 use sf_base::{LayerId, NoMemory};
-use sf_layer::Shown;
-use sf_picture::Painted;
-use sf_txn::Lease;
+use sf_commit_next::sf_txn::Lease;
+use sf_view::sf_layer::Shown;
+use sf_view::sf_picture::Painted;
 use std::alloc::Global;
 use std::marker::Model;
 use std::vec;
@@ -29,7 +29,7 @@ impl<L: Lease> Model for Reading<L> {
     ghost use Rattle.std.specs.Prelude.{true};
     ghost use Rattle.sf_base.specs.Fences.{no_points};
     ghost use Rattle.sf_commit.specs.OnLayers.{OnLayer};
-    ghost use Rattle.sf_txn.specs.Buffers.{Shows};
+    ghost use Rattle.sf_commit_next.specs.sf_txn.Buffers.{Shows};
 
     ghost Value = { OnLayer L };
 

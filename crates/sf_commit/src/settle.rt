@@ -8,7 +8,7 @@ use crate::keeping::{KeptRead, keep};
 use crate::on::{OnLayer, Pixels};
 use crate::vsync::Release;
 use sf_base::{Fence, NoMemory};
-use sf_txn::Lease;
+use sf_commit_next::sf_txn::Lease;
 use std::alloc::Global;
 
 /// A buffer that goes is handed back: an unread one as it came, one that was read by the lease that

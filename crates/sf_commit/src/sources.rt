@@ -8,9 +8,9 @@ ghost use Rattle.sf_commit.specs.OnLayers.{IsPlaceOf, is_on};
 
 use crate::opening::Reading;
 use sf_base::{LayerId, NoMemory};
-use sf_layer::Shown;
-use sf_txn::Lease;
+use sf_commit_next::sf_txn::Lease;
 use sf_view::Drawn;
+use sf_view::sf_layer::Shown;
 use std::alloc::Global;
 use std::collections::BTreeMap;
 

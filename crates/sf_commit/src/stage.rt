@@ -5,8 +5,8 @@ ghost use Rattle.sf_commit.specs.OnLayers.{brought, gone_with, is_on, on_after, 
 
 use crate::on::OnLayer;
 use sf_base::{LayerId, NoMemory};
-use sf_layer::Op;
-use sf_txn::{BufferOp, Lease};
+use sf_commit_next::sf_txn::{BufferOp, Lease};
+use sf_view::sf_layer::Op;
 
 /// The place of a layer's buffer, if it shows one.
 fn index_on<L: Lease>(on: &[OnLayer<L>], layer: LayerId) -> Option<usize>

@@ -1,8 +1,8 @@
 use sf_base::{Fence, Items, LayerId, QueueId, TokenId};
-use sf_layer::Shown;
-use sf_ready::Hold;
-use sf_txn::Lease;
+use sf_commit_next::sf_ready::Hold;
+use sf_commit_next::sf_txn::Lease;
 use sf_view::View;
+use sf_view::sf_layer::Shown;
 use std::marker::Model;
 
 /// A transaction that was committed, or rejected as a whole.

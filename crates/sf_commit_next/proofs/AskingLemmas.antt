@@ -18,8 +18,8 @@ use Rattle.sf_ready.specs.Holds.{barrier_hold, fence_hold, hold_of, pressure_hol
 use Rattle.sf_ready.specs.declared.hold.Hold.{Hold}
 use Rattle.sf_ready.specs.declared.hold.Hold.TheVariants as hold
 use Rattle.sf_token.specs.Pending.{Arrival, head_of, is_of}
-use Rattle.sf_txn.specs.Buffers.{Buffer}
-use Rattle.sf_txn.specs.Transactions.{without_first}
+use Rattle.sf_token.specs.sf_txn.Buffers.{Buffer}
+use Rattle.sf_token.specs.sf_txn.Transactions.{without_first}
 use Rattle.sf_commit_next.proofs.NextLemmas.{not_found}
 use Rattle.sf_commit_next.specs.Asking.{AsksEnough, AsksRest, FindsNext, HasAlso, IsAnswer, IsOut, TakesLowest, answer_of, has_token, lasts}
 use Rattle.sf_commit_next.specs.Heads.{head_hold, ready_if, ready_of}

@@ -2,7 +2,7 @@
 use Rattle.std.specs.Prelude.{ℕ, Bool, if◌then◌else◌, List, map, Option, Some, None, is_none}
 use Rattle.sf_base.specs.declared.fences.Seen.{Seen}
 use Rattle.sf_base.specs.declared.ids.TokenId.{TokenId}
-use Rattle.sf_txn.specs.Buffers.{Buffer}
+use Rattle.sf_token.specs.sf_txn.Buffers.{Buffer}
 use Rattle.sf_ready.specs.Facts.{FactsOf}
 use Rattle.sf_ready.specs.Holds.{hold_of}
 use Rattle.sf_ready.specs.declared.hold.Hold.{Hold}

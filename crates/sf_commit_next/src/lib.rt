@@ -8,3 +8,6 @@ mod next;
 
 pub use asking::Asking;
 pub use next::next_token;
+pub use sf_ready;
+pub use sf_token;
+pub use sf_token::{sf_calls, sf_txn};

@@ -9,8 +9,8 @@ ghost use Rattle.sf_commit_next.specs.Heads.{head_hold, ready_of};
 use crate::asking::Asking;
 use sf_base::{NoMemory, Seen, TokenId};
 use sf_ready::{Facts, Hold, hold_of};
+use sf_token::sf_txn::Lease;
 use sf_token::{Arrived, Looks, TokenQueues};
-use sf_txn::Lease;
 use std::alloc::Global;
 
 /// What is learned of a token by asking what holds its first transaction.

@@ -7,11 +7,11 @@ use Rattle.sf_base.specs.Bytes.{pixel_in}
 use Rattle.sf_base.specs.declared.geometry.Rect.{Rect}
 use Rattle.sf_base.specs.declared.pixel.Rgba.{Rgba}
 use Rattle.sf_damage.specs.Damage.{Damages}
-use Rattle.sf_picture.specs.declared.picture.Picture.{Picture}
-use Rattle.sf_region.specs.Points.{has}
-use Rattle.sf_view.specs.Image.{opaque_black}
-use Rattle.sf_view.specs.Stacks.{Sheet, stack, under_stack, view_image}
-use Rattle.sf_view.specs.Views.{ViewOf}
+use Rattle.sf_damage.specs.sf_picture.declared.picture.Picture.{Picture}
+use Rattle.sf_damage.specs.sf_region.Points.{has}
+use Rattle.sf_damage.specs.sf_view.Image.{opaque_black}
+use Rattle.sf_damage.specs.sf_view.Stacks.{Sheet, stack, under_stack, view_image}
+use Rattle.sf_damage.specs.sf_view.Views.{ViewOf}
 use Rattle.sf_compose.specs.Again.{IsComposed, IsComposedAgain, ShowsView}
 use Rattle.sf_compose.specs.Frames.{frame_bytes}
 use Rattle.sf_compose.proofs.RowLemmas.{frame-from}

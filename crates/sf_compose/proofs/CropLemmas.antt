@@ -4,12 +4,12 @@ use Rattle.std.proofs.lemmas.Bool.{true_from_ne_false}
 use Rattle.std.proofs.lemmas.Int.{ints}
 use Rattle.std.proofs.Math.Nat.{mul-le-mul_right}
 use Rattle.sf_base.specs.declared.geometry.Rect.{Rect}
-use Rattle.sf_picture.specs.declared.picture.Picture.{Picture}
+use Rattle.sf_damage.specs.sf_picture.declared.picture.Picture.{Picture}
 use Rattle.sf_base.specs.Bytes.{pixel_in}
-use Rattle.sf_picture.specs.Pixels.{pixel_at, ShowsPicture}
-use Rattle.sf_picture.specs.Solid.{IsSolid}
+use Rattle.sf_damage.specs.sf_picture.Pixels.{pixel_at, ShowsPicture}
+use Rattle.sf_damage.specs.sf_picture.Solid.{IsSolid}
 use Rattle.sf_base.specs.Geometry.{is_within, LiesWithin}
-use Rattle.sf_view.specs.Contents.{unsigned}
+use Rattle.sf_damage.specs.sf_view.Contents.{unsigned}
 
 pub both_left : (a b : Bool) → (a && b) ≡ true → a ≡ true
 both_left true b h = refl

@@ -7,8 +7,8 @@ use Rattle.sf_base.specs.declared.pixel.Rgba.{Rgba}
 use Rattle.sf_base.specs.declared.geometry.Rect.{Rect}
 use Rattle.sf_base.specs.Bytes.{pixel_in}
 use Rattle.sf_base.specs.Geometry.{covers}
-use Rattle.sf_region.specs.Points.{has}
-use Rattle.sf_view.specs.Views.{ViewOf}
+use Rattle.sf_damage.specs.sf_region.Points.{has}
+use Rattle.sf_damage.specs.sf_view.Views.{ViewOf}
 use Rattle.sf_compose.specs.Frames.{is_in_box, KeepsRest, Repaints, ShowsPart}
 
 joined : (p q r : Bool) → r ≡ (p || q) → (here was between now : Rgba) → between ≡ (if p then here else was) → now ≡ (if q then here else between) → now ≡ (if r then here else was)

@@ -8,10 +8,10 @@ use Rattle.sf_base.specs.Geometry.{covers}
 use Rattle.sf_base.specs.declared.geometry.Rect.{Rect}
 use Rattle.sf_base.specs.declared.pixel.Rgba.{Rgba}
 use Rattle.sf_damage.proofs.VisibleLemmas.{painted-solid}
-use Rattle.sf_picture.specs.declared.picture.Picture.{Picture}
-use Rattle.sf_view.specs.declared.content.Content.{Content}
-use Rattle.sf_view.specs.declared.content.Content.TheVariants as content
-use Rattle.sf_view.specs.declared.drawn.Drawn.{Drawn}
+use Rattle.sf_damage.specs.sf_picture.declared.picture.Picture.{Picture}
+use Rattle.sf_damage.specs.sf_view.declared.content.Content.{Content}
+use Rattle.sf_damage.specs.sf_view.declared.content.Content.TheVariants as content
+use Rattle.sf_damage.specs.sf_view.declared.drawn.Drawn.{Drawn}
 use Rattle.sf_compose.specs.declared.area.Area.{Area}
 use Rattle.sf_compose.specs.Ground.{has_area, hides, is_solid, is_solid_colour, may_hide, spans}
 use Rattle.sf_compose.specs.Painting.{is_in_area}

@@ -9,7 +9,7 @@ use Rattle.sf_base.specs.Blend.{blended, product}
 use Rattle.sf_base.specs.Paint.{painted}
 use Rattle.sf_base.specs.Bytes.{pixel_in}
 use Rattle.sf_damage.proofs.VisibleLemmas.{nothing-left}
-use Rattle.sf_view.specs.Image.{opaque_black}
+use Rattle.sf_damage.specs.sf_view.Image.{opaque_black}
 use Rattle.sf_compose.specs.Frames.{is_in_box}
 use Rattle.sf_compose.specs.Painting.{Paints, PaintsSpan}
 

@@ -4,15 +4,15 @@ use Rattle.std.specs.List.{AllZip}
 use Rattle.std.proofs.lemmas.Option.{get_or_from_slice_get, slice_get_within}
 use Rattle.sf_base.specs.Geometry.{LiesWithin}
 use Rattle.sf_base.specs.declared.pixel.Rgba.{Rgba}
-use Rattle.sf_layer.specs.declared.shown.Shown.{Shown}
-use Rattle.sf_picture.specs.declared.picture.Picture.{Picture}
-use Rattle.sf_view.specs.declared.content.Content.{Content}
-use Rattle.sf_view.specs.declared.content.Content.TheVariants as content
-use Rattle.sf_view.specs.declared.drawn.Drawn.{Drawn}
-use Rattle.sf_view.specs.Contents.{pixel_of}
-use Rattle.sf_view.specs.Image.{opaque_black}
-use Rattle.sf_view.specs.Stacks.{sheet_of, stack, under_stack, view_image}
-use Rattle.sf_view.specs.Views.{ViewOf, is_in_clip}
+use Rattle.sf_damage.specs.sf_layer.declared.shown.Shown.{Shown}
+use Rattle.sf_damage.specs.sf_picture.declared.picture.Picture.{Picture}
+use Rattle.sf_damage.specs.sf_view.declared.content.Content.{Content}
+use Rattle.sf_damage.specs.sf_view.declared.content.Content.TheVariants as content
+use Rattle.sf_damage.specs.sf_view.declared.drawn.Drawn.{Drawn}
+use Rattle.sf_damage.specs.sf_view.Contents.{pixel_of}
+use Rattle.sf_damage.specs.sf_view.Image.{opaque_black}
+use Rattle.sf_damage.specs.sf_view.Stacks.{sheet_of, stack, under_stack, view_image}
+use Rattle.sf_damage.specs.sf_view.Views.{ViewOf, is_in_clip}
 use Rattle.sf_compose.specs.Readings.{AreReadable, content_at, IsReadable, no_picture, read_image, under_drawn}
 use Rattle.sf_compose.specs.Sources.{HasSource, HasSources, IsSource}
 

@@ -10,13 +10,13 @@ use Rattle.sf_base.specs.declared.geometry.Rect.{Rect}
 use Rattle.sf_base.specs.declared.pixel.Rgba.{Rgba}
 use Rattle.sf_damage.proofs.VisibleLemmas.{painted-solid}
 use Rattle.sf_damage.specs.Visible.{hides_all, hides_at, shows_at}
-use Rattle.sf_picture.specs.declared.picture.Picture.{Picture}
-use Rattle.sf_region.specs.Canonical.{IsDisjoint}
-use Rattle.sf_region.specs.Points.{has}
-use Rattle.sf_view.specs.Image.{opaque_black}
-use Rattle.sf_view.specs.Views.{is_in_clip}
-use Rattle.sf_view.specs.declared.content.Content.TheVariants as content
-use Rattle.sf_view.specs.declared.drawn.Drawn.{Drawn}
+use Rattle.sf_damage.specs.sf_picture.declared.picture.Picture.{Picture}
+use Rattle.sf_damage.specs.sf_region.Canonical.{IsDisjoint}
+use Rattle.sf_damage.specs.sf_region.Points.{has}
+use Rattle.sf_damage.specs.sf_view.Image.{opaque_black}
+use Rattle.sf_damage.specs.sf_view.Views.{is_in_clip}
+use Rattle.sf_damage.specs.sf_view.declared.content.Content.TheVariants as content
+use Rattle.sf_damage.specs.sf_view.declared.drawn.Drawn.{Drawn}
 use Rattle.sf_compose.specs.declared.area.Area.{Area}
 use Rattle.sf_compose.specs.Painting.{is_in_area, Paints}
 use Rattle.sf_compose.specs.Begun.{IsBegun, Spares}

@@ -5,7 +5,7 @@ use Rattle.std.proofs.Math.Nat.{mul-le-mul_right}
 use lib.IntN.{negsuc-*ℤ-pos}
 use Rattle.sf_base.specs.Geometry.{covers, is_within, IsWithin, LiesWithin}
 use Rattle.sf_base.specs.declared.geometry.Rect.{Rect}
-use Rattle.sf_view.specs.Boxes.{after_first, before_last, box_of, is_sideways, picture_point}
+use Rattle.sf_damage.specs.sf_view.Boxes.{after_first, before_last, box_of, is_sideways, picture_point}
 use Rattle.std.proofs.lemmas.Bool.Decides.{nat_tests}
 use Rattle.sf_base.specs.Bytes.{pixel_in}
 use Rattle.sf_base.specs.declared.pixel.Rgba.{Rgba}
@@ -14,11 +14,11 @@ use Rattle.sf_compose.specs.Begun.{Spares}
 use Rattle.sf_compose.specs.Frames.{is_in_box}
 use Rattle.sf_compose.specs.Painting.{is_in_area, Paints}
 use Rattle.sf_compose.proofs.PaintLemmas.{Paints-then}
-use Rattle.sf_picture.specs.Pixels.{ShowsPicture}
-use Rattle.sf_picture.specs.Solid.{IsSolid}
-use Rattle.sf_picture.specs.declared.picture.Picture.{Picture}
+use Rattle.sf_damage.specs.sf_picture.Pixels.{ShowsPicture}
+use Rattle.sf_damage.specs.sf_picture.Solid.{IsSolid}
+use Rattle.sf_damage.specs.sf_picture.declared.picture.Picture.{Picture}
 use Rattle.sf_rows.specs.Pixels.{HasPixel, picked}
-use Rattle.sf_view.specs.Contents.{unsigned}
+use Rattle.sf_damage.specs.sf_view.Contents.{unsigned}
 use Rattle.sf_compose.specs.Turns.{along, is_back_across, is_back_down, pixel_of_point, pixel_shown, point_shown, step_of}
 
 -- the point of each orientation by three tests

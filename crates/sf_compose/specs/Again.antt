@@ -4,9 +4,9 @@ use Rattle.sf_base.specs.Bytes.{pixel_in}
 use Rattle.sf_base.specs.declared.geometry.Rect.{Rect}
 use Rattle.sf_base.specs.declared.pixel.Rgba.{Rgba}
 use Rattle.sf_damage.specs.Damage.{Damages}
-use Rattle.sf_picture.specs.declared.picture.Picture.{Picture}
-use Rattle.sf_view.specs.Stacks.{view_image}
-use Rattle.sf_view.specs.Views.{ViewOf}
+use Rattle.sf_damage.specs.sf_picture.declared.picture.Picture.{Picture}
+use Rattle.sf_damage.specs.sf_view.Stacks.{view_image}
+use Rattle.sf_damage.specs.sf_view.Views.{ViewOf}
 use Rattle.sf_compose.specs.Frames.{KeepsRest, ShowsPart}
 
 -- each point of the display has the colour of the view's image

@@ -2,9 +2,9 @@
 use Rattle.std.specs.Prelude.{◌≡◌, ℕ, ◌+◌, ◌-◌, ◌*◌, ◌<◌, ◌≤◌, Bool, true, false, List, length, drop, pos}
 use Rattle.sf_base.specs.Bytes.{pixel_in}
 use Rattle.sf_compose.specs.Readings.{under_drawn}
-use Rattle.sf_picture.specs.declared.picture.Picture.{Picture}
-use Rattle.sf_view.specs.Image.{opaque_black}
-use Rattle.sf_view.specs.declared.drawn.Drawn.{Drawn}
+use Rattle.sf_damage.specs.sf_picture.declared.picture.Picture.{Picture}
+use Rattle.sf_damage.specs.sf_view.Image.{opaque_black}
+use Rattle.sf_damage.specs.sf_view.declared.drawn.Drawn.{Drawn}
 
 -- of rows of this width from one on, no point changed that fails a test
 pub record Spares (width top : ℕ) (test : ℕ → ℕ → Bool) (old new : List ℕ) : Type 0 where

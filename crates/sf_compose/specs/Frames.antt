@@ -5,8 +5,8 @@ use Rattle.std.specs.List.{flat_map, range_with_len}
 use Rattle.sf_base.specs.declared.geometry.Rect.{Rect}
 use Rattle.sf_base.specs.declared.pixel.Rgba.{Rgba}
 use Rattle.sf_base.specs.Bytes.{pixel_in}
-use Rattle.sf_region.specs.Points.{has}
-use Rattle.sf_view.specs.Views.{ViewOf}
+use Rattle.sf_damage.specs.sf_region.Points.{has}
+use Rattle.sf_damage.specs.sf_view.Views.{ViewOf}
 
 -- each point of the display that is in the part has the colour of an image
 pub record ShowsPart (view : ViewOf) (part : List Rect) (image : ℕ → ℕ → Rgba) (frame : List ℕ) : Type 0 where

@@ -2,9 +2,9 @@
 use Rattle.std.specs.Prelude.{ℕ, ℤ, pos, ◌+ℤ◌, int_le, nat_eq, Bool, false, not, ◌&&◌, ◌||◌}
 use Rattle.sf_base.specs.declared.geometry.Rect.{Rect}
 use Rattle.sf_compose.specs.declared.area.Area.{Area}
-use Rattle.sf_view.specs.declared.content.Content.{Content}
-use Rattle.sf_view.specs.declared.content.Content.TheVariants as content
-use Rattle.sf_view.specs.declared.drawn.Drawn.{Drawn}
+use Rattle.sf_damage.specs.sf_view.declared.content.Content.{Content}
+use Rattle.sf_damage.specs.sf_view.declared.content.Content.TheVariants as content
+use Rattle.sf_damage.specs.sf_view.declared.drawn.Drawn.{Drawn}
 
 -- a colour that lets no light through
 abbrev pub is_solid_colour : Content → Bool

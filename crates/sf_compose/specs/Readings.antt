@@ -5,14 +5,14 @@ use Rattle.sf_base.specs.Geometry.{LiesWithin}
 use Rattle.sf_base.specs.Paint.{painted}
 use Rattle.sf_base.specs.declared.format.Format.TheVariants as format
 use Rattle.sf_base.specs.declared.pixel.Rgba.{Rgba}
-use Rattle.sf_layer.specs.declared.shown.Shown.{Shown}
-use Rattle.sf_picture.specs.declared.picture.Picture.{Picture}
-use Rattle.sf_view.specs.declared.content.Content.{Content}
-use Rattle.sf_view.specs.declared.content.Content.TheVariants as content
-use Rattle.sf_view.specs.declared.drawn.Drawn.{Drawn}
-use Rattle.sf_view.specs.Contents.{pixel_of, source_of}
-use Rattle.sf_view.specs.Image.{opaque_black}
-use Rattle.sf_view.specs.Views.{ViewOf, is_in_clip}
+use Rattle.sf_damage.specs.sf_layer.declared.shown.Shown.{Shown}
+use Rattle.sf_damage.specs.sf_picture.declared.picture.Picture.{Picture}
+use Rattle.sf_damage.specs.sf_view.declared.content.Content.{Content}
+use Rattle.sf_damage.specs.sf_view.declared.content.Content.TheVariants as content
+use Rattle.sf_damage.specs.sf_view.declared.drawn.Drawn.{Drawn}
+use Rattle.sf_damage.specs.sf_view.Contents.{pixel_of, source_of}
+use Rattle.sf_damage.specs.sf_view.Image.{opaque_black}
+use Rattle.sf_damage.specs.sf_view.Views.{ViewOf, is_in_clip}
 
 -- no picture, which stands for one at a place that the contents don't have
 abbrev pub no_picture : Picture

@@ -3,10 +3,10 @@ use Rattle.std.specs.Prelude.{◌≡◌, ◌≤◌, ℕ, Bool, true, List, [], �
 use Rattle.std.specs.List.{All}
 use Rattle.sf_base.specs.declared.geometry.Rect.{Rect}
 use Rattle.sf_damage.specs.Visible.{shows_at}
-use Rattle.sf_region.specs.Points.{has}
-use Rattle.sf_view.specs.Contents.{is_in_content}
-use Rattle.sf_view.specs.Views.{is_in_clip}
-use Rattle.sf_view.specs.declared.drawn.Drawn.{Drawn}
+use Rattle.sf_damage.specs.sf_region.Points.{has}
+use Rattle.sf_damage.specs.sf_view.Contents.{is_in_content}
+use Rattle.sf_damage.specs.sf_view.Views.{is_in_clip}
+use Rattle.sf_damage.specs.sf_view.declared.drawn.Drawn.{Drawn}
 
 -- a drawn layer has one of eight orientations, and its clip lies in its content
 pub record IsPaintable (drawn : Drawn) : Type 0 where

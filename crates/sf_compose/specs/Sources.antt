@@ -2,11 +2,11 @@
 use Rattle.std.specs.Prelude.{◌≡◌, ℕ, List, Some}
 use Rattle.std.specs.List.{AllZip, slice_get}
 use Rattle.sf_base.specs.Geometry.{LiesWithin}
-use Rattle.sf_layer.specs.declared.shown.Shown.{Shown}
-use Rattle.sf_picture.specs.declared.picture.Picture.{Picture}
-use Rattle.sf_view.specs.declared.content.Content.{Content}
-use Rattle.sf_view.specs.declared.content.Content.TheVariants as content
-use Rattle.sf_view.specs.Views.{ViewOf}
+use Rattle.sf_damage.specs.sf_layer.declared.shown.Shown.{Shown}
+use Rattle.sf_damage.specs.sf_picture.declared.picture.Picture.{Picture}
+use Rattle.sf_damage.specs.sf_view.declared.content.Content.{Content}
+use Rattle.sf_damage.specs.sf_view.declared.content.Content.TheVariants as content
+use Rattle.sf_damage.specs.sf_view.Views.{ViewOf}
 
 -- the content at this place is the picture of a shown buffer, and the part that is shown lies in it
 pub record IsSource (picture : ℕ → Picture) (contents : List Picture) (shown : Shown) (source : ℕ) : Type 0 where

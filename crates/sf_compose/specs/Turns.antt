@@ -2,10 +2,10 @@
 use Rattle.std.specs.Prelude.{ℕ, Bool, if◌then◌else◌, nat_le, ◌&&◌, ◌%◌, ◌==◌, ◌||◌, ℤ, pos, neg_ℤ, ◌+ℤ◌}
 use Rattle.sf_base.specs.declared.geometry.Rect.{Rect}
 use Rattle.sf_base.specs.declared.pixel.Rgba.{Rgba}
-use Rattle.sf_picture.specs.Pixels.{pixel_at}
-use Rattle.sf_picture.specs.declared.picture.Picture.{Picture}
-use Rattle.sf_view.specs.Boxes.{after_first, before_last, is_sideways, picture_point}
-use Rattle.sf_view.specs.Contents.{unsigned}
+use Rattle.sf_damage.specs.sf_picture.Pixels.{pixel_at}
+use Rattle.sf_damage.specs.sf_picture.declared.picture.Picture.{Picture}
+use Rattle.sf_damage.specs.sf_view.Boxes.{after_first, before_last, is_sideways, picture_point}
+use Rattle.sf_damage.specs.sf_view.Contents.{unsigned}
 
 -- the point of a picture that a crop with its box's corner at a place shows at a point of the display
 abbrev pub point_shown : Rect → ℕ → ℤ × ℤ → ℤ → ℤ → ℤ × ℤ

@@ -3,7 +3,7 @@ ghost use Rattle.sf_compose.specs.Bands.{IsInBand};
 ghost use Rattle.sf_compose.specs.Painting.{is_in_area};
 
 use crate::area::Area;
-use sf_view::View;
+use sf_damage::sf_view::View;
 
 // Rows of a display, as bytes of a frame have them: those from one on and before another, of so many
 // pixels each.

@@ -10,7 +10,7 @@ use crate::band::Band;
 use crate::ground::{OPAQUE_BLACK, has_area, hides};
 use crate::layer::{copy_layer, paint_area};
 use crate::pixels::Pixels;
-use sf_view::Drawn;
+use sf_damage::sf_view::Drawn;
 
 // Begins an area under drawn layers, and tells from which of them on it is still to be painted: from
 // the topmost one that hides all of it, or behind that one where its pixels were copied. Where none

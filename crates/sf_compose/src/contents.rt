@@ -2,7 +2,7 @@ ghost use Rattle.std.specs.Prelude.{◌≡◌, ◌<◌, length, map};
 ghost use Rattle.sf_compose.specs.Readings.{content_at};
 
 use crate::pixels::Pixels;
-use sf_picture::Painted;
+use sf_damage::sf_picture::Painted;
 
 // The pixels at a place of the contents.
 pub fn read<C: Pixels>(contents: &[C], source: u32) -> &Painted

@@ -2,11 +2,11 @@ ghost use Rattle.std.specs.Prelude.{◌≡◌, ◌+◌, ◌-◌, ◌*◌, ◌<�
 ghost use Rattle.std.specs.List.{between};
 ghost use Rattle.sf_base.specs.Bytes.{pixel_in};
 ghost use Rattle.sf_base.specs.Geometry.{is_within, LiesWithin};
-ghost use Rattle.sf_picture.specs.Pixels.{pixel_at};
-ghost use Rattle.sf_view.specs.Contents.{unsigned};
+ghost use Rattle.sf_damage.specs.sf_picture.Pixels.{pixel_at};
+ghost use Rattle.sf_damage.specs.sf_view.Contents.{unsigned};
 
 use sf_base::Rect;
-use sf_picture::Painted;
+use sf_damage::sf_picture::Painted;
 
 // What a layer shows of a picture: a crop, whose corner stands at a place.
 #[derive(Clone, Copy)]

@@ -3,7 +3,7 @@ ghost use Rattle.sf_compose.specs.Ground.{has_area, hides, is_solid, is_solid_co
 
 use crate::area::Area;
 use sf_base::{Rect, Rgba};
-use sf_view::{Content, Drawn};
+use sf_damage::sf_view::{Content, Drawn};
 
 // A display where nothing is drawn.
 pub const OPAQUE_BLACK: Rgba = Rgba {

@@ -1,7 +1,7 @@
 ghost use Rattle.std.specs.Prelude.{◌≡◌, ℕ, List, pos};
-ghost use Rattle.sf_picture.specs.declared.picture.Picture.{Picture};
-ghost use Rattle.sf_view.specs.Stacks.{view_image};
-ghost use Rattle.sf_view.specs.Views.{ViewOf};
+ghost use Rattle.sf_damage.specs.sf_picture.declared.picture.Picture.{Picture};
+ghost use Rattle.sf_damage.specs.sf_view.Stacks.{view_image};
+ghost use Rattle.sf_damage.specs.sf_view.Views.{ViewOf};
 ghost use Rattle.sf_compose.specs.Again.{ComposingAgainIsWhole, ComposingHasOneFrame};
 ghost use Rattle.sf_compose.specs.Readings.{AreReadable, read_image};
 ghost use Rattle.sf_compose.specs.Sources.{HasSources};

@@ -7,11 +7,11 @@ ghost use Rattle.sf_compose.specs.Begun.{Spares};
 ghost use Rattle.sf_compose.specs.Painting.{is_in_area, Paints, PaintsSpan};
 ghost use Rattle.sf_compose.specs.Readings.{AreReadable, IsReadable, under_drawn, under_one};
 ghost use Rattle.sf_compose.specs.Seen.{ArePaintable, IsPaintable};
-ghost use Rattle.sf_picture.specs.Pixels.{pixel_at};
+ghost use Rattle.sf_damage.specs.sf_picture.Pixels.{pixel_at};
 ghost use Rattle.sf_base.specs.Geometry.{covers, is_within, LiesWithin};
 ghost use Rattle.sf_compose.specs.Turns.{pixel_shown};
-ghost use Rattle.sf_view.specs.Boxes.{box_of};
-ghost use Rattle.sf_view.specs.Contents.{source_of, unsigned};
+ghost use Rattle.sf_damage.specs.sf_view.Boxes.{box_of};
+ghost use Rattle.sf_damage.specs.sf_view.Contents.{source_of, unsigned};
 
 use crate::area::{Area, cut};
 use crate::band::{Band, row_start};
@@ -23,9 +23,9 @@ use crate::pixels::Pixels;
 use crate::spans::{copy_pixels, paint_colour, paint_pixels};
 use crate::turned::{Turned, copy_turned, paint_turned};
 use sf_base::Rgba;
-use sf_layer::Shown;
-use sf_picture::Painted;
-use sf_view::{Content, Drawn};
+use sf_damage::sf_layer::Shown;
+use sf_damage::sf_picture::Painted;
+use sf_damage::sf_view::{Content, Drawn};
 
 // Paints a colour over an area.
 pub fn paint_area(frame: &mut [u8], band: Band, area: Area, colour: Rgba, alpha: u8)

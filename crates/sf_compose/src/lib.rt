@@ -37,4 +37,6 @@ pub use one::compose_one;
 pub use parallel::{compose, compose_seen_by};
 pub use pixels::Pixels;
 pub use seen::compose_seen;
+pub use sf_damage;
+pub use sf_damage::{sf_layer, sf_picture, sf_region, sf_view};
 pub use whole::compose_frame;

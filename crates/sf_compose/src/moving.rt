@@ -3,16 +3,16 @@ ghost use Rattle.sf_base.specs.Paint.{painted};
 ghost use Rattle.sf_base.specs.declared.pixel.Rgba.{Rgba as RgbaValue};
 ghost use Rattle.sf_compose.specs.Bands.{HasRows, IsInBand};
 ghost use Rattle.sf_compose.specs.Painting.{is_in_area, Paints};
-ghost use Rattle.sf_picture.specs.Pixels.{pixel_at};
-ghost use Rattle.sf_picture.specs.Solid.{IsSolid};
+ghost use Rattle.sf_damage.specs.sf_picture.Pixels.{pixel_at};
+ghost use Rattle.sf_damage.specs.sf_picture.Solid.{IsSolid};
 ghost use Rattle.sf_base.specs.Geometry.{is_within, LiesWithin};
-ghost use Rattle.sf_view.specs.Contents.{source_of, unsigned};
+ghost use Rattle.sf_damage.specs.sf_view.Contents.{source_of, unsigned};
 
 use crate::area::Area;
 use crate::band::{Band, row_start};
 use crate::crop::{Crop, crop_rows, crop_start};
 use crate::spans::{move_part, move_pixels};
-use sf_picture::Painted;
+use sf_damage::sf_picture::Painted;
 
 // Moves the points of rows over those of a frame that is as wide as they are.
 fn move_rows(picture: &Painted, crop: Crop, frame: &mut [u8], band: Band, area: Area)

@@ -5,8 +5,8 @@ ghost use Rattle.sf_compose.specs.Frames.{KeepsRest, Repaints, ShowsPart};
 ghost use Rattle.sf_compose.specs.Painting.{is_in_area, Paints};
 ghost use Rattle.sf_compose.specs.Readings.{AreReadable, read_image, under_drawn};
 ghost use Rattle.sf_compose.specs.Seen.{ArePaintable};
-ghost use Rattle.sf_region.specs.Points.{has};
-ghost use Rattle.sf_view.specs.Image.{opaque_black};
+ghost use Rattle.sf_damage.specs.sf_region.Points.{has};
+ghost use Rattle.sf_damage.specs.sf_view.Image.{opaque_black};
 
 use crate::area::{Area, cut};
 use crate::band::{Band, all_rows, area_of};
@@ -15,8 +15,8 @@ use crate::layer::paint_layers;
 use crate::pixels::Pixels;
 use crate::slices::{rows_at_once, slice_from};
 use sf_base::{NoMemory, Rect};
-use sf_region::Region;
-use sf_view::{Drawn, View};
+use sf_damage::sf_region::Region;
+use sf_damage::sf_view::{Drawn, View};
 use std::alloc::Global;
 
 /// Composes a view into a part of a frame: each point of the display that is in the part gets the

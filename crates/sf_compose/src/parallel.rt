@@ -3,7 +3,7 @@ ghost use Rattle.sf_compose.specs.Bands.{HasRows};
 ghost use Rattle.sf_compose.specs.Frames.{KeepsRest, Repaints, ShowsPart};
 ghost use Rattle.sf_compose.specs.Readings.{AreReadable, read_image};
 ghost use Rattle.sf_damage.specs.Visible.{AreVisibleIn};
-ghost use Rattle.sf_region.specs.Points.{has};
+ghost use Rattle.sf_damage.specs.sf_region.Points.{has};
 
 use crate::band::{Band, all_rows};
 use crate::beside::compose_bands;
@@ -12,8 +12,8 @@ use crate::pixels::Pixels;
 use crate::seen::compose_band_seen;
 use crate::share::{Share, points_in};
 use sf_base::NoMemory;
-use sf_region::Region;
-use sf_view::View;
+use sf_damage::sf_region::Region;
+use sf_damage::sf_view::View;
 use std::thread::Threads;
 
 // How many points of layers are painted in a part if each layer shows in all of it.

@@ -1,7 +1,7 @@
 ghost use Rattle.std.specs.Prelude.{◌≡◌};
-ghost use Rattle.sf_picture.specs.declared.picture.Picture.{Picture as PictureValue};
+ghost use Rattle.sf_damage.specs.sf_picture.declared.picture.Picture.{Picture as PictureValue};
 
-use sf_picture::Painted;
+use sf_damage::sf_picture::Painted;
 
 /// What has pixels to show: a painted picture, or what holds one.
 pub trait Pixels {

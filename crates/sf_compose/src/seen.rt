@@ -6,9 +6,9 @@ ghost use Rattle.sf_compose.specs.Painting.{is_in_area, Paints};
 ghost use Rattle.sf_compose.specs.Readings.{AreReadable, IsReadable, read_image, under_drawn, under_one};
 ghost use Rattle.sf_compose.specs.Seen.{ArePaintable, AreSeenAt, IsPaintable};
 ghost use Rattle.sf_damage.specs.Visible.{AreVisibleAt, AreVisibleIn};
-ghost use Rattle.sf_region.specs.Canonical.{IsDisjoint};
-ghost use Rattle.sf_region.specs.Points.{has};
-ghost use Rattle.sf_view.specs.Image.{opaque_black};
+ghost use Rattle.sf_damage.specs.sf_region.Canonical.{IsDisjoint};
+ghost use Rattle.sf_damage.specs.sf_region.Points.{has};
+ghost use Rattle.sf_damage.specs.sf_view.Image.{opaque_black};
 
 use crate::area::{Area, cut};
 use crate::band::{Band, all_rows, area_of};
@@ -18,8 +18,8 @@ use crate::pixels::Pixels;
 use crate::slices::{rows_at_once, slice_from};
 use crate::steps::is_faster_whole;
 use sf_base::{NoMemory, Rect};
-use sf_region::Region;
-use sf_view::{Drawn, View};
+use sf_damage::sf_region::Region;
+use sf_damage::sf_view::{Drawn, View};
 use std::alloc::Global;
 
 // Paints a drawn layer over the points of an area that lie in rectangles, no two of which share a

@@ -2,7 +2,7 @@ ghost use Rattle.std.specs.Prelude.{◌≡◌, ◌<◌, ◌≤◌};
 
 use crate::area::{cut, points_of};
 use crate::band::{Band, area_of};
-use sf_region::Region;
+use sf_damage::sf_region::Region;
 
 // To begin a thread takes about as long as to paint so many points of layers.
 const START: u64 = 262_144;

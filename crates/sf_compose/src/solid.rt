@@ -2,7 +2,7 @@ ghost use Rattle.std.specs.Prelude.{◌≡◌, ℕ, ◌+◌, ◌*◌, ◌/◌, �
 ghost use Rattle.sf_compose.specs.Solid.{CopiesBelow};
 
 use sf_base::{get_pixel, put_pixel};
-use sf_picture::are_solid;
+use sf_damage::sf_picture::are_solid;
 use std::simd::prelude::*;
 
 // Copies pixels as long as each of sixteen has an alpha of 255, and says how many are copied.

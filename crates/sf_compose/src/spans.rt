@@ -3,7 +3,7 @@ ghost use Rattle.sf_base.specs.Paint.{painted};
 ghost use Rattle.sf_compose.specs.Painting.{PaintsSpan};
 ghost use Rattle.sf_base.specs.Bytes.{pixel_in};
 ghost use Rattle.sf_base.specs.declared.pixel.Rgba.{Rgba as RgbaValue};
-ghost use Rattle.sf_view.specs.Contents.{source_of};
+ghost use Rattle.sf_damage.specs.sf_view.Contents.{source_of};
 
 use crate::solid::copy_solid;
 use sf_base::Rgba;

@@ -6,7 +6,7 @@ use crate::band::Band;
 use crate::contents::read;
 use crate::pixels::Pixels;
 use sf_base::Rect;
-use sf_view::{Content, Drawn};
+use sf_damage::sf_view::{Content, Drawn};
 
 // A row that is moved by itself takes as long as so many pixels more.
 const ROW_PIXELS: u64 = 128;

@@ -7,16 +7,16 @@ ghost use Rattle.sf_compose.specs.Bands.{HasRows, IsInBand};
 ghost use Rattle.sf_compose.specs.Begun.{Spares};
 ghost use Rattle.sf_compose.specs.Painting.{is_in_area, Paints, PaintsSpan};
 ghost use Rattle.sf_compose.specs.Turns.{along, is_back_across, is_back_down, pixel_shown, point_shown, step_of};
-ghost use Rattle.sf_picture.specs.Pixels.{HasSize};
-ghost use Rattle.sf_view.specs.Boxes.{box_of, is_sideways};
-ghost use Rattle.sf_view.specs.Contents.{source_of, unsigned};
+ghost use Rattle.sf_damage.specs.sf_picture.Pixels.{HasSize};
+ghost use Rattle.sf_damage.specs.sf_view.Boxes.{box_of, is_sideways};
+ghost use Rattle.sf_damage.specs.sf_view.Contents.{source_of, unsigned};
 
 use crate::area::Area;
 use crate::band::{Band, row_start};
 use crate::spans::{copy_pixels, paint_pixels};
 use crate::turned_moving::move_turned;
 use sf_base::Rect;
-use sf_picture::{Painted, Picture};
+use sf_damage::sf_picture::{Painted, Picture};
 use sf_rows::pick_row;
 
 // What a turned layer shows of a picture: a crop, turned or mirrored, whose box has its corner at a

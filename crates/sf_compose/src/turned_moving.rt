@@ -5,14 +5,14 @@ ghost use Rattle.sf_base.specs.declared.pixel.Rgba.{Rgba as RgbaValue};
 ghost use Rattle.sf_compose.specs.Bands.{HasRows, IsInBand};
 ghost use Rattle.sf_compose.specs.Painting.{is_in_area, Paints, PaintsSpan};
 ghost use Rattle.sf_compose.specs.Turns.{pixel_shown};
-ghost use Rattle.sf_picture.specs.Solid.{IsSolid};
-ghost use Rattle.sf_view.specs.Boxes.{box_of};
-ghost use Rattle.sf_view.specs.Contents.{source_of};
+ghost use Rattle.sf_damage.specs.sf_picture.Solid.{IsSolid};
+ghost use Rattle.sf_damage.specs.sf_view.Boxes.{box_of};
+ghost use Rattle.sf_damage.specs.sf_view.Contents.{source_of};
 
 use crate::area::Area;
 use crate::band::{Band, row_start};
 use crate::turned::{Turned, columns_at_once, columns_from, pick_turned};
-use sf_picture::Painted;
+use sf_damage::sf_picture::Painted;
 
 // Moves the points of a row from one on and before another, where the row starts at a pixel of the
 // frame.

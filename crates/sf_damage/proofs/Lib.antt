@@ -10,3 +10,5 @@ mod ShowingLemmas
 mod SplitLemmas
 mod StackLemmas
 pub mod VisibleLemmas
+pub use Rattle.sf_view.proofs.sf_tree_lemmas
+pub use Rattle.sf_view.proofs as sf_view_lemmas

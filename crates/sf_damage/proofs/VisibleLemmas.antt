@@ -10,7 +10,7 @@ use Rattle.sf_base.specs.Geometry.{covers, is_within}
 use Rattle.sf_base.specs.Paint.{painted}
 use Rattle.sf_base.specs.declared.geometry.Rect.{Rect}
 use Rattle.sf_base.specs.declared.pixel.Rgba.{Rgba}
-use Rattle.sf_picture.specs.declared.picture.Picture.{Picture}
+use Rattle.sf_view.specs.sf_picture.declared.picture.Picture.{Picture}
 use Rattle.sf_view.specs.Contents.{pixel_of, source_of}
 use Rattle.sf_view.specs.Image.{opaque_black}
 use Rattle.sf_view.specs.Stacks.{sheet_of, stack, under_stack, view_image}

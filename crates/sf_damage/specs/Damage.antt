@@ -2,7 +2,7 @@
 use Rattle.std.specs.Prelude.{◌≡◌, ◌≢◌, ◌↔◌, ℕ, ℤ, Bool, List, false, map, filter, IsTrue}
 use Rattle.std.specs.List.{All}
 use Rattle.sf_base.specs.declared.geometry.Rect.{Rect}
-use Rattle.sf_picture.specs.declared.picture.Picture.{Picture}
+use Rattle.sf_view.specs.sf_picture.declared.picture.Picture.{Picture}
 use Rattle.sf_region.specs.Points.{has, IsInBounds}
 use Rattle.sf_damage.specs.Meeting.{meets}
 use Rattle.sf_view.specs.Stacks.{Sheet, sheet_of, stack, view_image}

@@ -4,3 +4,8 @@ pub mod Manners
 pub mod Meeting
 pub mod Showing
 pub mod Visible
+pub use Rattle.sf_view.specs.sf_layer
+pub use Rattle.sf_view.specs.sf_picture
+pub use Rattle.sf_region.specs as sf_region
+pub use Rattle.sf_view.specs.sf_tree
+pub use Rattle.sf_view.specs as sf_view

@@ -20,4 +20,7 @@ mod shown;
 
 pub use damaged::dirty;
 pub use laws::{equal_stacks_have_equal_images, what_is_hidden_is_nothing, what_shows_everywhere};
+pub use sf_region;
+pub use sf_view;
+pub use sf_view::{sf_layer, sf_picture};
 pub use shown::visible;

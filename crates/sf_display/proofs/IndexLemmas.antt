@@ -6,10 +6,10 @@ use Rattle.std.specs.Option.{option_map, option_map_or}
 use Rattle.std.proofs.lemmas.List.{get_or-map}
 use Rattle.std.proofs.lemmas.Option.{get_or_from_slice_get}
 use Rattle.sf_base.specs.declared.ids.LayerId.{LayerId}
-use Rattle.sf_layer.specs.declared.layer.Layer.{Layer}
+use Rattle.sf_tree.specs.sf_layer.declared.layer.Layer.{Layer}
 use Rattle.sf_tree.specs.Layers.{layer_of}
 use Rattle.sf_tree.proofs.ShowLemmas.{inside_from_slice_get}
-use Rattle.sf_view.specs.Ancestry.{ancestry}
+use Rattle.sf_output_shown.specs.sf_view.Ancestry.{ancestry}
 use Rattle.sf_output_shown.specs.Above.{found_above}
 use Rattle.sf_output_shown.specs.Copies.{number_of}
 use Rattle.sf_output_shown.specs.Displays.{declared, is_of, is_top, stack_by, stack_on}

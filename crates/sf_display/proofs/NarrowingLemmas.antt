@@ -4,12 +4,12 @@ use Rattle.std.specs.Option.{is_some, option_map_or}
 use Rattle.std.proofs.lemmas.Bool.{cases_Bool, eqb-true, false≢true}
 use Rattle.std.proofs.lemmas.Option.{none-some, same_Some}
 use Rattle.sf_base.specs.declared.ids.LayerId.{LayerId}
-use Rattle.sf_layer.specs.declared.layer.Layer.{Layer}
-use Rattle.sf_layer.specs.declared.parent.Parent.{Parent}
-use Rattle.sf_layer.specs.declared.parent.Parent.TheVariants as parent
+use Rattle.sf_tree.specs.sf_layer.declared.layer.Layer.{Layer}
+use Rattle.sf_tree.specs.sf_layer.declared.parent.Parent.{Parent}
+use Rattle.sf_tree.specs.sf_layer.declared.parent.Parent.TheVariants as parent
 use Rattle.sf_tree.specs.DrawOrder.{draw_order}
 use Rattle.sf_tree.specs.Layers.{has_layer, is_numbered, layer_of, parent_layer}
-use Rattle.sf_view.specs.Ancestry.{ancestry, ancestry_within, and_above}
+use Rattle.sf_output_shown.specs.sf_view.Ancestry.{ancestry, ancestry_within, and_above}
 use Rattle.sf_output_shown.specs.Displays.{declared, is_of, is_on, is_top, order_on, stack_by, stack_on, top}
 use Rattle.sf_display.specs.Stacks.{is_of_layer, stacks_in}
 

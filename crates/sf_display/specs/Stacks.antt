@@ -1,6 +1,6 @@
 -- Which stacks are declared for layers of a tree.
 use Rattle.std.specs.Prelude.{ℕ, Bool, List, filter}
-use Rattle.sf_layer.specs.declared.layer.Layer.{Layer}
+use Rattle.sf_tree.specs.sf_layer.declared.layer.Layer.{Layer}
 use Rattle.sf_tree.specs.Layers.{has_layer}
 
 abbrev pub is_of_layer : List Layer → ℕ × ℕ → Bool

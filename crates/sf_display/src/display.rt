@@ -4,12 +4,12 @@ ghost use Rattle.sf_display.specs.Index.{by_layer, declared_for};
 ghost use Rattle.sf_output_shown.specs.Above.{found_above};
 ghost use Rattle.sf_output_shown.specs.Displays.{order_on, stack_on};
 ghost use Rattle.sf_output_shown.specs.declared.above.Wanted.TheVariants as wanted;
-ghost use Rattle.sf_view.specs.Views.{IsDisplay, ViewsInOrder};
+ghost use Rattle.sf_output_shown.specs.sf_view.Views.{IsDisplay, ViewsInOrder};
 
 use sf_base::{LayerId, NoMemory};
+use sf_output_shown::sf_view::{View, view_in_order};
 use sf_output_shown::{ByLayer, Wanted, found_above};
 use sf_tree::Tree;
-use sf_view::{View, view_in_order};
 use std::alloc::Global;
 
 /// The declared stacks by the layers that they are declared for.

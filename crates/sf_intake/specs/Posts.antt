@@ -1,7 +1,7 @@
 -- Transactions on their way: as they are sent, and as they are taken, each with its number.
 use Rattle.std.specs.Prelude.{◌≡◌, ℕ, ◌+◌, ◌-◌, ◌==◌, max, Bool, List, [], ◌∷◌, ◌++◌, filter, length, take}
 use Rattle.sf_base.specs.declared.ids.ActorId.{ActorId}
-use Rattle.sf_txn.specs.Transactions.{Contents}
+use Rattle.sf_token.specs.sf_txn.Transactions.{Contents}
 use Rattle.sf_token.specs.Pending.{Arrival}
 
 -- a transaction as it is sent: who sends it, at which step, and with which stamp

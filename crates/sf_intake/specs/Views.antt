@@ -3,7 +3,7 @@ use Rattle.std.specs.Prelude.{◌≡◌, ℕ, ◌+◌, ◌*◌, ◌<◌, ◌≤�
 use Rattle.std.specs.List.{All}
 use Rattle.atomic_blocks.specs.Laid.{WebId}
 use Rattle.sf_base.specs.declared.ids.ActorId.{ActorId}
-use Rattle.sf_txn.specs.Transactions.{Contents}
+use Rattle.sf_token.specs.sf_txn.Transactions.{Contents}
 use Rattle.sf_token.specs.Pending.{Arrival}
 use Rattle.sf_token.specs.Arrivals.{AreHeld}
 use Rattle.sf_intake.specs.Posts.{Post, Begins, IsNumberedFrom, arrivals, before, posts_by}

@@ -7,7 +7,7 @@ use crate::taker::Taker;
 use crossbeam_queue::{RuledSegQueue, SegPass};
 use sf_base::NoMemory;
 use sf_token::LeaseHome;
-use sf_txn::Lease;
+use sf_token::sf_txn::Lease;
 use std::alloc::Global;
 use std::marker::Model;
 

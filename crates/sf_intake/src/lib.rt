@@ -15,4 +15,6 @@ mod taker;
 
 pub use intake::Intake;
 pub use sender::Sender;
+pub use sf_token;
+pub use sf_token::sf_txn;
 pub use taker::Taker;

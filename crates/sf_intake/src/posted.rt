@@ -1,5 +1,5 @@
 use sf_base::ActorId;
-use sf_txn::{Lease, Transaction};
+use sf_token::sf_txn::{Lease, Transaction};
 use std::marker::Model;
 
 /// A transaction in the queue: who sent it, at which step, and with which stamp.

@@ -6,7 +6,7 @@ use crate::intake::{Intake, IntakePass};
 use crate::posted::Posted;
 use sf_base::{ActorId, NoMemory};
 use sf_token::LeaseHome;
-use sf_txn::{Lease, Transaction};
+use sf_token::sf_txn::{Lease, Transaction};
 use std::marker::Model;
 use std::sync::Wait;
 

@@ -13,5 +13,6 @@ mod traits;
 pub use adapters::{ReadSource, WriteSink};
 pub use gate::{Gate, OpenGate};
 pub use memory::{MemSink, MemSource};
+pub use sf_base;
 pub use streams::{ReadFault, WriteFault, put, read_all};
 pub use traits::{Failed, Sink, Source};

@@ -7,26 +7,26 @@ use Rattle.std.proofs.lemmas.List.Elements.{All-cons, All-nil, All-weaker}
 use Rattle.std.proofs.lemmas.List.Sorted.{All-permutation}
 use Rattle.atomic_table.specs.Seated.{TableId}
 use Rattle.sf_picture.specs.declared.picture.Picture.{Picture}
-use Rattle.sf_surface.specs.Tokens.{Issued, ReadLeaseOf}
+use Rattle.sf_live_compositor.specs.sf_surface.Tokens.{Issued, ReadLeaseOf}
 use Rattle.sf_turns.specs.Views.{SeatView}
-use Rattle.sf_txn.specs.declared.lease.Lease.{Ghosts}
+use Rattle.sf_live_compositor.specs.sf_txn.declared.lease.Lease.{Ghosts}
 use Rattle.sf_script_scene.specs.Limits.{IsActor as IsDeclared, most_actors}
 use Rattle.sf_script_scene.specs.Scene.{SceneValue}
 use Rattle.sf_script_scene.specs.declared.step.ActorScript.{ActorScript}
-use Rattle.sf_actor.specs.Desks.{DeskHome, DeskView}
-use Rattle.sf_actor.specs.Plain.{PlainOf, home_of as plain_home, view_of as plain_view}
-use Rattle.sf_actor.specs.Scripts.{picture_at}
-use Rattle.sf_actor.specs.Tries.{ActorOf}
-use Rattle.sf_actor_steps.specs.Actors.{IsKept}
-use Rattle.sf_actor_steps.specs.declared.actor.Actor.{Actor}
-use Rattle.sf_actor_set.specs.ActorSets.{IsActorSet, KeepAs, numbers_of, scripts_of}
-use Rattle.law_played.specs.Actors.{number_of, script_of}
-use Rattle.sf_live_seats.specs.declared.locks.Locks.{Locks}
-use Rattle.sf_live_threads.specs.declared.all_returned.ReturnedActor.{ReturnedActor}
-use Rattle.sf_live_threads.specs.declared.gates.Gates.{Gates}
-use Rattle.sf_live_threads.specs.Walks.{Moment}
+use Rattle.sf_live_compositor.specs.sf_actor.Desks.{DeskHome, DeskView}
+use Rattle.sf_live_compositor.specs.sf_actor.Plain.{PlainOf, home_of as plain_home, view_of as plain_view}
+use Rattle.sf_live_compositor.specs.sf_actor.Scripts.{picture_at}
+use Rattle.sf_live_compositor.specs.sf_actor.Tries.{ActorOf}
+use Rattle.sf_live_compositor.specs.sf_actor_steps.Actors.{IsKept}
+use Rattle.sf_live_compositor.specs.sf_actor_steps.declared.actor.Actor.{Actor}
+use Rattle.sf_live_compositor.specs.sf_actor_set.ActorSets.{IsActorSet, KeepAs, numbers_of, scripts_of}
+use Rattle.sf_live_compositor.specs.law_played.Actors.{number_of, script_of}
+use Rattle.sf_live_compositor.specs.sf_live_seats.declared.locks.Locks.{Locks}
+use Rattle.sf_live_compositor.specs.sf_live_threads.declared.all_returned.ReturnedActor.{ReturnedActor}
+use Rattle.sf_live_compositor.specs.sf_live_threads.declared.gates.Gates.{Gates}
+use Rattle.sf_live_compositor.specs.sf_live_threads.Walks.{Moment}
 use Rattle.sf_live_compositor.specs.Vsyncs.{Sitting}
-use Rattle.law_threads.specs.Joining.{actor_at, of_at}
+use Rattle.law_joins.specs.law_threads.Joining.{actor_at, of_at}
 use Rattle.law_joins.specs.Joined.{IsJoined, actor_set_joined}
 use Rattle.law_joins.proofs.Ends.{all_play}
 use Rattle.law_joins.proofs.PlayerAtJoin.{actors, kept_as}

@@ -8,34 +8,34 @@ use Rattle.atomic_table.specs.Seated.{TableId}
 use Rattle.sf_picture.specs.declared.picture.Picture.{Picture}
 use Rattle.sf_script_scene.specs.Scene.{SceneValue}
 use Rattle.sf_script_scene.specs.declared.step.ActorScript.{ActorScript}
-use Rattle.sf_actor.specs.Desks.{DeskHome, DeskView}
-use Rattle.sf_actor.specs.Makers.{Run}
-use Rattle.sf_actor.specs.Tries.{ActorOf}
-use Rattle.sf_actor.specs.Values.{replies_of}
-use Rattle.sf_actor.specs.declared.done.Done.{Done}
-use Rattle.sf_actor_steps.specs.declared.actor.Actor.{Actor}
-use Rattle.sf_actor_set.specs.ActorSets.{KeepAs}
-use Rattle.sf_record.specs.Events.{closing, event_records, events_records}
-use Rattle.sf_record.specs.declared.encode.RunFault.{RunFault}
-use Rattle.sf_record.specs.declared.event.Event.TheVariants as event
-use Rattle.sf_record.specs.declared.record.Record.{Record}
-use Rattle.sf_record.specs.declared.record.Record.TheVariants as rec
-use Rattle.sf_record.specs.declared.record.Reply.{Reply}
-use Rattle.law_played.proofs.Members.{has_here, has_later}
-use Rattle.law_played.proofs.RisingNumbers.{rising_actors_are}
-use Rattle.law_played.proofs.RunTraces.{trace_here}
-use Rattle.law_played.specs.Actors.{script_of}
-use Rattle.law_played.specs.Played.{opening, records_of, reply_events}
-use Rattle.law_played.specs.Replies.{replies_due, reply_shown}
-use Rattle.law_played.specs.Runs.{rising_actors}
-use Rattle.sf_play.proofs.Late.{played_live}
-use Rattle.sf_play.specs.Ending.{shows_at_end, shows_late}
-use Rattle.sf_play.specs.Players.{PlayerOf, SoFar, home_in, run_so, view_in}
-use Rattle.sf_play.specs.Standing.{StandsInRun}
-use Rattle.sf_play_write.specs.Closings.{closing_of}
-use Rattle.sf_play_write.specs.Writing.{CutSome, Writes, WritesPart}
-use Rattle.sf_play_write.proofs.ClosingLemmas.{closing_is}
-use Rattle.sf_play_write.proofs.WritingLemmas.{cut_part, part_front, part_more, writes_more}
+use Rattle.sf_live_compositor.specs.sf_actor.Desks.{DeskHome, DeskView}
+use Rattle.sf_live_compositor.specs.sf_actor.Makers.{Run}
+use Rattle.sf_live_compositor.specs.sf_actor.Tries.{ActorOf}
+use Rattle.sf_live_compositor.specs.sf_actor.Values.{replies_of}
+use Rattle.sf_live_compositor.specs.sf_actor.declared.done.Done.{Done}
+use Rattle.sf_live_compositor.specs.sf_actor_steps.declared.actor.Actor.{Actor}
+use Rattle.sf_live_compositor.specs.sf_actor_set.ActorSets.{KeepAs}
+use Rattle.sf_live_compositor.specs.sf_record.Events.{closing, event_records, events_records}
+use Rattle.sf_live_compositor.specs.sf_record.declared.encode.RunFault.{RunFault}
+use Rattle.sf_live_compositor.specs.sf_record.declared.event.Event.TheVariants as event
+use Rattle.sf_live_compositor.specs.sf_record.declared.record.Record.{Record}
+use Rattle.sf_live_compositor.specs.sf_record.declared.record.Record.TheVariants as rec
+use Rattle.sf_live_compositor.specs.sf_record.declared.record.Reply.{Reply}
+use Rattle.sf_live_compositor.proofs.law_played_lemmas.Members.{has_here, has_later}
+use Rattle.sf_live_compositor.proofs.law_played_lemmas.RisingNumbers.{rising_actors_are}
+use Rattle.sf_live_compositor.proofs.law_played_lemmas.RunTraces.{trace_here}
+use Rattle.sf_live_compositor.specs.law_played.Actors.{script_of}
+use Rattle.sf_live_compositor.specs.law_played.Played.{opening, records_of, reply_events}
+use Rattle.sf_live_compositor.specs.law_played.Replies.{replies_due, reply_shown}
+use Rattle.sf_live_compositor.specs.law_played.Runs.{rising_actors}
+use Rattle.sf_live_compositor.proofs.sf_play_lemmas.Late.{played_live}
+use Rattle.sf_live_compositor.specs.sf_play.Ending.{shows_at_end, shows_late}
+use Rattle.sf_live_compositor.specs.sf_play.Players.{PlayerOf, SoFar, home_in, run_so, view_in}
+use Rattle.sf_live_compositor.specs.sf_play.Standing.{StandsInRun}
+use Rattle.sf_live_compositor.specs.sf_play_write.Closings.{closing_of}
+use Rattle.sf_live_compositor.specs.sf_play_write.Writing.{CutSome, Writes, WritesPart}
+use Rattle.sf_live_compositor.proofs.sf_play_write_lemmas.ClosingLemmas.{closing_is}
+use Rattle.sf_live_compositor.proofs.sf_play_write_lemmas.WritingLemmas.{cut_part, part_front, part_more, writes_more}
 use Rattle.sf_live.specs.Rounds.{HasShownAll, all_reply_records, vsyncs_alone}
 use Rattle.sf_live.specs.Runs.{WroteLive}
 use Rattle.sf_live.proofs.RoundLemmas.{records_more}

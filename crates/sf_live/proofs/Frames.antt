@@ -4,24 +4,24 @@ use Rattle.std.proofs.lemmas.List.{append-nil, map-append}
 use Rattle.std.proofs.lemmas.List.Concat.{flat_map-append}
 use Rattle.std.proofs.lemmas.List.Elements.{All-nil, All-push}
 use Rattle.atomic_table.specs.Seated.{TableId}
-use Rattle.sf_surface.specs.Tokens.{Issued, ReadLeaseOf}
+use Rattle.sf_live_compositor.specs.sf_surface.Tokens.{Issued, ReadLeaseOf}
 use Rattle.sf_turns.specs.Views.{SeatView}
-use Rattle.sf_txn.specs.declared.lease.Lease.{Ghosts}
-use Rattle.sf_commit.specs.declared.vsync.Commit.{Commit as Decided}
+use Rattle.sf_live_compositor.specs.sf_txn.declared.lease.Lease.{Ghosts}
+use Rattle.sf_live_compositor.specs.sf_commit.declared.vsync.Commit.{Commit as Decided}
 use Rattle.sf_script_scene.specs.Scene.{SceneValue}
-use Rattle.sf_actor.specs.Scripts.{picture_at}
-use Rattle.sf_record.specs.Events.{events_records, vsync_records}
-use Rattle.sf_record.specs.declared.event.Event.TheVariants as event
-use Rattle.sf_record.specs.declared.event.VsyncReport.{VsyncReport as Told}
-use Rattle.sf_record.specs.declared.record.Record.{Record}
-use Rattle.sf_play_report.specs.Reports.{has_commits}
-use Rattle.sf_play_report.specs.Stages.{AreExpected}
-use Rattle.law_played.specs.Frames.{plan_of}
-use Rattle.law_played.specs.Vsyncs.{rising_timelines}
-use Rattle.sf_play.specs.Playing.{expected_by}
-use Rattle.sf_play.specs.Showing.{vsync_shown as play_shown}
-use Rattle.sf_play_write.specs.Vsyncs.{records_if, told_with, vsync_shown}
-use Rattle.sf_live_seats.specs.declared.locks.Locks.{Locks}
+use Rattle.sf_live_compositor.specs.sf_actor.Scripts.{picture_at}
+use Rattle.sf_live_compositor.specs.sf_record.Events.{events_records, vsync_records}
+use Rattle.sf_live_compositor.specs.sf_record.declared.event.Event.TheVariants as event
+use Rattle.sf_live_compositor.specs.sf_record.declared.event.VsyncReport.{VsyncReport as Told}
+use Rattle.sf_live_compositor.specs.sf_record.declared.record.Record.{Record}
+use Rattle.sf_live_compositor.specs.sf_play_report.Reports.{has_commits}
+use Rattle.sf_live_compositor.specs.sf_play_report.Stages.{AreExpected}
+use Rattle.sf_live_compositor.specs.law_played.Frames.{plan_of}
+use Rattle.sf_live_compositor.specs.law_played.Vsyncs.{rising_timelines}
+use Rattle.sf_live_compositor.specs.sf_play.Playing.{expected_by}
+use Rattle.sf_live_compositor.specs.sf_play.Showing.{vsync_shown as play_shown}
+use Rattle.sf_live_compositor.specs.sf_play_write.Vsyncs.{records_if, told_with, vsync_shown}
+use Rattle.sf_live_compositor.specs.sf_live_seats.declared.locks.Locks.{Locks}
 use Rattle.sf_live_compositor.specs.Sitting.{AreFound, Showing, records_shown, showing_of, showings_of}
 use Rattle.sf_live_compositor.specs.Vsyncs.{Begin, IsVsync, More, Sitting, Vsyncs}
 use Rattle.law_joins.specs.Frames.{AllFind}

@@ -4,35 +4,35 @@ use Rattle.std.specs.Prelude.{◌==◌, if◌then◌else◌, nat_lt, slice_get, 
 use Rattle.std.specs.List.{AllByRecursion, AllZip, position}
 use Rattle.atomic_table.specs.Seated.{TableId}
 use Rattle.sf_picture.specs.declared.picture.Picture.{Picture}
-use Rattle.sf_surface.specs.Tokens.{ReadLeaseOf}
+use Rattle.sf_live_compositor.specs.sf_surface.Tokens.{ReadLeaseOf}
 use Rattle.sf_turns.specs.Views.{SeatView}
-use Rattle.sf_txn.specs.declared.lease.Lease.{Ghosts}
+use Rattle.sf_live_compositor.specs.sf_txn.declared.lease.Lease.{Ghosts}
 use Rattle.sf_script_scene.specs.declared.declarations.Pick.{Pick}
 use Rattle.sf_script_scene.specs.declared.step.ActorScript.{ActorScript}
-use Rattle.sf_actor.specs.declared.tried.Stepped.{Stepped}
-use Rattle.sf_actor.specs.declared.tried.Stepped.TheVariants as stepped
-use Rattle.sf_actor.specs.Desks.{DeskHome, DeskView}
-use Rattle.sf_actor.specs.Plain.{home_of, view_of}
-use Rattle.sf_actor.specs.Scripts.{picture_at}
-use Rattle.sf_actor.specs.Tries.{ActorOf, Tries}
-use Rattle.sf_actor_steps.specs.Actors.{IsActor}
-use Rattle.sf_actor_steps.specs.declared.actor.Actor.{Actor}
-use Rattle.sf_actor_set.specs.ActorSets.{ActorSetOf, KeepAs, KeepsAs, number_of}
-use Rattle.sf_live_seats.specs.declared.locks.Locks.{Locks}
-use Rattle.sf_play.specs.Places.{settled}
-use Rattle.sf_play.specs.Players.{PlayOf, PlayerOf}
-use Rattle.sf_play.specs.Turning.{Picks, RoundsIf, TriesIf, TriesStep, Turns, TurnsAt, TurnsVsync, next_tried, picked_place, place_by, tried_from}
-use Rattle.sf_play.specs.declared.place.Place.{Place}
-use Rattle.sf_play.specs.declared.place.Place.TheVariants as at
-use Rattle.sf_play.specs.declared.turn.Turn.{Turn}
-use Rattle.sf_live_threads.specs.declared.all_returned.ReturnedActor.{ReturnedActor}
-use Rattle.sf_live_threads.specs.declared.gates.Gates.{Gates}
-use Rattle.sf_live_threads.specs.declared.seated_actor.SeatedActor.{SeatedActor}
-use Rattle.sf_live_threads.specs.Gates.{HasPassed, HavePassed, IsReady}
-use Rattle.sf_live_threads.specs.Meeting.{as_returned}
-use Rattle.sf_live_threads.specs.SeatedActors.{Came}
-use Rattle.sf_live_threads.proofs.WalkLemmas.{traces_on, within}
-use Rattle.sf_live_threads.proofs.Zips.{zip_long}
+use Rattle.sf_live_compositor.specs.sf_actor.declared.tried.Stepped.{Stepped}
+use Rattle.sf_live_compositor.specs.sf_actor.declared.tried.Stepped.TheVariants as stepped
+use Rattle.sf_live_compositor.specs.sf_actor.Desks.{DeskHome, DeskView}
+use Rattle.sf_live_compositor.specs.sf_actor.Plain.{home_of, view_of}
+use Rattle.sf_live_compositor.specs.sf_actor.Scripts.{picture_at}
+use Rattle.sf_live_compositor.specs.sf_actor.Tries.{ActorOf, Tries}
+use Rattle.sf_live_compositor.specs.sf_actor_steps.Actors.{IsActor}
+use Rattle.sf_live_compositor.specs.sf_actor_steps.declared.actor.Actor.{Actor}
+use Rattle.sf_live_compositor.specs.sf_actor_set.ActorSets.{ActorSetOf, KeepAs, KeepsAs, number_of}
+use Rattle.sf_live_compositor.specs.sf_live_seats.declared.locks.Locks.{Locks}
+use Rattle.sf_live_compositor.specs.sf_play.Places.{settled}
+use Rattle.sf_live_compositor.specs.sf_play.Players.{PlayOf, PlayerOf}
+use Rattle.sf_live_compositor.specs.sf_play.Turning.{Picks, RoundsIf, TriesIf, TriesStep, Turns, TurnsAt, TurnsVsync, next_tried, picked_place, place_by, tried_from}
+use Rattle.sf_live_compositor.specs.sf_play.declared.place.Place.{Place}
+use Rattle.sf_live_compositor.specs.sf_play.declared.place.Place.TheVariants as at
+use Rattle.sf_live_compositor.specs.sf_play.declared.turn.Turn.{Turn}
+use Rattle.sf_live_compositor.specs.sf_live_threads.declared.all_returned.ReturnedActor.{ReturnedActor}
+use Rattle.sf_live_compositor.specs.sf_live_threads.declared.gates.Gates.{Gates}
+use Rattle.sf_live_compositor.specs.sf_live_threads.declared.seated_actor.SeatedActor.{SeatedActor}
+use Rattle.sf_live_compositor.specs.sf_live_threads.Gates.{HasPassed, HavePassed, IsReady}
+use Rattle.sf_live_compositor.specs.sf_live_threads.Meeting.{as_returned}
+use Rattle.sf_live_compositor.specs.sf_live_threads.SeatedActors.{Came}
+use Rattle.sf_live_compositor.proofs.sf_live_threads_lemmas.WalkLemmas.{traces_on, within}
+use Rattle.sf_live_compositor.proofs.sf_live_threads_lemmas.Zips.{zip_long}
 use Rattle.sf_live.specs.Rounds.{PassesAt, PassesFor}
 use Rattle.sf_live.specs.Threads.{HasPassedOwn, returned_actor, returned_gates}
 

@@ -1,32 +1,32 @@
 -- A player that goes on with a run in threads has shown its vsyncs.
 use Rattle.std.proofs.Common.{◌≡◌, ℕ, List, [], ◌∷◌, map, Option, ◌∙◌, ap, refl, sym, subst}
 use Rattle.atomic_table.specs.Seated.{TableId}
-use Rattle.sf_surface.specs.Tokens.{Issued, ReadLeaseOf}
+use Rattle.sf_live_compositor.specs.sf_surface.Tokens.{Issued, ReadLeaseOf}
 use Rattle.sf_turns.specs.Views.{SeatView}
-use Rattle.sf_txn.specs.declared.lease.Lease.{Ghosts}
-use Rattle.sf_commit.specs.Handlers.{HandlerOf}
-use Rattle.sf_output_plan.specs.declared.plan.Plan.{Plan}
+use Rattle.sf_live_compositor.specs.sf_txn.declared.lease.Lease.{Ghosts}
+use Rattle.sf_live_compositor.specs.sf_commit.Handlers.{HandlerOf}
+use Rattle.sf_live_compositor.specs.sf_output_plan.declared.plan.Plan.{Plan}
 use Rattle.sf_script_scene.specs.Limits.{most_layers}
 use Rattle.sf_script_scene.specs.declared.declarations.Pick.{Pick}
-use Rattle.sf_actor.specs.Scripts.{picture_at}
-use Rattle.sf_actor_set.specs.ActorSets.{ActorSetOf}
-use Rattle.sf_record.specs.Events.{events_records}
-use Rattle.sf_record.specs.declared.event.Event.TheVariants as event
-use Rattle.sf_record.specs.declared.event.VsyncReport.{VsyncReport}
-use Rattle.law_played.specs.Frames.{plan_of}
-use Rattle.law_played.specs.Played.{opening}
-use Rattle.law_played.specs.Vsyncs.{vsyncs_in}
-use Rattle.sf_play.specs.Players.{PlayerOf, before_round}
-use Rattle.sf_play.specs.Standing.{StandsInRun}
-use Rattle.sf_play_write.specs.Writing.{Writes}
-use Rattle.sf_play_write.proofs.WritingLemmas.{writes_more}
-use Rattle.sf_live_seats.specs.Seats.{tells_of}
-use Rattle.sf_live_seats.specs.declared.locks.Locks.{Locks}
+use Rattle.sf_live_compositor.specs.sf_actor.Scripts.{picture_at}
+use Rattle.sf_live_compositor.specs.sf_actor_set.ActorSets.{ActorSetOf}
+use Rattle.sf_live_compositor.specs.sf_record.Events.{events_records}
+use Rattle.sf_live_compositor.specs.sf_record.declared.event.Event.TheVariants as event
+use Rattle.sf_live_compositor.specs.sf_record.declared.event.VsyncReport.{VsyncReport}
+use Rattle.sf_live_compositor.specs.law_played.Frames.{plan_of}
+use Rattle.sf_live_compositor.specs.law_played.Played.{opening}
+use Rattle.sf_live_compositor.specs.law_played.Vsyncs.{vsyncs_in}
+use Rattle.sf_live_compositor.specs.sf_play.Players.{PlayerOf, before_round}
+use Rattle.sf_live_compositor.specs.sf_play.Standing.{StandsInRun}
+use Rattle.sf_live_compositor.specs.sf_play_write.Writing.{Writes}
+use Rattle.sf_live_compositor.proofs.sf_play_write_lemmas.WritingLemmas.{writes_more}
+use Rattle.sf_live_compositor.specs.sf_live_seats.Seats.{tells_of}
+use Rattle.sf_live_compositor.specs.sf_live_seats.declared.locks.Locks.{Locks}
 use Rattle.law_joins.specs.Frames.{AllFind}
 use Rattle.law_joins.specs.Joined.{player_joined, so_joined}
 use Rattle.law_joins.specs.Logs.{reports_of}
 use Rattle.sf_live.specs.declared.threads.Joined.{Joined}
-use Rattle.sf_output_screen.specs.declared.screens.OutputScreen.{OutputScreen}
+use Rattle.sf_live_compositor.specs.sf_output_screen.declared.screens.OutputScreen.{OutputScreen}
 use Rattle.sf_live.specs.Resuming.{GoesFrom, HasCome}
 use Rattle.sf_live.specs.Rounds.{HasShown}
 use Rattle.sf_live.specs.Threads.{IsTogether, RunOf}

@@ -3,29 +3,29 @@ use Rattle.std.proofs.Common.{◌≡◌, ℕ, ◌≤◌, List, [], ◌∷◌, ma
 use Rattle.std.specs.List.{AllByRecursion, AllZip}
 use Rattle.atomic_table.specs.Seated.{TableId}
 use Rattle.sf_picture.specs.declared.picture.Picture.{Picture}
-use Rattle.sf_surface.specs.Tokens.{Issued, ReadLeaseOf}
+use Rattle.sf_live_compositor.specs.sf_surface.Tokens.{Issued, ReadLeaseOf}
 use Rattle.sf_turns.specs.Views.{SeatView}
-use Rattle.sf_txn.specs.declared.lease.Lease.{Ghosts}
-use Rattle.sf_commit.specs.Handlers.{new_handler}
+use Rattle.sf_live_compositor.specs.sf_txn.declared.lease.Lease.{Ghosts}
+use Rattle.sf_live_compositor.specs.sf_commit.Handlers.{new_handler}
 use Rattle.sf_script_scene.specs.Limits.{most_layers}
-use Rattle.sf_actor.specs.Plain.{PlainOf}
-use Rattle.sf_actor_steps.specs.declared.actor.Actor.{Actor}
-use Rattle.sf_actor_set.specs.Opening.{new_actors}
-use Rattle.law_played.specs.Frames.{plan_of}
-use Rattle.sf_live_seats.specs.declared.first.FirstSeats.{FirstSeats}
-use Rattle.sf_live_seats.specs.declared.locks.Locks.{Locks}
-use Rattle.sf_live_seats.specs.declared.seats.Seats.{Seats}
-use Rattle.sf_live_seats.specs.First.{HasAll, IsFirst, KnowsNothing, took_of}
-use Rattle.sf_live_seats.specs.Reuniting.{Reunites}
-use Rattle.sf_live_threads.specs.declared.all_returned.AllReturned.{AllReturned}
-use Rattle.sf_live_threads.specs.declared.seated_actor.SeatedActor.{SeatedActor}
-use Rattle.sf_live_threads.specs.Seating.{GetsSeats, GivesEach}
-use Rattle.sf_live_threads.specs.SeatedActors.{Came}
-use Rattle.sf_live_threads.specs.Meeting.{as_returned}
-use Rattle.sf_live_threads.specs.Returns.{Returns}
-use Rattle.sf_live_threads.proofs.MeetLemmas.{finished_took}
+use Rattle.sf_live_compositor.specs.sf_actor.Plain.{PlainOf}
+use Rattle.sf_live_compositor.specs.sf_actor_steps.declared.actor.Actor.{Actor}
+use Rattle.sf_live_compositor.specs.sf_actor_set.Opening.{new_actors}
+use Rattle.sf_live_compositor.specs.law_played.Frames.{plan_of}
+use Rattle.sf_live_compositor.specs.sf_live_seats.declared.first.FirstSeats.{FirstSeats}
+use Rattle.sf_live_compositor.specs.sf_live_seats.declared.locks.Locks.{Locks}
+use Rattle.sf_live_compositor.specs.sf_live_seats.declared.seats.Seats.{Seats}
+use Rattle.sf_live_compositor.specs.sf_live_seats.First.{HasAll, IsFirst, KnowsNothing, took_of}
+use Rattle.sf_live_compositor.specs.sf_live_seats.Reuniting.{Reunites}
+use Rattle.sf_live_compositor.specs.sf_live_threads.declared.all_returned.AllReturned.{AllReturned}
+use Rattle.sf_live_compositor.specs.sf_live_threads.declared.seated_actor.SeatedActor.{SeatedActor}
+use Rattle.sf_live_compositor.specs.sf_live_threads.Seating.{GetsSeats, GivesEach}
+use Rattle.sf_live_compositor.specs.sf_live_threads.SeatedActors.{Came}
+use Rattle.sf_live_compositor.specs.sf_live_threads.Meeting.{as_returned}
+use Rattle.sf_live_compositor.specs.sf_live_threads.Returns.{Returns}
+use Rattle.sf_live_compositor.proofs.sf_live_threads_lemmas.MeetLemmas.{finished_took}
 use Rattle.sf_live_compositor.specs.Sitting.{Sits}
-use Rattle.law_threads.specs.Joining.{Joins}
+use Rattle.law_joins.specs.law_threads.Joining.{Joins}
 use Rattle.law_joins.specs.SeatedActors.{IsUnused, WalkedBack, actor_of_seated}
 use Rattle.law_joins.proofs.WalkingBack.{all_walked}
 use Rattle.sf_live.specs.declared.opening.Opened.{Opened}

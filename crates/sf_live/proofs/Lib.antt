@@ -11,3 +11,5 @@ pub mod StartOfRun
 pub mod GateLemmas
 pub mod RoundLemmas
 pub mod EndLemmas
+pub use Rattle.sf_live_compositor.proofs.law_played_lemmas
+pub use Rattle.sf_live_compositor.proofs.sf_play_write_lemmas

@@ -11,30 +11,30 @@ use Rattle.sf_picture.specs.declared.picture.Picture.{Picture}
 use Rattle.sf_script_scene.specs.declared.step.ActorScript.{ActorScript}
 use Rattle.sf_script_scene.specs.declared.step.Step.{Step}
 use Rattle.sf_script_scene.specs.declared.declarations.QueueDecl.{QueueDecl}
-use Rattle.sf_surface.specs.Histories.{Made}
-use Rattle.sf_surface.specs.Tokens.{ReadLeaseOf}
-use Rattle.sf_surface.specs.Objects.{ObjectOf}
-use Rattle.sf_surface.specs.declared.mark.QueueMark.{QueueMark}
-use Rattle.sf_actor.specs.Desks.{DeskHome, DeskView, mark_among}
-use Rattle.sf_actor.specs.Known.{arrivals_told, is_sent_by, own_calls}
+use Rattle.sf_live_compositor.specs.sf_surface.Histories.{Made}
+use Rattle.sf_live_compositor.specs.sf_surface.Tokens.{ReadLeaseOf}
+use Rattle.sf_live_compositor.specs.sf_surface.Objects.{ObjectOf}
+use Rattle.sf_live_compositor.specs.sf_surface.declared.mark.QueueMark.{QueueMark}
+use Rattle.sf_live_compositor.specs.sf_actor.Desks.{DeskHome, DeskView, mark_among}
+use Rattle.sf_live_compositor.specs.sf_actor.Known.{arrivals_told, is_sent_by, own_calls}
 use Rattle.sf_script_scene.specs.Named.{queue_named}
-use Rattle.sf_actor.specs.Scripts.{picture_at}
-use Rattle.sf_actor.specs.Tries.{dequeues_in}
-use Rattle.sf_actor_steps.specs.Actors.{IsActor, new_actor}
-use Rattle.sf_actor_steps.specs.Playable.{IsPlayable, MayPlay}
-use Rattle.sf_actor_steps.specs.declared.actor.Actor.{Actor}
-use Rattle.sf_actor_set.specs.ActorSets.{KeepAs, KeepsAs, scripts_of}
-use Rattle.sf_actor_set.specs.Opening.{OpensQueues, new_actors, new_queue}
-use Rattle.sf_token.specs.Pending.{Arrival}
-use Rattle.sf_calls_stamped.specs.Stamps.{unstamped}
-use Rattle.sf_live_seats.proofs.IntakeHands.{none_arrived}
-use Rattle.sf_live_seats.specs.Closing.{HasNoCalls}
-use Rattle.sf_live_seats.specs.First.{KnowsNothing}
-use Rattle.sf_live_seats.specs.Seats.{QueuePass, calls_known, is_at, marks_of, tells_of}
-use Rattle.sf_live_seats.specs.declared.locks.Locks.{Locks}
-use Rattle.sf_live_seats.specs.declared.seats.Seats.{Seats}
-use Rattle.sf_live_threads.specs.Seating.{IsNewcomer, home_for, number_of}
-use Rattle.sf_play.proofs.PlayFuel.{many_below}
+use Rattle.sf_live_compositor.specs.sf_actor.Scripts.{picture_at}
+use Rattle.sf_live_compositor.specs.sf_actor.Tries.{dequeues_in}
+use Rattle.sf_live_compositor.specs.sf_actor_steps.Actors.{IsActor, new_actor}
+use Rattle.sf_live_compositor.specs.sf_actor_steps.Playable.{IsPlayable, MayPlay}
+use Rattle.sf_live_compositor.specs.sf_actor_steps.declared.actor.Actor.{Actor}
+use Rattle.sf_live_compositor.specs.sf_actor_set.ActorSets.{KeepAs, KeepsAs, scripts_of}
+use Rattle.sf_live_compositor.specs.sf_actor_set.Opening.{OpensQueues, new_actors, new_queue}
+use Rattle.sf_live_compositor.specs.sf_token.Pending.{Arrival}
+use Rattle.sf_live_compositor.specs.sf_calls_stamped.Stamps.{unstamped}
+use Rattle.sf_live_compositor.proofs.sf_live_seats_lemmas.IntakeHands.{none_arrived}
+use Rattle.sf_live_compositor.specs.sf_live_seats.Closing.{HasNoCalls}
+use Rattle.sf_live_compositor.specs.sf_live_seats.First.{KnowsNothing}
+use Rattle.sf_live_compositor.specs.sf_live_seats.Seats.{QueuePass, calls_known, is_at, marks_of, tells_of}
+use Rattle.sf_live_compositor.specs.sf_live_seats.declared.locks.Locks.{Locks}
+use Rattle.sf_live_compositor.specs.sf_live_seats.declared.seats.Seats.{Seats}
+use Rattle.sf_live_compositor.specs.sf_live_threads.Seating.{IsNewcomer, home_for, number_of}
+use Rattle.sf_live_compositor.proofs.sf_play_lemmas.PlayFuel.{many_below}
 
 -- a script that may be played over a desk may be over another one with the same queues that serves its actor
 playable_over : (home other : DeskHome) (s : Step) → other.marks ≡ home.marks → IsPlayable home s → IsPlayable other s

@@ -8,18 +8,18 @@ use Rattle.sf_turns.specs.Counts.{range, stock_at}
 use Rattle.sf_turns.proofs.Tallies.{stock_at-range}
 use Rattle.sf_script_scene.specs.Limits.{IsWithinLimits}
 use Rattle.sf_script_scene.specs.Scene.{SceneValue}
-use Rattle.sf_surface.specs.Objects.{ObjectOf, mark_of}
-use Rattle.sf_actor.specs.Desks.{DeskHome, DeskView}
-use Rattle.sf_actor.specs.Tries.{ActorOf}
-use Rattle.sf_actor_steps.specs.Actors.{IsActor}
-use Rattle.sf_actor_steps.specs.declared.actor.Actor.{Actor}
-use Rattle.sf_actor_set.specs.ActorSets.{KeepAs}
-use Rattle.sf_actor_set.specs.Opening.{OpensQueues, new_queue}
-use Rattle.sf_actor_set.proofs.RisingLemmas.{sorted_rises}
-use Rattle.law_played.specs.Actors.{mark_declared}
-use Rattle.law_played.specs.Histories.{queue_number, rising_queues}
-use Rattle.law_played.proofs.Parts.{map_twice}
-use Rattle.law_played.proofs.RisingNumbers.{rising_queues_are}
+use Rattle.sf_live_compositor.specs.sf_surface.Objects.{ObjectOf, mark_of}
+use Rattle.sf_live_compositor.specs.sf_actor.Desks.{DeskHome, DeskView}
+use Rattle.sf_live_compositor.specs.sf_actor.Tries.{ActorOf}
+use Rattle.sf_live_compositor.specs.sf_actor_steps.Actors.{IsActor}
+use Rattle.sf_live_compositor.specs.sf_actor_steps.declared.actor.Actor.{Actor}
+use Rattle.sf_live_compositor.specs.sf_actor_set.ActorSets.{KeepAs}
+use Rattle.sf_live_compositor.specs.sf_actor_set.Opening.{OpensQueues, new_queue}
+use Rattle.sf_live_compositor.proofs.sf_actor_set_lemmas.RisingLemmas.{sorted_rises}
+use Rattle.sf_live_compositor.specs.law_played.Actors.{mark_declared}
+use Rattle.sf_live_compositor.specs.law_played.Histories.{queue_number, rising_queues}
+use Rattle.sf_live_compositor.proofs.law_played_lemmas.Parts.{map_twice}
+use Rattle.sf_live_compositor.proofs.law_played_lemmas.RisingNumbers.{rising_queues_are}
 
 range_within : (number a n : ℕ) → Contains (range a n) number → number < a + n
 range_within number a zero there = absurd (let low = there.1 in omega (arith, low))

@@ -6,38 +6,38 @@ use Rattle.std.proofs.lemmas.List.{append-nil, map-append}
 use Rattle.std.proofs.lemmas.List.Concat.{flat_map-append}
 use Rattle.atomic_table.specs.Seated.{TableId}
 use Rattle.sf_picture.specs.declared.picture.Picture.{Picture}
-use Rattle.sf_output_plan.specs.declared.plan.Plan.{Plan}
-use Rattle.sf_commit.specs.Handlers.{HandlerOf}
-use Rattle.sf_commit.specs.declared.vsync.Commit.{Commit as Decided}
-use Rattle.sf_surface.specs.Tokens.{ReadLeaseOf}
+use Rattle.sf_live_compositor.specs.sf_output_plan.declared.plan.Plan.{Plan}
+use Rattle.sf_live_compositor.specs.sf_commit.Handlers.{HandlerOf}
+use Rattle.sf_live_compositor.specs.sf_commit.declared.vsync.Commit.{Commit as Decided}
+use Rattle.sf_live_compositor.specs.sf_surface.Tokens.{ReadLeaseOf}
 use Rattle.sf_script_scene.specs.Scene.{SceneValue}
-use Rattle.sf_actor.specs.Scripts.{picture_at}
-use Rattle.sf_record.specs.Events.{event_records, events_records, vsync_records}
-use Rattle.sf_record.specs.declared.event.Event.{Event}
-use Rattle.sf_record.specs.declared.event.Event.TheVariants as event
-use Rattle.sf_record.specs.declared.event.VsyncReport.{VsyncReport as Told}
-use Rattle.sf_record.specs.declared.record.Record.{Record}
-use Rattle.sf_record.specs.declared.record.Reply.{Reply}
-use Rattle.sf_play_report.specs.Reports.{has_commits}
-use Rattle.sf_play_report.specs.Stages.{AreExpected, IsStage}
-use Rattle.sf_play_report.specs.declared.report.VsyncReport.{VsyncReport}
-use Rattle.law_played.specs.Frames.{plan_of}
-use Rattle.law_played.specs.Played.{opening}
-use Rattle.law_played.specs.Replies.{reply_shown}
-use Rattle.law_played.specs.Vsyncs.{rising_timelines, vsync_in, vsyncs_in}
-use Rattle.sf_output_screen.specs.ScreenLists.{AreShown}
-use Rattle.sf_output_screen.specs.declared.screens.OutputScreen.{OutputScreen}
-use Rattle.sf_play.specs.Going.{GoesOn, TellsStage}
-use Rattle.sf_play.specs.Happening.{VsyncHappens}
-use Rattle.sf_play.specs.Players.{PlayOf, PlayerOf, SoFar}
-use Rattle.sf_play.specs.Playing.{expected_by}
-use Rattle.sf_play.specs.Showing.{vsync_shown as play_shown}
-use Rattle.sf_play.specs.declared.turn.Turn.{Turn}
-use Rattle.sf_play.specs.declared.turn.Turn.TheVariants as turn
-use Rattle.sf_play_write.specs.Turns.{is_end}
-use Rattle.sf_play_write.specs.Vsyncs.{records_if, told_with}
-use Rattle.sf_play_write.specs.Writing.{CutSome, Writes, WritesPart}
-use Rattle.sf_play_write.proofs.WritingLemmas.{cut_part, part_more, part_whole, writes_more}
+use Rattle.sf_live_compositor.specs.sf_actor.Scripts.{picture_at}
+use Rattle.sf_live_compositor.specs.sf_record.Events.{event_records, events_records, vsync_records}
+use Rattle.sf_live_compositor.specs.sf_record.declared.event.Event.{Event}
+use Rattle.sf_live_compositor.specs.sf_record.declared.event.Event.TheVariants as event
+use Rattle.sf_live_compositor.specs.sf_record.declared.event.VsyncReport.{VsyncReport as Told}
+use Rattle.sf_live_compositor.specs.sf_record.declared.record.Record.{Record}
+use Rattle.sf_live_compositor.specs.sf_record.declared.record.Reply.{Reply}
+use Rattle.sf_live_compositor.specs.sf_play_report.Reports.{has_commits}
+use Rattle.sf_live_compositor.specs.sf_play_report.Stages.{AreExpected, IsStage}
+use Rattle.sf_live_compositor.specs.sf_play_report.declared.report.VsyncReport.{VsyncReport}
+use Rattle.sf_live_compositor.specs.law_played.Frames.{plan_of}
+use Rattle.sf_live_compositor.specs.law_played.Played.{opening}
+use Rattle.sf_live_compositor.specs.law_played.Replies.{reply_shown}
+use Rattle.sf_live_compositor.specs.law_played.Vsyncs.{rising_timelines, vsync_in, vsyncs_in}
+use Rattle.sf_live_compositor.specs.sf_output_screen.ScreenLists.{AreShown}
+use Rattle.sf_live_compositor.specs.sf_output_screen.declared.screens.OutputScreen.{OutputScreen}
+use Rattle.sf_live_compositor.specs.sf_play.Going.{GoesOn, TellsStage}
+use Rattle.sf_live_compositor.specs.sf_play.Happening.{VsyncHappens}
+use Rattle.sf_live_compositor.specs.sf_play.Players.{PlayOf, PlayerOf, SoFar}
+use Rattle.sf_live_compositor.specs.sf_play.Playing.{expected_by}
+use Rattle.sf_live_compositor.specs.sf_play.Showing.{vsync_shown as play_shown}
+use Rattle.sf_live_compositor.specs.sf_play.declared.turn.Turn.{Turn}
+use Rattle.sf_live_compositor.specs.sf_play.declared.turn.Turn.TheVariants as turn
+use Rattle.sf_live_compositor.specs.sf_play_write.Turns.{is_end}
+use Rattle.sf_live_compositor.specs.sf_play_write.Vsyncs.{records_if, told_with}
+use Rattle.sf_live_compositor.specs.sf_play_write.Writing.{CutSome, Writes, WritesPart}
+use Rattle.sf_live_compositor.proofs.sf_play_write_lemmas.WritingLemmas.{cut_part, part_more, part_whole, writes_more}
 use Rattle.sf_live.specs.Rounds.{HasShown, MayWriteTurn, ShowsOn, turn_written, vsyncs_alone}
 use Rattle.sf_live.proofs.VsyncReports.{told_is}
 

@@ -6,41 +6,41 @@ use Rattle.std.proofs.lemmas.List.Elements.{All-nil}
 use Rattle.atomic_table.specs.Seated.{TableId}
 use Rattle.sf_io.specs.Causes.{Rose}
 use Rattle.sf_picture.specs.declared.picture.Picture.{Picture}
-use Rattle.sf_record.specs.declared.encode.RunFault.{RunFault}
-use Rattle.sf_record.specs.declared.encode.RunFault.TheVariants.{NoMemory, WriteFault}
-use Rattle.sf_calls_stamped.specs.Stamps.{unstamped}
-use Rattle.sf_surface.specs.Tokens.{Issued, ReadLeaseOf}
+use Rattle.sf_live_compositor.specs.sf_record.declared.encode.RunFault.{RunFault}
+use Rattle.sf_live_compositor.specs.sf_record.declared.encode.RunFault.TheVariants.{NoMemory, WriteFault}
+use Rattle.sf_live_compositor.specs.sf_calls_stamped.Stamps.{unstamped}
+use Rattle.sf_live_compositor.specs.sf_surface.Tokens.{Issued, ReadLeaseOf}
 use Rattle.sf_turns.specs.Views.{SeatView}
 use Rattle.sf_turns.specs.declared.naming.TableName.{Ghosts as Naming}
-use Rattle.sf_txn.specs.declared.lease.Lease.{Ghosts}
-use Rattle.sf_commit.specs.Handlers.{HandlerOf, new_handler}
-use Rattle.sf_commit.specs.OnLayers.{at_hand}
-use Rattle.sf_actor.specs.Plain.{taken_in}
+use Rattle.sf_live_compositor.specs.sf_txn.declared.lease.Lease.{Ghosts}
+use Rattle.sf_live_compositor.specs.sf_commit.Handlers.{HandlerOf, new_handler}
+use Rattle.sf_live_compositor.specs.sf_commit.OnLayers.{at_hand}
+use Rattle.sf_live_compositor.specs.sf_actor.Plain.{taken_in}
 use Rattle.sf_script_scene.specs.Limits.{most_layers}
 use Rattle.sf_script_scene.specs.Scene.{SceneValue}
 use Rattle.sf_script_scene.specs.declared.declarations.Pick.{Pick}
-use Rattle.sf_output_plan.specs.Due.{IsPlan}
-use Rattle.sf_output_plan.specs.declared.plan.Plan.{Plan}
-use Rattle.sf_play_report.specs.declared.report.VsyncReport.{VsyncReport}
-use Rattle.law_played.proofs.FrameLemmas.{is_plan}
-use Rattle.law_played.proofs.LimitLemmas.{few_layers}
-use Rattle.law_played.specs.Frames.{plan_of}
-use Rattle.law_played.specs.Played.{opening}
-use Rattle.sf_output_screen.specs.ScreenLists.{AreShown}
-use Rattle.sf_output_screen.specs.Screens.{IsShown}
-use Rattle.sf_output_screen.specs.declared.screens.OutputScreen.{OutputScreen}
-use Rattle.sf_play_write.specs.Writing.{CutSome, Writes}
-use Rattle.sf_play_write.proofs.TurnLemmas.{timelines_within}
-use Rattle.sf_play_write.proofs.WritingLemmas.{cut_none, cut_part, part_whole, some_whole, writes_none}
-use Rattle.sf_live_seats.specs.declared.first.FirstSeats.{FirstSeats}
-use Rattle.sf_live_seats.specs.declared.locks.Locks.{Locks}
-use Rattle.sf_live_seats.specs.First.{HasAll, IsFirst, KnowsNothing}
-use Rattle.sf_live_threads.specs.declared.all_returned.AllReturned.{AllReturned}
-use Rattle.sf_live_threads.specs.declared.run.Stopped.{Stopped}
-use Rattle.sf_live_threads.specs.declared.run.Stopped.TheVariants as stopped
-use Rattle.sf_live_threads.specs.Seating.{GivesEach, number_of}
-use Rattle.sf_live_threads.specs.Returns.{Returns}
-use Rattle.sf_live_threads.specs.Visits.{HasLeftOrIs}
+use Rattle.sf_live_compositor.specs.sf_output_plan.Due.{IsPlan}
+use Rattle.sf_live_compositor.specs.sf_output_plan.declared.plan.Plan.{Plan}
+use Rattle.sf_live_compositor.specs.sf_play_report.declared.report.VsyncReport.{VsyncReport}
+use Rattle.sf_live_compositor.proofs.law_played_lemmas.FrameLemmas.{is_plan}
+use Rattle.sf_live_compositor.proofs.law_played_lemmas.LimitLemmas.{few_layers}
+use Rattle.sf_live_compositor.specs.law_played.Frames.{plan_of}
+use Rattle.sf_live_compositor.specs.law_played.Played.{opening}
+use Rattle.sf_live_compositor.specs.sf_output_screen.ScreenLists.{AreShown}
+use Rattle.sf_live_compositor.specs.sf_output_screen.Screens.{IsShown}
+use Rattle.sf_live_compositor.specs.sf_output_screen.declared.screens.OutputScreen.{OutputScreen}
+use Rattle.sf_live_compositor.specs.sf_play_write.Writing.{CutSome, Writes}
+use Rattle.sf_live_compositor.proofs.sf_play_write_lemmas.TurnLemmas.{timelines_within}
+use Rattle.sf_live_compositor.proofs.sf_play_write_lemmas.WritingLemmas.{cut_none, cut_part, part_whole, some_whole, writes_none}
+use Rattle.sf_live_compositor.specs.sf_live_seats.declared.first.FirstSeats.{FirstSeats}
+use Rattle.sf_live_compositor.specs.sf_live_seats.declared.locks.Locks.{Locks}
+use Rattle.sf_live_compositor.specs.sf_live_seats.First.{HasAll, IsFirst, KnowsNothing}
+use Rattle.sf_live_compositor.specs.sf_live_threads.declared.all_returned.AllReturned.{AllReturned}
+use Rattle.sf_live_compositor.specs.sf_live_threads.declared.run.Stopped.{Stopped}
+use Rattle.sf_live_compositor.specs.sf_live_threads.declared.run.Stopped.TheVariants as stopped
+use Rattle.sf_live_compositor.specs.sf_live_threads.Seating.{GivesEach, number_of}
+use Rattle.sf_live_compositor.specs.sf_live_threads.Returns.{Returns}
+use Rattle.sf_live_compositor.specs.sf_live_threads.Visits.{HasLeftOrIs}
 use Rattle.sf_live_compositor.specs.declared.compositor.Compositor.{Compositor}
 use Rattle.sf_live_compositor.specs.Keeping.{HasEnded, IsSame, Keeps, sitting_of}
 use Rattle.sf_live_compositor.specs.Sitting.{Sits, SitsWith}

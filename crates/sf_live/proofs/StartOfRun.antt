@@ -1,17 +1,17 @@
 -- A scene that is opened may be run.
 use Rattle.std.proofs.Common.{◌≡◌, ℕ, List, [], ◌∷◌, Option, ap, ◌∙◌, sym, subst}
 use Rattle.atomic_table.specs.Seated.{TableId}
-use Rattle.sf_commit.specs.Handlers.{HandlerOf, new_handler}
-use Rattle.sf_output_plan.specs.declared.plan.Plan.{Plan}
+use Rattle.sf_live_compositor.specs.sf_commit.Handlers.{HandlerOf, new_handler}
+use Rattle.sf_live_compositor.specs.sf_output_plan.declared.plan.Plan.{Plan}
 use Rattle.sf_script_scene.specs.Limits.{IsWithinLimits, most_layers}
 use Rattle.sf_script_scene.specs.Scene.{SceneValue}
 use Rattle.sf_script_scene.specs.declared.declarations.QueueDecl.{QueueDecl}
-use Rattle.sf_surface.specs.Tokens.{ReadLeaseOf}
-use Rattle.sf_actor_set.specs.Scripts.{AreOfScene}
-use Rattle.law_played.specs.Frames.{plan_of}
-use Rattle.law_played.specs.Played.{opening}
-use Rattle.law_played.specs.Vsyncs.{rising_timelines}
-use Rattle.sf_play_write.specs.Writing.{Writes}
+use Rattle.sf_live_compositor.specs.sf_surface.Tokens.{ReadLeaseOf}
+use Rattle.sf_live_compositor.specs.sf_actor_set.Scripts.{AreOfScene}
+use Rattle.sf_live_compositor.specs.law_played.Frames.{plan_of}
+use Rattle.sf_live_compositor.specs.law_played.Played.{opening}
+use Rattle.sf_live_compositor.specs.law_played.Vsyncs.{rising_timelines}
+use Rattle.sf_live_compositor.specs.sf_play_write.Writing.{Writes}
 use Rattle.sf_live.specs.declared.opening.Opened.{Opened}
 use Rattle.sf_live.specs.Openings.{IsOpen}
 use Rattle.sf_live.specs.Running.{MayRun}

@@ -3,21 +3,21 @@ use Rattle.std.proofs.Common.{◌≡◌, ℕ, false, List, map, ap, ◌∙◌, r
 use Rattle.atomic_table.specs.Seated.{TableId}
 use Rattle.sf_picture.specs.declared.picture.Picture.{Picture}
 use Rattle.sf_calls.specs.Histories.{IsLegal}
-use Rattle.sf_surface.specs.Histories.{Answers}
-use Rattle.sf_surface.specs.Tokens.{Issued, ReadLeaseOf}
+use Rattle.sf_live_compositor.specs.sf_surface.Histories.{Answers}
+use Rattle.sf_live_compositor.specs.sf_surface.Tokens.{Issued, ReadLeaseOf}
 use Rattle.sf_turns.specs.Views.{SeatView}
-use Rattle.sf_txn.specs.declared.lease.Lease.{Ghosts}
-use Rattle.sf_actor.specs.Desks.{KnowsAll, mark_among}
-use Rattle.sf_actor.specs.Plain.{PlainOf, home_of as plain_home, view_of as plain_view}
-use Rattle.sf_actor_steps.specs.declared.actor.Actor.{Actor}
-use Rattle.sf_actor_set.specs.ActorSets.{ActorSetOf, IsActorSet}
+use Rattle.sf_live_compositor.specs.sf_txn.declared.lease.Lease.{Ghosts}
+use Rattle.sf_live_compositor.specs.sf_actor.Desks.{KnowsAll, mark_among}
+use Rattle.sf_live_compositor.specs.sf_actor.Plain.{PlainOf, home_of as plain_home, view_of as plain_view}
+use Rattle.sf_live_compositor.specs.sf_actor_steps.declared.actor.Actor.{Actor}
+use Rattle.sf_live_compositor.specs.sf_actor_set.ActorSets.{ActorSetOf, IsActorSet}
 use Rattle.sf_script_scene.specs.Limits.{most_layers}
-use Rattle.sf_live_seats.specs.declared.locks.Locks.{Locks}
-use Rattle.sf_live_threads.specs.declared.all_returned.AllReturned.{AllReturned}
+use Rattle.sf_live_compositor.specs.sf_live_seats.declared.locks.Locks.{Locks}
+use Rattle.sf_live_compositor.specs.sf_live_threads.declared.all_returned.AllReturned.{AllReturned}
 use Rattle.law_joins.specs.Joined.{IsJoined, actor_set_joined}
 use Rattle.sf_live.specs.declared.threads.Joined.{Joined}
-use Rattle.sf_live_threads.specs.declared.gates.Gates.{Gates}
-use Rattle.sf_live_threads.specs.Gates.{HavePassed}
+use Rattle.sf_live_compositor.specs.sf_live_threads.declared.gates.Gates.{Gates}
+use Rattle.sf_live_compositor.specs.sf_live_threads.Gates.{HavePassed}
 use Rattle.sf_live.specs.Threads.{AreClosedTo, HasRun, IsTogether, RunOf, returned_actor, returned_gates}
 use Rattle.sf_live.proofs.GateLemmas.{apart}
 use Rattle.sf_live.proofs.ActorSetLemmas.{is_actor_set}

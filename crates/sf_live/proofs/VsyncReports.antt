@@ -1,18 +1,18 @@
 -- What is told of a vsync of a scene is what is shown of its report by the scene's plan.
 use Rattle.std.proofs.Common.{◌≡◌, ℕ, ◌==◌, ◌||◌, Bool, if◌then◌else◌, List, [], ◌∷◌, map, ap, refl, sym}
 use Rattle.std.specs.List.{list_any}
-use Rattle.sf_commit.specs.declared.vsync.Commit.{Commit as Decided}
-use Rattle.sf_tree.specs.Trees.{TreeOf}
+use Rattle.sf_live_compositor.specs.sf_commit.declared.vsync.Commit.{Commit as Decided}
+use Rattle.sf_live_compositor.specs.sf_tree.Trees.{TreeOf}
 use Rattle.sf_script_scene.specs.Scene.{SceneValue}
-use Rattle.sf_actor.specs.Scripts.{picture_at}
-use Rattle.sf_play_report.specs.Stages.{is_accepted}
-use Rattle.sf_play_report.specs.declared.report.VsyncReport.{VsyncReport}
-use Rattle.law_played.specs.Commits.{commit_shown}
-use Rattle.law_played.specs.Frames.{is_done, plan_of, shown_due}
-use Rattle.law_played.specs.Seeing.{value_shown}
-use Rattle.law_played.specs.Vsyncs.{rising_timelines}
-use Rattle.sf_play.specs.Showing.{vsync_shown}
-use Rattle.sf_play_write.specs.Vsyncs.{told_with}
+use Rattle.sf_live_compositor.specs.sf_actor.Scripts.{picture_at}
+use Rattle.sf_live_compositor.specs.sf_play_report.Stages.{is_accepted}
+use Rattle.sf_live_compositor.specs.sf_play_report.declared.report.VsyncReport.{VsyncReport}
+use Rattle.sf_live_compositor.specs.law_played.Commits.{commit_shown}
+use Rattle.sf_live_compositor.specs.law_played.Frames.{is_done, plan_of, shown_due}
+use Rattle.sf_live_compositor.specs.law_played.Seeing.{value_shown}
+use Rattle.sf_live_compositor.specs.law_played.Vsyncs.{rising_timelines}
+use Rattle.sf_live_compositor.specs.sf_play.Showing.{vsync_shown}
+use Rattle.sf_live_compositor.specs.sf_play_write.Vsyncs.{told_with}
 
 -- something is due where a commit was accepted
 shown_done : (commits : List Decided) → list_any is_done (map commit_shown commits) ≡ list_any is_accepted commits

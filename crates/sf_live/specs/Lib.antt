@@ -4,3 +4,8 @@ pub mod Rounds
 pub mod Running
 pub mod Runs
 pub mod Threads
+pub use Rattle.sf_live_compositor.specs.law_played
+pub use Rattle.sf_live_compositor.specs.sf_actor
+pub use Rattle.sf_live_compositor.specs.sf_actor_set
+pub use Rattle.sf_live_compositor.specs.sf_play_write
+pub use Rattle.sf_live_compositor.specs.sf_slots

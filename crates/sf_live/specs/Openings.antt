@@ -7,13 +7,13 @@ use Rattle.sf_turns.specs.Counts.{stock_at}
 use Rattle.sf_script_scene.specs.Limits.{IsWithinLimits}
 use Rattle.sf_script_scene.specs.Scene.{SceneValue}
 use Rattle.sf_script_scene.specs.declared.step.ActorScript.{ActorScript}
-use Rattle.sf_actor_steps.specs.Actors.{IsActor}
-use Rattle.sf_actor_set.specs.Opening.{IsSortedFrom, new_actors}
-use Rattle.law_played.specs.Actors.{mark_declared}
-use Rattle.law_played.specs.Histories.{rising_queues}
-use Rattle.sf_live_seats.specs.First.{IsFirst, KnowsNothing, gave_of, took_of}
-use Rattle.sf_live_seats.specs.Seats.{marks_of}
-use Rattle.sf_live_threads.specs.Seating.{IsNewcomer, number_of}
+use Rattle.sf_live_compositor.specs.sf_actor_steps.Actors.{IsActor}
+use Rattle.sf_live_compositor.specs.sf_actor_set.Opening.{IsSortedFrom, new_actors}
+use Rattle.sf_live_compositor.specs.law_played.Actors.{mark_declared}
+use Rattle.sf_live_compositor.specs.law_played.Histories.{rising_queues}
+use Rattle.sf_live_compositor.specs.sf_live_seats.First.{IsFirst, KnowsNothing, gave_of, took_of}
+use Rattle.sf_live_compositor.specs.sf_live_seats.Seats.{marks_of}
+use Rattle.sf_live_compositor.specs.sf_live_threads.Seating.{IsNewcomer, number_of}
 use Rattle.sf_live.specs.declared.opening.Opened.{Opened}
 
 -- The queues are shared as they are declared, by rising number. The actors have done nothing, each with a permit for each of its dequeues. The

@@ -1,14 +1,14 @@
 -- What a run that goes on by rounds begins with.
 use Rattle.std.specs.Prelude.{◌≡◌, ℕ, List, [], ◌∷◌, Option}
-use Rattle.sf_surface.specs.Tokens.{ReadLeaseOf}
-use Rattle.sf_commit.specs.Handlers.{HandlerOf}
+use Rattle.sf_live_compositor.specs.sf_surface.Tokens.{ReadLeaseOf}
+use Rattle.sf_live_compositor.specs.sf_commit.Handlers.{HandlerOf}
 use Rattle.sf_script_scene.specs.declared.declarations.Pick.{Pick}
-use Rattle.sf_output_plan.specs.declared.plan.Plan.{Plan}
-use Rattle.law_played.specs.Frames.{plan_of}
-use Rattle.law_played.specs.Played.{opening}
-use Rattle.law_played.specs.Vsyncs.{rising_timelines}
-use Rattle.sf_output_screen.specs.declared.screens.OutputScreen.{OutputScreen}
-use Rattle.sf_play_write.specs.Writing.{Writes}
+use Rattle.sf_live_compositor.specs.sf_output_plan.declared.plan.Plan.{Plan}
+use Rattle.sf_live_compositor.specs.law_played.Frames.{plan_of}
+use Rattle.sf_live_compositor.specs.law_played.Played.{opening}
+use Rattle.sf_live_compositor.specs.law_played.Vsyncs.{rising_timelines}
+use Rattle.sf_live_compositor.specs.sf_output_screen.declared.screens.OutputScreen.{OutputScreen}
+use Rattle.sf_live_compositor.specs.sf_play_write.Writing.{Writes}
 use Rattle.sf_live.specs.Threads.{RunOf}
 
 -- the period and the order are the scene's, the compositor is as it came to the joins, and the record that begins a run was written before the

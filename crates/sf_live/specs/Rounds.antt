@@ -5,29 +5,29 @@ use Rattle.std.specs.List.{flat_map}
 use Rattle.atomic_table.specs.Seated.{TableId}
 use Rattle.sf_picture.specs.declared.picture.Picture.{Picture}
 use Rattle.sf_script_scene.specs.Scene.{SceneValue}
-use Rattle.sf_actor.specs.Scripts.{picture_at}
-use Rattle.sf_actor_steps.specs.declared.actor.Actor.{Actor}
-use Rattle.sf_live_threads.specs.Gates.{HasPassed, IsReady}
-use Rattle.sf_live_threads.specs.declared.gates.Gates.{Gates}
-use Rattle.sf_record.specs.Events.{events_records}
-use Rattle.sf_record.specs.declared.event.Event.{Event}
-use Rattle.sf_record.specs.declared.event.Event.TheVariants as event
-use Rattle.sf_record.specs.declared.record.Record.{Record}
-use Rattle.sf_record.specs.declared.record.Record.TheVariants as rec
-use Rattle.sf_output_plan.specs.declared.plan.Plan.{Plan}
-use Rattle.law_played.specs.Frames.{plan_of}
-use Rattle.law_played.specs.Played.{opening}
-use Rattle.law_played.specs.Replies.{reply_shown}
-use Rattle.law_played.specs.Vsyncs.{rising_timelines, vsyncs_in}
-use Rattle.sf_output_screen.specs.ScreenLists.{AreShown}
-use Rattle.sf_output_screen.specs.declared.screens.OutputScreen.{OutputScreen}
-use Rattle.sf_play.specs.Going.{EndsRun, TellsStage}
-use Rattle.sf_play.specs.Players.{PlayerOf, SoFar}
-use Rattle.sf_play.specs.Standing.{StandsInRun}
-use Rattle.sf_play.specs.declared.turn.Turn.{Turn}
-use Rattle.sf_play.specs.declared.turn.Turn.TheVariants as turn
-use Rattle.sf_play_write.specs.Vsyncs.{vsync_shown}
-use Rattle.sf_play_write.specs.Writing.{Writes}
+use Rattle.sf_live_compositor.specs.sf_actor.Scripts.{picture_at}
+use Rattle.sf_live_compositor.specs.sf_actor_steps.declared.actor.Actor.{Actor}
+use Rattle.sf_live_compositor.specs.sf_live_threads.Gates.{HasPassed, IsReady}
+use Rattle.sf_live_compositor.specs.sf_live_threads.declared.gates.Gates.{Gates}
+use Rattle.sf_live_compositor.specs.sf_record.Events.{events_records}
+use Rattle.sf_live_compositor.specs.sf_record.declared.event.Event.{Event}
+use Rattle.sf_live_compositor.specs.sf_record.declared.event.Event.TheVariants as event
+use Rattle.sf_live_compositor.specs.sf_record.declared.record.Record.{Record}
+use Rattle.sf_live_compositor.specs.sf_record.declared.record.Record.TheVariants as rec
+use Rattle.sf_live_compositor.specs.sf_output_plan.declared.plan.Plan.{Plan}
+use Rattle.sf_live_compositor.specs.law_played.Frames.{plan_of}
+use Rattle.sf_live_compositor.specs.law_played.Played.{opening}
+use Rattle.sf_live_compositor.specs.law_played.Replies.{reply_shown}
+use Rattle.sf_live_compositor.specs.law_played.Vsyncs.{rising_timelines, vsyncs_in}
+use Rattle.sf_live_compositor.specs.sf_output_screen.ScreenLists.{AreShown}
+use Rattle.sf_live_compositor.specs.sf_output_screen.declared.screens.OutputScreen.{OutputScreen}
+use Rattle.sf_live_compositor.specs.sf_play.Going.{EndsRun, TellsStage}
+use Rattle.sf_live_compositor.specs.sf_play.Players.{PlayerOf, SoFar}
+use Rattle.sf_live_compositor.specs.sf_play.Standing.{StandsInRun}
+use Rattle.sf_live_compositor.specs.sf_play.declared.turn.Turn.{Turn}
+use Rattle.sf_live_compositor.specs.sf_play.declared.turn.Turn.TheVariants as turn
+use Rattle.sf_live_compositor.specs.sf_play_write.Vsyncs.{vsync_shown}
+use Rattle.sf_live_compositor.specs.sf_play_write.Writing.{Writes}
 
 -- the vsyncs among events, alone
 abbrev pub vsyncs_alone : List Event → List Event

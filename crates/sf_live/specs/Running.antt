@@ -2,23 +2,23 @@
 use Rattle.std.specs.Prelude.{◌≡◌, ℕ, ◌≤◌, List, [], ◌∷◌, Option, None}
 use Rattle.atomic_table.specs.Seated.{TableId}
 use Rattle.sf_io.specs.Causes.{Rose}
-use Rattle.sf_record.specs.declared.encode.RunFault.{RunFault}
-use Rattle.sf_record.specs.declared.encode.RunFault.TheVariants.{WriteFault}
-use Rattle.sf_surface.specs.Tokens.{Issued, ReadLeaseOf}
+use Rattle.sf_live_compositor.specs.sf_record.declared.encode.RunFault.{RunFault}
+use Rattle.sf_live_compositor.specs.sf_record.declared.encode.RunFault.TheVariants.{WriteFault}
+use Rattle.sf_live_compositor.specs.sf_surface.Tokens.{Issued, ReadLeaseOf}
 use Rattle.sf_turns.specs.Views.{SeatView}
 use Rattle.sf_turns.specs.declared.naming.TableName.{Ghosts as Naming}
-use Rattle.sf_txn.specs.declared.lease.Lease.{Ghosts}
-use Rattle.sf_commit.specs.Handlers.{HandlerOf, new_handler}
-use Rattle.sf_output_plan.specs.declared.plan.Plan.{Plan}
+use Rattle.sf_live_compositor.specs.sf_txn.declared.lease.Lease.{Ghosts}
+use Rattle.sf_live_compositor.specs.sf_commit.Handlers.{HandlerOf, new_handler}
+use Rattle.sf_live_compositor.specs.sf_output_plan.declared.plan.Plan.{Plan}
 use Rattle.sf_script_scene.specs.Limits.{most_layers}
 use Rattle.sf_script_scene.specs.Scene.{SceneValue}
 use Rattle.sf_script_scene.specs.declared.declarations.Pick.{Pick}
-use Rattle.law_played.specs.Frames.{plan_of}
-use Rattle.law_played.specs.Played.{opening}
-use Rattle.law_played.specs.Vsyncs.{rising_timelines}
-use Rattle.sf_play_write.specs.Writing.{CutSome, Writes, WritesSome}
-use Rattle.sf_live_seats.specs.declared.locks.Locks.{Locks}
-use Rattle.sf_live_seats.specs.declared.seats.Seats.{Seats}
+use Rattle.sf_live_compositor.specs.law_played.Frames.{plan_of}
+use Rattle.sf_live_compositor.specs.law_played.Played.{opening}
+use Rattle.sf_live_compositor.specs.law_played.Vsyncs.{rising_timelines}
+use Rattle.sf_live_compositor.specs.sf_play_write.Writing.{CutSome, Writes, WritesSome}
+use Rattle.sf_live_compositor.specs.sf_live_seats.declared.locks.Locks.{Locks}
+use Rattle.sf_live_compositor.specs.sf_live_seats.declared.seats.Seats.{Seats}
 use Rattle.sf_live_compositor.specs.declared.compositor.Compositor.{Compositor}
 use Rattle.sf_live_compositor.specs.Keeping.{IsSame}
 use Rattle.sf_live_compositor.specs.Sitting.{IsSet}

@@ -3,14 +3,14 @@ use Rattle.std.specs.Prelude.{◌≡◌, ℕ, ◌≤◌, Bool, true, List, [], O
 use Rattle.atomic_table.specs.Seated.{TableId}
 use Rattle.sf_io.specs.Causes.{Rose}
 use Rattle.sf_script_scene.specs.Scene.{SceneValue}
-use Rattle.sf_record.specs.declared.encode.RunFault.{RunFault}
-use Rattle.sf_record.specs.declared.encode.RunFault.TheVariants.{WriteFault}
-use Rattle.sf_record.specs.declared.record.Record.{Record}
-use Rattle.law_played.specs.Played.{PlayedLiveWhere}
-use Rattle.sf_play_write.specs.Writing.{CutSome, Writes}
+use Rattle.sf_live_compositor.specs.sf_record.declared.encode.RunFault.{RunFault}
+use Rattle.sf_live_compositor.specs.sf_record.declared.encode.RunFault.TheVariants.{WriteFault}
+use Rattle.sf_live_compositor.specs.sf_record.declared.record.Record.{Record}
+use Rattle.sf_live_compositor.specs.law_played.Played.{PlayedLiveWhere}
+use Rattle.sf_live_compositor.specs.sf_play_write.Writing.{CutSome, Writes}
 use Rattle.sf_turns.specs.Counts.{range}
 use Rattle.sf_turns.specs.Views.{SeatView, StockView}
-use Rattle.sf_actor_set.specs.Scripts.{permits_of}
+use Rattle.sf_live_compositor.specs.sf_actor_set.Scripts.{permits_of}
 
 -- A scene may be run live: 1 to 16 workers compose each frame, and the run takes the seat and the whole stock of a table of turns, with a permit for
 -- each dequeue. The seat is the first one, gave none and left no turn.

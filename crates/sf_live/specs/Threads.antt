@@ -3,33 +3,33 @@ use Rattle.std.specs.Prelude.{◌≡◌, ℕ, ◌≤◌, List, ◌∷◌, map, C
 use Rattle.std.specs.List.{AllByRecursion}
 use Rattle.atomic_table.specs.Seated.{TableId}
 use Rattle.sf_picture.specs.declared.picture.Picture.{Picture}
-use Rattle.sf_surface.specs.Tokens.{Issued, ReadLeaseOf}
+use Rattle.sf_live_compositor.specs.sf_surface.Tokens.{Issued, ReadLeaseOf}
 use Rattle.sf_turns.specs.Views.{SeatView}
-use Rattle.sf_txn.specs.declared.lease.Lease.{Ghosts}
+use Rattle.sf_live_compositor.specs.sf_txn.declared.lease.Lease.{Ghosts}
 use Rattle.sf_script_scene.specs.Limits.{most_layers}
 use Rattle.sf_script_scene.specs.Scene.{SceneValue}
-use Rattle.sf_actor.specs.Desks.{known_of}
-use Rattle.sf_actor.specs.Known.{GoesOn}
-use Rattle.sf_actor.specs.Plain.{PlainOf, home_of as plain_home, view_of as plain_view}
-use Rattle.sf_actor_steps.specs.declared.actor.Actor.{Actor}
-use Rattle.law_played.specs.Frames.{plan_of}
-use Rattle.sf_output_screen.specs.ScreenLists.{AreShown}
-use Rattle.sf_output_screen.specs.declared.screens.OutputScreen.{OutputScreen}
-use Rattle.sf_play_write.specs.Writing.{Writes}
-use Rattle.sf_live_seats.specs.declared.first.FirstSeats.{FirstSeats}
-use Rattle.sf_live_seats.specs.declared.locks.Locks.{Locks}
-use Rattle.sf_live_seats.specs.declared.seats.Seats.{Seats}
-use Rattle.sf_live_seats.specs.Closing.{Closes, HasNoEntry, IsOrdered}
-use Rattle.sf_live_seats.specs.First.{gave_of, took_of}
-use Rattle.sf_live_seats.specs.Seats.{home_of, view_of}
-use Rattle.sf_live_threads.specs.declared.all_returned.AllReturned.{AllReturned}
-use Rattle.sf_live_threads.specs.declared.all_returned.ReturnedActor.{ReturnedActor}
-use Rattle.sf_live_threads.specs.declared.gates.Gates.{Gates}
-use Rattle.sf_live_threads.specs.Gates.{HasPassed, HavePassed}
-use Rattle.sf_live_threads.specs.Walks.{Moment}
+use Rattle.sf_live_compositor.specs.sf_actor.Desks.{known_of}
+use Rattle.sf_live_compositor.specs.sf_actor.Known.{GoesOn}
+use Rattle.sf_live_compositor.specs.sf_actor.Plain.{PlainOf, home_of as plain_home, view_of as plain_view}
+use Rattle.sf_live_compositor.specs.sf_actor_steps.declared.actor.Actor.{Actor}
+use Rattle.sf_live_compositor.specs.law_played.Frames.{plan_of}
+use Rattle.sf_live_compositor.specs.sf_output_screen.ScreenLists.{AreShown}
+use Rattle.sf_live_compositor.specs.sf_output_screen.declared.screens.OutputScreen.{OutputScreen}
+use Rattle.sf_live_compositor.specs.sf_play_write.Writing.{Writes}
+use Rattle.sf_live_compositor.specs.sf_live_seats.declared.first.FirstSeats.{FirstSeats}
+use Rattle.sf_live_compositor.specs.sf_live_seats.declared.locks.Locks.{Locks}
+use Rattle.sf_live_compositor.specs.sf_live_seats.declared.seats.Seats.{Seats}
+use Rattle.sf_live_compositor.specs.sf_live_seats.Closing.{Closes, HasNoEntry, IsOrdered}
+use Rattle.sf_live_compositor.specs.sf_live_seats.First.{gave_of, took_of}
+use Rattle.sf_live_compositor.specs.sf_live_seats.Seats.{home_of, view_of}
+use Rattle.sf_live_compositor.specs.sf_live_threads.declared.all_returned.AllReturned.{AllReturned}
+use Rattle.sf_live_compositor.specs.sf_live_threads.declared.all_returned.ReturnedActor.{ReturnedActor}
+use Rattle.sf_live_compositor.specs.sf_live_threads.declared.gates.Gates.{Gates}
+use Rattle.sf_live_compositor.specs.sf_live_threads.Gates.{HasPassed, HavePassed}
+use Rattle.sf_live_compositor.specs.sf_live_threads.Walks.{Moment}
 use Rattle.sf_live_compositor.specs.Sitting.{AreFound, records_shown, showings_of}
 use Rattle.sf_live_compositor.specs.Vsyncs.{Sitting, Vsyncs}
-use Rattle.law_threads.specs.Joining.{Joins, actor_at}
+use Rattle.law_joins.specs.law_threads.Joining.{Joins, actor_at}
 use Rattle.law_joins.specs.Joined.{IsJoined, actor_set_joined}
 use Rattle.sf_live.specs.declared.threads.Joined.{Joined}
 

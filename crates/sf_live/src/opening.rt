@@ -2,19 +2,16 @@ ghost use Rattle.std.specs.Prelude.{◌≡◌, ◌≤◌, All, true, [], IfOk};
 ghost use Rattle.std.specs.List.{AllByRecursion};
 ghost use Rattle.sf_script_scene.specs.declared.step.ActorScript.{ActorScript as ScriptValue};
 ghost use Rattle.sf_turns.specs.Counts.{range};
-ghost use Rattle.sf_actor_set.specs.Scripts.{AreOfScene, permits_of};
-ghost use Rattle.sf_live_seats.specs.Closing.{HasNoCalls, Opens};
-ghost use Rattle.sf_live_seats.specs.First.{IsFirst};
-ghost use Rattle.sf_live_seats.specs.Seats.{tells_of};
+ghost use Rattle.sf_live_compositor.specs.sf_actor_set.Scripts.{AreOfScene, permits_of};
+ghost use Rattle.sf_live_compositor.specs.sf_live_seats.Closing.{HasNoCalls, Opens};
+ghost use Rattle.sf_live_compositor.specs.sf_live_seats.First.{IsFirst};
+ghost use Rattle.sf_live_compositor.specs.sf_live_seats.Seats.{tells_of};
 ghost use Rattle.sf_live.specs.Openings.{IsOpen, MayStart};
 
-use sf_actor::PlainDesk;
-use sf_actor_set::ActorSet;
 use sf_base::{Items, NoMemory};
+use sf_live_compositor::{Actor, ActorSet, FirstSeats, Locks, PlainDesk};
 use sf_picture::{Painted, Picture};
 use sf_script_scene::{ActorScript, QueueDecl};
-use sf_live_seats::{FirstSeats, Locks};
-use sf_actor_steps::Actor;
 use sf_turns::{Stock, TableName, TurnSeat};
 use std::alloc::Global;
 

@@ -1,25 +1,21 @@
 ghost use Rattle.std.specs.Prelude.{◌≡◌, ℕ, List, Option};
-ghost use Rattle.sf_play.specs.Players.{home_in};
-ghost use Rattle.sf_live_seats.specs.Seats.{tells_of};
-ghost use Rattle.sf_live_seats.specs.declared.locks.Locks.{Locks};
-ghost use Rattle.sf_live_threads.specs.Gates.{HavePassed};
+ghost use Rattle.sf_live_compositor.specs.sf_play.Players.{home_in};
+ghost use Rattle.sf_live_compositor.specs.sf_live_seats.Seats.{tells_of};
+ghost use Rattle.sf_live_compositor.specs.sf_live_seats.declared.locks.Locks.{Locks};
+ghost use Rattle.sf_live_compositor.specs.sf_live_threads.Gates.{HavePassed};
 ghost use Rattle.sf_live.specs.Resuming.{GoesFrom};
 ghost use Rattle.sf_live.specs.Rounds.{HasShown};
 ghost use Rattle.sf_live.specs.Threads.{IsTogether, RunOf};
-ghost use Rattle.law_played.specs.Frames.{plan_of};
+ghost use Rattle.sf_live_compositor.specs.law_played.Frames.{plan_of};
 
 use crate::threads::Joined;
-use sf_base::Items;
-use sf_commit::Handler;
 use law_joins::{
     a_run_in_threads_goes_on, buffers_among_threads_have_their_pictures, what_threads_did_is_played,
 };
-use sf_play::Player;
+use sf_base::Items;
+use sf_live_compositor::{Gates, Handler, Lease, Player, ReadLease};
 use sf_script_scene::Pick;
-use sf_surface::ReadLease;
-use sf_live_threads::Gates;
 use sf_turns::TableName;
-use sf_txn::Lease;
 use std::alloc::Global;
 
 /// A player that goes on with a run whose actors are together again, and the gates that they passed:

@@ -1,31 +1,26 @@
 ghost use Rattle.std.specs.Prelude.{◌≡◌, ◌<◌, ◌≤◌, ◌++◌, ℕ, true, All, IfOk, IsErrOf, List, OnErr, OnOk, Option, length, map};
-ghost use Rattle.sf_actor.specs.Scripts.{picture_at};
+ghost use Rattle.sf_live_compositor.specs.sf_actor.Scripts.{picture_at};
 ghost use Rattle.sf_io.specs.Causes.{Rose};
 ghost use Rattle.sf_live.specs.Rounds.{HasShown, HasShownAll, MayWriteTurn, PassesFor, ShowsOn, all_reply_records, turn_written};
 ghost use Rattle.sf_live.specs.Runs.{WroteLive};
-ghost use Rattle.sf_play.specs.Going.{fuel_of};
-ghost use Rattle.sf_play.specs.Players.{home_in};
-ghost use Rattle.sf_play.specs.Turning.{next_tried};
-ghost use Rattle.sf_record.specs.declared.record.Record.TheVariants as rec;
-ghost use Rattle.law_played.specs.Replies.{reply_shown};
+ghost use Rattle.sf_live_compositor.specs.sf_play.Going.{fuel_of};
+ghost use Rattle.sf_live_compositor.specs.sf_play.Players.{home_in};
+ghost use Rattle.sf_live_compositor.specs.sf_play.Turning.{next_tried};
+ghost use Rattle.sf_live_compositor.specs.sf_record.declared.record.Record.TheVariants as rec;
+ghost use Rattle.sf_live_compositor.specs.law_played.Replies.{reply_shown};
 ghost use Rattle.sf_script_scene.specs.Scene.{SceneValue};
-ghost use Rattle.sf_output_screen.specs.ScreenLists.{AreShown};
-ghost use Rattle.sf_play_write.specs.Closings.{closing_of};
-ghost use Rattle.sf_play_write.specs.Turns.{is_end};
-ghost use Rattle.sf_play_write.specs.Writing.{CutSome, Writes, WritesPart};
-ghost use Rattle.sf_actor_steps.specs.declared.actor.Actor.{Actor as ActorIn};
-ghost use Rattle.sf_live_threads.specs.Gates.{HavePassed};
+ghost use Rattle.sf_live_compositor.specs.sf_output_screen.ScreenLists.{AreShown};
+ghost use Rattle.sf_live_compositor.specs.sf_play_write.Closings.{closing_of};
+ghost use Rattle.sf_live_compositor.specs.sf_play_write.Turns.{is_end};
+ghost use Rattle.sf_live_compositor.specs.sf_play_write.Writing.{CutSome, Writes, WritesPart};
+ghost use Rattle.sf_live_compositor.specs.sf_actor_steps.declared.actor.Actor.{Actor as ActorIn};
+ghost use Rattle.sf_live_compositor.specs.sf_live_threads.Gates.{HavePassed};
 
-use sf_actor::Reply;
 use sf_io::{Gate, Sink};
-use sf_output_plan::Plan;
-use sf_play::{Player, Turn};
-use sf_record::RunFault;
-use sf_play_report::reply_record;
-use sf_output_screen::Screens;
-use sf_play_write::{show_vsync, write_closing, write_made};
-use sf_actor_steps::Actor;
-use sf_live_threads::Gates;
+use sf_live_compositor::{
+    Actor, Gates, Plan, Player, Reply, RunFault, Screens, Turn, reply_record, show_vsync,
+    write_closing, write_made,
+};
 use sf_turns::TableName;
 use std::alloc::Global;
 use std::sync::Wait;

@@ -1,19 +1,15 @@
 ghost use Rattle.std.specs.Prelude.{◌≡◌, Some, IfErr, IfOk};
-ghost use Rattle.sf_record.specs.declared.encode.RunFault.TheVariants.{WriteFault};
+ghost use Rattle.sf_live_compositor.specs.sf_record.declared.encode.RunFault.TheVariants.{WriteFault};
 ghost use Rattle.sf_script_scene.specs.Scene.{SceneValue};
-ghost use Rattle.sf_live_threads.specs.declared.run.Stopped.TheVariants as stopped;
+ghost use Rattle.sf_live_compositor.specs.sf_live_threads.declared.run.Stopped.TheVariants as stopped;
 ghost use Rattle.sf_live.specs.Openings.{IsOpen, MayStart};
 ghost use Rattle.sf_live.specs.Running.{CameTogether, Starts, WasCut};
 
 use crate::opening::Opened;
 use crate::threads::{Joined, bring_together};
-use sf_live_compositor::Compositor;
 use sf_io::{Gate, Sink};
-use sf_record::RunFault;
-use sf_surface::ReadLease;
-use sf_live_threads::{Ended, Stopped, run_actors};
+use sf_live_compositor::{Compositor, Ended, Lease, ReadLease, RunFault, Stopped, run_actors};
 use sf_turns::TableName;
-use sf_txn::Lease;
 use std::alloc::Global;
 use std::sync::Wait;
 use std::thread::Threads;

@@ -1,10 +1,10 @@
 ghost use Rattle.std.specs.Prelude.{◌≡◌, ◌≤◌, ℕ, List, [], ◌∷◌, true, false, Option};
-ghost use Rattle.law_played.specs.Played.{opening};
-ghost use Rattle.law_played.specs.Vsyncs.{rising_timelines};
+ghost use Rattle.sf_live_compositor.specs.law_played.Played.{opening};
+ghost use Rattle.sf_live_compositor.specs.law_played.Vsyncs.{rising_timelines};
 ghost use Rattle.sf_script_scene.specs.Scene.{SceneValue};
-ghost use Rattle.sf_play_write.specs.Writing.{Writes};
-ghost use Rattle.sf_live_seats.specs.Seats.{tells_of};
-ghost use Rattle.sf_live_seats.specs.declared.locks.Locks.{Locks};
+ghost use Rattle.sf_live_compositor.specs.sf_play_write.Writing.{Writes};
+ghost use Rattle.sf_live_compositor.specs.sf_live_seats.Seats.{tells_of};
+ghost use Rattle.sf_live_compositor.specs.sf_live_seats.declared.locks.Locks.{Locks};
 ghost use Rattle.sf_live.specs.Openings.{MayStart};
 ghost use Rattle.sf_live.specs.Resuming.{GoesFrom, HasCome};
 ghost use Rattle.sf_live.specs.Running.{MayRun};
@@ -17,19 +17,14 @@ use crate::rounds::write_rounds;
 use crate::running::run_threads;
 use crate::threads::Joined;
 use sf_base::Items;
-use sf_commit::Handler;
-use sf_live_compositor::{Compositor, Decider};
 use sf_io::{Gate, Sink};
+use sf_live_compositor::{
+    Compositor, Decider, Handler, Lease, Plan, ReadLease, RunFault, Screens, opening, plan_of,
+    rising_timelines, write_made,
+};
 use sf_picture::Painted;
-use sf_output_plan::Plan;
-use sf_record::RunFault;
-use sf_play_report::plan_of;
 use sf_script_scene::{Pick, Scene, most_layers};
-use sf_output_screen::Screens;
-use sf_play_write::{opening, rising_timelines, write_made};
-use sf_surface::ReadLease;
 use sf_turns::{Stock, TableName, TurnSeat};
-use sf_txn::Lease;
 use std::alloc::Global;
 use std::sync::Wait;
 use std::thread::Threads;

@@ -1,24 +1,21 @@
 ghost use Rattle.std.specs.Prelude.{◌≡◌, ℕ, All, map, IfOk};
 ghost use Rattle.sf_calls.specs.Histories.{IsLegal};
-ghost use Rattle.sf_surface.specs.Histories.{Answers};
-ghost use Rattle.sf_surface.specs.Objects.{ObjectOf, mark_of};
-ghost use Rattle.sf_actor.specs.Desks.{KnowsAll, mark_among};
-ghost use Rattle.sf_actor.specs.Plain.{home_of, view_of};
-ghost use Rattle.sf_live_seats.specs.First.{HasAll, IsFirst};
-ghost use Rattle.sf_live_threads.specs.Meeting.{as_returned};
+ghost use Rattle.sf_live_compositor.specs.sf_surface.Histories.{Answers};
+ghost use Rattle.sf_live_compositor.specs.sf_surface.Objects.{ObjectOf, mark_of};
+ghost use Rattle.sf_live_compositor.specs.sf_actor.Desks.{KnowsAll, mark_among};
+ghost use Rattle.sf_live_compositor.specs.sf_actor.Plain.{home_of, view_of};
+ghost use Rattle.sf_live_compositor.specs.sf_live_seats.First.{HasAll, IsFirst};
+ghost use Rattle.sf_live_compositor.specs.sf_live_threads.Meeting.{as_returned};
 ghost use Rattle.sf_live.specs.Threads.{HasRun, IsTogether, RunOf, returned_actor, returned_gates};
 
-use sf_actor::{Desk, PlainDesk};
-use sf_actor_set::ActorSet;
 use sf_base::{Items, NoMemory};
 use sf_calls::Object;
+use sf_live_compositor::{
+    Actor, ActorSet, AllReturned, Desk, Gates, Lease, Locks, PlainDesk, QueueObject, ReadLease,
+    ReturnedActor,
+};
 use sf_picture::Picture;
-use sf_live_seats::Locks;
-use sf_actor_steps::Actor;
-use sf_surface::{QueueObject, ReadLease};
-use sf_live_threads::{AllReturned, Gates, ReturnedActor};
 use sf_turns::TableName;
-use sf_txn::Lease;
 use std::alloc::Global;
 
 /// The actors of a scene after all threads are joined, over the desk of one thread, and the gates that

@@ -2,16 +2,16 @@
 use Rattle.std.proofs.Common.{◌≡◌, ℕ, List, [], Option, Some, None, Result, Ok, Err, OnErr, OnOk, sym, subst}
 use Rattle.std.specs.Prelude.{IfSome}
 use Rattle.atomic_table.specs.Seated.{TableId}
-use Rattle.sf_commit.specs.Handlers.{HandlerOf}
-use Rattle.sf_output_plan.specs.declared.plan.Plan.{Plan}
-use Rattle.sf_play.specs.Playing.{expected_by}
-use Rattle.sf_play_report.specs.Stages.{IsStage}
-use Rattle.sf_play_report.specs.declared.report.VsyncReport.{VsyncReport}
-use Rattle.sf_output_screen.specs.declared.screens.OutputScreen.{OutputScreen}
-use Rattle.sf_live_seats.specs.declared.locks.Locks.{Locks}
-use Rattle.sf_surface.specs.Tokens.{Issued, ReadLeaseOf}
-use Rattle.sf_turns.specs.Views.{SeatView}
-use Rattle.sf_txn.specs.declared.lease.Lease.{Ghosts}
+use Rattle.sf_live_threads.specs.sf_commit.Handlers.{HandlerOf}
+use Rattle.sf_play_write.specs.sf_output_plan.declared.plan.Plan.{Plan}
+use Rattle.sf_play_write.specs.sf_play.Playing.{expected_by}
+use Rattle.sf_play_write.specs.sf_play_report.Stages.{IsStage}
+use Rattle.sf_play_write.specs.sf_play_report.declared.report.VsyncReport.{VsyncReport}
+use Rattle.sf_play_write.specs.sf_output_screen.declared.screens.OutputScreen.{OutputScreen}
+use Rattle.sf_live_threads.specs.sf_live_seats.declared.locks.Locks.{Locks}
+use Rattle.sf_live_threads.specs.sf_surface.Tokens.{Issued, ReadLeaseOf}
+use Rattle.sf_live_threads.specs.sf_turns.Views.{SeatView}
+use Rattle.sf_live_threads.specs.sf_txn.declared.lease.Lease.{Ghosts}
 use Rattle.sf_play_write.specs.Vsyncs.{KeepsShown}
 use Rattle.sf_play_write.specs.Writing.{CutSome, Writes, WritesSome}
 use Rattle.sf_play_write.proofs.WritingLemmas.{cut_none, writes_none}

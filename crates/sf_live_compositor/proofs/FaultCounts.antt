@@ -1,9 +1,9 @@
 -- The count of a sink's faults, from vsync to vsync.
 use Rattle.std.proofs.Common.{◌≡◌, ℕ, ◌≤◌, Some, ap, arith}
 use Rattle.std.specs.Prelude.{unwrap_or}
-use Rattle.sf_io.specs.Causes.{Rose}
-use Rattle.sf_record.specs.declared.encode.RunFault.{RunFault}
-use Rattle.sf_record.specs.declared.encode.RunFault.TheVariants.{NoMemory, WriteFault}
+use Rattle.sf_live_threads.specs.sf_io.Causes.{Rose}
+use Rattle.sf_play_write.specs.sf_record.declared.encode.RunFault.{RunFault}
+use Rattle.sf_play_write.specs.sf_record.declared.encode.RunFault.TheVariants.{NoMemory, WriteFault}
 
 -- a count that rose since then rose since any time before
 pub rose_since : (first before now : ℕ) → first ≤ before → Rose before now → Rose first now

@@ -3,28 +3,28 @@ use Rattle.std.proofs.Common.{◌≡◌, ℕ, ◌+◌, ◌*◌, ◌≤◌, List,
 use Rattle.std.specs.Prelude.{Contains, IfOk}
 use Rattle.atomic_table.specs.Seated.{TableId}
 use Rattle.sf_base.specs.declared.fences.Seen.{Seen}
-use Rattle.sf_commit.specs.Handlers.{Decides, HandlerOf}
-use Rattle.sf_commit.specs.Lending.{ends_of}
-use Rattle.sf_commit.specs.OnLayers.{at_hand}
-use Rattle.sf_commit.specs.Releases.{ReleaseOf, VsyncOf}
-use Rattle.sf_play_report.specs.declared.report.VsyncReport.{VsyncReport}
-use Rattle.sf_surface.specs.Reading.{EyeMark}
-use Rattle.sf_surface.specs.Tokens.{Issued, ReadLeaseOf}
-use Rattle.sf_surface.specs.declared.call.QCall.{QCall}
-use Rattle.sf_surface.specs.declared.call.QReply.{QReply}
-use Rattle.sf_token.specs.Pending.{Arrival}
-use Rattle.sf_turns.specs.Views.{SeatView}
-use Rattle.sf_txn.specs.Leases.{IsEyeAfter}
-use Rattle.sf_txn.specs.declared.lease.Lease.{Ghosts}
-use Rattle.sf_actor.specs.Desks.{DeskHome, DeskView, MadeCall}
-use Rattle.sf_actor.specs.Tries.{Sees}
-use Rattle.law_rights.specs.Standing.{GiveAll}
-use Rattle.sf_live_seats.specs.declared.locks.Locks.{Locks}
-use Rattle.sf_live_seats.specs.declared.seats.Seats.{Seats}
-use Rattle.sf_live_seats.specs.Eyes.{SeatGoesOn}
-use Rattle.sf_live_seats.specs.Moves.{ChangesArrivals, MadeLater, Stays, Takes}
-use Rattle.sf_live_seats.specs.Seats.{AreSeats, home_of, moments_of, view_of}
-use Rattle.sf_live_seats.proofs.FirstSeatsKept.{stays_looked}
+use Rattle.sf_live_threads.specs.sf_commit.Handlers.{Decides, HandlerOf}
+use Rattle.sf_live_threads.specs.sf_commit.Lending.{ends_of}
+use Rattle.sf_live_threads.specs.sf_commit.OnLayers.{at_hand}
+use Rattle.sf_live_threads.specs.sf_commit.Releases.{ReleaseOf, VsyncOf}
+use Rattle.sf_play_write.specs.sf_play_report.declared.report.VsyncReport.{VsyncReport}
+use Rattle.sf_live_threads.specs.sf_surface.Reading.{EyeMark}
+use Rattle.sf_live_threads.specs.sf_surface.Tokens.{Issued, ReadLeaseOf}
+use Rattle.sf_live_threads.specs.sf_surface.declared.call.QCall.{QCall}
+use Rattle.sf_live_threads.specs.sf_surface.declared.call.QReply.{QReply}
+use Rattle.sf_live_threads.specs.sf_token.Pending.{Arrival}
+use Rattle.sf_live_threads.specs.sf_turns.Views.{SeatView}
+use Rattle.sf_live_threads.specs.sf_txn.Leases.{IsEyeAfter}
+use Rattle.sf_live_threads.specs.sf_txn.declared.lease.Lease.{Ghosts}
+use Rattle.sf_live_threads.specs.sf_actor.Desks.{DeskHome, DeskView, MadeCall}
+use Rattle.sf_live_threads.specs.sf_actor.Tries.{Sees}
+use Rattle.sf_play_write.specs.law_rights.Standing.{GiveAll}
+use Rattle.sf_live_threads.specs.sf_live_seats.declared.locks.Locks.{Locks}
+use Rattle.sf_live_threads.specs.sf_live_seats.declared.seats.Seats.{Seats}
+use Rattle.sf_live_threads.specs.sf_live_seats.Eyes.{SeatGoesOn}
+use Rattle.sf_live_threads.specs.sf_live_seats.Moves.{ChangesArrivals, MadeLater, Stays, Takes}
+use Rattle.sf_live_threads.specs.sf_live_seats.Seats.{AreSeats, home_of, moments_of, view_of}
+use Rattle.sf_live_threads.proofs.sf_live_seats_lemmas.FirstSeatsKept.{stays_looked}
 use Rattle.sf_live_compositor.specs.Sitting.{HasAll, HasLent, MakesLent, MakesVsync}
 use Rattle.sf_live_compositor.specs.Vsyncs.{Sitting}
 use Rattle.sf_live_compositor.specs.declared.vsync.Made.{Made}

@@ -7,23 +7,23 @@ use Rattle.std.proofs.lemmas.List.{append-nil, length-map, map-append}
 use Rattle.std.proofs.lemmas.List.Elements.{All-cons, All-head, All-map, All-nil, All-tail, All-weaker}
 use Rattle.sf_base.specs.declared.fences.Seen.{Seen}
 use Rattle.sf_base.specs.declared.ids.LayerId.{LayerId}
-use Rattle.sf_layer.specs.declared.op.Op.{Op}
-use Rattle.sf_layer.specs.declared.op.Op.TheVariants as op
-use Rattle.sf_picture.specs.declared.picture.Picture.{Picture}
-use Rattle.sf_token.specs.Looking.{AllLeases}
-use Rattle.sf_token.specs.Pending.{Arrival}
-use Rattle.sf_tree.specs.Changes.{Rejection, after}
-use Rattle.sf_tree.specs.Trees.{TreeOf}
-use Rattle.sf_txn.specs.Buffers.{Buffer}
-use Rattle.sf_txn.specs.Leases.{IsEyeAfter, IsShownTo}
-use Rattle.sf_txn.specs.declared.lease.Lease.{Ghosts}
-use Rattle.sf_view.specs.declared.drawn.Drawn.{Drawn}
-use Rattle.sf_commit.specs.Handlers.{Decides, HandlerOf, begun, last_of, source_of}
-use Rattle.sf_commit.specs.Leases.{AllOn, IsReleaseOf}
-use Rattle.sf_commit.specs.Lending.{KeptRead, ends_of, kept_if, left_if, read_of, reads_of}
-use Rattle.sf_commit.specs.OnLayers.{OnLayer, at_hand, brought, gone_with, is_on, lent_from, on_after, shown_on, without}
-use Rattle.sf_commit.specs.Releases.{ReleaseOf, VsyncOf}
-use Rattle.sf_commit.specs.Rounds.{Decided, Leads, Round, StageOf, committed, stage_with}
+use Rattle.sf_live_threads.specs.sf_layer.declared.op.Op.{Op}
+use Rattle.sf_live_threads.specs.sf_layer.declared.op.Op.TheVariants as op
+use Rattle.sf_live_threads.specs.sf_picture.declared.picture.Picture.{Picture}
+use Rattle.sf_live_threads.specs.sf_token.Looking.{AllLeases}
+use Rattle.sf_live_threads.specs.sf_token.Pending.{Arrival}
+use Rattle.sf_live_threads.specs.sf_tree.Changes.{Rejection, after}
+use Rattle.sf_live_threads.specs.sf_tree.Trees.{TreeOf}
+use Rattle.sf_live_threads.specs.sf_txn.Buffers.{Buffer}
+use Rattle.sf_live_threads.specs.sf_txn.Leases.{IsEyeAfter, IsShownTo}
+use Rattle.sf_live_threads.specs.sf_txn.declared.lease.Lease.{Ghosts}
+use Rattle.sf_live_threads.specs.sf_view.declared.drawn.Drawn.{Drawn}
+use Rattle.sf_live_threads.specs.sf_commit.Handlers.{Decides, HandlerOf, begun, last_of, source_of}
+use Rattle.sf_live_threads.specs.sf_commit.Leases.{AllOn, IsReleaseOf}
+use Rattle.sf_live_threads.specs.sf_commit.Lending.{KeptRead, ends_of, kept_if, left_if, read_of, reads_of}
+use Rattle.sf_live_threads.specs.sf_commit.OnLayers.{OnLayer, at_hand, brought, gone_with, is_on, lent_from, on_after, shown_on, without}
+use Rattle.sf_live_threads.specs.sf_commit.Releases.{ReleaseOf, VsyncOf}
+use Rattle.sf_live_threads.specs.sf_commit.Rounds.{Decided, Leads, Round, StageOf, committed, stage_with}
 
 module _ {L : Type 0} where
   -- the buffers of a stage, as they are where their pixels are at hand

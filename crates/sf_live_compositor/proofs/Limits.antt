@@ -1,16 +1,16 @@
 -- A compositor has as many layers at most as at its beginning: no vsync changes that limit.
 use Rattle.std.proofs.Common.{◌≡◌, ℕ, Bool, List, [], ◌∷◌, Result, Ok, Err, refl, ap, ◌∙◌}
 use Rattle.sf_base.specs.declared.fences.Seen.{Seen}
-use Rattle.sf_tree.proofs.KeepingAll.{after-ok}
-use Rattle.sf_tree.specs.Changes.{Rejection, after}
-use Rattle.sf_tree.specs.Trees.{TreeOf}
-use Rattle.sf_token.specs.Pending.{Arrival}
-use Rattle.sf_surface.specs.Tokens.{ReadLeaseOf}
-use Rattle.sf_turns.specs.Views.{SeatView}
-use Rattle.sf_txn.specs.declared.lease.Lease.{Ghosts}
-use Rattle.sf_commit.specs.Handlers.{Decides, HandlerOf, begun}
-use Rattle.sf_commit.specs.Releases.{VsyncOf}
-use Rattle.sf_commit.specs.Rounds.{Leads, Round, StageOf, committed, stage_after, stage_with}
+use Rattle.sf_live_threads.proofs.sf_tree_lemmas.KeepingAll.{after-ok}
+use Rattle.sf_live_threads.specs.sf_tree.Changes.{Rejection, after}
+use Rattle.sf_live_threads.specs.sf_tree.Trees.{TreeOf}
+use Rattle.sf_live_threads.specs.sf_token.Pending.{Arrival}
+use Rattle.sf_live_threads.specs.sf_surface.Tokens.{ReadLeaseOf}
+use Rattle.sf_live_threads.specs.sf_turns.Views.{SeatView}
+use Rattle.sf_live_threads.specs.sf_txn.declared.lease.Lease.{Ghosts}
+use Rattle.sf_live_threads.specs.sf_commit.Handlers.{Decides, HandlerOf, begun}
+use Rattle.sf_live_threads.specs.sf_commit.Releases.{VsyncOf}
+use Rattle.sf_live_threads.specs.sf_commit.Rounds.{Leads, Round, StageOf, committed, stage_after, stage_with}
 
 module _ {L : Type 0} where
   stage_limit : (stage : StageOf L) (arrived : Arrival L) → (stage_after stage arrived).tree.most ≡ stage.tree.most

@@ -4,15 +4,15 @@ use Rattle.std.proofs.lemmas.Bool.{false≢true}
 use Rattle.std.specs.Prelude.{IfOk, None, OnOk, is_ok}
 use Rattle.sf_base.specs.Fences.{Fence}
 use Rattle.sf_base.specs.declared.NoMemory.{NoMemory}
-use Rattle.sf_calls.specs.declared.fault.CallFault.{CallFault}
-use Rattle.sf_commit.specs.Releases.{ReleaseOf}
-use Rattle.sf_surface.specs.declared.call.QCall.{QCall}
-use Rattle.sf_surface.specs.declared.call.QCall.TheVariants as call
-use Rattle.sf_surface.specs.declared.call.QReply.{QReply}
-use Rattle.sf_surface.specs.Tokens.{ReadLeaseOf}
-use Rattle.sf_actor.specs.Desks.{DeskHome, DeskView, MadeCall}
-use Rattle.sf_actor_set.proofs.CompositingLemmas.{ends_none}
-use Rattle.law_rights.specs.Standing.{GivesOne}
+use Rattle.sf_live_threads.specs.sf_calls.declared.fault.CallFault.{CallFault}
+use Rattle.sf_live_threads.specs.sf_commit.Releases.{ReleaseOf}
+use Rattle.sf_live_threads.specs.sf_surface.declared.call.QCall.{QCall}
+use Rattle.sf_live_threads.specs.sf_surface.declared.call.QCall.TheVariants as call
+use Rattle.sf_live_threads.specs.sf_surface.declared.call.QReply.{QReply}
+use Rattle.sf_live_threads.specs.sf_surface.Tokens.{ReadLeaseOf}
+use Rattle.sf_live_threads.specs.sf_actor.Desks.{DeskHome, DeskView, MadeCall}
+use Rattle.sf_play_write.proofs.sf_actor_set_lemmas.CompositingLemmas.{ends_none}
+use Rattle.sf_play_write.specs.law_rights.Standing.{GivesOne}
 
 module _ {B : Type 0} (home : DeskHome) (old new : DeskView B) (by step queue : ℕ) (lease : ReadLeaseOf) (fence : Fence) (first : by ≡ 0) where
   abbrev Made : QReply B → Type 0

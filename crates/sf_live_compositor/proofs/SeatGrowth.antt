@@ -5,19 +5,19 @@ use Rattle.std.specs.Prelude.{map}
 use Rattle.std.specs.List.{AllZip}
 use Rattle.atomic_table.specs.Seated.{TableId}
 use Rattle.sf_base.specs.declared.fences.Seen.{Seen}
-use Rattle.sf_commit.specs.Releases.{ReleaseOf, VsyncOf}
-use Rattle.sf_play_report.specs.declared.report.VsyncReport.{VsyncReport}
-use Rattle.sf_surface.specs.Tokens.{ReadLeaseOf}
-use Rattle.sf_actor.specs.Desks.{DeskHome, DeskView}
-use Rattle.sf_actor.specs.Known.{AreAmong}
-use Rattle.law_rights.specs.Standing.{GiveAll, GivesOne}
-use Rattle.sf_live_seats.specs.declared.locks.Locks.{Locks}
-use Rattle.sf_live_seats.specs.declared.seats.Seats.{Seats}
-use Rattle.sf_live_seats.specs.Arriving.{ArrivalsPass}
-use Rattle.sf_live_seats.specs.Moves.{ChangesPasses, MadeLater, MovesPass, Stays}
-use Rattle.sf_live_seats.specs.Seats.{AreSeats, QueuePass, home_of, view_of}
-use Rattle.sf_calls.specs.Histories.{Begins}
-use Rattle.sf_live_seats.proofs.FirstSeatsKept.{stays_called}
+use Rattle.sf_live_threads.specs.sf_commit.Releases.{ReleaseOf, VsyncOf}
+use Rattle.sf_play_write.specs.sf_play_report.declared.report.VsyncReport.{VsyncReport}
+use Rattle.sf_live_threads.specs.sf_surface.Tokens.{ReadLeaseOf}
+use Rattle.sf_live_threads.specs.sf_actor.Desks.{DeskHome, DeskView}
+use Rattle.sf_live_threads.specs.sf_actor.Known.{AreAmong}
+use Rattle.sf_play_write.specs.law_rights.Standing.{GiveAll, GivesOne}
+use Rattle.sf_live_threads.specs.sf_live_seats.declared.locks.Locks.{Locks}
+use Rattle.sf_live_threads.specs.sf_live_seats.declared.seats.Seats.{Seats}
+use Rattle.sf_live_threads.specs.sf_live_seats.Arriving.{ArrivalsPass}
+use Rattle.sf_live_threads.specs.sf_live_seats.Moves.{ChangesPasses, MadeLater, MovesPass, Stays}
+use Rattle.sf_live_threads.specs.sf_live_seats.Seats.{AreSeats, QueuePass, home_of, view_of}
+use Rattle.sf_live_threads.specs.sf_calls.Histories.{Begins}
+use Rattle.sf_live_threads.proofs.sf_live_seats_lemmas.FirstSeatsKept.{stays_called}
 
 pub map_same : {X : Type 0} (xs : List X) → map (λ (x : X). x) xs ≡ xs
 map_same [] = refl

@@ -2,23 +2,23 @@
 use Rattle.std.proofs.Common.{◌≡◌, ℕ, ◌≤◌, List, Option, Result, Ok, OnOk, arith, ap, ◌∙◌, length, map, sym, subst}
 use Rattle.std.specs.Prelude.{IfOk}
 use Rattle.atomic_table.specs.Seated.{TableId}
-use Rattle.sf_picture.specs.declared.picture.Picture.{Picture}
-use Rattle.sf_commit.specs.Handlers.{HandlerOf, source_of}
-use Rattle.sf_output_plan.specs.Due.{IsPlan}
-use Rattle.sf_output_plan.specs.declared.plan.Plan.{Plan}
-use Rattle.sf_play_report.specs.Stages.{AreExpected, IsStage}
-use Rattle.sf_play_report.specs.declared.report.VsyncReport.{VsyncReport}
-use Rattle.sf_output_screen.specs.ScreenLists.{AreShown}
-use Rattle.sf_output_screen.specs.declared.screens.OutputScreen.{OutputScreen}
-use Rattle.sf_calls_stamped.specs.Stamps.{unstamped}
-use Rattle.sf_surface.specs.Tokens.{Issued, ReadLeaseOf}
-use Rattle.sf_turns.specs.Views.{SeatView}
-use Rattle.sf_txn.specs.declared.lease.Lease.{Ghosts}
-use Rattle.sf_view.specs.Views.{Views}
-use Rattle.sf_actor.specs.Plain.{taken_in}
-use Rattle.sf_live_seats.specs.declared.locks.Locks.{Locks}
-use Rattle.sf_play.proofs.StageAndContents.{sources_told, views_told}
-use Rattle.sf_play.specs.Playing.{expected_by}
+use Rattle.sf_live_threads.specs.sf_picture.declared.picture.Picture.{Picture}
+use Rattle.sf_live_threads.specs.sf_commit.Handlers.{HandlerOf, source_of}
+use Rattle.sf_play_write.specs.sf_output_plan.Due.{IsPlan}
+use Rattle.sf_play_write.specs.sf_output_plan.declared.plan.Plan.{Plan}
+use Rattle.sf_play_write.specs.sf_play_report.Stages.{AreExpected, IsStage}
+use Rattle.sf_play_write.specs.sf_play_report.declared.report.VsyncReport.{VsyncReport}
+use Rattle.sf_play_write.specs.sf_output_screen.ScreenLists.{AreShown}
+use Rattle.sf_play_write.specs.sf_output_screen.declared.screens.OutputScreen.{OutputScreen}
+use Rattle.sf_live_threads.specs.sf_calls_stamped.Stamps.{unstamped}
+use Rattle.sf_live_threads.specs.sf_surface.Tokens.{Issued, ReadLeaseOf}
+use Rattle.sf_live_threads.specs.sf_turns.Views.{SeatView}
+use Rattle.sf_live_threads.specs.sf_txn.declared.lease.Lease.{Ghosts}
+use Rattle.sf_live_threads.specs.sf_view.Views.{Views}
+use Rattle.sf_live_threads.specs.sf_actor.Plain.{taken_in}
+use Rattle.sf_live_threads.specs.sf_live_seats.declared.locks.Locks.{Locks}
+use Rattle.sf_play_write.proofs.sf_play_lemmas.StageAndContents.{sources_told, views_told}
+use Rattle.sf_play_write.specs.sf_play.Playing.{expected_by}
 use Rattle.sf_play_write.specs.Vsyncs.{vsync_shown}
 use Rattle.sf_play_write.specs.Writing.{Writes}
 use Rattle.sf_live_compositor.specs.Sitting.{HasAll, MakesVsync, MaySit, ShowsBuffers, ShowsVsync}

@@ -4,16 +4,16 @@ use Rattle.std.proofs.lemmas.List.{append-nil}
 use Rattle.std.proofs.lemmas.List.Concat.{flat_map-append}
 use Rattle.std.proofs.lemmas.List.Elements.{All-cons, All-head, All-nil, All-tail}
 use Rattle.atomic_table.specs.Seated.{TableId}
-use Rattle.sf_picture.specs.declared.picture.Picture.{Picture}
-use Rattle.sf_output_plan.specs.declared.plan.Plan.{Plan}
-use Rattle.sf_record.specs.declared.record.Record.{Record}
-use Rattle.sf_play_report.specs.Stages.{AreExpected}
-use Rattle.sf_output_screen.specs.declared.screens.OutputScreen.{OutputScreen}
-use Rattle.sf_surface.specs.Tokens.{Issued, ReadLeaseOf}
-use Rattle.sf_turns.specs.Views.{SeatView}
-use Rattle.sf_txn.specs.declared.lease.Lease.{Ghosts}
-use Rattle.sf_live_seats.specs.declared.locks.Locks.{Locks}
-use Rattle.sf_play.specs.Playing.{expected_by}
+use Rattle.sf_live_threads.specs.sf_picture.declared.picture.Picture.{Picture}
+use Rattle.sf_play_write.specs.sf_output_plan.declared.plan.Plan.{Plan}
+use Rattle.sf_play_write.specs.sf_record.declared.record.Record.{Record}
+use Rattle.sf_play_write.specs.sf_play_report.Stages.{AreExpected}
+use Rattle.sf_play_write.specs.sf_output_screen.declared.screens.OutputScreen.{OutputScreen}
+use Rattle.sf_live_threads.specs.sf_surface.Tokens.{Issued, ReadLeaseOf}
+use Rattle.sf_live_threads.specs.sf_turns.Views.{SeatView}
+use Rattle.sf_live_threads.specs.sf_txn.declared.lease.Lease.{Ghosts}
+use Rattle.sf_live_threads.specs.sf_live_seats.declared.locks.Locks.{Locks}
+use Rattle.sf_play_write.specs.sf_play.Playing.{expected_by}
 use Rattle.sf_play_write.specs.Vsyncs.{vsync_shown}
 use Rattle.sf_play_write.specs.Writing.{Writes}
 use Rattle.sf_play_write.proofs.WritingLemmas.{writes_more}

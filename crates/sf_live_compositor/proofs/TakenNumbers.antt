@@ -1,17 +1,17 @@
 -- What a compositor takes has rising numbers, beyond all that it took before.
 use Rattle.std.proofs.Common.{◌≡◌, ℕ, ◌+◌, ◌<◌, ◌≤◌, List, [], ◌∷◌, ◌++◌, length, arith, ap, sym, refl, subst}
 use Rattle.std.proofs.lemmas.List.{length-append}
-use Rattle.sf_calls.specs.declared.object.Entry.{Entry}
-use Rattle.sf_calls.specs.Histories.{Begins}
-use Rattle.sf_surface.specs.Tokens.{ReadLeaseOf}
-use Rattle.sf_token.specs.Arrivals.{arrival, sent, waiting}
-use Rattle.sf_token.specs.Pending.{Arrival, IsRisingFrom}
-use Rattle.sf_token.specs.declared.arrivals.ArriveCall.TheVariants as arrive
-use Rattle.sf_commit.specs.Handlers.{last_of}
-use Rattle.sf_actor.specs.Plain.{taken_in}
-use Rattle.sf_calls_stamped.specs.Stamps.{unstamped}
-use Rattle.sf_live_seats.specs.Arriving.{ArrivalCalls, ArrivalsPass, Arrived, Arriving}
-use Rattle.sf_live_seats.specs.Calls.{TookOne}
+use Rattle.sf_live_threads.specs.sf_calls.declared.object.Entry.{Entry}
+use Rattle.sf_live_threads.specs.sf_calls.Histories.{Begins}
+use Rattle.sf_live_threads.specs.sf_surface.Tokens.{ReadLeaseOf}
+use Rattle.sf_live_threads.specs.sf_token.Arrivals.{arrival, sent, waiting}
+use Rattle.sf_live_threads.specs.sf_token.Pending.{Arrival, IsRisingFrom}
+use Rattle.sf_live_threads.specs.sf_token.declared.arrivals.ArriveCall.TheVariants as arrive
+use Rattle.sf_live_threads.specs.sf_commit.Handlers.{last_of}
+use Rattle.sf_live_threads.specs.sf_actor.Plain.{taken_in}
+use Rattle.sf_live_threads.specs.sf_calls_stamped.Stamps.{unstamped}
+use Rattle.sf_live_threads.specs.sf_live_seats.Arriving.{ArrivalCalls, ArrivalsPass, Arrived, Arriving}
+use Rattle.sf_live_threads.specs.sf_live_seats.Calls.{TookOne}
 
 module _ {L : Type 0} where
   -- one more arrival with a greater number

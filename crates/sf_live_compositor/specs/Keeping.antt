@@ -1,14 +1,14 @@
 -- What a compositor keeps from visit to visit since it started, and what is left of it once it can make no more vsyncs.
 use Rattle.std.specs.Prelude.{◌≡◌, ℕ, ◌≤◌, List, Option, Some}
 use Rattle.atomic_table.specs.Seated.{TableId}
-use Rattle.sf_io.specs.Causes.{Rose}
-use Rattle.sf_record.specs.declared.encode.RunFault.TheVariants.{WriteFault}
-use Rattle.sf_surface.specs.Tokens.{Issued, ReadLeaseOf}
-use Rattle.sf_turns.specs.Views.{SeatView}
-use Rattle.sf_turns.specs.declared.naming.TableName.{Ghosts as Naming}
-use Rattle.sf_txn.specs.declared.lease.Lease.{Ghosts}
-use Rattle.sf_live_seats.specs.declared.first.FirstSeats.{FirstSeats}
-use Rattle.sf_live_seats.specs.declared.locks.Locks.{Locks}
+use Rattle.sf_live_threads.specs.sf_io.Causes.{Rose}
+use Rattle.sf_play_write.specs.sf_record.declared.encode.RunFault.TheVariants.{WriteFault}
+use Rattle.sf_live_threads.specs.sf_surface.Tokens.{Issued, ReadLeaseOf}
+use Rattle.sf_live_threads.specs.sf_turns.Views.{SeatView}
+use Rattle.sf_live_threads.specs.sf_turns.declared.naming.TableName.{Ghosts as Naming}
+use Rattle.sf_live_threads.specs.sf_txn.declared.lease.Lease.{Ghosts}
+use Rattle.sf_live_threads.specs.sf_live_seats.declared.first.FirstSeats.{FirstSeats}
+use Rattle.sf_live_threads.specs.sf_live_seats.declared.locks.Locks.{Locks}
 use Rattle.sf_play_write.specs.Writing.{CutSome, WritesSome}
 use Rattle.sf_live_compositor.specs.Sitting.{KeepsLog}
 use Rattle.sf_live_compositor.specs.Vsyncs.{Sitting}

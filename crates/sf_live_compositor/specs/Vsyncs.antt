@@ -2,18 +2,18 @@
 use Rattle.std.specs.Prelude.{◌≡◌, ℕ, ◌+◌, ◌*◌, ◌≤◌, List, Contains, None}
 use Rattle.atomic_table.specs.Seated.{TableId}
 use Rattle.sf_base.specs.declared.fences.Seen.{Seen}
-use Rattle.sf_surface.specs.Tokens.{Issued, ReadLeaseOf}
-use Rattle.sf_token.specs.Pending.{Arrival}
-use Rattle.sf_turns.specs.Views.{SeatView}
-use Rattle.sf_txn.specs.declared.lease.Lease.{Ghosts}
-use Rattle.sf_commit.specs.Handlers.{Decides, HandlerOf}
-use Rattle.sf_commit.specs.Releases.{VsyncOf}
-use Rattle.sf_actor.specs.Tries.{Sees}
-use Rattle.law_rights.specs.Standing.{GiveAll}
-use Rattle.sf_live_seats.specs.declared.locks.Locks.{Locks}
-use Rattle.sf_live_seats.specs.declared.seats.Seats.{Seats}
-use Rattle.sf_live_seats.specs.Moves.{ChangesArrivals, MadeLater, Stays, Takes}
-use Rattle.sf_live_seats.specs.Seats.{AreSeats, home_of, moments_of, view_of}
+use Rattle.sf_live_threads.specs.sf_surface.Tokens.{Issued, ReadLeaseOf}
+use Rattle.sf_live_threads.specs.sf_token.Pending.{Arrival}
+use Rattle.sf_live_threads.specs.sf_turns.Views.{SeatView}
+use Rattle.sf_live_threads.specs.sf_txn.declared.lease.Lease.{Ghosts}
+use Rattle.sf_live_threads.specs.sf_commit.Handlers.{Decides, HandlerOf}
+use Rattle.sf_live_threads.specs.sf_commit.Releases.{VsyncOf}
+use Rattle.sf_live_threads.specs.sf_actor.Tries.{Sees}
+use Rattle.sf_play_write.specs.law_rights.Standing.{GiveAll}
+use Rattle.sf_live_threads.specs.sf_live_seats.declared.locks.Locks.{Locks}
+use Rattle.sf_live_threads.specs.sf_live_seats.declared.seats.Seats.{Seats}
+use Rattle.sf_live_threads.specs.sf_live_seats.Moves.{ChangesArrivals, MadeLater, Stays, Takes}
+use Rattle.sf_live_threads.specs.sf_live_seats.Seats.{AreSeats, home_of, moments_of, view_of}
 
 -- a compositor between two vsyncs: what decides, its seats, and the number of its last vsync
 pub record Sitting (B : Type 0) : Type 0 where

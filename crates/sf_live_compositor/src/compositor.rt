@@ -1,23 +1,23 @@
 ghost use denote.Param.Send.{IsSync};
 ghost use Rattle.std.specs.Prelude.{OnErr, OnOk};
-ghost use Rattle.sf_live_seats.specs.First.{IsFirst};
+ghost use Rattle.sf_live_threads.specs.sf_live_seats.First.{IsFirst};
 ghost use Rattle.sf_live_threads.specs.Visits.{LeavesGiven};
 ghost use Rattle.sf_live_compositor.specs.Keeping.{HasEnded, Keeps};
 
 use crate::decider::Decider;
 use crate::showing::show_next;
 use crate::vsync::Made;
-use sf_io::Sink;
-use sf_output_plan::Plan;
-use sf_record::RunFault;
-use sf_play_report::VsyncReport;
-use sf_output_screen::Screens;
-use sf_live_seats::{FirstSeats, Locks};
-use sf_play_write::show_vsync;
-use sf_surface::ReadLease;
+use sf_live_threads::sf_io::Sink;
+use sf_live_threads::sf_live_seats::{FirstSeats, Locks};
+use sf_live_threads::sf_surface::ReadLease;
+use sf_live_threads::sf_turns::TableName;
+use sf_live_threads::sf_txn::Lease;
 use sf_live_threads::{Ended, Look, Visit};
-use sf_turns::TableName;
-use sf_txn::Lease;
+use sf_play_write::sf_output_plan::Plan;
+use sf_play_write::sf_output_screen::Screens;
+use sf_play_write::sf_play_report::VsyncReport;
+use sf_play_write::sf_record::RunFault;
+use sf_play_write::show_vsync;
 use std::alloc::Global;
 use std::sync::Wait;
 use std::thread::Threads;
@@ -110,8 +110,8 @@ impl<'a, R: Threads + Wait + Sync, K: Sink, B: TableName> Visit<R, B> for Compos
 impl<'a, K: Sink, B: TableName> Compositor<'a, K, B> {
     ghost use Rattle.std.specs.Prelude.{◌≡◌, None, OnErr, OnOk};
     ghost use Rattle.sf_live_compositor.specs.Keeping.{HasEnded, Keeps};
-    ghost use Rattle.sf_live_seats.specs.declared.first.FirstSeats.{FirstSeats as FirstIn};
-    ghost use Rattle.sf_live_seats.specs.declared.locks.Locks.{Locks as LocksIn};
+    ghost use Rattle.sf_live_threads.specs.sf_live_seats.declared.first.FirstSeats.{FirstSeats as FirstIn};
+    ghost use Rattle.sf_live_threads.specs.sf_live_seats.declared.locks.Locks.{Locks as LocksIn};
 
     /// Composes what the last vsync shows, once none follows, and writes its records, if they are due.
     pub fn settle<R: Threads + Sync>(&mut self, rt: &R) -> Result<(), Ended>

@@ -1,8 +1,8 @@
 ghost use Rattle.std.specs.Prelude.{◌≡◌, None};
 
-use sf_commit::Handler;
-use sf_surface::ReadLease;
-use sf_turns::TableName;
+use sf_live_threads::sf_commit::Handler;
+use sf_live_threads::sf_surface::ReadLease;
+use sf_live_threads::sf_turns::TableName;
 
 /// What decides in the vsyncs of a compositor. It lends nothing, so that it may end at any time.
 pub struct Decider<B: TableName> {

@@ -1,15 +1,15 @@
 ghost use Rattle.std.specs.Prelude.{◌≡◌, ◌≤◌, None, OnOk, IfOk, is_ok};
-ghost use Rattle.sf_calls.specs.Calling.{IfFaultNotYet};
-ghost use Rattle.law_rights.specs.Standing.{GiveAll, GivesOne};
-ghost use Rattle.sf_live_seats.specs.Moves.{ChangesPasses, MadeLater, Stays};
-ghost use Rattle.sf_live_seats.specs.Seats.{AreSeats, home_of, view_of};
+ghost use Rattle.sf_live_threads.specs.sf_calls.Calling.{IfFaultNotYet};
+ghost use Rattle.sf_play_write.specs.law_rights.Standing.{GiveAll, GivesOne};
+ghost use Rattle.sf_live_threads.specs.sf_live_seats.Moves.{ChangesPasses, MadeLater, Stays};
+ghost use Rattle.sf_live_threads.specs.sf_live_seats.Seats.{AreSeats, home_of, view_of};
 
 use sf_base::NoMemory;
-use sf_calls::CallFault;
-use sf_commit::Release;
-use sf_live_seats::{Locks, Seats};
-use sf_surface::{QCall, QReply, ReadLease};
-use sf_turns::TableName;
+use sf_live_threads::sf_calls::CallFault;
+use sf_live_threads::sf_commit::Release;
+use sf_live_threads::sf_live_seats::{Locks, Seats};
+use sf_live_threads::sf_surface::{QCall, QReply, ReadLease};
+use sf_live_threads::sf_turns::TableName;
 use std::sync::Wait;
 
 /// Lets a reply go that ends no drawing, with what it gives.

@@ -1,20 +1,20 @@
 ghost use Rattle.std.specs.Prelude.{◌≡◌, ◌+◌, ◌≤◌, OnOk};
-ghost use Rattle.sf_actor.specs.Plain.{taken_in};
-ghost use Rattle.law_played.specs.Progress.{is_time};
-ghost use Rattle.sf_live_seats.specs.Seats.{AreSeats};
-ghost use Rattle.sf_calls_stamped.specs.Stamps.{unstamped};
+ghost use Rattle.sf_live_threads.specs.sf_actor.Plain.{taken_in};
+ghost use Rattle.sf_play_write.specs.law_played.Progress.{is_time};
+ghost use Rattle.sf_live_threads.specs.sf_live_seats.Seats.{AreSeats};
+ghost use Rattle.sf_live_threads.specs.sf_calls_stamped.Stamps.{unstamped};
 ghost use Rattle.sf_live_compositor.specs.Sitting.{MadeLent};
 
 use crate::release::release_all;
 use sf_base::{Items, NoMemory};
-use sf_commit::{Handler, Vsync};
-use sf_ready::Hold;
-use sf_play_report::VsyncReport;
-use sf_live_seats::{Locks, Seats};
-use sf_surface::ReadLease;
 use sf_live_threads::Look;
-use sf_turns::TableName;
-use sf_txn::Lease;
+use sf_live_threads::sf_commit::{Handler, Vsync};
+use sf_live_threads::sf_live_seats::{Locks, Seats};
+use sf_live_threads::sf_ready::Hold;
+use sf_live_threads::sf_surface::ReadLease;
+use sf_live_threads::sf_turns::TableName;
+use sf_live_threads::sf_txn::Lease;
+use sf_play_write::sf_play_report::VsyncReport;
 use std::sync::Wait;
 
 /// How many transactions a take gives at most where they arrive through a queue.

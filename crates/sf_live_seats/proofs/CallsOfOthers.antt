@@ -7,10 +7,10 @@ use Rattle.std.proofs.lemmas.List.Folds.{list_any-append}
 use Rattle.sf_calls.specs.Histories.{Begins, GoesOnWithout, calls_by}
 use Rattle.sf_calls.specs.declared.object.Entry.{Entry}
 use Rattle.sf_calls_stamped.specs.Stamps.{unstamp, unstamped}
-use Rattle.sf_surface.specs.Tokens.{ReadLeaseOf}
-use Rattle.sf_token.specs.Arrivals.{arrival, sent}
-use Rattle.sf_token.specs.Pending.{Arrival}
-use Rattle.sf_token.specs.declared.arrivals.ArriveCall.TheVariants as arrive
+use Rattle.sf_actor.specs.sf_surface.Tokens.{ReadLeaseOf}
+use Rattle.sf_intake.specs.sf_token.Arrivals.{arrival, sent}
+use Rattle.sf_intake.specs.sf_token.Pending.{Arrival}
+use Rattle.sf_intake.specs.sf_token.declared.arrivals.ArriveCall.TheVariants as arrive
 use Rattle.sf_actor.specs.Known.{ArriveWithout, is_sent_by}
 use Rattle.sf_live_seats.specs.Arriving.{Arrived, Arriving}
 

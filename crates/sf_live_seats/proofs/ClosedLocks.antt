@@ -13,12 +13,12 @@ use Rattle.sf_calls.specs.Histories.{GoesOnWithout, calls_by}
 use Rattle.sf_calls.specs.Passes.{TookAll}
 use Rattle.sf_calls.specs.declared.object.Entry.{Entry}
 use Rattle.sf_calls_stamped.specs.Stamps.{StampsRise, unstamped}
-use Rattle.sf_surface.specs.declared.mark.QueueMark.{QueueMark}
-use Rattle.sf_surface.specs.Histories.{Made}
-use Rattle.sf_surface.specs.Objects.{ObjectOf, mark_of}
-use Rattle.sf_surface.specs.Tokens.{ReadLeaseOf}
-use Rattle.sf_token.specs.Arrivals.{sent}
-use Rattle.sf_token.specs.Pending.{Arrival}
+use Rattle.sf_actor.specs.sf_surface.declared.mark.QueueMark.{QueueMark}
+use Rattle.sf_actor.specs.sf_surface.Histories.{Made}
+use Rattle.sf_actor.specs.sf_surface.Objects.{ObjectOf, mark_of}
+use Rattle.sf_actor.specs.sf_surface.Tokens.{ReadLeaseOf}
+use Rattle.sf_intake.specs.sf_token.Arrivals.{sent}
+use Rattle.sf_intake.specs.sf_token.Pending.{Arrival}
 use Rattle.sf_actor.specs.Desks.{known_of, mark_among, values_of}
 use Rattle.sf_actor.specs.Known.{AreAmong, ArriveWithout, CountsRise, GoesOn, Rise, is_sent_by}
 use Rattle.sf_actor.specs.Plain.{PlainOf, calls_among, home_of as plain_home, is_queue, view_of as plain_view}

@@ -5,7 +5,7 @@ use Rattle.std.specs.List.{AllByRecursion, AllZip}
 use Rattle.std.proofs.lemmas.List.Elements.{Contains-append_left}
 use Rattle.atomic_table.specs.Seated.{TableId}
 use Rattle.sf_actor.specs.Known.{AreAmong, CountsRise}
-use Rattle.sf_surface.specs.Reading.{EyeMark}
+use Rattle.sf_actor.specs.sf_surface.Reading.{EyeMark}
 use Rattle.sf_times.specs.Seats.{all_loaded}
 use Rattle.sf_times.specs.Views.{SeatView as TimesView}
 use Rattle.sf_live_seats.specs.declared.first.FirstSeats.{FirstSeats}

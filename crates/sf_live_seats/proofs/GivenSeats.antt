@@ -8,7 +8,7 @@ use Rattle.sf_calls.specs.Passes.{given, giving}
 use Rattle.sf_calls_stamped.specs.Stamps.{unstamped}
 use Rattle.sf_times.specs.Seats.{lending, split_off}
 use Rattle.sf_times.specs.Views.{SeatView as TimesView}
-use Rattle.sf_token.specs.Arrivals.{sent}
+use Rattle.sf_intake.specs.sf_token.Arrivals.{sent}
 use Rattle.sf_turns.specs.Views.{SeatView as TurnsView}
 use Rattle.sf_actor.specs.Known.{AreAmong, CountsRise}
 use Rattle.sf_live_seats.specs.declared.clock.Clock.{Clock}

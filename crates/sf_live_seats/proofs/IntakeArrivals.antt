@@ -12,10 +12,10 @@ use Rattle.sf_calls.specs.Histories.{calls_by}
 use Rattle.sf_intake.specs.Posts.{Begins, Post, arrivals, newest_of, numbered}
 use Rattle.sf_intake.specs.Views.{HasPopped, HasTaken, SenderView, TakerView, hearing_of}
 use Rattle.sf_calls_stamped.specs.Stamps.{unstamped}
-use Rattle.sf_surface.specs.Tokens.{ReadLeaseOf}
-use Rattle.sf_token.specs.Arrivals.{sent}
-use Rattle.sf_token.specs.Pending.{Arrival}
-use Rattle.sf_txn.specs.Transactions.{Contents}
+use Rattle.sf_actor.specs.sf_surface.Tokens.{ReadLeaseOf}
+use Rattle.sf_intake.specs.sf_token.Arrivals.{sent}
+use Rattle.sf_intake.specs.sf_token.Pending.{Arrival}
+use Rattle.sf_intake.specs.sf_txn.Transactions.{Contents}
 use Rattle.sf_actor.specs.Known.{is_sent_by}
 use Rattle.sf_live_seats.specs.declared.clock.Clock.{Clock}
 use Rattle.sf_live_seats.specs.declared.inbox.Courier.{Courier}

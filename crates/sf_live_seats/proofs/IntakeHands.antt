@@ -9,9 +9,9 @@ use Rattle.sf_calls.specs.Histories.{calls_by}
 use Rattle.sf_intake.specs.Posts.{Post, arrivals}
 use Rattle.sf_intake.specs.Views.{first_taker}
 use Rattle.sf_calls_stamped.specs.Stamps.{unstamped}
-use Rattle.sf_surface.specs.Tokens.{ReadLeaseOf}
-use Rattle.sf_token.specs.Arrivals.{sent}
-use Rattle.sf_token.specs.Pending.{Arrival}
+use Rattle.sf_actor.specs.sf_surface.Tokens.{ReadLeaseOf}
+use Rattle.sf_intake.specs.sf_token.Arrivals.{sent}
+use Rattle.sf_intake.specs.sf_token.Pending.{Arrival}
 use Rattle.sf_live_seats.specs.declared.at_intake.AtIntake.{AtIntake}
 use Rattle.sf_live_seats.specs.declared.at_intake.AtIntake.TheVariants as at
 use Rattle.sf_live_seats.specs.declared.clock.Clock.{Clock}

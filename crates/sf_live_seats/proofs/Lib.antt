@@ -16,3 +16,4 @@ pub mod GivenPasses
 pub mod FirstSeatsKept
 pub mod PassTake
 pub mod VsyncKnowledge
+pub use Rattle.sf_commit.proofs.sf_tree_lemmas

@@ -8,11 +8,11 @@ use Rattle.atomic_table.specs.Seated.{TableId}
 use Rattle.sf_calls.specs.Histories.{calls_by}
 use Rattle.sf_calls.specs.Passes.{first_pass}
 use Rattle.sf_calls_stamped.specs.Stamps.{unstamped}
-use Rattle.sf_surface.specs.declared.mark.QueueMark.{QueueMark}
-use Rattle.sf_surface.specs.Objects.{ObjectOf, mark_of}
+use Rattle.sf_actor.specs.sf_surface.declared.mark.QueueMark.{QueueMark}
+use Rattle.sf_actor.specs.sf_surface.Objects.{ObjectOf, mark_of}
 use Rattle.sf_times.specs.Seats.{IsAlone}
 use Rattle.sf_times.specs.Views.{SeatView as TimesView}
-use Rattle.sf_token.specs.Arrivals.{sent}
+use Rattle.sf_intake.specs.sf_token.Arrivals.{sent}
 use Rattle.sf_turns.specs.Views.{SeatView as TurnsView}
 use Rattle.sf_live_seats.specs.declared.first.FirstSeats.{FirstSeats}
 use Rattle.sf_live_seats.specs.declared.locks.Locks.{Locks}

@@ -9,10 +9,10 @@ use Rattle.sf_calls.specs.Passes.{HasMark}
 use Rattle.sf_calls.specs.Histories.{calls_by, entry}
 use Rattle.sf_calls_stamped.specs.Stamps.{AnswersStamped, unstamped}
 use Rattle.sf_calls_stamped.proofs.StampLemmas.{legal_without}
-use Rattle.sf_surface.specs.declared.call.QCall.{QCall}
-use Rattle.sf_surface.specs.declared.call.QReply.{QReply}
-use Rattle.sf_surface.specs.declared.mark.QueueMark.{QueueMark}
-use Rattle.sf_surface.specs.Histories.{Answers}
+use Rattle.sf_actor.specs.sf_surface.declared.call.QCall.{QCall}
+use Rattle.sf_actor.specs.sf_surface.declared.call.QReply.{QReply}
+use Rattle.sf_actor.specs.sf_surface.declared.mark.QueueMark.{QueueMark}
+use Rattle.sf_actor.specs.sf_surface.Histories.{Answers}
 use Rattle.sf_live_seats.specs.declared.clock.Clock.{Clock}
 use Rattle.sf_live_seats.specs.Calls.{MadeOne, Ticks, WaitsOne}
 use Rattle.sf_live_seats.specs.Seats.{QueueEntry, QueuePass, moment}

@@ -7,12 +7,12 @@ use Rattle.sf_calls.specs.Calling.{Made as Does}
 use Rattle.sf_calls.specs.Histories.{Begins, IsLegal, calls_by, entry}
 use Rattle.sf_calls.specs.Passes.{HasMark}
 use Rattle.sf_calls_stamped.specs.Stamps.{AnswersStamped, unstamped}
-use Rattle.sf_surface.specs.Tokens.{ReadLeaseOf}
-use Rattle.sf_token.specs.Arrivals.{AnswersCall, sent}
-use Rattle.sf_token.specs.declared.arrivals.ArriveCall.TheVariants as arrive
-use Rattle.sf_token.specs.declared.arrivals.ArriveReply.TheVariants as reply
-use Rattle.sf_txn.specs.Transactions.{Contents}
-use Rattle.sf_token.specs.Pending.{Arrival}
+use Rattle.sf_actor.specs.sf_surface.Tokens.{ReadLeaseOf}
+use Rattle.sf_intake.specs.sf_token.Arrivals.{AnswersCall, sent}
+use Rattle.sf_intake.specs.sf_token.declared.arrivals.ArriveCall.TheVariants as arrive
+use Rattle.sf_intake.specs.sf_token.declared.arrivals.ArriveReply.TheVariants as reply
+use Rattle.sf_intake.specs.sf_txn.Transactions.{Contents}
+use Rattle.sf_intake.specs.sf_token.Pending.{Arrival}
 use Rattle.sf_actor.specs.Desks.{IsAsBefore, MadeSend}
 use Rattle.sf_actor.specs.Known.{ArriveWithout, number_told}
 use Rattle.sf_live_seats.specs.declared.at_intake.AtIntake.TheVariants as at

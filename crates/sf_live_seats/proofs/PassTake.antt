@@ -9,11 +9,11 @@ use Rattle.atomic_table.specs.Seated.{TableId}
 use Rattle.sf_calls.specs.Passes.{HasMark}
 use Rattle.sf_calls_stamped.specs.Stamps.{AnswersStamped, newest_stamp, unstamped}
 use Rattle.sf_calls_stamped.proofs.StampLemmas.{legal_without}
-use Rattle.sf_surface.specs.Tokens.{ReadLeaseOf}
-use Rattle.sf_token.specs.Arrivals.{AnswersCall, sent}
-use Rattle.sf_token.specs.Pending.{Arrival}
-use Rattle.sf_token.specs.declared.arrivals.ArriveCall.TheVariants as arrive
-use Rattle.sf_token.specs.declared.arrivals.ArriveReply.TheVariants as reply
+use Rattle.sf_actor.specs.sf_surface.Tokens.{ReadLeaseOf}
+use Rattle.sf_intake.specs.sf_token.Arrivals.{AnswersCall, sent}
+use Rattle.sf_intake.specs.sf_token.Pending.{Arrival}
+use Rattle.sf_intake.specs.sf_token.declared.arrivals.ArriveCall.TheVariants as arrive
+use Rattle.sf_intake.specs.sf_token.declared.arrivals.ArriveReply.TheVariants as reply
 use Rattle.sf_actor.specs.Desks.{DeskView, IsAsBefore}
 use Rattle.sf_actor.specs.Known.{ArriveWithout}
 use Rattle.sf_live_seats.specs.declared.clock.Clock.{Clock}

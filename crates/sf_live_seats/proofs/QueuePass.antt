@@ -14,13 +14,13 @@ use Rattle.sf_calls.specs.declared.fault.CallFault.{CallFault}
 use Rattle.sf_calls.specs.declared.fault.CallFault.TheVariants as fault
 use Rattle.sf_calls.specs.Histories.{GoesOnWithout, IsLegal, waits as pending}
 use Rattle.sf_calls_stamped.specs.Stamps.{unstamped}
-use Rattle.sf_surface.specs.declared.call.QCall.{QCall}
-use Rattle.sf_surface.specs.declared.call.QReply.{QReply}
-use Rattle.sf_surface.specs.declared.mark.QueueMark.{QueueMark}
-use Rattle.sf_surface.specs.Histories.{Answers, Made}
-use Rattle.sf_surface.specs.Tokens.{ReadLeaseOf}
+use Rattle.sf_actor.specs.sf_surface.declared.call.QCall.{QCall}
+use Rattle.sf_actor.specs.sf_surface.declared.call.QReply.{QReply}
+use Rattle.sf_actor.specs.sf_surface.declared.mark.QueueMark.{QueueMark}
+use Rattle.sf_actor.specs.sf_surface.Histories.{Answers, Made}
+use Rattle.sf_actor.specs.sf_surface.Tokens.{ReadLeaseOf}
 use Rattle.sf_times.specs.declared.protocol.Knows.{Knows}
-use Rattle.sf_token.specs.Pending.{Arrival}
+use Rattle.sf_intake.specs.sf_token.Pending.{Arrival}
 use Rattle.sf_turns.specs.Views.{SeatView}
 use Rattle.sf_actor.specs.Desks.{ChangesQueue, DeskHome, DeskView, IsAsBefore, MadeCall, WaitsForCall, has_queue, mark_among}
 use Rattle.sf_live_seats.specs.declared.locks.QueueLock.{QueueLock}

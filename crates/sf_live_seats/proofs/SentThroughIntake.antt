@@ -6,9 +6,9 @@ use Rattle.std.proofs.lemmas.List.{append-nil, map-append}
 use Rattle.sf_base.specs.declared.ids.ActorId.{ActorId}
 use Rattle.sf_calls.specs.Histories.{calls_by}
 use Rattle.sf_intake.specs.Posts.{Post, arrivals, numbered}
-use Rattle.sf_surface.specs.Tokens.{ReadLeaseOf}
-use Rattle.sf_token.specs.Pending.{Arrival}
-use Rattle.sf_txn.specs.Transactions.{Contents}
+use Rattle.sf_actor.specs.sf_surface.Tokens.{ReadLeaseOf}
+use Rattle.sf_intake.specs.sf_token.Pending.{Arrival}
+use Rattle.sf_intake.specs.sf_txn.Transactions.{Contents}
 use Rattle.sf_actor.specs.Desks.{IsAsBefore, MadeSend}
 use Rattle.sf_actor.specs.Known.{number_told}
 use Rattle.atomic_table.specs.Seated.{TableId}

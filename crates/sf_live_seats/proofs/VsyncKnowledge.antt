@@ -8,13 +8,13 @@ use Rattle.sf_base.specs.declared.memory.NoMemory.{NoMemory}
 use Rattle.sf_base.specs.declared.fences.Seen.{Seen}
 use Rattle.sf_commit.specs.Handlers.{Decides, HandlerOf, Stops}
 use Rattle.sf_commit.specs.Releases.{VsyncOf}
-use Rattle.sf_slots.specs.declared.slot.Held.{Held}
-use Rattle.sf_surface.specs.Hands.{blank_of, own_lease}
-use Rattle.sf_surface.specs.Reading.{eye_mark}
-use Rattle.sf_surface.specs.Tokens.{ReadLeaseOf}
-use Rattle.sf_token.specs.Pending.{Arrival}
+use Rattle.sf_actor.specs.sf_slots.declared.slot.Held.{Held}
+use Rattle.sf_actor.specs.sf_surface.Hands.{blank_of, own_lease}
+use Rattle.sf_actor.specs.sf_surface.Reading.{eye_mark}
+use Rattle.sf_actor.specs.sf_surface.Tokens.{ReadLeaseOf}
+use Rattle.sf_intake.specs.sf_token.Pending.{Arrival}
 use Rattle.sf_turns.specs.Views.{SeatView}
-use Rattle.sf_txn.specs.declared.lease.Lease.{Ghosts}
+use Rattle.sf_intake.specs.sf_txn.declared.lease.Lease.{Ghosts}
 use Rattle.sf_live_seats.specs.Eyes.{SeatGoesOn}
 
 -- a lease of a buffer with a turn of this number

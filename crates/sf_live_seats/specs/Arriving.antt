@@ -3,9 +3,9 @@ use Rattle.std.specs.Prelude.{ℕ, List}
 use Rattle.sf_calls.specs.Views.{PassView}
 use Rattle.sf_calls.specs.declared.object.Entry.{Entry}
 use Rattle.sf_calls_stamped.specs.Objects as stamped
-use Rattle.sf_surface.specs.Tokens.{Issued, ReadLeaseOf}
-use Rattle.sf_token.specs.declared.arrivals.ArriveCall.{ArriveCall}
-use Rattle.sf_token.specs.declared.arrivals.ArriveReply.{ArriveReply}
+use Rattle.sf_actor.specs.sf_surface.Tokens.{Issued, ReadLeaseOf}
+use Rattle.sf_intake.specs.sf_token.declared.arrivals.ArriveCall.{ArriveCall}
+use Rattle.sf_intake.specs.sf_token.declared.arrivals.ArriveReply.{ArriveReply}
 use Rattle.sf_turns.specs.Views.{SeatView}
 use Rattle.sf_live_seats.specs.declared.arrivals.StampedArrivals.{StampedArrivals}
 

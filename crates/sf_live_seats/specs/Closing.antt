@@ -4,7 +4,7 @@ use Rattle.std.specs.List.{AllByRecursion, AllZip, list_any}
 use Rattle.sf_calls.specs.Histories.{GoesOnWithout, calls_by}
 use Rattle.sf_calls.specs.Passes.{TookAll, first_pass}
 use Rattle.sf_calls_stamped.specs.Stamps.{StampsRise, unstamped}
-use Rattle.sf_surface.specs.Objects.{ObjectOf, mark_of}
+use Rattle.sf_actor.specs.sf_surface.Objects.{ObjectOf, mark_of}
 use Rattle.sf_times.specs.Views.{SeatView as TimesView}
 use Rattle.sf_turns.specs.Views.{SeatView}
 use Rattle.sf_actor.specs.Desks.{DeskView}

@@ -1,6 +1,6 @@
 -- A seat at the turns as a compositor's eye.
 use Rattle.std.specs.Prelude.{◌≡◌}
-use Rattle.sf_surface.specs.Reading.{eye_mark}
+use Rattle.sf_actor.specs.sf_surface.Reading.{eye_mark}
 use Rattle.sf_turns.specs.Views.{SeatView}
 use Rattle.sf_actor.specs.Known.{AreAmong, CountsRise}
 

@@ -3,8 +3,8 @@ use Rattle.std.specs.Prelude.{◌≡◌, ℕ, ◌<◌, ◌≤◌, ◌⊎◌, Lis
 use Rattle.std.specs.List.{AllZip}
 use Rattle.sf_calls.specs.Histories.{Begins}
 use Rattle.sf_calls_stamped.specs.Stamps.{newest_stamp}
-use Rattle.sf_surface.specs.Tokens.{ReadLeaseOf}
-use Rattle.sf_token.specs.Pending.{Arrival}
+use Rattle.sf_actor.specs.sf_surface.Tokens.{ReadLeaseOf}
+use Rattle.sf_intake.specs.sf_token.Pending.{Arrival}
 use Rattle.sf_actor.specs.Known.{AreAmong, ArriveWithout, CountsRise}
 use Rattle.sf_live_seats.specs.declared.seats.Seats.{Seats}
 use Rattle.sf_live_seats.specs.Arriving.{ArrivalEntry}

@@ -1,7 +1,7 @@
 -- A caller's sender at an intake.
 use Rattle.std.specs.Prelude.{◌≡◌, ℕ, ◌+◌, ◌≤◌, [], ◌∷◌, ◌++◌, length}
-use Rattle.sf_surface.specs.Tokens.{ReadLeaseOf}
-use Rattle.sf_txn.specs.Transactions.{Contents}
+use Rattle.sf_actor.specs.sf_surface.Tokens.{ReadLeaseOf}
+use Rattle.sf_intake.specs.sf_txn.Transactions.{Contents}
 use Rattle.sf_live_seats.specs.declared.clock.Clock.{Clock}
 use Rattle.sf_live_seats.specs.declared.outbox.Outbox.{Outbox}
 

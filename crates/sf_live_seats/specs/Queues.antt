@@ -2,9 +2,9 @@
 use Rattle.std.specs.Prelude.{ℕ}
 use Rattle.sf_calls.specs.Views.{PassView}
 use Rattle.sf_calls.specs.declared.object.Entry.{Entry}
-use Rattle.sf_surface.specs.declared.call.QCall.{QCall}
-use Rattle.sf_surface.specs.declared.call.QReply.{QReply}
-use Rattle.sf_surface.specs.declared.mark.QueueMark.{QueueMark}
+use Rattle.sf_actor.specs.sf_surface.declared.call.QCall.{QCall}
+use Rattle.sf_actor.specs.sf_surface.declared.call.QReply.{QReply}
+use Rattle.sf_actor.specs.sf_surface.declared.mark.QueueMark.{QueueMark}
 
 -- calls on a queue with their stamps, and what a pass at a queue's lock shows
 abbrev pub QueueEntry : Type 0 → Type 0

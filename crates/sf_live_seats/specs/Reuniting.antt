@@ -2,10 +2,10 @@
 use Rattle.std.specs.Prelude.{◌≡◌, ℕ, ◌<◌, List, Contains}
 use Rattle.sf_calls.specs.Histories.{calls_by}
 use Rattle.sf_calls_stamped.specs.Stamps.{stamp_of}
-use Rattle.sf_surface.specs.Tokens.{ReadLeaseOf}
-use Rattle.sf_token.specs.declared.arrivals.ArriveCall.TheVariants as arrive
-use Rattle.sf_token.specs.Pending.{Arrival}
-use Rattle.sf_txn.specs.Transactions.{Contents}
+use Rattle.sf_actor.specs.sf_surface.Tokens.{ReadLeaseOf}
+use Rattle.sf_intake.specs.sf_token.declared.arrivals.ArriveCall.TheVariants as arrive
+use Rattle.sf_intake.specs.sf_token.Pending.{Arrival}
+use Rattle.sf_intake.specs.sf_txn.Transactions.{Contents}
 use Rattle.sf_actor.specs.Desks.{known_of}
 use Rattle.sf_actor.specs.Known.{share_of}
 use Rattle.sf_live_seats.specs.declared.first.FirstSeats.{FirstSeats}

@@ -6,14 +6,14 @@ use Rattle.atomic_table.specs.Seated.{TableId}
 use Rattle.sf_base.specs.declared.ids.QueueId.{QueueId}
 use Rattle.sf_calls.specs.Histories.{calls_by}
 use Rattle.sf_calls_stamped.specs.Stamps.{stamp_of, unstamped}
-use Rattle.sf_surface.specs.declared.mark.QueueMark.{QueueMark}
-use Rattle.sf_surface.specs.Histories.{Made}
-use Rattle.sf_surface.specs.Objects.{mark_of}
-use Rattle.sf_surface.specs.Tokens.{ReadLeaseOf}
+use Rattle.sf_actor.specs.sf_surface.declared.mark.QueueMark.{QueueMark}
+use Rattle.sf_actor.specs.sf_surface.Histories.{Made}
+use Rattle.sf_actor.specs.sf_surface.Objects.{mark_of}
+use Rattle.sf_actor.specs.sf_surface.Tokens.{ReadLeaseOf}
 use Rattle.sf_intake.specs.Posts.{Post, arrivals}
 use Rattle.sf_intake.specs.Views.{TakerView}
-use Rattle.sf_token.specs.Arrivals.{sent}
-use Rattle.sf_token.specs.Pending.{Arrival}
+use Rattle.sf_intake.specs.sf_token.Arrivals.{sent}
+use Rattle.sf_intake.specs.sf_token.Pending.{Arrival}
 use Rattle.sf_actor.specs.Desks.{DeskHome, DeskView, no_mark}
 use Rattle.sf_live_seats.specs.declared.clock.Clock.{Clock}
 use Rattle.sf_live_seats.specs.declared.locks.Locks.{Locks}

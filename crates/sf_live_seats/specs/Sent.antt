@@ -1,7 +1,7 @@
 -- What calls on the arrivals sent and took.
 use Rattle.std.specs.Prelude.{ℕ, List, [], ◌∷◌, ◌++◌}
 use Rattle.sf_calls_stamped.specs.Stamps.{stamp_of}
-use Rattle.sf_token.specs.declared.arrivals.ArriveCall.TheVariants as arrive
+use Rattle.sf_intake.specs.sf_token.declared.arrivals.ArriveCall.TheVariants as arrive
 use Rattle.sf_live_seats.specs.Arriving.{ArrivalEntry, Arriving}
 
 -- the steps and stamps of those of these calls that sent

@@ -1,6 +1,6 @@
 -- One caller's desk among threads: its seats, over locks that all share.
 use Rattle.std.specs.Prelude.{◌≡◌, map}
-use Rattle.sf_surface.specs.declared.mark.QueueMark.{QueueMark}
+use Rattle.sf_actor.specs.sf_surface.declared.mark.QueueMark.{QueueMark}
 use Rattle.sf_actor.specs.Desks.{DeskHome, DeskView}
 use Rattle.sf_live_seats.specs.declared.locks.Locks.{Locks}
 use Rattle.sf_live_seats.specs.declared.seats.Seats.{Seats}

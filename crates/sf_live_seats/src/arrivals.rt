@@ -1,7 +1,7 @@
+use sf_actor::sf_surface::ReadLease;
 use sf_calls::{Object, Outcome};
 use sf_calls_stamped::Stamped;
-use sf_surface::ReadLease;
-use sf_token::{Arrivals, ArriveCall, ArriveReply};
+use sf_intake::sf_token::{Arrivals, ArriveCall, ArriveReply};
 use sf_turns::TableName;
 use std::alloc::Global;
 use std::marker::Brand;
@@ -37,7 +37,7 @@ impl<B: TableName> StampedArrivals<B> {
 
 impl<B: TableName> Object for StampedArrivals<B> {
     ghost use Rattle.sf_calls_stamped.specs.Stamps.{AnswersStamped};
-    ghost use Rattle.sf_token.specs.Arrivals.{AnswersCall};
+    ghost use Rattle.sf_intake.specs.sf_token.Arrivals.{AnswersCall};
     ghost use Rattle.sf_live_seats.specs.Arriving.{history_of};
 
     type Call = (u64, ArriveCall<ReadLease<B>>);

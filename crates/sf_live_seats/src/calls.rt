@@ -1,7 +1,7 @@
 ghost use Rattle.std.specs.Prelude.{◌≡◌, ◌≤◌, Some, IfErr, IfOk, map};
 ghost use Rattle.sf_calls.specs.Calling.{IfFaultNoMemory, IfFaultNotYet};
 ghost use Rattle.sf_calls.specs.Histories.{Begins, calls_by};
-ghost use Rattle.sf_surface.specs.Marks.{PermitFits, SpareFits};
+ghost use Rattle.sf_actor.specs.sf_surface.Marks.{PermitFits, SpareFits};
 ghost use Rattle.sf_live_seats.specs.Calls.{IsMade, MadeOne, SentOne, Ticks, WaitsOne};
 ghost use Rattle.sf_live_seats.specs.Seats.{IsPassOf, lock_mark, moment, sent_in, takes_in};
 
@@ -9,12 +9,12 @@ use crate::arrivals::StampedArrivals;
 use crate::clock::Clock;
 use crate::locks::QueueLock;
 use crate::queue_seat::QueueSeat;
+use sf_actor::sf_surface::{QCall, QReply, ReadLease};
 use sf_base::NoMemory;
 use sf_calls::{CallFault, CallLock, Pass};
-use sf_surface::{QCall, QReply, ReadLease};
-use sf_token::{ArriveCall, ArriveReply};
+use sf_intake::sf_token::{ArriveCall, ArriveReply};
+use sf_intake::sf_txn::Transaction;
 use sf_turns::TableName;
-use sf_txn::Transaction;
 use std::sync::Wait;
 
 /// Makes a call through a pass, for a step of its caller, whose last call this is then. A step before

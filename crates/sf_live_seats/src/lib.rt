@@ -30,5 +30,7 @@ pub use locks::{Locks, QueueLock};
 pub use outbox::Outbox;
 pub use queue_seat::QueueSeat;
 pub use seats::Seats;
+pub use sf_commit;
+pub use sf_commit::sf_ready;
 pub use shared::SharedDesk;
 pub use shown::Shown;

@@ -1,9 +1,9 @@
 use crate::clock::Clock;
+use sf_actor::sf_surface::ReadLease;
 use sf_base::NoMemory;
+use sf_intake::sf_txn::Transaction;
 use sf_intake::{Intake, Sender};
-use sf_surface::ReadLease;
 use sf_turns::TableName;
-use sf_txn::Transaction;
 use std::marker::Brand;
 use std::sync::Wait;
 

@@ -5,13 +5,13 @@ use crate::clock::Clock;
 use crate::locks::Locks;
 use crate::queue_seat::QueueSeat;
 use crate::shown::Shown;
+use sf_actor::sf_surface::{QCall, QReply, ReadLease};
 use sf_base::{NoMemory, QueueId};
 use sf_calls::{CallFault, Pass};
-use sf_picture::Painted;
-use sf_surface::{QCall, QReply, ReadLease};
+use sf_intake::sf_txn::Transaction;
 use sf_times::TimeSeat;
+use sf_turns::sf_picture::Painted;
 use sf_turns::{TableName, TurnSeat};
-use sf_txn::Transaction;
 use std::sync::Wait;
 
 /// What one caller brings to what is shared: its passes, one for each lock, and its seats.
@@ -45,7 +45,7 @@ pub(crate) struct SeatsParts<B: TableName> {
 impl<B: TableName> Seats<B> {
     ghost use Rattle.std.specs.Prelude.{◌≡◌, true, None, Some, IfErr, IfOk};
     ghost use Rattle.sf_calls.specs.Calling.{IfFaultNoMemory, IfFaultNotYet};
-    ghost use Rattle.sf_surface.specs.Marks.{PermitFits, SpareFits};
+    ghost use Rattle.sf_actor.specs.sf_surface.Marks.{PermitFits, SpareFits};
     ghost use Rattle.sf_actor.specs.Desks.{IsAsBefore, MadeCall, MadeSend, WaitsForCall, has_queue};
     ghost use Rattle.sf_live_seats.specs.Moves.{ChangesArrivals, ChangesPasses};
     ghost use Rattle.sf_live_seats.specs.Seats.{AreSeats, MaySend, home_of, view_of};

@@ -1,12 +1,12 @@
 use crate::locks::Locks;
 use crate::seats::Seats;
+use sf_actor::sf_surface::{DrawFault, Ending, Owing, QCall, QReply, ReadLease, WriteLease};
 use sf_actor::{Desk, TokensOf};
 use sf_base::{ActorId, NoMemory, QueueId, Seen, TimelineId};
 use sf_calls::CallFault;
-use sf_picture::Picture;
-use sf_surface::{DrawFault, Ending, Owing, QCall, QReply, ReadLease, WriteLease};
+use sf_intake::sf_txn::Transaction;
 use sf_turns::TableName;
-use sf_txn::Transaction;
+use sf_turns::sf_picture::Picture;
 use std::alloc::Global;
 use std::marker::Model;
 use std::sync::Wait;
@@ -64,8 +64,8 @@ impl<'a, R: Wait, B: TableName> Desk<TokensOf<B>> for SharedDesk<'a, R, B> {
     ghost use Rattle.std.specs.Prelude.{◌≡◌, ℕ, ◌-◌, ◌≤◌, true, IfOk, IfErr, slice_index};
     ghost use Rattle.sf_base.specs.Points.{greatest, points_from};
     ghost use Rattle.sf_calls.specs.Calling.{IfFaultNoMemory, IfFaultNotYet};
-    ghost use Rattle.sf_surface.specs.Drawing.{DrawsLease, PaysOwing};
-    ghost use Rattle.sf_surface.specs.Marks.{PermitFits, SpareFits};
+    ghost use Rattle.sf_actor.specs.sf_surface.Drawing.{DrawsLease, PaysOwing};
+    ghost use Rattle.sf_actor.specs.sf_surface.Marks.{PermitFits, SpareFits};
     ghost use Rattle.sf_times.specs.Seats.{all_loaded, raised};
     ghost use Rattle.sf_turns.specs.Views.{Leaves};
     ghost use Rattle.sf_actor.specs.Desks.{ChangesTimes, ChangesTurns, IsAsBefore, KnowsAll, MadeCall, MadeSend, WaitsForCall, has_queue};

@@ -4,12 +4,12 @@ use Rattle.std.proofs.lemmas.List.{append-nil}
 use Rattle.std.proofs.lemmas.Grind.{flat_map-append}
 use Rattle.atomic_table.specs.Seated.{TableId}
 use Rattle.sf_picture.specs.declared.picture.Picture.{Picture}
-use Rattle.sf_actor.specs.declared.done.Done.{Done}
-use Rattle.sf_actor.specs.declared.tried.Stepped.{Stepped}
-use Rattle.sf_actor.specs.declared.tried.Stepped.TheVariants as stepped
-use Rattle.sf_actor.specs.Desks.{DeskHome, DeskView}
-use Rattle.sf_actor.specs.Tries.{ActorOf, Tries}
-use Rattle.sf_actor.specs.Written.{signal_of, signals_of}
+use Rattle.sf_actor_steps.specs.sf_actor.declared.done.Done.{Done}
+use Rattle.sf_actor_steps.specs.sf_actor.declared.tried.Stepped.{Stepped}
+use Rattle.sf_actor_steps.specs.sf_actor.declared.tried.Stepped.TheVariants as stepped
+use Rattle.sf_actor_steps.specs.sf_actor.Desks.{DeskHome, DeskView}
+use Rattle.sf_actor_steps.specs.sf_actor.Tries.{ActorOf, Tries}
+use Rattle.sf_actor_steps.specs.sf_actor.Written.{signal_of, signals_of}
 use Rattle.sf_live_seats.specs.declared.locks.Locks.{Locks}
 use Rattle.sf_live_seats.specs.Seats.{home_of, view_of}
 use Rattle.sf_live_threads.specs.Walks.{Begin, Moment, More, Signals, Walk, ended_in, ended_on}

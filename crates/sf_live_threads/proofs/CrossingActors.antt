@@ -6,17 +6,17 @@ use Rattle.std.proofs.Crossing.{Vec-send, crosses}
 use Rattle.std.specs.contracts.option.Option as option
 use Rattle.sf_picture.specs.contracts.painted.Painted as painted
 use Rattle.sf_picture.specs.contracts.picture.Picture as picture
-use Rattle.sf_script_scene.proofs.step.ActorScript.TheSendSync as script_shown
+use Rattle.sf_actor_steps.proofs.sf_script_scene_lemmas.step.ActorScript.TheSendSync as script_shown
 use Rattle.sf_turns.specs.declared.naming.TableName as naming
 use Rattle.sf_turns.specs.contracts.painted.PaintedStamped.TheImpl.{ghosts}
 use Rattle.sf_turns.specs.contracts.stock.Permit as permit
-use Rattle.sf_actor.proofs.tried.Reply.TheSendSync as reply_shown
-use Rattle.sf_actor.specs.contracts.holding.Holding as holding
-use Rattle.sf_surface.specs.contracts.token.ReadLease as read
-use Rattle.sf_surface.specs.contracts.reading.Reading as reading
-use Rattle.sf_surface.specs.contracts.reading.Closing as closing
-use Rattle.sf_surface.specs.contracts.reading.ReadLeaseLease.TheImpl as leased
-use Rattle.sf_txn.specs.contracts.transaction.Transaction as transaction
+use Rattle.sf_actor_steps.proofs.sf_actor_lemmas.tried.Reply.TheSendSync as reply_shown
+use Rattle.sf_actor_steps.specs.sf_actor.contracts.holding.Holding as holding
+use Rattle.sf_actor_steps.specs.sf_surface.contracts.token.ReadLease as read
+use Rattle.sf_actor_steps.specs.sf_surface.contracts.reading.Reading as reading
+use Rattle.sf_actor_steps.specs.sf_surface.contracts.reading.Closing as closing
+use Rattle.sf_actor_steps.specs.sf_surface.contracts.reading.ReadLeaseLease.TheImpl as leased
+use Rattle.sf_actor_steps.specs.sf_txn.contracts.transaction.Transaction as transaction
 use Rattle.sf_turns.specs.contracts.seat.TurnSeat as seat
 use Rattle.sf_actor_steps.specs.contracts.actor.Actor as actor
 use Rattle.sf_actor_steps.specs.contracts.bindings.Bindings as bindings

@@ -4,26 +4,26 @@ use denote.Builtin.{unit}
 use denote.Param.Send.{IsSend, IsSync}
 use denote.Param.SendFields.{declared_send}
 use Rattle.std.specs.contracts.marker.Brand as brand
-use Rattle.sf_intake.specs.contracts.intake.Intake as intake
-use Rattle.sf_intake.specs.contracts.sender.Sender as sender
-use Rattle.sf_intake.specs.contracts.taker.Taker as taker
+use Rattle.sf_live_seats.specs.sf_intake.contracts.intake.Intake as intake
+use Rattle.sf_live_seats.specs.sf_intake.contracts.sender.Sender as sender
+use Rattle.sf_live_seats.specs.sf_intake.contracts.taker.Taker as taker
 use Rattle.sf_picture.specs.contracts.painted.Painted as painted
 use Rattle.sf_picture.specs.contracts.picture.Picture as picture
 use Rattle.sf_live_seats.specs.contracts.arrivals.StampedArrivals as arrived
-use Rattle.sf_surface.specs.contracts.reading.Closing as closing
-use Rattle.sf_surface.specs.contracts.reading.Reading as reading
-use Rattle.sf_surface.specs.contracts.reading.ReadLeaseLease.TheImpl as leased
-use Rattle.sf_surface.specs.contracts.token.ReadLease as read
-use Rattle.sf_token.specs.contracts.arrivals.Arrivals as arrivals
-use Rattle.sf_token.specs.contracts.arrivals.ArrivalsObject.TheImpl as arriving
-use Rattle.sf_token.specs.contracts.arrivals.ArriveCall as call
-use Rattle.sf_token.specs.contracts.arrivals.ArriveReply as reply
-use Rattle.sf_token.specs.contracts.arrived.Arrived as one
-use Rattle.sf_token.specs.contracts.home.BrandLeaseHome.TheImpl as homed
+use Rattle.sf_actor_steps.specs.sf_surface.contracts.reading.Closing as closing
+use Rattle.sf_actor_steps.specs.sf_surface.contracts.reading.Reading as reading
+use Rattle.sf_actor_steps.specs.sf_surface.contracts.reading.ReadLeaseLease.TheImpl as leased
+use Rattle.sf_actor_steps.specs.sf_surface.contracts.token.ReadLease as read
+use Rattle.sf_actor_steps.specs.sf_token.contracts.arrivals.Arrivals as arrivals
+use Rattle.sf_actor_steps.specs.sf_token.contracts.arrivals.ArrivalsObject.TheImpl as arriving
+use Rattle.sf_actor_steps.specs.sf_token.contracts.arrivals.ArriveCall as call
+use Rattle.sf_actor_steps.specs.sf_token.contracts.arrivals.ArriveReply as reply
+use Rattle.sf_actor_steps.specs.sf_token.contracts.arrived.Arrived as one
+use Rattle.sf_actor_steps.specs.sf_token.contracts.home.BrandLeaseHome.TheImpl as homed
 use Rattle.sf_turns.specs.contracts.painted.PaintedStamped.TheImpl.{ghosts}
 use Rattle.sf_turns.specs.contracts.seat.TurnSeat as seat
 use Rattle.sf_turns.specs.declared.naming.TableName as naming
-use Rattle.sf_txn.specs.contracts.transaction.Transaction as transaction
+use Rattle.sf_actor_steps.specs.sf_txn.contracts.transaction.Transaction as transaction
 use Rattle.sf_live_threads.proofs.CrossingIntake.{intake_sync, sender_send, taker_send}
 use Rattle.sf_live_threads.proofs.CrossingObjects.{arrivals_send, stamped_send}
 use Rattle.sf_live_threads.proofs.CrossingTokens.{arrived_send as one_send, read_send, transaction_send}

@@ -19,21 +19,21 @@ use Rattle.crossbeam_queue.specs.contracts.seg_queue.Ends as ends
 use Rattle.crossbeam_queue.specs.contracts.seg_queue.Going as going
 use Rattle.crossbeam_queue.specs.contracts.seg_queue.Laps as laps
 use Rattle.crossbeam_queue.specs.Segments.{Segmented, idle}
-use Rattle.sf_intake.specs.Rule.{Kept, opened}
-use Rattle.sf_intake.specs.contracts.intake.Intake as intake
-use Rattle.sf_intake.specs.contracts.protocol.InOneOrder as order
-use Rattle.sf_intake.specs.contracts.protocol.Knows as knows
-use Rattle.sf_intake.specs.contracts.intake.Intake.TheInside as inside
-use Rattle.sf_intake.specs.contracts.posted.Posted as posted
-use Rattle.sf_intake.specs.contracts.posted.Posted.TheInside as posted_inside
-use Rattle.sf_intake.specs.contracts.sender.Sender as sender
-use Rattle.sf_intake.specs.contracts.sender.Sender.TheInside as sender_inside
-use Rattle.sf_intake.specs.contracts.taker.Taker as taker
-use Rattle.sf_intake.specs.contracts.taker.Taker.TheInside as taker_inside
-use Rattle.sf_token.specs.contracts.arrived.Arrived as arrived
-use Rattle.sf_token.specs.declared.home.LeaseHome as home
-use Rattle.sf_txn.specs.contracts.transaction.Transaction as transaction
-use Rattle.sf_txn.specs.declared.lease.Lease as lease
+use Rattle.sf_live_seats.specs.sf_intake.Rule.{Kept, opened}
+use Rattle.sf_live_seats.specs.sf_intake.contracts.intake.Intake as intake
+use Rattle.sf_live_seats.specs.sf_intake.contracts.protocol.InOneOrder as order
+use Rattle.sf_live_seats.specs.sf_intake.contracts.protocol.Knows as knows
+use Rattle.sf_live_seats.specs.sf_intake.contracts.intake.Intake.TheInside as inside
+use Rattle.sf_live_seats.specs.sf_intake.contracts.posted.Posted as posted
+use Rattle.sf_live_seats.specs.sf_intake.contracts.posted.Posted.TheInside as posted_inside
+use Rattle.sf_live_seats.specs.sf_intake.contracts.sender.Sender as sender
+use Rattle.sf_live_seats.specs.sf_intake.contracts.sender.Sender.TheInside as sender_inside
+use Rattle.sf_live_seats.specs.sf_intake.contracts.taker.Taker as taker
+use Rattle.sf_live_seats.specs.sf_intake.contracts.taker.Taker.TheInside as taker_inside
+use Rattle.sf_actor_steps.specs.sf_token.contracts.arrived.Arrived as arrived
+use Rattle.sf_actor_steps.specs.sf_token.declared.home.LeaseHome as home
+use Rattle.sf_actor_steps.specs.sf_txn.contracts.transaction.Transaction as transaction
+use Rattle.sf_actor_steps.specs.sf_txn.declared.lease.Lease as lease
 
 ends_sync : (S : RattleType) → IsSync (ends.the_row S)
 ends_sync S = declared_sync (ends.the_type S) (link_shown.the_sync S, (link_shown.the_sync S, tt))

@@ -7,17 +7,17 @@ use Rattle.std.proofs.Crossing.{Vec-send, crosses}
 use Rattle.atomic_table.proofs.shared.Seat.TheSendSync as seat_shown
 use Rattle.atomic_table.proofs.shared.Shared.TheSendSync as shared_shown
 use Rattle.atomic_table.proofs.send_lease.SendLease.TheSendSync as lease_shown
-use Rattle.sf_calls.specs.contracts.lock.CallLock as lock
-use Rattle.sf_calls.specs.contracts.pass.Pass as pass
-use Rattle.sf_calls.specs.declared.object.Object as object
-use Rattle.sf_calls_stamped.specs.contracts.stamped.Stamped as stamped
-use Rattle.sf_calls_stamped.specs.contracts.stamped.Stamped.TheInside as inside
-use Rattle.sf_calls_stamped.specs.contracts.stamped.Pair as pair
-use Rattle.sf_txn.specs.declared.lease.Lease as leases
-use Rattle.sf_token.specs.declared.home.LeaseHome as home
-use Rattle.sf_token.specs.contracts.arrivals.Arrivals as arrivals
-use Rattle.sf_token.specs.contracts.arrivals.Arrivals.TheInside as arrivals_inside
-use Rattle.sf_token.proofs.arrivals.ArrvEntry.TheSendSync as entry_shown
+use Rattle.sf_actor_steps.specs.sf_calls.contracts.lock.CallLock as lock
+use Rattle.sf_actor_steps.specs.sf_calls.contracts.pass.Pass as pass
+use Rattle.sf_actor_steps.specs.sf_calls.declared.object.Object as object
+use Rattle.sf_live_seats.specs.sf_calls_stamped.contracts.stamped.Stamped as stamped
+use Rattle.sf_live_seats.specs.sf_calls_stamped.contracts.stamped.Stamped.TheInside as inside
+use Rattle.sf_live_seats.specs.sf_calls_stamped.contracts.stamped.Pair as pair
+use Rattle.sf_actor_steps.specs.sf_txn.declared.lease.Lease as leases
+use Rattle.sf_actor_steps.specs.sf_token.declared.home.LeaseHome as home
+use Rattle.sf_actor_steps.specs.sf_token.contracts.arrivals.Arrivals as arrivals
+use Rattle.sf_actor_steps.specs.sf_token.contracts.arrivals.Arrivals.TheInside as arrivals_inside
+use Rattle.sf_actor_steps.proofs.sf_token_lemmas.arrivals.ArrvEntry.TheSendSync as entry_shown
 use Rattle.sf_live_threads.proofs.CrossingTokens.{arrived_send}
 
 pair_send : IsSend pair.the_row

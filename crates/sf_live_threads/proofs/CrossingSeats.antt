@@ -6,7 +6,7 @@ use denote.Struct.Tuple.{Tuple}
 use denote.Param.Send.{IsSend, IsSync, sendable, view_send}
 use denote.Param.SendFields.{declared_send, declared_sync, variants_send, variants_sync}
 use Rattle.std.proofs.Crossing.{Vec-send, Vec-sync, crosses}
-use Rattle.sf_calls.specs.contracts.pass.Pass as pass
+use Rattle.sf_actor_steps.specs.sf_calls.contracts.pass.Pass as pass
 use Rattle.sf_live_seats.proofs.clock.Clock.TheSendSync as clock_shown
 use Rattle.sf_live_seats.specs.contracts.arrivals.StampedArrivals as arrived
 use Rattle.sf_live_seats.specs.contracts.arrivals.StampedArrivalsObject.TheImpl as arriving
@@ -21,15 +21,15 @@ use Rattle.sf_live_seats.specs.contracts.queue_seat.QueueSeat.TheInside as queue
 use Rattle.sf_live_seats.specs.contracts.seats.Seats as seats
 use Rattle.sf_live_seats.specs.contracts.shown.Shown as shown
 use Rattle.sf_live_seats.specs.contracts.shown.Shown.TheInside as shown_inside
-use Rattle.sf_calls_stamped.specs.contracts.stamped.Stamped as stamped
-use Rattle.sf_calls_stamped.specs.contracts.stamped.StampedObject.TheImpl as stamping
-use Rattle.sf_surface.specs.contracts.call.QCall as call
-use Rattle.sf_surface.specs.contracts.call.QReply as reply
-use Rattle.sf_surface.specs.contracts.mark.QueueMark as mark
-use Rattle.sf_surface.specs.contracts.object.QueueObject as queue
-use Rattle.sf_surface.specs.contracts.object.QueueObjectObject.TheImpl as queued
-use Rattle.sf_times.proofs.seat.TimeSeat.TheSendSync as time_seat_shown
-use Rattle.sf_times.proofs.timelines.Timelines.TheSendSync as timelines_shown
+use Rattle.sf_live_seats.specs.sf_calls_stamped.contracts.stamped.Stamped as stamped
+use Rattle.sf_live_seats.specs.sf_calls_stamped.contracts.stamped.StampedObject.TheImpl as stamping
+use Rattle.sf_actor_steps.specs.sf_surface.contracts.call.QCall as call
+use Rattle.sf_actor_steps.specs.sf_surface.contracts.call.QReply as reply
+use Rattle.sf_actor_steps.specs.sf_surface.contracts.mark.QueueMark as mark
+use Rattle.sf_actor_steps.specs.sf_surface.contracts.object.QueueObject as queue
+use Rattle.sf_actor_steps.specs.sf_surface.contracts.object.QueueObjectObject.TheImpl as queued
+use Rattle.sf_actor_steps.proofs.sf_times_lemmas.seat.TimeSeat.TheSendSync as time_seat_shown
+use Rattle.sf_actor_steps.proofs.sf_times_lemmas.timelines.Timelines.TheSendSync as timelines_shown
 use Rattle.sf_turns.specs.declared.naming.TableName as naming
 use Rattle.sf_live_threads.proofs.CrossingArrivals.{Call, Reply, arrived_send, intake_shared, sends_send, taken_send, takes_send}
 use Rattle.sf_live_threads.proofs.CrossingObjects.{lock_sync, pass_send, stamped_send}

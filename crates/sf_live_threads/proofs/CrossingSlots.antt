@@ -12,11 +12,11 @@ use Rattle.circular_buffer.specs.contracts.heap.HeapCircularBuffer.TheInside as 
 use Rattle.circular_buffer.specs.contracts.ring.Ring as ring
 use Rattle.std.specs.contracts.option.Option as option
 use Rattle.sf_base.proofs.fences.Fence.TheSendSync as fence_shown
-use Rattle.sf_slots.specs.contracts.slots.Slots as slots
-use Rattle.sf_slots.specs.contracts.slots.Slots.TheInside as slots_inside
-use Rattle.sf_slots.specs.contracts.item.Item as item
-use Rattle.sf_slots.proofs.slot.Slot.TheSendSync as slot_shown
-use Rattle.sf_slots.proofs.settings.Settings.TheSendSync as settings_shown
+use Rattle.sf_actor_steps.specs.sf_slots.contracts.slots.Slots as slots
+use Rattle.sf_actor_steps.specs.sf_slots.contracts.slots.Slots.TheInside as slots_inside
+use Rattle.sf_actor_steps.specs.sf_slots.contracts.item.Item as item
+use Rattle.sf_actor_steps.proofs.sf_slots_lemmas.slot.Slot.TheSendSync as slot_shown
+use Rattle.sf_actor_steps.proofs.sf_slots_lemmas.settings.Settings.TheSendSync as settings_shown
 
 module _ (R : RattleType) where
   pub option_send : IsSend R → IsSend (option.the_row R)

@@ -15,3 +15,5 @@ pub mod TaskLemmas
 pub mod MeetLemmas
 pub mod WalkLemmas
 pub mod Zips
+pub use Rattle.sf_live_seats.proofs as sf_live_seats_lemmas
+pub use Rattle.sf_live_seats.proofs.sf_tree_lemmas

@@ -6,18 +6,18 @@ use Rattle.std.proofs.lemmas.Fn.{FoldsTo-push}
 use Rattle.std.proofs.lemmas.List.{map-append, length-append, length-map}
 use Rattle.atomic_table.specs.Seated.{TableId}
 use Rattle.sf_picture.specs.declared.picture.Picture.{Picture}
-use Rattle.sf_surface.specs.Histories.{Made}
-use Rattle.sf_surface.specs.Tokens.{ReadLeaseOf}
-use Rattle.sf_token.specs.Pending.{Arrival}
-use Rattle.sf_actor.specs.Desks.{DeskHome, mark_among}
-use Rattle.sf_actor.specs.Known.{arrivals_told, is_sent_by, own_calls}
-use Rattle.sf_actor.specs.Scripts.{picture_at}
-use Rattle.sf_actor.specs.Tries.{Keeps}
+use Rattle.sf_actor_steps.specs.sf_surface.Histories.{Made}
+use Rattle.sf_actor_steps.specs.sf_surface.Tokens.{ReadLeaseOf}
+use Rattle.sf_actor_steps.specs.sf_token.Pending.{Arrival}
+use Rattle.sf_actor_steps.specs.sf_actor.Desks.{DeskHome, mark_among}
+use Rattle.sf_actor_steps.specs.sf_actor.Known.{arrivals_told, is_sent_by, own_calls}
+use Rattle.sf_actor_steps.specs.sf_actor.Scripts.{picture_at}
+use Rattle.sf_actor_steps.specs.sf_actor.Tries.{Keeps}
 use Rattle.sf_actor_steps.specs.Actors.{IsActor, IsNew, new_actor}
 use Rattle.sf_actor_steps.specs.Playable.{MayPlay}
 use Rattle.sf_actor_steps.specs.declared.actor.Actor.{Actor}
 use Rattle.sf_actor_steps.proofs.NewLemmas.{new_keeps}
-use Rattle.sf_times.specs.Views.{SeatView as TimesView}
+use Rattle.sf_actor_steps.specs.sf_times.Views.{SeatView as TimesView}
 use Rattle.sf_turns.specs.Views.{SeatView}
 use Rattle.sf_live_seats.specs.declared.first.FirstSeats.{FirstSeats}
 use Rattle.sf_live_seats.specs.declared.locks.Locks.{Locks}

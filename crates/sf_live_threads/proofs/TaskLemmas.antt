@@ -3,7 +3,7 @@ use Rattle.std.proofs.Common.{◌≡◌, List, Ok, Result, subst}
 use Rattle.std.specs.Prelude.{IfOk}
 use Rattle.atomic_table.specs.Seated.{TableId}
 use Rattle.sf_picture.specs.declared.picture.Picture.{Picture}
-use Rattle.sf_actor.specs.declared.tried.Stepped.{Stepped}
+use Rattle.sf_actor_steps.specs.sf_actor.declared.tried.Stepped.{Stepped}
 use Rattle.sf_live_seats.specs.declared.locks.Locks.{Locks}
 use Rattle.sf_live_threads.specs.declared.seated_actor.Back.{Back}
 use Rattle.sf_live_threads.specs.declared.seated_actor.Back.TheVariants.{Whole}

@@ -2,9 +2,9 @@
 use Rattle.std.specs.Prelude.{◌≡◌, false, List}
 use Rattle.atomic_table.specs.Seated.{TableId}
 use Rattle.sf_picture.specs.declared.picture.Picture.{Picture}
-use Rattle.sf_actor.specs.declared.tried.Stepped.{Stepped}
-use Rattle.sf_actor.specs.Scripts.{picture_at}
-use Rattle.sf_actor.specs.Tries.{ActorOf, Keeps}
+use Rattle.sf_actor_steps.specs.sf_actor.declared.tried.Stepped.{Stepped}
+use Rattle.sf_actor_steps.specs.sf_actor.Scripts.{picture_at}
+use Rattle.sf_actor_steps.specs.sf_actor.Tries.{ActorOf, Keeps}
 use Rattle.sf_actor_steps.specs.Actors.{IsActor, IsKept, Steps}
 use Rattle.sf_actor_steps.specs.Playable.{MayPlay}
 use Rattle.sf_live_seats.specs.declared.locks.Locks.{Locks}

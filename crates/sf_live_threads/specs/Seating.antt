@@ -3,7 +3,7 @@ use Rattle.std.specs.Prelude.{◌≡◌, ◌==◌, ℕ, false, List, []}
 use Rattle.std.specs.List.{FoldsTo}
 use Rattle.atomic_table.specs.Seated.{TableId}
 use Rattle.sf_picture.specs.declared.picture.Picture.{Picture}
-use Rattle.sf_actor.specs.Desks.{DeskHome}
+use Rattle.sf_actor_steps.specs.sf_actor.Desks.{DeskHome}
 use Rattle.sf_actor_steps.specs.Actors.{IsActor, IsNew, new_actor}
 use Rattle.sf_actor_steps.specs.Playable.{MayPlay}
 use Rattle.sf_actor_steps.specs.declared.actor.Actor.{Actor}

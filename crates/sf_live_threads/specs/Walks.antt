@@ -2,12 +2,12 @@
 use Rattle.std.specs.Prelude.{◌≡◌, ℕ, List, [], ◌++◌}
 use Rattle.atomic_table.specs.Seated.{TableId}
 use Rattle.sf_picture.specs.declared.picture.Picture.{Picture}
-use Rattle.sf_actor.specs.declared.tried.Stepped.{Stepped}
-use Rattle.sf_actor.specs.declared.tried.Stepped.TheVariants as stepped
-use Rattle.sf_actor.specs.Desks.{DeskHome, DeskView}
-use Rattle.sf_actor.specs.Rights.{Turn}
-use Rattle.sf_actor.specs.Tries.{ActorOf, Keeps, Tries, ended_by}
-use Rattle.sf_actor.specs.Written.{signals_of}
+use Rattle.sf_actor_steps.specs.sf_actor.declared.tried.Stepped.{Stepped}
+use Rattle.sf_actor_steps.specs.sf_actor.declared.tried.Stepped.TheVariants as stepped
+use Rattle.sf_actor_steps.specs.sf_actor.Desks.{DeskHome, DeskView}
+use Rattle.sf_actor_steps.specs.sf_actor.Rights.{Turn}
+use Rattle.sf_actor_steps.specs.sf_actor.Tries.{ActorOf, Keeps, Tries, ended_by}
+use Rattle.sf_actor_steps.specs.sf_actor.Written.{signals_of}
 use Rattle.sf_actor_steps.specs.Actors.{IsActor, Steps}
 use Rattle.sf_actor_steps.specs.declared.actor.Actor.{Actor}
 use Rattle.sf_live_seats.specs.declared.locks.Locks.{Locks}

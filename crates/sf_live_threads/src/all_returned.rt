@@ -6,9 +6,9 @@ ghost use Rattle.sf_live_threads.specs.Meeting.{MeetsEach, MeetsReunited, as_ret
 
 use crate::gates::Gates;
 use crate::seated_actor::SeatedActor;
+use sf_actor_steps::Actor;
 use sf_base::NoMemory;
 use sf_live_seats::{FirstSeats, Locks, Seats};
-use sf_actor_steps::Actor;
 use sf_turns::TableName;
 use std::alloc::Global;
 use std::sync::Wait;

@@ -1,8 +1,8 @@
 ghost use Rattle.std.specs.Prelude.{◌≡◌, ◌+◌, ◌≤◌, length};
 ghost use Rattle.sf_live_threads.specs.Gates.{HasPassed, IsReady};
 
-use sf_io::Gate;
 use sf_actor_steps::Actor;
+use sf_io::Gate;
 use sf_turns::TableName;
 use std::sync::Wait;
 

@@ -7,12 +7,12 @@ ghost use Rattle.sf_live_threads.specs.Tasks.{IsFitTask, Stays};
 use crate::seated_actor::Back;
 use crate::task::Task;
 use crate::turn::turn;
-use sf_actor::Stepped;
+use sf_actor_steps::sf_actor::Stepped;
 use sf_io::Gate;
-use sf_picture::Picture;
 use sf_live_seats::Locks;
-use sf_turns::TableName;
 use sf_live_watch::Watch;
+use sf_picture::Picture;
+use sf_turns::TableName;
 use std::alloc::Global;
 use std::sync::Wait;
 

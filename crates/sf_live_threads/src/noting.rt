@@ -1,9 +1,9 @@
-use sf_actor::{Desk, Tokens};
+use sf_actor_steps::sf_actor::{Desk, Tokens};
+use sf_actor_steps::sf_calls::CallFault;
+use sf_actor_steps::sf_surface::DrawFault;
 use sf_base::{ActorId, NoMemory, QueueId, Seen, TimelineId};
-use sf_calls::CallFault;
-use sf_picture::Picture;
-use sf_surface::DrawFault;
 use sf_live_watch::{Awaited, Effect};
+use sf_picture::Picture;
 use std::alloc::Global;
 
 /// What a step did at what all share, and what it waits for if it is not done.

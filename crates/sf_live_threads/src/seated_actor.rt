@@ -1,6 +1,6 @@
 use crate::gates::Gates;
-use sf_live_seats::Seats;
 use sf_actor_steps::Actor;
+use sf_live_seats::Seats;
 use sf_turns::TableName;
 
 /// An actor with its seats at what all share, and the gates that it passed.

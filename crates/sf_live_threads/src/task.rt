@@ -1,6 +1,6 @@
 use crate::seated_actor::{Back, SeatedActor};
-use sf_picture::Picture;
 use sf_live_seats::Locks;
+use sf_picture::Picture;
 use sf_turns::TableName;
 use std::snapshot::Snapshot;
 use std::thread::{Promise, PromisedHandle};

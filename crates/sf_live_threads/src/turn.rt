@@ -3,11 +3,11 @@ ghost use Rattle.sf_live_threads.specs.SeatedActors.{MayTryNext, Turns};
 
 use crate::noting::{Noted, NotingDesk};
 use crate::seated_actor::SeatedActor;
-use sf_actor::Stepped;
+use sf_actor_steps::sf_actor::Stepped;
 use sf_base::NoMemory;
 use sf_io::Gate;
-use sf_picture::Picture;
 use sf_live_seats::{Locks, SharedDesk};
+use sf_picture::Picture;
 use sf_turns::TableName;
 use std::sync::Wait;
 

@@ -5,8 +5,8 @@ ghost use Rattle.sf_live_seats.specs.First.{IsFirst};
 ghost use Rattle.sf_live_threads.specs.Visits.{LeavesGiven};
 
 use sf_live_seats::{FirstSeats, Locks};
-use sf_turns::TableName;
 use sf_live_watch::{Effect, Watch};
+use sf_turns::TableName;
 use std::sync::Wait;
 use std::thread::Threads;
 

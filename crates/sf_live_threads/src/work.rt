@@ -5,12 +5,12 @@ ghost use Rattle.sf_live_threads.specs.Backs.{IfWhole};
 use crate::noting::Noted;
 use crate::seated_actor::{Back, SeatedActor};
 use crate::turn::turn;
-use sf_actor::Stepped;
+use sf_actor_steps::sf_actor::Stepped;
 use sf_io::Gate;
-use sf_picture::Picture;
 use sf_live_seats::Locks;
-use sf_turns::TableName;
 use sf_live_watch::Watch;
+use sf_picture::Picture;
+use sf_turns::TableName;
 use std::sync::Wait;
 
 /// Tells what a step did that is done, if it did anything at what all share. Whether the thread goes on;

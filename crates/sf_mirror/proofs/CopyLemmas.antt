@@ -6,9 +6,9 @@ use Rattle.std.specs.Prelude.{find, IfSome}
 use Rattle.std.specs.Option.{option_map}
 use Rattle.std.proofs.lemmas.List.Elements.{All-head, All-tail}
 use Rattle.sf_base.specs.declared.ids.LayerId.{LayerId}
-use Rattle.sf_layer.specs.declared.layer.Layer.{Layer}
-use Rattle.sf_tree.specs.Kept.{IsLayerInRange, IsOfKind}
-use Rattle.sf_tree.specs.Layers.{is_numbered}
+use Rattle.sf_output_shown.specs.sf_layer.declared.layer.Layer.{Layer}
+use Rattle.sf_output_shown.specs.sf_tree.Kept.{IsLayerInRange, IsOfKind}
+use Rattle.sf_output_shown.specs.sf_tree.Layers.{is_numbered}
 use Rattle.sf_output_shown.specs.ByLayer.{is_for}
 use Rattle.sf_output_shown.specs.Copies.{copied, copy_of}
 use Rattle.sf_output_shown.specs.Cuts.{under}

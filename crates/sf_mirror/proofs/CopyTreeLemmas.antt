@@ -8,16 +8,16 @@ use Rattle.std.proofs.lemmas.List.{length-map, map-append}
 use Rattle.std.proofs.lemmas.List.Elements.{All-append, All-filter, All-head, All-map, All-tail, All-weaker}
 use Rattle.std.proofs.lemmas.List.Folds.{list_any-append}
 use Rattle.sf_base.specs.declared.ids.LayerId.{LayerId}
-use Rattle.sf_layer.specs.declared.layer.Layer.{Layer}
-use Rattle.sf_layer.specs.declared.parent.Parent.{Parent}
-use Rattle.sf_layer.specs.declared.parent.Parent.TheVariants as parent
-use Rattle.sf_tree.specs.Kept.{HasNoCycle, IsDistinct, IsLayerInRange, IsOfKind, IsRanked, IsTied, IsTree}
-use Rattle.sf_tree.specs.Known.{IsBounded}
-use Rattle.sf_tree.specs.Layers.{has_layer, has_parent, index_of, is_numbered, layer_of}
-use Rattle.sf_tree.proofs.TreeKept.{IsDistinct-filter, IsTied-stays, found_itself, pairs_from_distinct}
-use Rattle.sf_tree.proofs.Lookups.{index_of-absent}
-use Rattle.sf_tree.proofs.Places.{IsDistinct-push}
-use Rattle.sf_tree.proofs.Ranks.{bounded_rank}
+use Rattle.sf_output_shown.specs.sf_layer.declared.layer.Layer.{Layer}
+use Rattle.sf_output_shown.specs.sf_layer.declared.parent.Parent.{Parent}
+use Rattle.sf_output_shown.specs.sf_layer.declared.parent.Parent.TheVariants as parent
+use Rattle.sf_output_shown.specs.sf_tree.Kept.{HasNoCycle, IsDistinct, IsLayerInRange, IsOfKind, IsRanked, IsTied, IsTree}
+use Rattle.sf_output_shown.specs.sf_tree.Known.{IsBounded}
+use Rattle.sf_output_shown.specs.sf_tree.Layers.{has_layer, has_parent, index_of, is_numbered, layer_of}
+use Rattle.sf_output_shown.proofs.sf_tree_lemmas.TreeKept.{IsDistinct-filter, IsTied-stays, found_itself, pairs_from_distinct}
+use Rattle.sf_output_shown.proofs.sf_tree_lemmas.Lookups.{index_of-absent}
+use Rattle.sf_output_shown.proofs.sf_tree_lemmas.Places.{IsDistinct-push}
+use Rattle.sf_output_shown.proofs.sf_tree_lemmas.Ranks.{bounded_rank}
 use Rattle.sf_output_shown.specs.ByLayer.{is_for}
 use Rattle.sf_output_shown.specs.Copies.{copied, copy_of, free_from, holds_copies, is_free, is_taken_by, least_free, mirrors, named, number_of, parent_by, parent_of, relative_of}
 use Rattle.sf_output_shown.specs.Cuts.{is_under, under}

@@ -7,7 +7,7 @@ use Rattle.std.proofs.Math.Seq.{drop-cons}
 use Rattle.std.proofs.Common.{drop, get_or, append_assoc, append-nil, inl, inr, replicate}
 use Rattle.std.proofs.lemmas.List.{drop_all, get_or-replicate, length-replicate}
 use Rattle.sf_base.specs.declared.ids.LayerId.{LayerId}
-use Rattle.sf_layer.specs.declared.layer.Layer.{Layer}
+use Rattle.sf_output_shown.specs.sf_layer.declared.layer.Layer.{Layer}
 use Rattle.sf_output_shown.specs.Copies.{IsLeastFree, free_from, is_free, is_taken_by, least_free, named}
 use Rattle.sf_mirror.specs.Marks.{AreMarks}
 

@@ -1,9 +1,9 @@
 -- Layers behind those of a tree.
 use Rattle.std.specs.Prelude.{◌≡◌, true, List}
 use Rattle.sf_base.specs.declared.ids.LayerId.{LayerId}
-use Rattle.sf_layer.specs.declared.layer.Layer.{Layer}
-use Rattle.sf_tree.specs.Kept.{IsTree}
-use Rattle.sf_tree.specs.Layers.{has_layer}
+use Rattle.sf_output_shown.specs.sf_layer.declared.layer.Layer.{Layer}
+use Rattle.sf_output_shown.specs.sf_tree.Kept.{IsTree}
+use Rattle.sf_output_shown.specs.sf_tree.Layers.{has_layer}
 
 -- the layers are those of a tree that can have as many as any, and each layer of another tree is among them
 pub record Extends (tree layers : List Layer) : Type 0 where

@@ -1,12 +1,12 @@
 ghost use Rattle.std.specs.List.{All};
 ghost use Rattle.sf_base.specs.declared.ids.LayerId.{LayerId as LayerIdValue};
-ghost use Rattle.sf_layer.specs.declared.layer.Layer.{Layer as LayerValue};
+ghost use Rattle.sf_output_shown.specs.sf_layer.declared.layer.Layer.{Layer as LayerValue};
 ghost use Rattle.std.specs.Prelude.{◌≡◌, ◌<◌, IfOk, IfSome, is_some, map, true};
 ghost use Rattle.sf_output_shown.specs.Copies.{copied, copy_of, parent_of, relative_of};
 
 use sf_base::{LayerId, NoMemory};
-use sf_layer::{Layer, Parent};
 use sf_output_shown::ByLayer;
+use sf_output_shown::sf_layer::{Layer, Parent};
 use std::alloc::Global;
 
 /// The number of a layer's copy, if it has one.

@@ -5,7 +5,7 @@ ghost use Rattle.sf_output_shown.specs.Copies.{IsLeastFree, is_free, named};
 ghost use Rattle.sf_mirror.specs.Marks.{AreMarks};
 
 use sf_base::{LayerId, NoMemory};
-use sf_layer::Layer;
+use sf_output_shown::sf_layer::Layer;
 use std::alloc::Global;
 
 /// How many numbers have a mark: 0, and all that a copy can get.

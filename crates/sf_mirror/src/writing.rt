@@ -5,9 +5,9 @@ ghost use Rattle.sf_mirror.specs.Extended.{Extends};
 use crate::copies::copy_all;
 use crate::naming::name_all;
 use sf_base::{LayerId, NoMemory};
-use sf_layer::{Kind, Layer};
+use sf_output_shown::sf_layer::{Kind, Layer};
+use sf_output_shown::sf_tree::Tree;
 use sf_output_shown::{ByLayer, tree_of, under};
-use sf_tree::Tree;
 use std::alloc::Global;
 
 /// Whether a mirror shows copies: it is a container of the tree, and what it mirrors is in the tree.

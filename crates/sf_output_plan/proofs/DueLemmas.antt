@@ -10,12 +10,12 @@ use Rattle.std.proofs.lemmas.List.{map-append, take_more}
 use Rattle.std.proofs.lemmas.Slice.Zip.{all_zipped_more}
 use Rattle.sf_base.specs.Geometry.{is_within}
 use Rattle.sf_base.specs.declared.ids.LayerId.{LayerId}
-use Rattle.sf_layer.specs.declared.layer.Layer.{Layer}
-use Rattle.sf_view.specs.Placements.{is_in_display}
-use Rattle.sf_view.specs.Views.{IsView, ViewOf, ViewsInOrder}
-use Rattle.sf_view.proofs.IntervalLemmas.{and_left, and_right}
-use Rattle.sf_output_shown.specs.Hits.{front, hit_in}
-use Rattle.sf_output_shown.proofs.HitLemmas.{in_front, off_display}
+use Rattle.sf_display.specs.sf_layer.declared.layer.Layer.{Layer}
+use Rattle.sf_display.specs.sf_view.Placements.{is_in_display}
+use Rattle.sf_display.specs.sf_view.Views.{IsView, ViewOf, ViewsInOrder}
+use Rattle.sf_display.proofs.sf_view_lemmas.IntervalLemmas.{and_left, and_right}
+use Rattle.sf_display.specs.sf_output_shown.Hits.{front, hit_in}
+use Rattle.sf_display.proofs.sf_output_shown_lemmas.HitLemmas.{in_front, off_display}
 use Rattle.sf_output.specs.declared.output.Output.TheVariants as out
 use Rattle.sf_output.specs.Outputs.{IsOutput}
 use Rattle.sf_output.specs.declared.output.Output.{Output}
@@ -23,11 +23,11 @@ use Rattle.sf_output_plan.specs.Due.{AreShown, SameOrders, ShowsDue, capture_due
 use Rattle.sf_output_plan.specs.declared.plan.CapturePlan.{CapturePlan}
 use Rattle.sf_output_plan.specs.declared.plan.DisplayPlan.{DisplayPlan}
 use Rattle.sf_output_plan.specs.declared.plan.Plan.{Plan}
-use Rattle.sf_output_shown.specs.Copies.{written}
-use Rattle.sf_output_shown.specs.Cuts.{cut, cut_of}
-use Rattle.sf_tree.specs.DrawOrder.{draw_order}
-use Rattle.sf_tree.specs.Layers.{has_layer}
-use Rattle.sf_tree.specs.Trees.{TreeOf}
+use Rattle.sf_display.specs.sf_output_shown.Copies.{written}
+use Rattle.sf_display.specs.sf_output_shown.Cuts.{cut, cut_of}
+use Rattle.sf_display.specs.sf_tree.DrawOrder.{draw_order}
+use Rattle.sf_display.specs.sf_tree.Layers.{has_layer}
+use Rattle.sf_display.specs.sf_tree.Trees.{TreeOf}
 
 -- two lists behind two others
 pub zip_append : {A B : Type 0} (R : A → B → Type 0) (firsts : List A) (bs : List B) (xs : List A) (ys : List B) → AllZip R firsts bs → AllZip R xs ys → AllZip R (firsts ++ xs) (bs ++ ys)

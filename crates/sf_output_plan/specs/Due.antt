@@ -3,17 +3,17 @@ use Rattle.std.specs.Prelude.{◌≡◌, ℕ, ◌≤◌, if◌then◌else◌, Li
 use Rattle.std.specs.List.{All, AllZip, flat_map}
 use Rattle.std.specs.Option.{option_map_or}
 use Rattle.sf_base.specs.declared.ids.LayerId.{LayerId}
-use Rattle.sf_layer.specs.declared.layer.Layer.{Layer}
+use Rattle.sf_display.specs.sf_layer.declared.layer.Layer.{Layer}
 use Rattle.sf_output.specs.Outputs.{IsOutput}
 use Rattle.sf_output.specs.declared.output.Output.{Output}
 use Rattle.sf_output.specs.declared.output.Output.TheVariants as out
-use Rattle.sf_tree.specs.DrawOrder.{draw_order}
-use Rattle.sf_tree.specs.Layers.{has_layer}
-use Rattle.sf_view.specs.Views.{IsDisplay, ViewOf, ViewsInOrder}
-use Rattle.sf_output_shown.specs.Copies.{written}
-use Rattle.sf_output_shown.specs.Cuts.{cut}
-use Rattle.sf_output_shown.specs.Displays.{order_on}
-use Rattle.sf_output_shown.specs.Hits.{hit_of}
+use Rattle.sf_display.specs.sf_tree.DrawOrder.{draw_order}
+use Rattle.sf_display.specs.sf_tree.Layers.{has_layer}
+use Rattle.sf_display.specs.sf_view.Views.{IsDisplay, ViewOf, ViewsInOrder}
+use Rattle.sf_display.specs.sf_output_shown.Copies.{written}
+use Rattle.sf_display.specs.sf_output_shown.Cuts.{cut}
+use Rattle.sf_display.specs.sf_output_shown.Displays.{order_on}
+use Rattle.sf_display.specs.sf_output_shown.Hits.{hit_of}
 use Rattle.sf_output_plan.specs.declared.plan.CapturePlan.{CapturePlan}
 use Rattle.sf_output_plan.specs.declared.plan.DisplayPlan.{DisplayPlan}
 use Rattle.sf_output_plan.specs.declared.plan.HitPlan.{HitPlan}

@@ -1,1 +1,2 @@
 pub mod Due
+pub use Rattle.sf_display.specs.sf_output_shown

@@ -1,23 +1,23 @@
 ghost use Rattle.std.specs.List.{All, flat_map};
 ghost use Rattle.std.specs.Prelude.{◌≡◌, ◌≤◌, ℕ, [], IfOk, List, length, map, true};
-ghost use Rattle.sf_layer.specs.declared.layer.Layer.{Layer as LayerOf};
+ghost use Rattle.sf_display.specs.sf_layer.declared.layer.Layer.{Layer as LayerOf};
 ghost use Rattle.sf_output_plan.specs.Due.{AreShown, IsFrameDue, IsPlan, SameOrders, ShowsAll, ShowsDue, capture_due, display_due, frame_due, hit_due, hit_number, others_due};
 ghost use Rattle.sf_output_plan.specs.declared.plan.CapturePlan.{CapturePlan as CaptureOf};
 ghost use Rattle.sf_output_plan.specs.declared.plan.DisplayPlan.{DisplayPlan as DisplayOf};
 ghost use Rattle.sf_output_plan.specs.declared.plan.Plan.{Plan as PlanOf};
-ghost use Rattle.sf_output_shown.specs.Copies.{written};
-ghost use Rattle.sf_output_shown.specs.Displays.{order_on};
-ghost use Rattle.sf_output_shown.specs.Hits.{hit_of};
-ghost use Rattle.sf_view.specs.Views.{IsDisplay, ViewsInOrder};
+ghost use Rattle.sf_display.specs.sf_output_shown.Copies.{written};
+ghost use Rattle.sf_display.specs.sf_output_shown.Displays.{order_on};
+ghost use Rattle.sf_display.specs.sf_output_shown.Hits.{hit_of};
+ghost use Rattle.sf_display.specs.sf_view.Views.{IsDisplay, ViewsInOrder};
 
 use crate::plan::{CapturePlan, DisplayPlan, HitPlan, Plan};
 use sf_base::{LayerId, NoMemory};
 use sf_capture::{cut, hit};
+use sf_display::sf_tree::Tree;
+use sf_display::sf_view::{View, view_of};
 use sf_display::{display_view, stacks_in};
 use sf_mirror::written;
 use sf_output::Output;
-use sf_tree::Tree;
-use sf_view::{View, view_of};
 use std::alloc::Global;
 
 /// The views of what a vsync shows.

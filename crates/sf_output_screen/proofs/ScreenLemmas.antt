@@ -18,15 +18,15 @@ use Rattle.sf_compose.proofs.AgainLemmas.{composed_again}
 use Rattle.sf_compose.proofs.FrameLemmas.{covers_display}
 use Rattle.sf_compose.proofs.ReadingLemmas.{read_image-same}
 use Rattle.sf_compose.proofs.RowLemmas.{frame-from}
-use Rattle.sf_damage.specs.Damage.{Damages}
-use Rattle.sf_picture.specs.declared.picture.Picture.{Picture}
-use Rattle.sf_region.specs.Points.{has}
+use Rattle.sf_compose.specs.sf_damage.Damage.{Damages}
+use Rattle.sf_compose.specs.sf_picture.declared.picture.Picture.{Picture}
+use Rattle.sf_compose.specs.sf_region.Points.{has}
 use Rattle.sf_output.specs.declared.output.Output.{Output}
 use Rattle.sf_output_screen.specs.ScreenLists.{bare_screen, is_of, screen_of}
 use Rattle.sf_output_screen.specs.declared.screens.OutputScreen.{OutputScreen}
 use Rattle.sf_output_screen.specs.Screens.{IsSameSize, IsWhole, image_bytes}
-use Rattle.sf_view.specs.Stacks.{view_image}
-use Rattle.sf_view.specs.Views.{ViewOf}
+use Rattle.sf_compose.specs.sf_view.Stacks.{view_image}
+use Rattle.sf_compose.specs.sf_view.Views.{ViewOf}
 
 pub on_ok : {T E : Type 0} (P Q : Type 0) (r : Result T E) → (P → Q) → OnOk r P → OnOk r Q
 on_ok P Q (Ok x) f p = f p

@@ -4,7 +4,7 @@ use Rattle.std.specs.List.{All}
 use Rattle.std.specs.Option.{option_map_or}
 use Rattle.sf_output.specs.declared.output.Output.{Output}
 use Rattle.sf_output.specs.declared.output.Output.TheVariants as out
-use Rattle.sf_picture.specs.declared.picture.Picture.{Picture}
+use Rattle.sf_compose.specs.sf_picture.declared.picture.Picture.{Picture}
 use Rattle.sf_output_screen.specs.Screens.{IsShown, ScreenOf}
 use Rattle.sf_output_screen.specs.declared.screens.OutputScreen.{OutputScreen}
 

@@ -3,9 +3,9 @@ use Rattle.std.specs.Prelude.{◌≡◌, ℕ, ◌+◌, ◌*◌, Bool, true, fals
 use Rattle.byteorder.specs.Endian.{big_bytes}
 use Rattle.sf_output.specs.declared.output.Output.{Output}
 use Rattle.sf_output.specs.declared.output.Output.TheVariants as out
-use Rattle.sf_picture.specs.declared.picture.Picture.{Picture}
-use Rattle.sf_view.specs.Stacks.{view_image}
-use Rattle.sf_view.specs.Views.{ViewOf}
+use Rattle.sf_compose.specs.sf_picture.declared.picture.Picture.{Picture}
+use Rattle.sf_compose.specs.sf_view.Stacks.{view_image}
+use Rattle.sf_compose.specs.sf_view.Views.{ViewOf}
 use Rattle.sf_compose.specs.Again.{ShowsView}
 use Rattle.sf_compose.specs.Frames.{frame_bytes}
 

@@ -7,3 +7,5 @@ mod screens;
 
 pub use screen::Screen;
 pub use screens::Screens;
+pub use sf_compose;
+pub use sf_compose::{sf_picture, sf_view};

@@ -4,17 +4,17 @@ ghost use Rattle.sf_base.specs.Geometry.{covers};
 ghost use Rattle.sf_compose.specs.Again.{ShowsView};
 ghost use Rattle.sf_compose.specs.Readings.{AreReadable};
 ghost use Rattle.sf_compose.specs.Sources.{HasSources};
-ghost use Rattle.sf_picture.specs.declared.picture.Picture.{Picture};
-ghost use Rattle.sf_region.specs.Points.{has};
+ghost use Rattle.sf_compose.specs.sf_picture.declared.picture.Picture.{Picture};
+ghost use Rattle.sf_compose.specs.sf_region.Points.{has};
 ghost use Rattle.sf_output_screen.specs.Screens.{IsSameSize, begin_of, place_of};
 
 use byteorder::{BigEndian, ByteOrder};
 use sf_base::{NoMemory, Rect};
+use sf_compose::sf_damage::{dirty, visible};
+use sf_compose::sf_region::Region;
+use sf_compose::sf_view::View;
 use sf_compose::{Pixels, compose, compose_seen_by};
-use sf_damage::{dirty, visible};
 use sf_output::Output;
-use sf_region::Region;
-use sf_view::View;
 use std::alloc::Global;
 use std::marker::Model;
 use std::thread::Threads;
@@ -209,7 +209,7 @@ impl Screen {
     ghost use Rattle.std.specs.Prelude.{◌≡◌, ◌++◌, ℕ, [], None, Some, OnErr, OnOk, is_some, map, true};
     ghost use Rattle.sf_compose.specs.Readings.{AreReadable};
     ghost use Rattle.sf_compose.specs.Sources.{HasSources};
-    ghost use Rattle.sf_picture.specs.declared.picture.Picture.{Picture};
+    ghost use Rattle.sf_compose.specs.sf_picture.declared.picture.Picture.{Picture};
     ghost use Rattle.sf_output_screen.specs.Screens.{IsShown, IsWhole, head_of, numbers_of};
 
     /// A display that showed nothing yet. It takes no memory.

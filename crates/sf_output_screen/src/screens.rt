@@ -4,8 +4,8 @@ ghost use Rattle.sf_output_screen.specs.ScreenLists.{is_of, is_same};
 
 use crate::screen::Screen;
 use sf_base::NoMemory;
+use sf_compose::sf_view::View;
 use sf_output::Output;
-use sf_view::View;
 use std::alloc::Global;
 use std::marker::Model;
 
@@ -54,7 +54,7 @@ impl Model for Screens {
 
 impl Screens {
     ghost use Rattle.std.specs.Prelude.{◌≡◌, ◌++◌, ◌∷◌, [], ℕ, OnErr, OnOk};
-    ghost use Rattle.sf_picture.specs.declared.picture.Picture.{Picture};
+    ghost use Rattle.sf_compose.specs.sf_picture.declared.picture.Picture.{Picture};
     ghost use Rattle.sf_output_screen.specs.Screens.{IsShown};
     ghost use Rattle.sf_output_screen.specs.ScreenLists.{AreShown, screen_of};
 

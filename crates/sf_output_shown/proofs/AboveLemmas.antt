@@ -7,9 +7,9 @@ use Rattle.std.proofs.lemmas.Bool.{eqb-true, eq-eqb}
 use Rattle.std.proofs.lemmas.List.{append-nil, get_or-map, get_or-set_same, get_or-set_other, get_or-replicate, length-replicate}
 use Rattle.std.proofs.lemmas.List.Elements.{filter_more}
 use Rattle.sf_base.specs.declared.ids.LayerId.{LayerId}
-use Rattle.sf_layer.specs.declared.layer.Layer.{Layer}
-use Rattle.sf_tree.specs.Layers.{is_numbered}
-use Rattle.sf_tree.proofs.ShowLemmas.{inside_from_slice_get}
+use Rattle.sf_view.specs.sf_layer.declared.layer.Layer.{Layer}
+use Rattle.sf_view.specs.sf_tree.Layers.{is_numbered}
+use Rattle.sf_view.proofs.sf_tree_lemmas.ShowLemmas.{inside_from_slice_get}
 use Rattle.sf_view.specs.Ancestry.{ancestry}
 use Rattle.sf_output_shown.specs.Above.{AreFound, found_above, found_on, is_wanted}
 use Rattle.sf_output_shown.specs.Copies.{number_of}

@@ -10,7 +10,7 @@ use Rattle.std.proofs.lemmas.List.Elements.{All-head, All-tail, All-weaker}
 use Rattle.std.proofs.lemmas.List.Folds.{find-append}
 use Rattle.sf_base.specs.Geometry.{covers, is_within}
 use Rattle.sf_base.specs.declared.ids.LayerId.{LayerId}
-use Rattle.sf_layer.specs.declared.layer.Layer.{Layer}
+use Rattle.sf_view.specs.sf_layer.declared.layer.Layer.{Layer}
 use Rattle.sf_view.specs.Image.{drawn_in, is_in_layer}
 use Rattle.sf_view.specs.Placements.{is_in_display}
 use Rattle.sf_view.specs.Views.{Draws, IsClip, IsView, ViewOf, ViewsInOrder, is_in_clip}

@@ -1,9 +1,9 @@
 -- Stacks that nobody declared.
 use Rattle.std.proofs.Common.{◌≡◌, Bool, true, List, [], ◌∷◌, Option, Some, None, refl, ap, filter}
 use Rattle.sf_base.specs.declared.ids.LayerId.{LayerId}
-use Rattle.sf_layer.specs.declared.layer.Layer.{Layer}
-use Rattle.sf_tree.specs.DrawOrder.{draw_order}
-use Rattle.sf_tree.specs.Layers.{layer_of}
+use Rattle.sf_view.specs.sf_layer.declared.layer.Layer.{Layer}
+use Rattle.sf_view.specs.sf_tree.DrawOrder.{draw_order}
+use Rattle.sf_view.specs.sf_tree.Layers.{layer_of}
 use Rattle.std.specs.Option.{option_map_or}
 use Rattle.sf_output_shown.specs.Displays.{declared, is_on, order_on, stack_by, stack_on, top}
 

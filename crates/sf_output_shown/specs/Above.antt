@@ -2,12 +2,12 @@
 use Rattle.std.specs.Prelude.{◌≡◌, ℕ, Bool, List, find, length, Option, Some, None, slice_get, slice_index_or}
 use Rattle.std.specs.Option.{option_map}
 use Rattle.sf_base.specs.declared.ids.LayerId.{LayerId}
-use Rattle.sf_layer.specs.declared.layer.Layer.{Layer}
+use Rattle.sf_view.specs.sf_layer.declared.layer.Layer.{Layer}
 use Rattle.sf_output_shown.specs.Copies.{number_of}
 use Rattle.sf_output_shown.specs.Displays.{is_top}
 use Rattle.sf_output_shown.specs.declared.above.Wanted.{Wanted}
 use Rattle.sf_output_shown.specs.declared.above.Wanted.TheVariants as wanted
-use Rattle.sf_tree.specs.Layers.{is_numbered}
+use Rattle.sf_view.specs.sf_tree.Layers.{is_numbered}
 use Rattle.sf_view.specs.Ancestry.{ancestry}
 
 abbrev pub is_wanted : Wanted → Layer → Bool

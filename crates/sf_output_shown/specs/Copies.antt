@@ -5,12 +5,12 @@ use Rattle.std.specs.Prelude.{List, [], ◌∷◌, ◌++◌, length, map, Option
 use Rattle.std.specs.List.{list_any}
 use Rattle.std.specs.Option.{unwrap_or}
 use Rattle.sf_base.specs.declared.ids.LayerId.{LayerId}
-use Rattle.sf_layer.specs.declared.kind.Kind.{Kind}
-use Rattle.sf_layer.specs.declared.kind.Kind.TheVariants as kind
-use Rattle.sf_layer.specs.declared.layer.Layer.{Layer}
-use Rattle.sf_layer.specs.declared.parent.Parent.{Parent}
-use Rattle.sf_layer.specs.declared.parent.Parent.TheVariants as parent
-use Rattle.sf_tree.specs.Layers.{has_layer, is_numbered, layer_of}
+use Rattle.sf_view.specs.sf_layer.declared.kind.Kind.{Kind}
+use Rattle.sf_view.specs.sf_layer.declared.kind.Kind.TheVariants as kind
+use Rattle.sf_view.specs.sf_layer.declared.layer.Layer.{Layer}
+use Rattle.sf_view.specs.sf_layer.declared.parent.Parent.{Parent}
+use Rattle.sf_view.specs.sf_layer.declared.parent.Parent.TheVariants as parent
+use Rattle.sf_view.specs.sf_tree.Layers.{has_layer, is_numbered, layer_of}
 use Rattle.sf_output_shown.specs.ByLayer.{first_for}
 use Rattle.sf_output_shown.specs.Cuts.{under}
 

@@ -2,10 +2,10 @@
 use Rattle.std.specs.Prelude.{Bool, if◌then◌else◌, List, filter, map, Option, Some, None, pos}
 use Rattle.std.specs.List.{list_any}
 use Rattle.sf_base.specs.declared.ids.LayerId.{LayerId}
-use Rattle.sf_layer.specs.declared.layer.Layer.{Layer}
-use Rattle.sf_layer.specs.declared.parent.Parent.TheVariants as parent
-use Rattle.sf_tree.specs.Layers.{has_layer, is_numbered}
-use Rattle.sf_tree.specs.Trees.{TreeOf}
+use Rattle.sf_view.specs.sf_layer.declared.layer.Layer.{Layer}
+use Rattle.sf_view.specs.sf_layer.declared.parent.Parent.TheVariants as parent
+use Rattle.sf_view.specs.sf_tree.Layers.{has_layer, is_numbered}
+use Rattle.sf_view.specs.sf_tree.Trees.{TreeOf}
 use Rattle.sf_view.specs.Ancestry.{ancestry}
 
 -- the layer has this number, or it reaches the layer that has it by parents

@@ -4,12 +4,12 @@ use Rattle.std.specs.Prelude.{ℕ, ◌==◌, Bool, true, false, List, filter, fi
 use Rattle.std.specs.Option.{option_map_or}
 use Rattle.sf_base.specs.declared.ids.LayerId.{LayerId}
 use Rattle.sf_base.specs.declared.pixel.Rgba.{Rgba}
-use Rattle.sf_layer.specs.declared.layer.Layer.{Layer}
-use Rattle.sf_layer.specs.declared.parent.Parent.{Parent}
-use Rattle.sf_layer.specs.declared.parent.Parent.TheVariants as parent
-use Rattle.sf_picture.specs.declared.picture.Picture.{Picture}
-use Rattle.sf_tree.specs.DrawOrder.{draw_order}
-use Rattle.sf_tree.specs.Layers.{layer_of}
+use Rattle.sf_view.specs.sf_layer.declared.layer.Layer.{Layer}
+use Rattle.sf_view.specs.sf_layer.declared.parent.Parent.{Parent}
+use Rattle.sf_view.specs.sf_layer.declared.parent.Parent.TheVariants as parent
+use Rattle.sf_view.specs.sf_picture.declared.picture.Picture.{Picture}
+use Rattle.sf_view.specs.sf_tree.DrawOrder.{draw_order}
+use Rattle.sf_view.specs.sf_tree.Layers.{layer_of}
 use Rattle.sf_view.specs.Ancestry.{ancestry}
 use Rattle.sf_view.specs.Image.{image_in}
 

@@ -2,7 +2,7 @@
 use Rattle.std.specs.Prelude.{ℕ, if◌then◌else◌, List, find, reverse, Option, None, ℤ}
 use Rattle.std.specs.Option.{option_map}
 use Rattle.sf_base.specs.declared.ids.LayerId.{LayerId}
-use Rattle.sf_layer.specs.declared.layer.Layer.{Layer}
+use Rattle.sf_view.specs.sf_layer.declared.layer.Layer.{Layer}
 use Rattle.sf_view.specs.Image.{drawn_in, is_in_layer}
 use Rattle.sf_view.specs.Placements.{is_in_display}
 use Rattle.sf_view.specs.Views.{ViewOf, is_in_clip}

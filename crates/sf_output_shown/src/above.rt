@@ -1,14 +1,14 @@
 ghost use Rattle.std.specs.Prelude.{◌≡◌, ◌+◌, ◌∷◌, ◌<◌, IfOk, length, map, slice_get};
-ghost use Rattle.sf_layer.specs.declared.layer.Layer.{Layer as LayerValue};
+ghost use Rattle.sf_view.specs.sf_layer.declared.layer.Layer.{Layer as LayerValue};
 ghost use Rattle.sf_output_shown.specs.Above.{AreFound, found_above, found_on, is_wanted};
-ghost use Rattle.sf_tree.specs.Kept.{IsTree};
-ghost use Rattle.sf_tree.specs.Known.{Outranks};
-ghost use Rattle.sf_tree.specs.Layers.{parent_layer};
+ghost use Rattle.sf_view.specs.sf_tree.Kept.{IsTree};
+ghost use Rattle.sf_view.specs.sf_tree.Known.{Outranks};
+ghost use Rattle.sf_view.specs.sf_tree.Layers.{parent_layer};
 ghost use Rattle.sf_view.specs.Ancestry.{ancestry, and_above};
 
 use sf_base::{LayerId, NoMemory};
-use sf_layer::{Layer, Parent};
-use sf_tree::Tree;
+use sf_view::sf_layer::{Layer, Parent};
+use sf_view::sf_tree::Tree;
 use std::alloc::Global;
 
 /// Which layer is looked for on the way up from another.

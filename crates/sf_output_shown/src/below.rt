@@ -1,11 +1,11 @@
 ghost use Rattle.std.specs.Prelude.{◌≡◌, IfOk};
 ghost use Rattle.sf_output_shown.specs.Cuts.{under};
-ghost use Rattle.sf_tree.specs.Kept.{IsTree};
+ghost use Rattle.sf_view.specs.sf_tree.Kept.{IsTree};
 
 use crate::above::{Wanted, found_above, layer_at};
 use sf_base::{LayerId, NoMemory};
-use sf_layer::Layer;
-use sf_tree::Tree;
+use sf_view::sf_layer::Layer;
+use sf_view::sf_tree::Tree;
 use std::alloc::Global;
 
 /// The layer of this number and all that reach it by parents, in the order of creation: none

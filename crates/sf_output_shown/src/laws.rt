@@ -1,7 +1,7 @@
 ghost use Rattle.std.specs.Prelude.{◌≡◌, ◌<◌, ℕ, List, [], None, ℤ, pos, false};
 ghost use Rattle.sf_base.specs.declared.ids.LayerId.{LayerId as LayerIdValue};
-ghost use Rattle.sf_layer.specs.declared.layer.Layer.{Layer as LayerValue};
-ghost use Rattle.sf_tree.specs.DrawOrder.{draw_order};
+ghost use Rattle.sf_view.specs.sf_layer.declared.layer.Layer.{Layer as LayerValue};
+ghost use Rattle.sf_view.specs.sf_tree.DrawOrder.{draw_order};
 ghost use Rattle.sf_view.specs.Placements.{is_in_display};
 ghost use Rattle.sf_view.specs.Views.{IsView, ViewOf, ViewsInOrder};
 ghost use Rattle.sf_output_shown.specs.Displays.{order_on};

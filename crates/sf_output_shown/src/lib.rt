@@ -16,3 +16,5 @@ pub use below::under;
 pub use by_layer::ByLayer;
 pub use laws::{a_hit_is_in_front, stacks_may_be_left_out};
 pub use making::tree_of;
+pub use sf_view;
+pub use sf_view::{sf_layer, sf_tree};

@@ -1,9 +1,9 @@
 ghost use Rattle.std.specs.Prelude.{◌≡◌, IfOk};
-ghost use Rattle.sf_tree.specs.Kept.{IsTree};
+ghost use Rattle.sf_view.specs.sf_tree.Kept.{IsTree};
 
 use sf_base::NoMemory;
-use sf_layer::Layer;
-use sf_tree::Tree;
+use sf_view::sf_layer::Layer;
+use sf_view::sf_tree::Tree;
 use std::alloc::Global;
 
 /// How many layers a tree of given layers can have: as many as any tree can.

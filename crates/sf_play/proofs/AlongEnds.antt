@@ -3,23 +3,23 @@ use Rattle.std.proofs.Common.{◌≡◌, ℕ, ◌==◌, Bool, true, false, List,
 use Rattle.std.specs.Prelude.{if◌then◌else◌}
 use Rattle.std.proofs.lemmas.Bool.{cases_Bool}
 use Rattle.atomic_table.specs.Seated.{TableId}
-use Rattle.sf_surface.specs.Histories.{told}
-use Rattle.sf_surface.specs.Objects.{ObjectOf}
-use Rattle.sf_token.specs.Arrivals.{sent}
-use Rattle.sf_turns.specs.Views.{SeatView}
+use Rattle.sf_play_report.specs.sf_surface.Histories.{told}
+use Rattle.sf_play_report.specs.sf_surface.Objects.{ObjectOf}
+use Rattle.sf_play_report.specs.sf_token.Arrivals.{sent}
+use Rattle.sf_play_report.specs.sf_turns.Views.{SeatView}
 use Rattle.sf_script_scene.specs.Scene.{SceneValue}
 use Rattle.sf_script_scene.specs.declared.declarations.QueueDecl.{QueueDecl}
 use Rattle.sf_script_scene.specs.declared.step.ActorScript.{ActorScript}
-use Rattle.sf_actor.specs.Desks.{mark_among}
-use Rattle.sf_actor.specs.Known.{plain_arrival}
-use Rattle.sf_actor.specs.Plain.{calls_among, home_of, is_queue}
-use Rattle.sf_actor.specs.Tries.{dequeues_in}
-use Rattle.sf_actor_set.specs.ActorSets.{Opens}
-use Rattle.sf_actor_set.specs.Opening.{new_actors, new_queue}
-use Rattle.law_played.specs.Actors.{trace_among}
-use Rattle.law_played.specs.Plays.{IsPlay}
-use Rattle.law_played.specs.Vsyncs.{vsyncs_in}
-use Rattle.law_played.specs.Worlds.{World, first_world}
+use Rattle.sf_play_report.specs.sf_actor.Desks.{mark_among}
+use Rattle.sf_play_report.specs.sf_actor.Known.{plain_arrival}
+use Rattle.sf_play_report.specs.sf_actor.Plain.{calls_among, home_of, is_queue}
+use Rattle.sf_play_report.specs.sf_actor.Tries.{dequeues_in}
+use Rattle.law_rights.specs.sf_actor_set.ActorSets.{Opens}
+use Rattle.law_rights.specs.sf_actor_set.Opening.{new_actors, new_queue}
+use Rattle.sf_play_report.specs.law_played.Actors.{trace_among}
+use Rattle.sf_play_report.specs.law_played.Plays.{IsPlay}
+use Rattle.sf_play_report.specs.law_played.Vsyncs.{vsyncs_in}
+use Rattle.sf_play_report.specs.law_played.Worlds.{World, first_world}
 use Rattle.sf_play.proofs.AlongLemmas.{plays_first}
 use Rattle.sf_play.specs.Alongs.{PlaysSo, PlaysTo, world_so}
 use Rattle.sf_play.specs.Players.{PlayOf, SoFar}

@@ -4,22 +4,22 @@ use Rattle.std.specs.Prelude.{◌==◌, if◌then◌else◌, nat_lt, slice_get, 
 use Rattle.std.specs.List.{flat_map, list_all, list_any}
 use Rattle.std.proofs.lemmas.Bool.{eq-eqb, ltb-false, ne_eqb}
 use Rattle.std.proofs.lemmas.List.{append-nil}
-use Rattle.sf_ready.specs.declared.hold.Hold.{Hold}
-use Rattle.sf_tree.specs.Trees.{TreeOf}
-use Rattle.sf_commit.specs.OnLayers.{OnLayer}
-use Rattle.sf_commit.specs.declared.vsync.Commit.{Commit as Decided}
+use Rattle.sf_play_report.specs.sf_ready.declared.hold.Hold.{Hold}
+use Rattle.sf_play_report.specs.sf_tree.Trees.{TreeOf}
+use Rattle.sf_play_report.specs.sf_commit.OnLayers.{OnLayer}
+use Rattle.sf_play_report.specs.sf_commit.declared.vsync.Commit.{Commit as Decided}
 use Rattle.sf_script_scene.specs.Scene.{SceneValue}
 use Rattle.sf_script_scene.specs.declared.declarations.Pick.{Pick}
 use Rattle.sf_script_scene.specs.declared.step.ActorScript.{ActorScript}
-use Rattle.sf_record.specs.declared.event.Event.{Event}
-use Rattle.sf_actor.specs.Names.{FrameOf}
-use Rattle.law_played.proofs.Members.{has_cases, has_none}
-use Rattle.law_played.proofs.PlayLemmas.{comes_on}
-use Rattle.law_played.proofs.RoundEnd.{quiet_bare, quiet_some}
-use Rattle.law_played.specs.Progress.{is_time}
-use Rattle.law_played.specs.Plays.{Comes, GoesOnTo, GoesOnWith, IsBegun, Playing, TakesTurn, first_playing, is_quiet, picks_of, with_round}
-use Rattle.law_played.specs.Runs.{actor_number, rising_actors}
-use Rattle.law_played.specs.Worlds.{IsPlaysVsync, Turn, World, after_vsync, first_world, idle}
+use Rattle.sf_play_report.specs.sf_record.declared.event.Event.{Event}
+use Rattle.sf_play_report.specs.sf_actor.Names.{FrameOf}
+use Rattle.sf_play_report.proofs.law_played_lemmas.Members.{has_cases, has_none}
+use Rattle.sf_play_report.proofs.law_played_lemmas.PlayLemmas.{comes_on}
+use Rattle.sf_play_report.proofs.law_played_lemmas.RoundEnd.{quiet_bare, quiet_some}
+use Rattle.sf_play_report.specs.law_played.Progress.{is_time}
+use Rattle.sf_play_report.specs.law_played.Plays.{Comes, GoesOnTo, GoesOnWith, IsBegun, Playing, TakesTurn, first_playing, is_quiet, picks_of, with_round}
+use Rattle.sf_play_report.specs.law_played.Runs.{actor_number, rising_actors}
+use Rattle.sf_play_report.specs.law_played.Worlds.{IsPlaysVsync, Turn, World, after_vsync, first_world, idle}
 use Rattle.sf_play.specs.Alongs.{IsInRound, PlaysTo, behind_round, left_in, left_of_round, none_stepped}
 use Rattle.sf_play.specs.Places.{behind, settled, settled_at}
 use Rattle.sf_play.specs.declared.place.Place.{Place}

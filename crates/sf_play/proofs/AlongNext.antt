@@ -11,36 +11,36 @@ use Rattle.std.proofs.lemmas.List.Sorted.{Contains-permutation}
 use Rattle.std.proofs.lemmas.Option.{slice_get-get_or, slice_get_within}
 use Rattle.atomic_table.specs.Seated.{TableId}
 use Rattle.sf_picture.specs.declared.picture.Picture.{Picture}
-use Rattle.sf_ready.specs.declared.hold.Hold.{Hold}
-use Rattle.sf_surface.specs.Tokens.{Issued, ReadLeaseOf}
-use Rattle.sf_surface.specs.declared.mark.QueueMark.{QueueMark}
-use Rattle.sf_turns.specs.Views.{SeatView}
-use Rattle.sf_txn.specs.declared.lease.Lease.{Ghosts}
-use Rattle.sf_commit.specs.Releases.{VsyncOf}
-use Rattle.sf_commit.specs.declared.vsync.Commit.{Commit as Decided}
+use Rattle.sf_play_report.specs.sf_ready.declared.hold.Hold.{Hold}
+use Rattle.sf_play_report.specs.sf_surface.Tokens.{Issued, ReadLeaseOf}
+use Rattle.sf_play_report.specs.sf_surface.declared.mark.QueueMark.{QueueMark}
+use Rattle.sf_play_report.specs.sf_turns.Views.{SeatView}
+use Rattle.sf_play_report.specs.sf_txn.declared.lease.Lease.{Ghosts}
+use Rattle.sf_play_report.specs.sf_commit.Releases.{VsyncOf}
+use Rattle.sf_play_report.specs.sf_commit.declared.vsync.Commit.{Commit as Decided}
 use Rattle.sf_script_scene.specs.Limits.{IsPick}
 use Rattle.sf_script_scene.specs.Scene.{SceneValue, has_actor}
 use Rattle.sf_script_scene.specs.declared.declarations.Pick.{Pick}
 use Rattle.sf_script_scene.specs.declared.step.ActorScript.{ActorScript}
-use Rattle.sf_actor_steps.specs.declared.actor.Actor.{Actor}
-use Rattle.sf_actor.specs.declared.tried.Stepped.{Stepped}
-use Rattle.sf_actor.specs.declared.tried.Stepped.TheVariants as stepped
-use Rattle.sf_actor.specs.Desks.{DeskHome, DeskView}
-use Rattle.sf_actor.specs.Known.{frame_of}
-use Rattle.sf_actor.specs.Plain.{home_of, view_of}
-use Rattle.sf_actor.specs.Scripts.{picture_at}
-use Rattle.sf_actor.specs.Tries.{ActorOf}
-use Rattle.sf_actor_set.specs.ActorSets.{KeepAs, StepsAt, number_of}
-use Rattle.law_played.specs.Actors.{script_of}
-use Rattle.law_played.specs.Ends.{held_in}
-use Rattle.law_played.specs.Progress.{ShowsWhatIsWritten, is_time}
-use Rattle.law_played.specs.Runs.{rising_actors}
-use Rattle.law_played.specs.Stepping.{TellsFirst}
-use Rattle.law_played.specs.Stopping.{TellsOlder}
+use Rattle.law_rights.specs.sf_actor_steps.declared.actor.Actor.{Actor}
+use Rattle.sf_play_report.specs.sf_actor.declared.tried.Stepped.{Stepped}
+use Rattle.sf_play_report.specs.sf_actor.declared.tried.Stepped.TheVariants as stepped
+use Rattle.sf_play_report.specs.sf_actor.Desks.{DeskHome, DeskView}
+use Rattle.sf_play_report.specs.sf_actor.Known.{frame_of}
+use Rattle.sf_play_report.specs.sf_actor.Plain.{home_of, view_of}
+use Rattle.sf_play_report.specs.sf_actor.Scripts.{picture_at}
+use Rattle.sf_play_report.specs.sf_actor.Tries.{ActorOf}
+use Rattle.law_rights.specs.sf_actor_set.ActorSets.{KeepAs, StepsAt, number_of}
+use Rattle.sf_play_report.specs.law_played.Actors.{script_of}
+use Rattle.sf_play_report.specs.law_played.Ends.{held_in}
+use Rattle.sf_play_report.specs.law_played.Progress.{ShowsWhatIsWritten, is_time}
+use Rattle.sf_play_report.specs.law_played.Runs.{rising_actors}
+use Rattle.sf_play_report.specs.law_played.Stepping.{TellsFirst}
+use Rattle.sf_play_report.specs.law_played.Stopping.{TellsOlder}
 use Rattle.law_rights.specs.Vsyncs.{IsOfTurns}
-use Rattle.law_played.proofs.AsQueued.{one_passes}
-use Rattle.law_played.proofs.StepKeepsTold.{got_has}
-use Rattle.law_played.proofs.Members.{has_cases, has_found, has_here, has_later, has_none, map_has}
+use Rattle.sf_play_report.proofs.law_played_lemmas.AsQueued.{one_passes}
+use Rattle.sf_play_report.proofs.law_played_lemmas.StepKeepsTold.{got_has}
+use Rattle.sf_play_report.proofs.law_played_lemmas.Members.{has_cases, has_found, has_here, has_later, has_none, map_has}
 use Rattle.sf_play.proofs.AlongLemmas.{plays_settled}
 use Rattle.sf_play.proofs.AlongTurns.{pick_done, pick_ended, pick_waits, round_done, round_ended, round_waits}
 use Rattle.sf_play.proofs.AlongVsyncs.{all_had, holds_silent, pick_shown, pick_silent, round_shown, round_silent}

@@ -8,41 +8,41 @@ use Rattle.std.proofs.lemmas.List.Concat.{flat_map-append}
 use Rattle.std.proofs.lemmas.List.Elements.{All-contains}
 use Rattle.std.proofs.lemmas.List.Sorted.{Contains-permutation, IsPermutation-sym}
 use Rattle.atomic_table.specs.Seated.{TableId}
-use Rattle.sf_surface.specs.Histories.{Made}
-use Rattle.sf_surface.specs.declared.mark.QueueMark.{QueueMark}
+use Rattle.sf_play_report.specs.sf_surface.Histories.{Made}
+use Rattle.sf_play_report.specs.sf_surface.declared.mark.QueueMark.{QueueMark}
 use Rattle.sf_script_scene.specs.Scene.{SceneValue, has_queue}
 use Rattle.sf_script_scene.specs.declared.declarations.Pick.{Pick}
 use Rattle.sf_script_scene.specs.declared.step.ActorScript.{ActorScript}
-use Rattle.sf_actor.specs.declared.done.Done.{Done}
-use Rattle.sf_actor.specs.declared.tried.Stepped.TheVariants as stepped
-use Rattle.sf_actor.specs.Desks.{DeskHome, DeskView}
-use Rattle.sf_actor.specs.Known.{plain_arrival}
-use Rattle.sf_actor.specs.Plain.{home_of, view_of}
-use Rattle.sf_actor.specs.Scripts.{picture_at}
-use Rattle.sf_actor.specs.Tries.{ActorOf, DoesStep, LeavesStep}
-use Rattle.sf_actor_set.specs.ActorSets.{ActorSetOf, IsSameActorSet, StepsAt}
-use Rattle.sf_record.specs.declared.event.Event.{Event}
-use Rattle.sf_record.specs.declared.event.Event.TheVariants as event
-use Rattle.sf_record.specs.declared.event.VsyncReport.{VsyncReport}
-use Rattle.law_played.specs.Actors.{AreCalls, arrivals_of, number_of, run_of, script_of, trace_among}
-use Rattle.law_played.specs.Plays.{TakesTurn}
-use Rattle.law_played.specs.Replies.{reply_shown}
-use Rattle.law_played.specs.Runs.{rising_actors}
-use Rattle.law_played.specs.Stepping.{KnowsRun, TellsFirst}
-use Rattle.law_played.specs.Stopping.{TellsOlder}
-use Rattle.law_played.specs.Stuck.{IsNotReady, next_step}
-use Rattle.law_played.specs.Vsyncs.{vsync_in, vsyncs_in}
-use Rattle.law_played.specs.Worlds.{Turn, World, actor_turn, idle, with_list}
-use Rattle.law_played.proofs.RunGrowth.{not_none}
-use Rattle.law_played.proofs.AsQueued.{one_passes}
-use Rattle.law_played.proofs.DeskOfOneThread.{desk_called, sent_numbered}
-use Rattle.law_played.proofs.StepKeepsTold.{got_has}
-use Rattle.law_played.proofs.Members.{has_map}
-use Rattle.law_played.proofs.NextStep.{desk_turn, script_of_number, traces}
-use Rattle.law_played.proofs.RisingNumbers.{rising_actors_are}
-use Rattle.law_played.proofs.SteppingLemmas.{idle_ended, idle_waits}
-use Rattle.law_played.proofs.StuckActors.{left_not_ready, run_stays}
-use Rattle.law_played.proofs.RunTraces.{trace_here}
+use Rattle.sf_play_report.specs.sf_actor.declared.done.Done.{Done}
+use Rattle.sf_play_report.specs.sf_actor.declared.tried.Stepped.TheVariants as stepped
+use Rattle.sf_play_report.specs.sf_actor.Desks.{DeskHome, DeskView}
+use Rattle.sf_play_report.specs.sf_actor.Known.{plain_arrival}
+use Rattle.sf_play_report.specs.sf_actor.Plain.{home_of, view_of}
+use Rattle.sf_play_report.specs.sf_actor.Scripts.{picture_at}
+use Rattle.sf_play_report.specs.sf_actor.Tries.{ActorOf, DoesStep, LeavesStep}
+use Rattle.law_rights.specs.sf_actor_set.ActorSets.{ActorSetOf, IsSameActorSet, StepsAt}
+use Rattle.sf_play_report.specs.sf_record.declared.event.Event.{Event}
+use Rattle.sf_play_report.specs.sf_record.declared.event.Event.TheVariants as event
+use Rattle.sf_play_report.specs.sf_record.declared.event.VsyncReport.{VsyncReport}
+use Rattle.sf_play_report.specs.law_played.Actors.{AreCalls, arrivals_of, number_of, run_of, script_of, trace_among}
+use Rattle.sf_play_report.specs.law_played.Plays.{TakesTurn}
+use Rattle.sf_play_report.specs.law_played.Replies.{reply_shown}
+use Rattle.sf_play_report.specs.law_played.Runs.{rising_actors}
+use Rattle.sf_play_report.specs.law_played.Stepping.{KnowsRun, TellsFirst}
+use Rattle.sf_play_report.specs.law_played.Stopping.{TellsOlder}
+use Rattle.sf_play_report.specs.law_played.Stuck.{IsNotReady, next_step}
+use Rattle.sf_play_report.specs.law_played.Vsyncs.{vsync_in, vsyncs_in}
+use Rattle.sf_play_report.specs.law_played.Worlds.{Turn, World, actor_turn, idle, with_list}
+use Rattle.sf_play_report.proofs.law_played_lemmas.RunGrowth.{not_none}
+use Rattle.sf_play_report.proofs.law_played_lemmas.AsQueued.{one_passes}
+use Rattle.sf_play_report.proofs.law_played_lemmas.DeskOfOneThread.{desk_called, sent_numbered}
+use Rattle.sf_play_report.proofs.law_played_lemmas.StepKeepsTold.{got_has}
+use Rattle.sf_play_report.proofs.law_played_lemmas.Members.{has_map}
+use Rattle.sf_play_report.proofs.law_played_lemmas.NextStep.{desk_turn, script_of_number, traces}
+use Rattle.sf_play_report.proofs.law_played_lemmas.RisingNumbers.{rising_actors_are}
+use Rattle.sf_play_report.proofs.law_played_lemmas.SteppingLemmas.{idle_ended, idle_waits}
+use Rattle.sf_play_report.proofs.law_played_lemmas.StuckActors.{left_not_ready, run_stays}
+use Rattle.sf_play_report.proofs.law_played_lemmas.RunTraces.{trace_here}
 use Rattle.sf_play.proofs.AlongLemmas.{plays_idle, plays_pick, plays_step}
 use Rattle.sf_play.proofs.StepKeepsPlayer.{stands_done, stands_waiting}
 use Rattle.sf_play.specs.Alongs.{DeskKnows, PlaysSo, PlaysTo, world_so}

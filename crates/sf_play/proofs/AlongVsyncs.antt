@@ -8,53 +8,53 @@ use Rattle.std.proofs.lemmas.List.Elements.{All-head, All-tail}
 use Rattle.atomic_table.specs.Seated.{TableId}
 use Rattle.sf_base.specs.declared.fences.Seen.{Seen}
 use Rattle.sf_base.specs.declared.ids.QueueId.{QueueId}
-use Rattle.sf_layer.specs.declared.shown.Shown.{Shown}
+use Rattle.sf_play_report.specs.sf_layer.declared.shown.Shown.{Shown}
 use Rattle.sf_picture.specs.declared.picture.Picture.{Picture}
-use Rattle.sf_surface.specs.Histories.{Made, told as told_by}
-use Rattle.sf_surface.specs.Reading.{PlainLease, plain_lease}
-use Rattle.sf_surface.specs.Tokens.{Issued, ReadLeaseOf}
-use Rattle.sf_token.specs.Arrivals.{Calls, sent, waiting}
-use Rattle.sf_token.specs.Pending.{Arrival}
-use Rattle.sf_turns.specs.Views.{SeatView}
-use Rattle.sf_txn.specs.declared.lease.Lease.{Ghosts}
-use Rattle.sf_commit.specs.Handlers.{Decides}
-use Rattle.sf_commit.specs.Leases.{HandsBack, IsReleaseOf}
-use Rattle.sf_commit.specs.OnLayers.{OnLayer}
-use Rattle.sf_commit.specs.Releases.{ReleaseOf, VsyncOf}
-use Rattle.sf_commit.specs.declared.vsync.Commit.{Commit as Decided}
+use Rattle.sf_play_report.specs.sf_surface.Histories.{Made, told as told_by}
+use Rattle.sf_play_report.specs.sf_surface.Reading.{PlainLease, plain_lease}
+use Rattle.sf_play_report.specs.sf_surface.Tokens.{Issued, ReadLeaseOf}
+use Rattle.sf_play_report.specs.sf_token.Arrivals.{Calls, sent, waiting}
+use Rattle.sf_play_report.specs.sf_token.Pending.{Arrival}
+use Rattle.sf_play_report.specs.sf_turns.Views.{SeatView}
+use Rattle.sf_play_report.specs.sf_txn.declared.lease.Lease.{Ghosts}
+use Rattle.sf_play_report.specs.sf_commit.Handlers.{Decides}
+use Rattle.sf_play_report.specs.sf_commit.Leases.{HandsBack, IsReleaseOf}
+use Rattle.sf_play_report.specs.sf_commit.OnLayers.{OnLayer}
+use Rattle.sf_play_report.specs.sf_commit.Releases.{ReleaseOf, VsyncOf}
+use Rattle.sf_play_report.specs.sf_commit.declared.vsync.Commit.{Commit as Decided}
 use Rattle.sf_script_scene.specs.Scene.{SceneValue, has_queue}
 use Rattle.sf_script_scene.specs.declared.declarations.Pick.{Pick}
 use Rattle.sf_script_scene.specs.declared.declarations.QueueDecl.{QueueDecl}
 use Rattle.sf_script_scene.specs.declared.step.ActorScript.{ActorScript}
-use Rattle.sf_actor.specs.Desks.{DeskHome, DeskView, mark_among}
-use Rattle.sf_actor.specs.Known.{frame_of, plain_arrival}
-use Rattle.sf_actor.specs.Makers.{Run}
-use Rattle.sf_actor.specs.Names.{FrameOf}
-use Rattle.sf_actor.specs.Plain.{home_of, taken_in, view_of}
-use Rattle.sf_actor.specs.Tries.{ActorOf}
-use Rattle.sf_actor_steps.specs.declared.actor.Actor.{Actor}
-use Rattle.sf_actor_set.proofs.ArrivalLemmas.{sent_is}
-use Rattle.sf_actor_set.specs.ActorSets.{KeepAs}
-use Rattle.sf_record.specs.declared.event.Event.{Event}
-use Rattle.sf_record.specs.declared.event.Event.TheVariants as event
-use Rattle.sf_record.specs.declared.event.VsyncReport.{VsyncReport}
-use Rattle.law_played.specs.Actors.{mark_declared, run_of, script_of, trace_among}
-use Rattle.law_played.specs.Commits.{commit_shown}
-use Rattle.law_played.specs.Ends.{held_in}
-use Rattle.law_played.specs.Framing.{framed_arrival, framed_on}
-use Rattle.law_played.specs.Histories.{Released}
-use Rattle.law_played.specs.Plays.{TakesTurn}
-use Rattle.law_played.specs.Frames.{shown_after}
-use Rattle.law_played.specs.Progress.{ShowsWhatIsWritten}
-use Rattle.law_played.specs.Runs.{final_values, rising_actors}
-use Rattle.law_played.specs.Seeing.{value_shown}
-use Rattle.law_played.specs.Vsyncs.{rising_timelines, vsyncs_in}
-use Rattle.law_played.specs.Worlds.{IsPlaysVsync, Turn, World, after_vsync, release_asked, report_of, reports_if, reports_of, with_call, with_calls}
-use Rattle.law_played.proofs.LeaseLemmas.{plain_arrivals, plain_frame}
-use Rattle.law_played.proofs.NextStep.{desk_release}
-use Rattle.law_played.proofs.ProgressLemmas.{vsync_of_play}
-use Rattle.law_played.proofs.RisingNumbers.{rising_actors_are}
-use Rattle.law_played.proofs.StuckActors.{final_is}
+use Rattle.sf_play_report.specs.sf_actor.Desks.{DeskHome, DeskView, mark_among}
+use Rattle.sf_play_report.specs.sf_actor.Known.{frame_of, plain_arrival}
+use Rattle.sf_play_report.specs.sf_actor.Makers.{Run}
+use Rattle.sf_play_report.specs.sf_actor.Names.{FrameOf}
+use Rattle.sf_play_report.specs.sf_actor.Plain.{home_of, taken_in, view_of}
+use Rattle.sf_play_report.specs.sf_actor.Tries.{ActorOf}
+use Rattle.law_rights.specs.sf_actor_steps.declared.actor.Actor.{Actor}
+use Rattle.law_rights.proofs.sf_actor_set_lemmas.ArrivalLemmas.{sent_is}
+use Rattle.law_rights.specs.sf_actor_set.ActorSets.{KeepAs}
+use Rattle.sf_play_report.specs.sf_record.declared.event.Event.{Event}
+use Rattle.sf_play_report.specs.sf_record.declared.event.Event.TheVariants as event
+use Rattle.sf_play_report.specs.sf_record.declared.event.VsyncReport.{VsyncReport}
+use Rattle.sf_play_report.specs.law_played.Actors.{mark_declared, run_of, script_of, trace_among}
+use Rattle.sf_play_report.specs.law_played.Commits.{commit_shown}
+use Rattle.sf_play_report.specs.law_played.Ends.{held_in}
+use Rattle.sf_play_report.specs.law_played.Framing.{framed_arrival, framed_on}
+use Rattle.sf_play_report.specs.law_played.Histories.{Released}
+use Rattle.sf_play_report.specs.law_played.Plays.{TakesTurn}
+use Rattle.sf_play_report.specs.law_played.Frames.{shown_after}
+use Rattle.sf_play_report.specs.law_played.Progress.{ShowsWhatIsWritten}
+use Rattle.sf_play_report.specs.law_played.Runs.{final_values, rising_actors}
+use Rattle.sf_play_report.specs.law_played.Seeing.{value_shown}
+use Rattle.sf_play_report.specs.law_played.Vsyncs.{rising_timelines, vsyncs_in}
+use Rattle.sf_play_report.specs.law_played.Worlds.{IsPlaysVsync, Turn, World, after_vsync, release_asked, report_of, reports_if, reports_of, with_call, with_calls}
+use Rattle.sf_play_report.proofs.law_played_lemmas.LeaseLemmas.{plain_arrivals, plain_frame}
+use Rattle.sf_play_report.proofs.law_played_lemmas.NextStep.{desk_release}
+use Rattle.sf_play_report.proofs.law_played_lemmas.ProgressLemmas.{vsync_of_play}
+use Rattle.sf_play_report.proofs.law_played_lemmas.RisingNumbers.{rising_actors_are}
+use Rattle.sf_play_report.proofs.law_played_lemmas.StuckActors.{final_is}
 use Rattle.sf_play.proofs.AlongLemmas.{plays_pick, plays_round}
 use Rattle.sf_play.proofs.AlongTurns.{calls_declared}
 use Rattle.sf_play.proofs.VsyncKeepsPlayer.{arrived_is, arrivals_now, calls_same, gives_now, goes, home_now, plain, rises, vsyncs_in_more}

@@ -4,25 +4,25 @@ use Rattle.std.specs.Prelude.{Contains}
 use Rattle.std.specs.List.{All}
 use Rattle.std.proofs.lemmas.Bool.{eq-eqb}
 use Rattle.std.proofs.lemmas.List.Elements.{All-contains}
-use Rattle.sf_surface.specs.Tokens.{ReadLeaseOf}
-use Rattle.sf_surface.specs.declared.call.Gives.{Gives}
-use Rattle.sf_surface.specs.declared.call.Gives.TheVariants as gives
-use Rattle.sf_surface.specs.declared.call.QCall.{QCall}
-use Rattle.sf_surface.specs.declared.call.QCall.TheVariants as call
-use Rattle.sf_token.specs.Pending.{Arrival}
-use Rattle.sf_txn.specs.Buffers.{Buffer}
+use Rattle.sf_play_report.specs.sf_surface.Tokens.{ReadLeaseOf}
+use Rattle.sf_play_report.specs.sf_surface.declared.call.Gives.{Gives}
+use Rattle.sf_play_report.specs.sf_surface.declared.call.Gives.TheVariants as gives
+use Rattle.sf_play_report.specs.sf_surface.declared.call.QCall.{QCall}
+use Rattle.sf_play_report.specs.sf_surface.declared.call.QCall.TheVariants as call
+use Rattle.sf_play_report.specs.sf_token.Pending.{Arrival}
+use Rattle.sf_play_report.specs.sf_txn.Buffers.{Buffer}
 use Rattle.sf_script_scene.specs.Scene.{SceneValue}
-use Rattle.sf_actor.specs.Desks.{DeskHome, DeskView, known_of, mark_among}
-use Rattle.sf_actor.specs.Known.{arrivals_told, is_sent_by, plain_arrival, plain_buffer, share_of}
-use Rattle.sf_actor.specs.Rights.{HoldsAcquired, SendsAcquired, Takes, WasTaken}
-use Rattle.sf_actor.specs.Tales.{sent_as}
-use Rattle.sf_actor.specs.Traces.{SentStep}
-use Rattle.sf_actor.specs.Tries.{ActorOf}
-use Rattle.law_played.proofs.ArrivedFrames.{is_numbered, own_is, told_has}
-use Rattle.law_played.proofs.StepKeepsTold.{of_all}
-use Rattle.law_played.proofs.Members.{has_filter, has_map}
-use Rattle.law_played.proofs.Sent.{IsShown, sent_shown}
-use Rattle.law_played.specs.Actors.{AreActors, AreArrivals, number_of}
+use Rattle.sf_play_report.specs.sf_actor.Desks.{DeskHome, DeskView, known_of, mark_among}
+use Rattle.sf_play_report.specs.sf_actor.Known.{arrivals_told, is_sent_by, plain_arrival, plain_buffer, share_of}
+use Rattle.sf_play_report.specs.sf_actor.Rights.{HoldsAcquired, SendsAcquired, Takes, WasTaken}
+use Rattle.sf_play_report.specs.sf_actor.Tales.{sent_as}
+use Rattle.sf_play_report.specs.sf_actor.Traces.{SentStep}
+use Rattle.sf_play_report.specs.sf_actor.Tries.{ActorOf}
+use Rattle.sf_play_report.proofs.law_played_lemmas.ArrivedFrames.{is_numbered, own_is, told_has}
+use Rattle.sf_play_report.proofs.law_played_lemmas.StepKeepsTold.{of_all}
+use Rattle.sf_play_report.proofs.law_played_lemmas.Members.{has_filter, has_map}
+use Rattle.sf_play_report.proofs.law_played_lemmas.Sent.{IsShown, sent_shown}
+use Rattle.sf_play_report.specs.law_played.Actors.{AreActors, AreArrivals, number_of}
 use Rattle.sf_play.specs.Players.{AreLent, IsBufferLent, WasLent}
 
 module _ {B : Type 0} where

@@ -6,32 +6,32 @@ use Rattle.std.proofs.lemmas.Bool.{cases_Bool, eq-eqb, eqb-true, false≢true}
 use Rattle.std.proofs.lemmas.List.{append-nil, append_assoc}
 use Rattle.std.proofs.lemmas.List.Elements.{All-head, All-tail}
 use Rattle.sf_base.specs.declared.ids.QueueId.{QueueId}
-use Rattle.sf_calls.specs.Histories.{entry}
-use Rattle.sf_layer.specs.declared.shown.Shown.{Shown}
-use Rattle.sf_surface.specs.Histories.{Made}
-use Rattle.sf_surface.specs.Reading.{PlainLease, plain_lease}
-use Rattle.sf_surface.specs.Tokens.{ReadLeaseOf}
-use Rattle.sf_surface.specs.declared.call.QCall.TheVariants as call
-use Rattle.sf_turns.specs.Views.{SeatView}
-use Rattle.sf_txn.specs.declared.lease.Lease.{Ghosts}
-use Rattle.sf_commit.specs.Leases.{HandsBack, IsReleaseOf}
-use Rattle.sf_commit.specs.OnLayers.{OnLayer}
-use Rattle.sf_commit.specs.Releases.{ReleaseOf}
+use Rattle.sf_play_report.specs.sf_calls.Histories.{entry}
+use Rattle.sf_play_report.specs.sf_layer.declared.shown.Shown.{Shown}
+use Rattle.sf_play_report.specs.sf_surface.Histories.{Made}
+use Rattle.sf_play_report.specs.sf_surface.Reading.{PlainLease, plain_lease}
+use Rattle.sf_play_report.specs.sf_surface.Tokens.{ReadLeaseOf}
+use Rattle.sf_play_report.specs.sf_surface.declared.call.QCall.TheVariants as call
+use Rattle.sf_play_report.specs.sf_turns.Views.{SeatView}
+use Rattle.sf_play_report.specs.sf_txn.declared.lease.Lease.{Ghosts}
+use Rattle.sf_play_report.specs.sf_commit.Leases.{HandsBack, IsReleaseOf}
+use Rattle.sf_play_report.specs.sf_commit.OnLayers.{OnLayer}
+use Rattle.sf_play_report.specs.sf_commit.Releases.{ReleaseOf}
 use Rattle.sf_script_scene.specs.Limits.{IsWithinLimits}
 use Rattle.sf_script_scene.specs.Scene.{SceneValue}
 use Rattle.sf_script_scene.specs.declared.declarations.QueueDecl.{QueueDecl}
-use Rattle.sf_actor.specs.Desks.{DeskHome, DeskView, mark_among}
-use Rattle.sf_actor.specs.Known.{frame_of}
-use Rattle.sf_actor.specs.Names.{FrameOf}
-use Rattle.sf_actor.specs.Tries.{ActorOf}
-use Rattle.sf_record.specs.declared.event.Event.{Event}
-use Rattle.law_played.proofs.RunGrowth.{releases_frame}
-use Rattle.law_played.proofs.LeaseLemmas.{plain_frame}
-use Rattle.law_played.proofs.Members.{has_later}
-use Rattle.law_played.specs.Actors.{mark_declared}
-use Rattle.law_played.specs.Framing.{framed_on}
-use Rattle.law_played.specs.Histories.{Released}
-use Rattle.law_played.specs.Telling.{TellRun}
+use Rattle.sf_play_report.specs.sf_actor.Desks.{DeskHome, DeskView, mark_among}
+use Rattle.sf_play_report.specs.sf_actor.Known.{frame_of}
+use Rattle.sf_play_report.specs.sf_actor.Names.{FrameOf}
+use Rattle.sf_play_report.specs.sf_actor.Tries.{ActorOf}
+use Rattle.sf_play_report.specs.sf_record.declared.event.Event.{Event}
+use Rattle.sf_play_report.proofs.law_played_lemmas.RunGrowth.{releases_frame}
+use Rattle.sf_play_report.proofs.law_played_lemmas.LeaseLemmas.{plain_frame}
+use Rattle.sf_play_report.proofs.law_played_lemmas.Members.{has_later}
+use Rattle.sf_play_report.specs.law_played.Actors.{mark_declared}
+use Rattle.sf_play_report.specs.law_played.Framing.{framed_on}
+use Rattle.sf_play_report.specs.law_played.Histories.{Released}
+use Rattle.sf_play_report.specs.law_played.Telling.{TellRun}
 use Rattle.sf_play.specs.Giving.{GivesFrame, GivesFrames}
 use Rattle.sf_play.proofs.HandlerLeases.{IsOnLent, OfFrames}
 

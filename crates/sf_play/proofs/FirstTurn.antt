@@ -8,44 +8,44 @@ use Rattle.std.proofs.lemmas.List.Elements.{All-cons, All-contains, All-head, Al
 use Rattle.std.proofs.lemmas.List.Sorted.{All-permutation, Contains-permutation}
 use Rattle.atomic_table.specs.Seated.{TableId}
 use Rattle.sf_picture.specs.declared.picture.Picture.{Picture}
-use Rattle.sf_surface.specs.Histories.{Made, told}
-use Rattle.sf_surface.specs.Objects.{ObjectOf, mark_of}
-use Rattle.sf_surface.specs.Tokens.{ReadLeaseOf}
-use Rattle.sf_surface.specs.declared.mark.QueueMark.{QueueMark}
-use Rattle.sf_times.specs.declared.protocol.Knows.{Knows}
-use Rattle.sf_token.specs.Arrivals.{sent}
-use Rattle.sf_token.specs.Pending.{Arrival}
-use Rattle.sf_turns.specs.Views.{SeatView}
-use Rattle.sf_txn.specs.Buffers.{Buffer}
-use Rattle.sf_commit.specs.Handlers.{HandlerOf, new_handler}
-use Rattle.sf_commit.specs.OnLayers.{OnLayer}
+use Rattle.sf_play_report.specs.sf_surface.Histories.{Made, told}
+use Rattle.sf_play_report.specs.sf_surface.Objects.{ObjectOf, mark_of}
+use Rattle.sf_play_report.specs.sf_surface.Tokens.{ReadLeaseOf}
+use Rattle.sf_play_report.specs.sf_surface.declared.mark.QueueMark.{QueueMark}
+use Rattle.sf_play_report.specs.sf_times.declared.protocol.Knows.{Knows}
+use Rattle.sf_play_report.specs.sf_token.Arrivals.{sent}
+use Rattle.sf_play_report.specs.sf_token.Pending.{Arrival}
+use Rattle.sf_play_report.specs.sf_turns.Views.{SeatView}
+use Rattle.sf_play_report.specs.sf_txn.Buffers.{Buffer}
+use Rattle.sf_play_report.specs.sf_commit.Handlers.{HandlerOf, new_handler}
+use Rattle.sf_play_report.specs.sf_commit.OnLayers.{OnLayer}
 use Rattle.sf_script_scene.specs.Limits.{IsWithinLimits, most_layers}
 use Rattle.sf_script_scene.specs.Scene.{SceneValue, has_queue}
 use Rattle.sf_script_scene.specs.declared.declarations.QueueDecl.{QueueDecl}
 use Rattle.sf_script_scene.specs.declared.step.ActorScript.{ActorScript}
-use Rattle.sf_actor.specs.Desks.{mark_among}
-use Rattle.sf_actor.specs.Known.{frame_of, plain_arrival}
-use Rattle.sf_actor.specs.Names.{FrameOf}
-use Rattle.sf_actor.specs.Plain.{PlainOf, calls_among, home_of, taken_in, view_of}
-use Rattle.sf_actor.specs.Scripts.{picture_at}
-use Rattle.sf_actor.specs.Tries.{ActorOf, dequeues_in}
-use Rattle.sf_actor_set.proofs.OpeningLemmas.{none_called}
-use Rattle.sf_actor_set.proofs.RisingLemmas.{rising_differ, sorted_rises}
-use Rattle.sf_actor_set.specs.ActorSets.{KeepAs, Opens}
-use Rattle.sf_actor_set.specs.Opening.{new_actors, new_queue}
-use Rattle.sf_record.specs.declared.event.VsyncReport.{VsyncReport}
-use Rattle.sf_record.specs.declared.record.Reply.{Reply}
-use Rattle.law_played.proofs.StepKeepsTold.{of_all}
-use Rattle.law_played.proofs.KeepingLemmas.{none_played}
-use Rattle.law_played.proofs.Members.{has_cases, has_map, has_none}
-use Rattle.law_played.specs.Actors.{IsCallBy, mark_declared, number_of, script_of, told_on}
-use Rattle.law_played.specs.Frames.{ShowsImage}
-use Rattle.law_played.specs.Histories.{IsReleased, Released, queue_number, released_in, released_on}
-use Rattle.law_played.specs.Progress.{HasPlayed}
-use Rattle.law_played.specs.Replies.{replies_in, replies_to, reply_shown}
-use Rattle.law_played.specs.Runs.{calls_of}
-use Rattle.law_played.specs.Stages.{told_from, told_of}
-use Rattle.law_played.specs.Vsyncs.{WasSignalled, rising_timelines, timeline_of, vsyncs_in}
+use Rattle.sf_play_report.specs.sf_actor.Desks.{mark_among}
+use Rattle.sf_play_report.specs.sf_actor.Known.{frame_of, plain_arrival}
+use Rattle.sf_play_report.specs.sf_actor.Names.{FrameOf}
+use Rattle.sf_play_report.specs.sf_actor.Plain.{PlainOf, calls_among, home_of, taken_in, view_of}
+use Rattle.sf_play_report.specs.sf_actor.Scripts.{picture_at}
+use Rattle.sf_play_report.specs.sf_actor.Tries.{ActorOf, dequeues_in}
+use Rattle.law_rights.proofs.sf_actor_set_lemmas.OpeningLemmas.{none_called}
+use Rattle.law_rights.proofs.sf_actor_set_lemmas.RisingLemmas.{rising_differ, sorted_rises}
+use Rattle.law_rights.specs.sf_actor_set.ActorSets.{KeepAs, Opens}
+use Rattle.law_rights.specs.sf_actor_set.Opening.{new_actors, new_queue}
+use Rattle.sf_play_report.specs.sf_record.declared.event.VsyncReport.{VsyncReport}
+use Rattle.sf_play_report.specs.sf_record.declared.record.Reply.{Reply}
+use Rattle.sf_play_report.proofs.law_played_lemmas.StepKeepsTold.{of_all}
+use Rattle.sf_play_report.proofs.law_played_lemmas.KeepingLemmas.{none_played}
+use Rattle.sf_play_report.proofs.law_played_lemmas.Members.{has_cases, has_map, has_none}
+use Rattle.sf_play_report.specs.law_played.Actors.{IsCallBy, mark_declared, number_of, script_of, told_on}
+use Rattle.sf_play_report.specs.law_played.Frames.{ShowsImage}
+use Rattle.sf_play_report.specs.law_played.Histories.{IsReleased, Released, queue_number, released_in, released_on}
+use Rattle.sf_play_report.specs.law_played.Progress.{HasPlayed}
+use Rattle.sf_play_report.specs.law_played.Replies.{replies_in, replies_to, reply_shown}
+use Rattle.sf_play_report.specs.law_played.Runs.{calls_of}
+use Rattle.sf_play_report.specs.law_played.Stages.{told_from, told_of}
+use Rattle.sf_play_report.specs.law_played.Vsyncs.{WasSignalled, rising_timelines, timeline_of, vsyncs_in}
 use Rattle.sf_play.proofs.VsyncKeepsPlayer.{keeps_all}
 use Rattle.sf_play.proofs.SeenTimelines.{any_has}
 use Rattle.sf_play.specs.Players.{AreLent, IsBufferLent, PlayOf, SoFar, Stands, VsyncsStand, signals_so, taken_at, written_so}

@@ -4,20 +4,20 @@ use Rattle.std.specs.Prelude.{◌⊎◌, if◌then◌else◌, nat_lt}
 use Rattle.std.specs.List.{All, list_any, position}
 use Rattle.std.proofs.lemmas.Bool.{cases_Bool, ltb-true, or_cases}
 use Rattle.atomic_table.specs.Seated.{TableId}
-use Rattle.sf_ready.specs.declared.hold.Hold.{Hold}
-use Rattle.sf_surface.specs.Tokens.{ReadLeaseOf}
-use Rattle.sf_turns.specs.Views.{SeatView}
-use Rattle.sf_txn.specs.declared.lease.Lease.{Ghosts}
-use Rattle.sf_commit.specs.declared.vsync.Commit.{Commit}
+use Rattle.sf_play_report.specs.sf_ready.declared.hold.Hold.{Hold}
+use Rattle.sf_play_report.specs.sf_surface.Tokens.{ReadLeaseOf}
+use Rattle.sf_play_report.specs.sf_turns.Views.{SeatView}
+use Rattle.sf_play_report.specs.sf_txn.declared.lease.Lease.{Ghosts}
+use Rattle.sf_play_report.specs.sf_commit.declared.vsync.Commit.{Commit}
 use Rattle.sf_script_scene.specs.declared.declarations.Pick.{Pick}
-use Rattle.sf_actor_steps.specs.declared.actor.Actor.{Actor}
-use Rattle.sf_actor.specs.declared.tried.Stepped.{Stepped}
-use Rattle.sf_actor.specs.declared.tried.Stepped.TheVariants as stepped
-use Rattle.sf_actor.specs.Desks.{DeskView}
-use Rattle.sf_actor.specs.Scripts.{picture_at}
-use Rattle.sf_actor.specs.Tries.{ActorOf}
-use Rattle.sf_actor_set.specs.ActorSets.{StepsAt, number_of}
-use Rattle.law_played.specs.Progress.{is_time}
+use Rattle.law_rights.specs.sf_actor_steps.declared.actor.Actor.{Actor}
+use Rattle.sf_play_report.specs.sf_actor.declared.tried.Stepped.{Stepped}
+use Rattle.sf_play_report.specs.sf_actor.declared.tried.Stepped.TheVariants as stepped
+use Rattle.sf_play_report.specs.sf_actor.Desks.{DeskView}
+use Rattle.sf_play_report.specs.sf_actor.Scripts.{picture_at}
+use Rattle.sf_play_report.specs.sf_actor.Tries.{ActorOf}
+use Rattle.law_rights.specs.sf_actor_set.ActorSets.{StepsAt, number_of}
+use Rattle.sf_play_report.specs.law_played.Progress.{is_time}
 use Rattle.sf_play.specs.Fuel.{fuel, rounds_left, vsyncs_left, work_left}
 use Rattle.sf_play.specs.Places.{settled}
 use Rattle.sf_play.specs.Players.{PlayOf, PlayerOf, home_in, view_in}

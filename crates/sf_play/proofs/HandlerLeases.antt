@@ -4,23 +4,23 @@ use Rattle.std.specs.Prelude.{Contains}
 use Rattle.std.specs.List.{All, AllZip}
 use Rattle.std.proofs.lemmas.List.Elements.{All-append, All-cons, All-head, All-nil, All-tail, All-weaker}
 use Rattle.sf_base.specs.declared.fences.Seen.{Seen}
-use Rattle.sf_layer.specs.declared.shown.Shown.{Shown}
-use Rattle.sf_surface.specs.Histories.{Made}
-use Rattle.sf_surface.specs.Reading.{PlainLease, plain_lease}
-use Rattle.sf_surface.specs.Tokens.{ReadLeaseOf}
-use Rattle.sf_token.specs.Looking.{IsLookedArrival}
-use Rattle.sf_token.specs.Pending.{Arrival, is_of}
-use Rattle.sf_turns.specs.Views.{SeatView}
-use Rattle.sf_txn.specs.Buffers.{Buffer}
-use Rattle.sf_txn.specs.Leases.{IsLookedBuffer}
-use Rattle.sf_txn.specs.declared.lease.Lease.{Ghosts}
-use Rattle.sf_commit.proofs.DecideLemmas.{all_left}
-use Rattle.sf_commit.proofs.KnownLemmas.{Holds, holds_along}
-use Rattle.sf_commit.specs.Handlers.{Decides, HandlerOf, begun}
-use Rattle.sf_commit.specs.OnLayers.{OnLayer, brought, shown_on}
-use Rattle.sf_commit.specs.Releases.{VsyncOf}
-use Rattle.sf_commit.specs.Rounds.{Leads, Round, committed}
-use Rattle.sf_actor.specs.Desks.{DeskView}
+use Rattle.sf_play_report.specs.sf_layer.declared.shown.Shown.{Shown}
+use Rattle.sf_play_report.specs.sf_surface.Histories.{Made}
+use Rattle.sf_play_report.specs.sf_surface.Reading.{PlainLease, plain_lease}
+use Rattle.sf_play_report.specs.sf_surface.Tokens.{ReadLeaseOf}
+use Rattle.sf_play_report.specs.sf_token.Looking.{IsLookedArrival}
+use Rattle.sf_play_report.specs.sf_token.Pending.{Arrival, is_of}
+use Rattle.sf_play_report.specs.sf_turns.Views.{SeatView}
+use Rattle.sf_play_report.specs.sf_txn.Buffers.{Buffer}
+use Rattle.sf_play_report.specs.sf_txn.Leases.{IsLookedBuffer}
+use Rattle.sf_play_report.specs.sf_txn.declared.lease.Lease.{Ghosts}
+use Rattle.sf_play_report.proofs.sf_commit_lemmas.DecideLemmas.{all_left}
+use Rattle.sf_play_report.proofs.sf_commit_lemmas.KnownLemmas.{Holds, holds_along}
+use Rattle.sf_play_report.specs.sf_commit.Handlers.{Decides, HandlerOf, begun}
+use Rattle.sf_play_report.specs.sf_commit.OnLayers.{OnLayer, brought, shown_on}
+use Rattle.sf_play_report.specs.sf_commit.Releases.{VsyncOf}
+use Rattle.sf_play_report.specs.sf_commit.Rounds.{Leads, Round, committed}
+use Rattle.sf_play_report.specs.sf_actor.Desks.{DeskView}
 use Rattle.sf_play.specs.Players.{IsBufferLent}
 
 -- what the ghosts of a lease tell, where the lease is one of a frame

@@ -1,19 +1,19 @@
 -- What the last vsync of a play held, where it committed nothing.
 use Rattle.std.proofs.Common.{◌≡◌, ℕ, ◌+◌, ◌*◌, List, [], ◌∷◌, ◌++◌, ap, sym, ◌∙◌}
-use Rattle.sf_ready.specs.declared.hold.Hold.{Hold}
-use Rattle.sf_token.specs.Pending.{Arrival}
-use Rattle.sf_tree.specs.Trees.{TreeOf}
-use Rattle.sf_commit.specs.OnLayers.{OnLayer}
-use Rattle.sf_commit.specs.Rounds.{Leads, held}
-use Rattle.sf_commit.specs.declared.vsync.Commit.{Commit as Decided}
+use Rattle.sf_play_report.specs.sf_ready.declared.hold.Hold.{Hold}
+use Rattle.sf_play_report.specs.sf_token.Pending.{Arrival}
+use Rattle.sf_play_report.specs.sf_tree.Trees.{TreeOf}
+use Rattle.sf_play_report.specs.sf_commit.OnLayers.{OnLayer}
+use Rattle.sf_play_report.specs.sf_commit.Rounds.{Leads, held}
+use Rattle.sf_play_report.specs.sf_commit.declared.vsync.Commit.{Commit as Decided}
 use Rattle.sf_script_scene.specs.Scene.{SceneValue}
-use Rattle.sf_actor.specs.Names.{FrameOf}
-use Rattle.law_played.proofs.PathLemmas.{commits_along, told_along}
-use Rattle.law_played.proofs.RoundEnd.{begins_bare, round_same, world_bare}
-use Rattle.law_played.specs.Commits.{is_written}
-use Rattle.law_played.specs.Ends.{held_in}
-use Rattle.law_played.specs.Runs.{final_values, written_in}
-use Rattle.law_played.specs.Worlds.{IsPlaysVsync, World, after_vsync, round_now}
+use Rattle.sf_play_report.specs.sf_actor.Names.{FrameOf}
+use Rattle.sf_play_report.proofs.law_played_lemmas.PathLemmas.{commits_along, told_along}
+use Rattle.sf_play_report.proofs.law_played_lemmas.RoundEnd.{begins_bare, round_same, world_bare}
+use Rattle.sf_play_report.specs.law_played.Commits.{is_written}
+use Rattle.sf_play_report.specs.law_played.Ends.{held_in}
+use Rattle.sf_play_report.specs.law_played.Runs.{final_values, written_in}
+use Rattle.sf_play_report.specs.law_played.Worlds.{IsPlaysVsync, World, after_vsync, round_now}
 
 module _ (scene : SceneValue) (world : World) (commits : List Decided) (tree : TreeOf) (gone : List (OnLayer FrameOf)) (holds : List (ℕ × Hold)) (v : IsPlaysVsync scene world commits tree gone holds) where
   nothing_told : (taken : List (Arrival FrameOf)) → told_along (round_now scene world) taken ≡ []

@@ -9,34 +9,34 @@ use Rattle.std.proofs.lemmas.List.Concat.{flat_map-append}
 use Rattle.std.proofs.lemmas.List.Elements.{All-append, All-map, All-nil, filter-append}
 use Rattle.std.proofs.lemmas.List.Sorted.{Contains-permutation}
 use Rattle.atomic_table.specs.Seated.{TableId}
-use Rattle.sf_token.specs.Pending.{Arrival}
+use Rattle.sf_play_report.specs.sf_token.Pending.{Arrival}
 use Rattle.sf_script_scene.specs.Scene.{SceneValue, has_actor}
 use Rattle.sf_script_scene.specs.declared.step.ActorScript.{ActorScript}
-use Rattle.sf_actor.specs.Makers.{Run}
-use Rattle.sf_actor.specs.Names.{FrameOf}
-use Rattle.sf_actor.specs.Traces.{DoneAt, places_of}
-use Rattle.sf_actor.specs.Values.{reply_at, replies_of}
-use Rattle.sf_record.specs.Fitting.{RecordFits}
-use Rattle.sf_record.specs.declared.event.Event.{Event}
-use Rattle.sf_record.specs.declared.event.Event.TheVariants as event
-use Rattle.sf_record.specs.declared.event.VsyncReport.{VsyncReport}
-use Rattle.sf_record.specs.declared.record.Reply.{Reply}
-use Rattle.law_played.proofs.ArrivedFrames.{is_actor}
-use Rattle.law_played.proofs.StepKeepsTold.{of_all}
-use Rattle.law_played.proofs.Members.{has_cases, has_here, has_later, has_map, has_none, map_has}
-use Rattle.law_played.proofs.Parts.{map_twice}
-use Rattle.law_played.proofs.RisingNumbers.{above, later_rises, rising_actors_are}
-use Rattle.law_played.specs.Actors.{number_of, script_of}
-use Rattle.law_played.specs.Buffers.{ShowAsQueued}
-use Rattle.law_played.specs.Commits.{CommitInOrder}
-use Rattle.law_played.specs.Frames.{ShowImages}
-use Rattle.law_played.specs.Histories.{AreHistories, released_in}
-use Rattle.law_played.specs.Holds.{AreHeld, uncommitted}
-use Rattle.law_played.specs.Played.{FitsWhere, PlayedLiveWhere, Shows, end_of, records_of, reply_events}
-use Rattle.law_played.specs.Replies.{AnswerSteps, replies_due, replies_in, reply_in, reply_shown}
-use Rattle.law_played.specs.Runs.{actor_number, rising_actors, signals_in, written_in}
-use Rattle.law_played.specs.Stages.{told_of}
-use Rattle.law_played.specs.Vsyncs.{AreVsyncs, commits_in, vsync_in, vsyncs_in}
+use Rattle.sf_play_report.specs.sf_actor.Makers.{Run}
+use Rattle.sf_play_report.specs.sf_actor.Names.{FrameOf}
+use Rattle.sf_play_report.specs.sf_actor.Traces.{DoneAt, places_of}
+use Rattle.sf_play_report.specs.sf_actor.Values.{reply_at, replies_of}
+use Rattle.sf_play_report.specs.sf_record.Fitting.{RecordFits}
+use Rattle.sf_play_report.specs.sf_record.declared.event.Event.{Event}
+use Rattle.sf_play_report.specs.sf_record.declared.event.Event.TheVariants as event
+use Rattle.sf_play_report.specs.sf_record.declared.event.VsyncReport.{VsyncReport}
+use Rattle.sf_play_report.specs.sf_record.declared.record.Reply.{Reply}
+use Rattle.sf_play_report.proofs.law_played_lemmas.ArrivedFrames.{is_actor}
+use Rattle.sf_play_report.proofs.law_played_lemmas.StepKeepsTold.{of_all}
+use Rattle.sf_play_report.proofs.law_played_lemmas.Members.{has_cases, has_here, has_later, has_map, has_none, map_has}
+use Rattle.sf_play_report.proofs.law_played_lemmas.Parts.{map_twice}
+use Rattle.sf_play_report.proofs.law_played_lemmas.RisingNumbers.{above, later_rises, rising_actors_are}
+use Rattle.sf_play_report.specs.law_played.Actors.{number_of, script_of}
+use Rattle.sf_play_report.specs.law_played.Buffers.{ShowAsQueued}
+use Rattle.sf_play_report.specs.law_played.Commits.{CommitInOrder}
+use Rattle.sf_play_report.specs.law_played.Frames.{ShowImages}
+use Rattle.sf_play_report.specs.law_played.Histories.{AreHistories, released_in}
+use Rattle.sf_play_report.specs.law_played.Holds.{AreHeld, uncommitted}
+use Rattle.sf_play_report.specs.law_played.Played.{FitsWhere, PlayedLiveWhere, Shows, end_of, records_of, reply_events}
+use Rattle.sf_play_report.specs.law_played.Replies.{AnswerSteps, replies_due, replies_in, reply_in, reply_shown}
+use Rattle.sf_play_report.specs.law_played.Runs.{actor_number, rising_actors, signals_in, written_in}
+use Rattle.sf_play_report.specs.law_played.Stages.{told_of}
+use Rattle.sf_play_report.specs.law_played.Vsyncs.{AreVsyncs, commits_in, vsync_in, vsyncs_in}
 use Rattle.sf_play.specs.Ending.{late_events, shows_at_end, shows_late}
 use Rattle.sf_play.specs.Going.{EndsRun}
 use Rattle.sf_play.specs.Players.{PlayerOf, SoFar, Stands, arrived_at, home_in, run_so, view_in}

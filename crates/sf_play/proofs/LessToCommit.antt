@@ -4,18 +4,18 @@ use Rattle.std.specs.Prelude.{◌⊎◌}
 use Rattle.std.specs.List.{list_any}
 use Rattle.atomic_table.specs.Seated.{TableId}
 use Rattle.sf_base.specs.declared.fences.Seen.{Seen}
-use Rattle.sf_ready.specs.declared.hold.Hold.{Hold}
-use Rattle.sf_surface.specs.Tokens.{Issued, ReadLeaseOf}
-use Rattle.sf_token.specs.Arrivals.{Calls, sent, waiting}
-use Rattle.sf_turns.specs.Views.{SeatView}
-use Rattle.sf_txn.specs.declared.lease.Lease.{Ghosts}
-use Rattle.sf_commit.specs.Handlers.{Decides}
-use Rattle.sf_commit.specs.Releases.{ReleaseOf, VsyncOf}
-use Rattle.sf_actor.specs.Desks.{DeskHome, DeskView}
-use Rattle.sf_actor.specs.Plain.{PlainOf, home_of, taken_in, view_of}
-use Rattle.sf_actor_set.specs.ActorSets.{ActorSetOf}
-use Rattle.sf_actor_set.proofs.ArrivalLemmas.{sent_is}
-use Rattle.law_played.specs.Progress.{is_time}
+use Rattle.sf_play_report.specs.sf_ready.declared.hold.Hold.{Hold}
+use Rattle.sf_play_report.specs.sf_surface.Tokens.{Issued, ReadLeaseOf}
+use Rattle.sf_play_report.specs.sf_token.Arrivals.{Calls, sent, waiting}
+use Rattle.sf_play_report.specs.sf_turns.Views.{SeatView}
+use Rattle.sf_play_report.specs.sf_txn.declared.lease.Lease.{Ghosts}
+use Rattle.sf_play_report.specs.sf_commit.Handlers.{Decides}
+use Rattle.sf_play_report.specs.sf_commit.Releases.{ReleaseOf, VsyncOf}
+use Rattle.sf_play_report.specs.sf_actor.Desks.{DeskHome, DeskView}
+use Rattle.sf_play_report.specs.sf_actor.Plain.{PlainOf, home_of, taken_in, view_of}
+use Rattle.law_rights.specs.sf_actor_set.ActorSets.{ActorSetOf}
+use Rattle.law_rights.proofs.sf_actor_set_lemmas.ArrivalLemmas.{sent_is}
+use Rattle.sf_play_report.specs.law_played.Progress.{is_time}
 use Rattle.sf_play.specs.Fuel.{now_in, steps_left, to_commit, untaken, work_left}
 use Rattle.sf_play.specs.Giving.{GivesFrames}
 use Rattle.sf_play.specs.Players.{PlayOf, home_in, view_in}

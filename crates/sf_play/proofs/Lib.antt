@@ -33,3 +33,5 @@ pub mod Together
 pub mod NextActor
 pub mod VsyncParts
 pub mod WaitingWork
+pub use Rattle.sf_play_report.proofs.law_played_lemmas
+pub use Rattle.law_rights.proofs.sf_actor_set_lemmas

@@ -4,21 +4,21 @@ use Rattle.std.proofs.Common.{◌≡◌, ℕ, set, sym, subst}
 use Rattle.std.specs.Prelude.{Contains}
 use Rattle.atomic_table.specs.Seated.{TableId}
 use Rattle.sf_base.specs.declared.fences.Seen.{Seen}
-use Rattle.sf_surface.specs.Tokens.{Issued, ReadLeaseOf}
-use Rattle.sf_turns.specs.Counts.{IsExact}
-use Rattle.sf_turns.specs.Views.{SeatView}
-use Rattle.sf_txn.specs.declared.lease.Lease.{Ghosts}
-use Rattle.sf_commit.specs.Releases.{VsyncOf}
+use Rattle.sf_play_report.specs.sf_surface.Tokens.{Issued, ReadLeaseOf}
+use Rattle.sf_play_report.specs.sf_turns.Counts.{IsExact}
+use Rattle.sf_play_report.specs.sf_turns.Views.{SeatView}
+use Rattle.sf_play_report.specs.sf_txn.declared.lease.Lease.{Ghosts}
+use Rattle.sf_play_report.specs.sf_commit.Releases.{VsyncOf}
 use Rattle.sf_script_scene.specs.Scene.{SceneValue}
-use Rattle.sf_actor.specs.declared.tried.Stepped.{Stepped}
-use Rattle.sf_actor.specs.Desks.{DeskHome, KnowsAll}
-use Rattle.sf_actor.specs.Plain.{home_of, view_of}
-use Rattle.sf_actor.specs.Scripts.{picture_at}
-use Rattle.sf_actor.specs.Tries.{ActorOf}
-use Rattle.sf_actor_set.specs.ActorSets.{ActorSetOf, IsSameActorSet, StepsAt}
-use Rattle.law_played.specs.Stepping.{TellsFirst}
-use Rattle.law_played.specs.Stopping.{TellsOlder}
-use Rattle.law_played.specs.Turns.{DrawAfterOwed, calls_in}
+use Rattle.sf_play_report.specs.sf_actor.declared.tried.Stepped.{Stepped}
+use Rattle.sf_play_report.specs.sf_actor.Desks.{DeskHome, KnowsAll}
+use Rattle.sf_play_report.specs.sf_actor.Plain.{home_of, view_of}
+use Rattle.sf_play_report.specs.sf_actor.Scripts.{picture_at}
+use Rattle.sf_play_report.specs.sf_actor.Tries.{ActorOf}
+use Rattle.law_rights.specs.sf_actor_set.ActorSets.{ActorSetOf, IsSameActorSet, StepsAt}
+use Rattle.sf_play_report.specs.law_played.Stepping.{TellsFirst}
+use Rattle.sf_play_report.specs.law_played.Stopping.{TellsOlder}
+use Rattle.sf_play_report.specs.law_played.Turns.{DrawAfterOwed, calls_in}
 use Rattle.law_rights.proofs.FirstLemmas.{tells_first}
 use Rattle.law_rights.proofs.InTurnEnd.{draw_after_owed}
 use Rattle.law_rights.proofs.InTurnSteps.{step_in_turn, vsync_in_turn}

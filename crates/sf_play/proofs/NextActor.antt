@@ -3,14 +3,14 @@ use Rattle.std.proofs.Common.{◌≡◌, ℕ, zero, suc, ◌==◌, Bool, true, f
 use Rattle.std.specs.Prelude.{if◌then◌else◌, nat_lt}
 use Rattle.std.specs.List.{position}
 use Rattle.atomic_table.specs.Seated.{TableId}
-use Rattle.sf_surface.specs.Tokens.{ReadLeaseOf}
-use Rattle.sf_turns.specs.Views.{SeatView}
-use Rattle.sf_txn.specs.declared.lease.Lease.{Ghosts}
-use Rattle.sf_actor_steps.specs.declared.actor.Actor.{Actor}
-use Rattle.sf_actor.specs.declared.tried.Stepped.{Stepped}
-use Rattle.sf_actor.specs.declared.tried.Stepped.TheVariants as stepped
-use Rattle.sf_actor.specs.Tries.{ActorOf}
-use Rattle.sf_actor_set.specs.ActorSets.{number_of}
+use Rattle.sf_play_report.specs.sf_surface.Tokens.{ReadLeaseOf}
+use Rattle.sf_play_report.specs.sf_turns.Views.{SeatView}
+use Rattle.sf_play_report.specs.sf_txn.declared.lease.Lease.{Ghosts}
+use Rattle.law_rights.specs.sf_actor_steps.declared.actor.Actor.{Actor}
+use Rattle.sf_play_report.specs.sf_actor.declared.tried.Stepped.{Stepped}
+use Rattle.sf_play_report.specs.sf_actor.declared.tried.Stepped.TheVariants as stepped
+use Rattle.sf_play_report.specs.sf_actor.Tries.{ActorOf}
+use Rattle.law_rights.specs.sf_actor_set.ActorSets.{number_of}
 use Rattle.sf_play.specs.Places.{settled}
 use Rattle.sf_play.specs.Players.{PlayerOf}
 use Rattle.sf_play.specs.Turning.{Picks, RoundsIf, TriesIf, TriesStep, Turns, TurnsAt, next_tried, picked_place, place_by, tried_from, turn_by}

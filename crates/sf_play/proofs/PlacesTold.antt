@@ -3,15 +3,15 @@ use Rattle.std.proofs.Common.{◌≡◌, ℕ, zero, suc, Bool, true, false, List
 use Rattle.std.specs.Prelude.{◌==◌, nat_lt}
 use Rattle.std.specs.List.{position}
 use Rattle.atomic_table.specs.Seated.{TableId}
-use Rattle.sf_surface.specs.Tokens.{ReadLeaseOf}
-use Rattle.sf_turns.specs.Views.{SeatView}
-use Rattle.sf_txn.specs.declared.lease.Lease.{Ghosts}
-use Rattle.sf_actor_steps.specs.declared.actor.Actor.{Actor}
-use Rattle.sf_actor.specs.Desks.{DeskHome}
-use Rattle.sf_actor.specs.Plain.{home_of}
-use Rattle.sf_actor.specs.Tries.{ActorOf}
-use Rattle.sf_actor_set.specs.ActorSets.{ActorSetOf, number_of}
-use Rattle.sf_actor_set.specs.Compositing.{OnlyDesk}
+use Rattle.sf_play_report.specs.sf_surface.Tokens.{ReadLeaseOf}
+use Rattle.sf_play_report.specs.sf_turns.Views.{SeatView}
+use Rattle.sf_play_report.specs.sf_txn.declared.lease.Lease.{Ghosts}
+use Rattle.law_rights.specs.sf_actor_steps.declared.actor.Actor.{Actor}
+use Rattle.sf_play_report.specs.sf_actor.Desks.{DeskHome}
+use Rattle.sf_play_report.specs.sf_actor.Plain.{home_of}
+use Rattle.sf_play_report.specs.sf_actor.Tries.{ActorOf}
+use Rattle.law_rights.specs.sf_actor_set.ActorSets.{ActorSetOf, number_of}
+use Rattle.law_rights.specs.sf_actor_set.Compositing.{OnlyDesk}
 use Rattle.sf_play.specs.Places.{settled}
 use Rattle.sf_play.specs.Players.{PlayOf, PlayerOf, home_in}
 use Rattle.sf_play.specs.Turning.{Picks, RoundsIf, TriesIf, Turns, TurnsAt, TurnsVsync}

@@ -6,39 +6,39 @@ use Rattle.std.proofs.lemmas.List.{take_all}
 use Rattle.std.proofs.lemmas.List.Elements.{All-contains}
 use Rattle.atomic_table.specs.Seated.{TableId}
 use Rattle.sf_base.specs.declared.fences.Seen.{Seen}
-use Rattle.sf_ready.specs.declared.hold.Hold.{Hold}
-use Rattle.sf_surface.specs.Tokens.{Issued, ReadLeaseOf}
-use Rattle.sf_surface.specs.declared.mark.QueueMark.{QueueMark}
-use Rattle.sf_token.specs.Arrivals.{Calls, waiting}
-use Rattle.sf_token.specs.Pending.{Arrival}
-use Rattle.sf_turns.specs.Views.{SeatView}
-use Rattle.sf_txn.specs.declared.lease.Lease.{Ghosts}
-use Rattle.sf_commit.specs.Releases.{VsyncOf}
+use Rattle.sf_play_report.specs.sf_ready.declared.hold.Hold.{Hold}
+use Rattle.sf_play_report.specs.sf_surface.Tokens.{Issued, ReadLeaseOf}
+use Rattle.sf_play_report.specs.sf_surface.declared.mark.QueueMark.{QueueMark}
+use Rattle.sf_play_report.specs.sf_token.Arrivals.{Calls, waiting}
+use Rattle.sf_play_report.specs.sf_token.Pending.{Arrival}
+use Rattle.sf_play_report.specs.sf_turns.Views.{SeatView}
+use Rattle.sf_play_report.specs.sf_txn.declared.lease.Lease.{Ghosts}
+use Rattle.sf_play_report.specs.sf_commit.Releases.{VsyncOf}
 use Rattle.sf_script_scene.specs.Scene.{SceneValue, has_queue}
-use Rattle.sf_actor.specs.Desks.{DeskView, KnowsAll}
-use Rattle.sf_actor.specs.Known.{frame_of}
-use Rattle.sf_actor.specs.Names.{FrameOf}
-use Rattle.sf_actor.specs.Plain.{PlainOf}
-use Rattle.sf_actor.specs.Tries.{Sees}
-use Rattle.law_played.proofs.AsQueued.{one_passes}
-use Rattle.law_played.proofs.DeskOfOneThread.{desk_called, sent_numbered}
-use Rattle.law_played.proofs.ShownFits.{played_fits}
-use Rattle.law_played.proofs.LeaseLemmas.{plain_frame}
-use Rattle.law_played.proofs.ProgressLemmas.{end_is_held}
-use Rattle.law_played.proofs.StuckActors.{are_stuck, final_is}
-use Rattle.law_played.specs.Actors.{AreCalls}
-use Rattle.law_played.specs.Frames.{ShowImages}
-use Rattle.law_played.specs.Framing.{framed_arrival}
-use Rattle.law_played.specs.Histories.{released_in}
-use Rattle.law_played.specs.Holds.{AreHeld, uncommitted}
-use Rattle.law_played.specs.Played.{FitsWhere, end_of}
-use Rattle.law_played.specs.Progress.{HasPlayed, ShowsWhatIsWritten, held_shown, is_time}
-use Rattle.law_played.specs.Runs.{final_values}
-use Rattle.law_played.specs.Stages.{bare_round, round_at_end, told_of}
-use Rattle.law_played.specs.Stopping.{stuck_among}
-use Rattle.law_played.specs.Telling.{AreReleases}
-use Rattle.law_played.specs.Turns.{DrawAfterOwed}
-use Rattle.law_played.specs.Vsyncs.{commits_in, vsyncs_in}
+use Rattle.sf_play_report.specs.sf_actor.Desks.{DeskView, KnowsAll}
+use Rattle.sf_play_report.specs.sf_actor.Known.{frame_of}
+use Rattle.sf_play_report.specs.sf_actor.Names.{FrameOf}
+use Rattle.sf_play_report.specs.sf_actor.Plain.{PlainOf}
+use Rattle.sf_play_report.specs.sf_actor.Tries.{Sees}
+use Rattle.sf_play_report.proofs.law_played_lemmas.AsQueued.{one_passes}
+use Rattle.sf_play_report.proofs.law_played_lemmas.DeskOfOneThread.{desk_called, sent_numbered}
+use Rattle.sf_play_report.proofs.law_played_lemmas.ShownFits.{played_fits}
+use Rattle.sf_play_report.proofs.law_played_lemmas.LeaseLemmas.{plain_frame}
+use Rattle.sf_play_report.proofs.law_played_lemmas.ProgressLemmas.{end_is_held}
+use Rattle.sf_play_report.proofs.law_played_lemmas.StuckActors.{are_stuck, final_is}
+use Rattle.sf_play_report.specs.law_played.Actors.{AreCalls}
+use Rattle.sf_play_report.specs.law_played.Frames.{ShowImages}
+use Rattle.sf_play_report.specs.law_played.Framing.{framed_arrival}
+use Rattle.sf_play_report.specs.law_played.Histories.{released_in}
+use Rattle.sf_play_report.specs.law_played.Holds.{AreHeld, uncommitted}
+use Rattle.sf_play_report.specs.law_played.Played.{FitsWhere, end_of}
+use Rattle.sf_play_report.specs.law_played.Progress.{HasPlayed, ShowsWhatIsWritten, held_shown, is_time}
+use Rattle.sf_play_report.specs.law_played.Runs.{final_values}
+use Rattle.sf_play_report.specs.law_played.Stages.{bare_round, round_at_end, told_of}
+use Rattle.sf_play_report.specs.law_played.Stopping.{stuck_among}
+use Rattle.sf_play_report.specs.law_played.Telling.{AreReleases}
+use Rattle.sf_play_report.specs.law_played.Turns.{DrawAfterOwed}
+use Rattle.sf_play_report.specs.law_played.Vsyncs.{commits_in, vsyncs_in}
 use Rattle.sf_play.proofs.VsyncKeepsPlayer.{arrived_rises, taken_now}
 use Rattle.sf_play.proofs.HandlerLeases.{OfFrames}
 use Rattle.sf_play.proofs.PlayLedger.{IsLegalDesk}

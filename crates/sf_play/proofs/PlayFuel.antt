@@ -11,7 +11,7 @@ use Rattle.std.proofs.lemmas.List.Sums.{sum_by-cons}
 use Rattle.std.proofs.Math.Nat.{mul-le-mul_right}
 use Rattle.sf_script_scene.specs.Limits.{most_actors}
 use Rattle.sf_script_scene.specs.declared.declarations.Pick.{Pick}
-use Rattle.sf_actor_steps.specs.declared.actor.Actor.{Actor}
+use Rattle.law_rights.specs.sf_actor_steps.declared.actor.Actor.{Actor}
 use Rattle.sf_play.specs.Fuel.{fuel, now_in, round_fuel, rounds_left, steps_left, to_commit, turns_of, untaken, vsyncs_left, work_left}
 use Rattle.sf_play.specs.Places.{behind, settled, settled_at}
 use Rattle.sf_play.specs.Players.{PlayOf}

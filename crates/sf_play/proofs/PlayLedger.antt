@@ -6,40 +6,40 @@ use Rattle.std.proofs.lemmas.Bool.{cases_Bool, false≢true}
 use Rattle.std.proofs.lemmas.List.Elements.{All-weaker}
 use Rattle.atomic_table.specs.Seated.{TableId}
 use Rattle.sf_base.specs.declared.fences.Seen.{Seen}
-use Rattle.sf_calls.specs.Histories.{IsLegal}
-use Rattle.sf_surface.specs.Histories.{Answers, Made}
-use Rattle.sf_surface.specs.Objects.{ObjectOf, mark_of}
-use Rattle.sf_surface.specs.Reading.{has_left}
-use Rattle.sf_surface.specs.Tokens.{Issued, ReadLeaseOf}
-use Rattle.sf_token.specs.Arrivals.{Calls, sent, waiting}
-use Rattle.sf_token.specs.Pending.{Arrival}
-use Rattle.sf_turns.specs.Counts.{IsExact}
-use Rattle.sf_turns.specs.Views.{SeatView}
-use Rattle.sf_txn.specs.Buffers.{Buffer, Shows}
-use Rattle.sf_txn.specs.declared.lease.Lease.{Ghosts}
-use Rattle.sf_commit.specs.Handlers.{Decides}
-use Rattle.sf_commit.specs.Leases.{ShowsLease}
-use Rattle.sf_commit.specs.OnLayers.{OnLayer}
-use Rattle.sf_commit.specs.Releases.{ReleaseOf, VsyncOf}
+use Rattle.sf_play_report.specs.sf_calls.Histories.{IsLegal}
+use Rattle.sf_play_report.specs.sf_surface.Histories.{Answers, Made}
+use Rattle.sf_play_report.specs.sf_surface.Objects.{ObjectOf, mark_of}
+use Rattle.sf_play_report.specs.sf_surface.Reading.{has_left}
+use Rattle.sf_play_report.specs.sf_surface.Tokens.{Issued, ReadLeaseOf}
+use Rattle.sf_play_report.specs.sf_token.Arrivals.{Calls, sent, waiting}
+use Rattle.sf_play_report.specs.sf_token.Pending.{Arrival}
+use Rattle.sf_play_report.specs.sf_turns.Counts.{IsExact}
+use Rattle.sf_play_report.specs.sf_turns.Views.{SeatView}
+use Rattle.sf_play_report.specs.sf_txn.Buffers.{Buffer, Shows}
+use Rattle.sf_play_report.specs.sf_txn.declared.lease.Lease.{Ghosts}
+use Rattle.sf_play_report.specs.sf_commit.Handlers.{Decides}
+use Rattle.sf_play_report.specs.sf_commit.Leases.{ShowsLease}
+use Rattle.sf_play_report.specs.sf_commit.OnLayers.{OnLayer}
+use Rattle.sf_play_report.specs.sf_commit.Releases.{ReleaseOf, VsyncOf}
 use Rattle.sf_script_scene.specs.Limits.{IsWithinLimits}
 use Rattle.sf_script_scene.specs.Scene.{SceneValue}
 use Rattle.sf_script_scene.specs.declared.step.ActorScript.{ActorScript}
-use Rattle.sf_actor.specs.Desks.{DeskHome, DeskView, KnowsAll, has_queue, mark_among}
-use Rattle.sf_actor.specs.Known.{frame_of}
-use Rattle.sf_actor.specs.Plain.{PlainOf, calls_among, home_of, taken_in, view_of}
-use Rattle.sf_actor.specs.Rights.{turn_by}
-use Rattle.sf_actor.specs.Scripts.{picture_at}
-use Rattle.sf_actor.specs.Tries.{ActorOf}
-use Rattle.sf_actor.specs.Written as written
-use Rattle.sf_actor_set.proofs.ArrivalLemmas.{sent_is, waiting_many}
-use Rattle.law_played.proofs.LeaseLemmas.{looks_tell_all}
-use Rattle.law_played.proofs.Members.{has_here, has_later, has_none}
-use Rattle.law_played.proofs.RisingNumbers.{rising_actors_are}
-use Rattle.law_played.proofs.RunTraces.{trace_here}
-use Rattle.law_played.specs.Actors.{AreActors, run_of, script_of, trace_among}
-use Rattle.law_played.specs.Commits.{is_written}
-use Rattle.law_played.specs.Progress.{ShowsWhatIsWritten}
-use Rattle.law_played.specs.Runs.{written_in}
+use Rattle.sf_play_report.specs.sf_actor.Desks.{DeskHome, DeskView, KnowsAll, has_queue, mark_among}
+use Rattle.sf_play_report.specs.sf_actor.Known.{frame_of}
+use Rattle.sf_play_report.specs.sf_actor.Plain.{PlainOf, calls_among, home_of, taken_in, view_of}
+use Rattle.sf_play_report.specs.sf_actor.Rights.{turn_by}
+use Rattle.sf_play_report.specs.sf_actor.Scripts.{picture_at}
+use Rattle.sf_play_report.specs.sf_actor.Tries.{ActorOf}
+use Rattle.sf_play_report.specs.sf_actor.Written as written
+use Rattle.law_rights.proofs.sf_actor_set_lemmas.ArrivalLemmas.{sent_is, waiting_many}
+use Rattle.sf_play_report.proofs.law_played_lemmas.LeaseLemmas.{looks_tell_all}
+use Rattle.sf_play_report.proofs.law_played_lemmas.Members.{has_here, has_later, has_none}
+use Rattle.sf_play_report.proofs.law_played_lemmas.RisingNumbers.{rising_actors_are}
+use Rattle.sf_play_report.proofs.law_played_lemmas.RunTraces.{trace_here}
+use Rattle.sf_play_report.specs.law_played.Actors.{AreActors, run_of, script_of, trace_among}
+use Rattle.sf_play_report.specs.law_played.Commits.{is_written}
+use Rattle.sf_play_report.specs.law_played.Progress.{ShowsWhatIsWritten}
+use Rattle.sf_play_report.specs.law_played.Runs.{written_in}
 use Rattle.law_rights.specs.Actors.{AreOver}
 use Rattle.law_rights.specs.Looks.{WasAcquired}
 use Rattle.law_rights.specs.Standing.{GiveAll, LedgerStands, VsyncIn, home_taken}

@@ -5,34 +5,34 @@ use Rattle.std.specs.List.{All, AllZip, flat_map}
 use Rattle.std.proofs.lemmas.List.Sorted.{All-permutation}
 use Rattle.atomic_table.specs.Seated.{TableId}
 use Rattle.sf_picture.specs.declared.picture.Picture.{Picture}
-use Rattle.sf_surface.specs.Objects.{ObjectOf, mark_of}
-use Rattle.sf_surface.specs.Tokens.{ReadLeaseOf}
-use Rattle.sf_turns.specs.Counts.{range, stock_at}
-use Rattle.sf_turns.specs.Views.{SeatView}
-use Rattle.sf_ready.specs.declared.hold.Hold.{Hold}
-use Rattle.sf_commit.specs.Handlers.{HandlerOf, new_handler}
+use Rattle.sf_play_report.specs.sf_surface.Objects.{ObjectOf, mark_of}
+use Rattle.sf_play_report.specs.sf_surface.Tokens.{ReadLeaseOf}
+use Rattle.sf_play_report.specs.sf_turns.Counts.{range, stock_at}
+use Rattle.sf_play_report.specs.sf_turns.Views.{SeatView}
+use Rattle.sf_play_report.specs.sf_ready.declared.hold.Hold.{Hold}
+use Rattle.sf_play_report.specs.sf_commit.Handlers.{HandlerOf, new_handler}
 use Rattle.sf_script_scene.specs.Limits.{IsWithinLimits, most_layers}
 use Rattle.sf_script_scene.specs.Scene.{SceneValue, has_queue as has_declared}
 use Rattle.sf_script_scene.specs.declared.declarations.QueueDecl.{QueueDecl}
 use Rattle.sf_script_scene.specs.declared.step.ActorScript.{ActorScript}
-use Rattle.sf_actor.specs.Desks.{DeskHome, DeskView, has_queue}
-use Rattle.sf_actor.specs.Plain.{home_of}
-use Rattle.sf_actor.specs.Scripts.{picture_at}
-use Rattle.sf_actor.specs.Tries.{ActorOf}
-use Rattle.sf_actor_steps.specs.Actors.{IsActor}
-use Rattle.sf_actor_steps.specs.Playable.{MayPlay}
-use Rattle.sf_actor_steps.specs.declared.actor.Actor.{Actor}
-use Rattle.sf_actor_set.proofs.OpeningLemmas.{news_scripts}
-use Rattle.sf_actor_set.proofs.PlayingLemmas.{has_opened, may_play}
-use Rattle.sf_actor_set.proofs.RisingLemmas.{rising_differ, sorted_rises}
-use Rattle.sf_actor_set.specs.ActorSets.{ActorSetOf, KeepAs, Opens}
-use Rattle.sf_actor_set.specs.Opening.{new_actors, new_queue}
-use Rattle.sf_actor_set.specs.Scripts.{permits_of}
-use Rattle.law_played.proofs.Parts.{map_twice}
-use Rattle.law_played.proofs.RisingNumbers.{rising_queues_are}
-use Rattle.law_played.specs.Actors.{mark_declared}
-use Rattle.law_played.specs.Histories.{queue_number, rising_queues}
-use Rattle.law_played.specs.Turns.{calls_in}
+use Rattle.sf_play_report.specs.sf_actor.Desks.{DeskHome, DeskView, has_queue}
+use Rattle.sf_play_report.specs.sf_actor.Plain.{home_of}
+use Rattle.sf_play_report.specs.sf_actor.Scripts.{picture_at}
+use Rattle.sf_play_report.specs.sf_actor.Tries.{ActorOf}
+use Rattle.law_rights.specs.sf_actor_steps.Actors.{IsActor}
+use Rattle.law_rights.specs.sf_actor_steps.Playable.{MayPlay}
+use Rattle.law_rights.specs.sf_actor_steps.declared.actor.Actor.{Actor}
+use Rattle.law_rights.proofs.sf_actor_set_lemmas.OpeningLemmas.{news_scripts}
+use Rattle.law_rights.proofs.sf_actor_set_lemmas.PlayingLemmas.{has_opened, may_play}
+use Rattle.law_rights.proofs.sf_actor_set_lemmas.RisingLemmas.{rising_differ, sorted_rises}
+use Rattle.law_rights.specs.sf_actor_set.ActorSets.{ActorSetOf, KeepAs, Opens}
+use Rattle.law_rights.specs.sf_actor_set.Opening.{new_actors, new_queue}
+use Rattle.law_rights.specs.sf_actor_set.Scripts.{permits_of}
+use Rattle.sf_play_report.proofs.law_played_lemmas.Parts.{map_twice}
+use Rattle.sf_play_report.proofs.law_played_lemmas.RisingNumbers.{rising_queues_are}
+use Rattle.sf_play_report.specs.law_played.Actors.{mark_declared}
+use Rattle.sf_play_report.specs.law_played.Histories.{queue_number, rising_queues}
+use Rattle.sf_play_report.specs.law_played.Turns.{calls_in}
 use Rattle.law_rights.proofs.InTurnBeginning.{draws_begin}
 use Rattle.law_rights.proofs.MakersBeginning.{makers_begin}
 use Rattle.law_rights.proofs.EmptyLedger.{begins_standing}

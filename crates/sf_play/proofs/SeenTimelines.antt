@@ -16,22 +16,22 @@ use Rattle.sf_script_scene.specs.Scene.{SceneValue, has_timeline}
 use Rattle.sf_script_scene.specs.declared.step.ActorScript.{ActorScript}
 use Rattle.sf_script_scene.specs.declared.step.Step.{Step}
 use Rattle.sf_script_scene.specs.declared.step.Step.TheVariants as step
-use Rattle.sf_actor.specs.Desks.{DeskHome, DeskView}
-use Rattle.sf_actor.specs.Known.{AreAmong}
-use Rattle.sf_actor.specs.Tales.{step_done}
-use Rattle.sf_actor.specs.Tries.{ActorOf, Sees}
-use Rattle.sf_actor.specs.Written.{signal_of, signals_of}
-use Rattle.sf_actor.specs.declared.done.Done.{Done}
-use Rattle.sf_record.specs.declared.event.VsyncReport.{VsyncReport}
-use Rattle.sf_record.specs.declared.record.TimelineValue.{TimelineValue}
-use Rattle.law_played.proofs.Members.{filter_has, has_cases, has_first, has_here, has_later, has_map, has_none, joined_has, map_has}
-use Rattle.law_played.proofs.SeenLemmas.{seen_is}
-use Rattle.law_played.proofs.RunTraces.{played_by, trace_here}
-use Rattle.law_played.specs.Actors.{AreActors, run_of, trace_among}
-use Rattle.law_played.specs.Commits.{seen_by}
-use Rattle.law_played.specs.Seeing.{value_shown}
-use Rattle.law_played.specs.Runs.{actor_number, rising_actors, signals_in}
-use Rattle.law_played.specs.Vsyncs.{AllNext, AllNextTo, AreVsyncs, GoesOn, HasNotFallen, WasSignalled, rising_timelines, timeline_of}
+use Rattle.sf_play_report.specs.sf_actor.Desks.{DeskHome, DeskView}
+use Rattle.sf_play_report.specs.sf_actor.Known.{AreAmong}
+use Rattle.sf_play_report.specs.sf_actor.Tales.{step_done}
+use Rattle.sf_play_report.specs.sf_actor.Tries.{ActorOf, Sees}
+use Rattle.sf_play_report.specs.sf_actor.Written.{signal_of, signals_of}
+use Rattle.sf_play_report.specs.sf_actor.declared.done.Done.{Done}
+use Rattle.sf_play_report.specs.sf_record.declared.event.VsyncReport.{VsyncReport}
+use Rattle.sf_play_report.specs.sf_record.declared.record.TimelineValue.{TimelineValue}
+use Rattle.sf_play_report.proofs.law_played_lemmas.Members.{filter_has, has_cases, has_first, has_here, has_later, has_map, has_none, joined_has, map_has}
+use Rattle.sf_play_report.proofs.law_played_lemmas.SeenLemmas.{seen_is}
+use Rattle.sf_play_report.proofs.law_played_lemmas.RunTraces.{played_by, trace_here}
+use Rattle.sf_play_report.specs.law_played.Actors.{AreActors, run_of, trace_among}
+use Rattle.sf_play_report.specs.law_played.Commits.{seen_by}
+use Rattle.sf_play_report.specs.law_played.Seeing.{value_shown}
+use Rattle.sf_play_report.specs.law_played.Runs.{actor_number, rising_actors, signals_in}
+use Rattle.sf_play_report.specs.law_played.Vsyncs.{AllNext, AllNextTo, AreVsyncs, GoesOn, HasNotFallen, WasSignalled, rising_timelines, timeline_of}
 use Rattle.sf_play.specs.Showing.{values_shown}
 
 -- the greatest value of a number is one of its points, where it is not 0

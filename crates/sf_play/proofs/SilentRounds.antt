@@ -7,36 +7,36 @@ use Rattle.std.proofs.lemmas.List.{length-map, take_all}
 use Rattle.std.proofs.lemmas.List.Elements.{All-append, All-cons, All-nil}
 use Rattle.atomic_table.specs.Seated.{TableId}
 use Rattle.sf_picture.specs.declared.picture.Picture.{Picture}
-use Rattle.sf_ready.specs.declared.hold.Hold.{Hold}
-use Rattle.sf_surface.specs.Histories.{Made}
-use Rattle.sf_surface.specs.Tokens.{Issued, ReadLeaseOf}
-use Rattle.sf_token.specs.Arrivals.{Calls, sent, waiting}
-use Rattle.sf_token.specs.Pending.{Arrival}
-use Rattle.sf_turns.specs.Views.{SeatView}
-use Rattle.sf_txn.specs.declared.lease.Lease.{Ghosts}
-use Rattle.sf_commit.specs.Releases.{ReleaseOf}
-use Rattle.sf_commit.specs.declared.vsync.Commit.{Commit}
+use Rattle.sf_play_report.specs.sf_ready.declared.hold.Hold.{Hold}
+use Rattle.sf_play_report.specs.sf_surface.Histories.{Made}
+use Rattle.sf_play_report.specs.sf_surface.Tokens.{Issued, ReadLeaseOf}
+use Rattle.sf_play_report.specs.sf_token.Arrivals.{Calls, sent, waiting}
+use Rattle.sf_play_report.specs.sf_token.Pending.{Arrival}
+use Rattle.sf_play_report.specs.sf_turns.Views.{SeatView}
+use Rattle.sf_play_report.specs.sf_txn.declared.lease.Lease.{Ghosts}
+use Rattle.sf_play_report.specs.sf_commit.Releases.{ReleaseOf}
+use Rattle.sf_play_report.specs.sf_commit.declared.vsync.Commit.{Commit}
 use Rattle.sf_script_scene.specs.Scene.{SceneValue}
 use Rattle.sf_script_scene.specs.declared.declarations.Pick.{Pick}
-use Rattle.sf_actor.specs.Desks.{DeskHome, DeskView}
-use Rattle.sf_actor.specs.Known.{frame_of, plain_arrival}
-use Rattle.sf_actor.specs.Makers.{Run}
-use Rattle.sf_actor.specs.Plain.{PlainOf, home_of, view_of}
-use Rattle.sf_actor.specs.Scripts.{picture_at}
-use Rattle.sf_actor.specs.Tries.{ActorOf, LeavesStep}
-use Rattle.sf_actor.specs.declared.tried.Stepped.{Stepped}
-use Rattle.sf_actor.specs.declared.tried.Stepped.TheVariants as stepped
-use Rattle.sf_actor_set.specs.ActorSets.{KeepAs, StepsAt}
-use Rattle.sf_actor_steps.specs.declared.actor.Actor.{Actor}
-use Rattle.law_played.proofs.StepKeepsTold.{got_has}
-use Rattle.law_played.proofs.LeaseLemmas.{plain_frame}
-use Rattle.law_played.proofs.ProgressLemmas.{releases_nothing}
-use Rattle.law_played.proofs.StuckActors.{ended_not_stuck, left_not_ready, run_stays}
-use Rattle.law_played.specs.Holds.{AreHeld, uncommitted}
-use Rattle.law_played.specs.Played.{end_of}
-use Rattle.law_played.specs.Progress.{held_shown, is_time}
-use Rattle.law_played.specs.Stopping.{TellsOlder}
-use Rattle.law_played.specs.Vsyncs.{commits_in, vsyncs_in}
+use Rattle.sf_play_report.specs.sf_actor.Desks.{DeskHome, DeskView}
+use Rattle.sf_play_report.specs.sf_actor.Known.{frame_of, plain_arrival}
+use Rattle.sf_play_report.specs.sf_actor.Makers.{Run}
+use Rattle.sf_play_report.specs.sf_actor.Plain.{PlainOf, home_of, view_of}
+use Rattle.sf_play_report.specs.sf_actor.Scripts.{picture_at}
+use Rattle.sf_play_report.specs.sf_actor.Tries.{ActorOf, LeavesStep}
+use Rattle.sf_play_report.specs.sf_actor.declared.tried.Stepped.{Stepped}
+use Rattle.sf_play_report.specs.sf_actor.declared.tried.Stepped.TheVariants as stepped
+use Rattle.law_rights.specs.sf_actor_set.ActorSets.{KeepAs, StepsAt}
+use Rattle.law_rights.specs.sf_actor_steps.declared.actor.Actor.{Actor}
+use Rattle.sf_play_report.proofs.law_played_lemmas.StepKeepsTold.{got_has}
+use Rattle.sf_play_report.proofs.law_played_lemmas.LeaseLemmas.{plain_frame}
+use Rattle.sf_play_report.proofs.law_played_lemmas.ProgressLemmas.{releases_nothing}
+use Rattle.sf_play_report.proofs.law_played_lemmas.StuckActors.{ended_not_stuck, left_not_ready, run_stays}
+use Rattle.sf_play_report.specs.law_played.Holds.{AreHeld, uncommitted}
+use Rattle.sf_play_report.specs.law_played.Played.{end_of}
+use Rattle.sf_play_report.specs.law_played.Progress.{held_shown, is_time}
+use Rattle.sf_play_report.specs.law_played.Stopping.{TellsOlder}
+use Rattle.sf_play_report.specs.law_played.Vsyncs.{commits_in, vsyncs_in}
 use Rattle.sf_play.proofs.VsyncKeepsPlayer.{arrivals_now, arrived_rises, calls_same, home_now, taken_all}
 use Rattle.sf_play.proofs.PlayEnd.{calls_stand, held_at_end}
 use Rattle.sf_play.proofs.HandlerLeases.{OfFrames}

@@ -9,34 +9,34 @@ use Rattle.std.proofs.lemmas.List.{length-map}
 use Rattle.atomic_table.specs.Seated.{TableId}
 use Rattle.sf_base.specs.declared.fences.Seen.{Seen}
 use Rattle.sf_base.specs.declared.ids.LayerId.{LayerId}
-use Rattle.sf_layer.specs.declared.shown.Shown.{Shown}
-use Rattle.sf_tree.specs.Trees.{TreeOf}
-use Rattle.sf_view.specs.Views.{ViewOf, Views}
-use Rattle.sf_view.specs.declared.drawn.Drawn.{Drawn}
-use Rattle.sf_calls.specs.Histories.{IsLegal}
-use Rattle.sf_surface.specs.Histories.{Answers}
-use Rattle.sf_surface.specs.Reading.{PlainLease}
-use Rattle.sf_surface.specs.Tokens.{ReadLeaseOf}
-use Rattle.sf_surface.specs.declared.mark.QueueMark.{QueueMark}
-use Rattle.sf_token.specs.Pending.{Arrival}
-use Rattle.sf_turns.specs.Views.{SeatView}
-use Rattle.sf_txn.specs.Buffers.{Shows}
-use Rattle.sf_txn.specs.declared.lease.Lease.{Ghosts}
-use Rattle.sf_commit.specs.Handlers.{Decides, HandlerOf, source_of}
-use Rattle.sf_commit.specs.Leases.{ShowsLease}
-use Rattle.sf_commit.specs.OnLayers.{OnLayer, is_on, shown_on}
-use Rattle.sf_commit.specs.Releases.{VsyncOf}
+use Rattle.sf_play_report.specs.sf_layer.declared.shown.Shown.{Shown}
+use Rattle.sf_play_report.specs.sf_tree.Trees.{TreeOf}
+use Rattle.sf_play_report.specs.sf_view.Views.{ViewOf, Views}
+use Rattle.sf_play_report.specs.sf_view.declared.drawn.Drawn.{Drawn}
+use Rattle.sf_play_report.specs.sf_calls.Histories.{IsLegal}
+use Rattle.sf_play_report.specs.sf_surface.Histories.{Answers}
+use Rattle.sf_play_report.specs.sf_surface.Reading.{PlainLease}
+use Rattle.sf_play_report.specs.sf_surface.Tokens.{ReadLeaseOf}
+use Rattle.sf_play_report.specs.sf_surface.declared.mark.QueueMark.{QueueMark}
+use Rattle.sf_play_report.specs.sf_token.Pending.{Arrival}
+use Rattle.sf_play_report.specs.sf_turns.Views.{SeatView}
+use Rattle.sf_play_report.specs.sf_txn.Buffers.{Shows}
+use Rattle.sf_play_report.specs.sf_txn.declared.lease.Lease.{Ghosts}
+use Rattle.sf_play_report.specs.sf_commit.Handlers.{Decides, HandlerOf, source_of}
+use Rattle.sf_play_report.specs.sf_commit.Leases.{ShowsLease}
+use Rattle.sf_play_report.specs.sf_commit.OnLayers.{OnLayer, is_on, shown_on}
+use Rattle.sf_play_report.specs.sf_commit.Releases.{VsyncOf}
 use Rattle.sf_script_scene.specs.Scene.{SceneValue, has_queue}
-use Rattle.sf_actor.specs.Desks.{mark_among}
-use Rattle.sf_actor.specs.Known.{frame_of}
-use Rattle.sf_actor.specs.Scripts.{picture_at}
-use Rattle.law_played.proofs.DeskOfOneThread.{desk_called}
-use Rattle.law_played.proofs.FrameLemmas.{is_plan}
-use Rattle.law_played.proofs.LimitLemmas.{few_layers, most_played}
-use Rattle.law_played.proofs.AcquiredFrames.{shows_picture}
-use Rattle.law_played.specs.Actors.{AreCalls}
-use Rattle.law_played.specs.Frames.{plan_of}
-use Rattle.law_played.specs.Vsyncs.{vsyncs_in}
+use Rattle.sf_play_report.specs.sf_actor.Desks.{mark_among}
+use Rattle.sf_play_report.specs.sf_actor.Known.{frame_of}
+use Rattle.sf_play_report.specs.sf_actor.Scripts.{picture_at}
+use Rattle.sf_play_report.proofs.law_played_lemmas.DeskOfOneThread.{desk_called}
+use Rattle.sf_play_report.proofs.law_played_lemmas.FrameLemmas.{is_plan}
+use Rattle.sf_play_report.proofs.law_played_lemmas.LimitLemmas.{few_layers, most_played}
+use Rattle.sf_play_report.proofs.law_played_lemmas.AcquiredFrames.{shows_picture}
+use Rattle.sf_play_report.specs.law_played.Actors.{AreCalls}
+use Rattle.sf_play_report.specs.law_played.Frames.{plan_of}
+use Rattle.sf_play_report.specs.law_played.Vsyncs.{vsyncs_in}
 use Rattle.sf_play_report.specs.Stages.{AreExpected, IsStage}
 use Rattle.sf_play.proofs.SeenTimelines.{one_passes}
 use Rattle.sf_play.specs.Players.{IsBufferLent, PlayOf, SoFar, home_in, taken_at, view_in, written_so}

@@ -8,42 +8,42 @@ use Rattle.std.proofs.lemmas.List.Concat.{flat_map-append}
 use Rattle.std.proofs.lemmas.List.Elements.{All-cons, All-nil, All-weaker, Contains-append_right}
 use Rattle.atomic_table.specs.Seated.{TableId}
 use Rattle.sf_picture.specs.declared.picture.Picture.{Picture}
-use Rattle.sf_surface.specs.declared.mark.QueueMark.{QueueMark}
-use Rattle.sf_surface.specs.Histories.{Made}
-use Rattle.sf_surface.specs.Tokens.{ReadLeaseOf}
-use Rattle.sf_token.specs.Pending.{Arrival}
+use Rattle.sf_play_report.specs.sf_surface.declared.mark.QueueMark.{QueueMark}
+use Rattle.sf_play_report.specs.sf_surface.Histories.{Made}
+use Rattle.sf_play_report.specs.sf_surface.Tokens.{ReadLeaseOf}
+use Rattle.sf_play_report.specs.sf_token.Pending.{Arrival}
 use Rattle.sf_script_scene.specs.Scene.{SceneValue, has_queue}
 use Rattle.sf_script_scene.specs.declared.declarations.QueueDecl.{QueueDecl}
-use Rattle.sf_actor.specs.declared.tried.Reply.{Reply}
-use Rattle.sf_actor.specs.declared.tried.Stepped.TheVariants as stepped
-use Rattle.sf_actor.specs.Desks.{DeskHome, DeskView, known_of, mark_among}
-use Rattle.sf_actor.specs.Known.{AreAmong, GoesOn, frame_of, plain_arrival}
-use Rattle.sf_actor.specs.Names.{FrameOf}
-use Rattle.sf_actor.specs.Plain.{home_of, view_of}
-use Rattle.sf_actor.specs.Scripts.{picture_at}
-use Rattle.sf_actor.specs.Tries.{ActorOf, DoesStep, Keeps, LeavesStep}
-use Rattle.sf_actor_set.specs.ActorSets.{ActorSetOf, IsSameActorSet, KeepAs, StepsAt}
-use Rattle.sf_actor_steps.specs.declared.actor.Actor.{Actor}
-use Rattle.sf_record.specs.declared.event.Event.{Event}
-use Rattle.sf_record.specs.declared.event.Event.TheVariants as event
-use Rattle.sf_record.specs.declared.event.VsyncReport.{VsyncReport}
-use Rattle.sf_record.specs.declared.record.TimelineValue.{TimelineValue}
-use Rattle.law_played.specs.Actors.{arrivals_of, mark_declared, number_of, run_of}
-use Rattle.law_played.specs.Frames.{ShowImages}
-use Rattle.law_played.specs.Histories.{released_in}
-use Rattle.law_played.specs.Progress.{AreWrittenToo, HasPlayed}
-use Rattle.law_played.specs.Replies.{reply_shown}
-use Rattle.law_played.specs.Runs.{signals_in}
-use Rattle.law_played.specs.Stages.{VsyncAt, told_of}
-use Rattle.law_played.specs.Telling.{TellRun}
-use Rattle.law_played.specs.Vsyncs.{AreVsyncs, WasSignalled, vsync_in, vsyncs_in}
-use Rattle.law_played.proofs.RunGrowth.{does_step, leaves_step, not_none}
-use Rattle.law_played.proofs.ToldGrowth.{written_kept}
-use Rattle.law_played.proofs.StepKeepsTold.{Replaces, got_has, signals_more}
-use Rattle.law_played.proofs.KeepingLemmas.{played_too}
-use Rattle.law_played.proofs.Members.{has_map}
-use Rattle.law_played.proofs.AsQueued.{one_passes}
-use Rattle.law_played.proofs.ArrivedFrames.{any_passes}
+use Rattle.sf_play_report.specs.sf_actor.declared.tried.Reply.{Reply}
+use Rattle.sf_play_report.specs.sf_actor.declared.tried.Stepped.TheVariants as stepped
+use Rattle.sf_play_report.specs.sf_actor.Desks.{DeskHome, DeskView, known_of, mark_among}
+use Rattle.sf_play_report.specs.sf_actor.Known.{AreAmong, GoesOn, frame_of, plain_arrival}
+use Rattle.sf_play_report.specs.sf_actor.Names.{FrameOf}
+use Rattle.sf_play_report.specs.sf_actor.Plain.{home_of, view_of}
+use Rattle.sf_play_report.specs.sf_actor.Scripts.{picture_at}
+use Rattle.sf_play_report.specs.sf_actor.Tries.{ActorOf, DoesStep, Keeps, LeavesStep}
+use Rattle.law_rights.specs.sf_actor_set.ActorSets.{ActorSetOf, IsSameActorSet, KeepAs, StepsAt}
+use Rattle.law_rights.specs.sf_actor_steps.declared.actor.Actor.{Actor}
+use Rattle.sf_play_report.specs.sf_record.declared.event.Event.{Event}
+use Rattle.sf_play_report.specs.sf_record.declared.event.Event.TheVariants as event
+use Rattle.sf_play_report.specs.sf_record.declared.event.VsyncReport.{VsyncReport}
+use Rattle.sf_play_report.specs.sf_record.declared.record.TimelineValue.{TimelineValue}
+use Rattle.sf_play_report.specs.law_played.Actors.{arrivals_of, mark_declared, number_of, run_of}
+use Rattle.sf_play_report.specs.law_played.Frames.{ShowImages}
+use Rattle.sf_play_report.specs.law_played.Histories.{released_in}
+use Rattle.sf_play_report.specs.law_played.Progress.{AreWrittenToo, HasPlayed}
+use Rattle.sf_play_report.specs.law_played.Replies.{reply_shown}
+use Rattle.sf_play_report.specs.law_played.Runs.{signals_in}
+use Rattle.sf_play_report.specs.law_played.Stages.{VsyncAt, told_of}
+use Rattle.sf_play_report.specs.law_played.Telling.{TellRun}
+use Rattle.sf_play_report.specs.law_played.Vsyncs.{AreVsyncs, WasSignalled, vsync_in, vsyncs_in}
+use Rattle.sf_play_report.proofs.law_played_lemmas.RunGrowth.{does_step, leaves_step, not_none}
+use Rattle.sf_play_report.proofs.law_played_lemmas.ToldGrowth.{written_kept}
+use Rattle.sf_play_report.proofs.law_played_lemmas.StepKeepsTold.{Replaces, got_has, signals_more}
+use Rattle.sf_play_report.proofs.law_played_lemmas.KeepingLemmas.{played_too}
+use Rattle.sf_play_report.proofs.law_played_lemmas.Members.{has_map}
+use Rattle.sf_play_report.proofs.law_played_lemmas.AsQueued.{one_passes}
+use Rattle.sf_play_report.proofs.law_played_lemmas.ArrivedFrames.{any_passes}
 use Rattle.sf_play.proofs.HandlerLeases.{arrived_lent_on, on_lent_on}
 use Rattle.sf_play.specs.Players.{IsOfScene, PlayOf, SoFar, Stands, signals_so, taken_at, told_at, written_so}
 

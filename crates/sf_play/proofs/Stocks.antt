@@ -4,14 +4,14 @@ use Rattle.std.specs.Prelude.{Contains}
 use Rattle.std.specs.List.{All, AllPairs, flat_map, list_any}
 use Rattle.std.proofs.lemmas.Bool.{cases_eq, eq-eqb, ne_eqb}
 use Rattle.std.proofs.lemmas.List.Elements.{All-cons, All-head, All-nil, All-tail}
-use Rattle.sf_surface.specs.Objects.{mark_of}
-use Rattle.sf_turns.specs.Counts.{range, stock_at}
+use Rattle.sf_play_report.specs.sf_surface.Objects.{mark_of}
+use Rattle.sf_play_report.specs.sf_turns.Counts.{range, stock_at}
 use Rattle.sf_script_scene.specs.declared.declarations.QueueDecl.{QueueDecl}
 use Rattle.sf_script_scene.specs.declared.step.ActorScript.{ActorScript}
-use Rattle.sf_actor.specs.Tries.{dequeues_in}
-use Rattle.sf_actor_set.specs.Opening.{new_actors, new_queue}
-use Rattle.law_played.proofs.Members.{has_cases, has_none}
-use Rattle.law_played.specs.Histories.{queue_number}
+use Rattle.sf_play_report.specs.sf_actor.Tries.{dequeues_in}
+use Rattle.law_rights.specs.sf_actor_set.Opening.{new_actors, new_queue}
+use Rattle.sf_play_report.proofs.law_played_lemmas.Members.{has_cases, has_none}
+use Rattle.sf_play_report.specs.law_played.Histories.{queue_number}
 use Rattle.law_rights.specs.Standing.{IsFresh, stock_of}
 use Rattle.law_rights.specs.States.{AreApart, is_queue}
 

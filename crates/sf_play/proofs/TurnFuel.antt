@@ -9,26 +9,26 @@ use Rattle.std.proofs.lemmas.List.Elements.{filter-append}
 use Rattle.std.proofs.lemmas.List.Sums.{sum_by-append, sum_by-cons}
 use Rattle.atomic_table.specs.Seated.{TableId}
 use Rattle.sf_picture.specs.declared.picture.Picture.{Picture}
-use Rattle.sf_surface.specs.Tokens.{ReadLeaseOf}
-use Rattle.sf_token.specs.Pending.{Arrival}
-use Rattle.sf_txn.specs.Transactions.{Contents}
+use Rattle.sf_play_report.specs.sf_surface.Tokens.{ReadLeaseOf}
+use Rattle.sf_play_report.specs.sf_token.Pending.{Arrival}
+use Rattle.sf_play_report.specs.sf_txn.Transactions.{Contents}
 use Rattle.sf_script_scene.specs.declared.step.ActorScript.{ActorScript}
 use Rattle.sf_script_scene.specs.declared.step.Step.{Step}
-use Rattle.sf_actor.specs.declared.done.Answered.{Answered}
-use Rattle.sf_actor.specs.declared.done.Answered.TheVariants as answered
-use Rattle.sf_actor.specs.declared.done.Done.{Done}
-use Rattle.sf_actor.specs.declared.tried.Stepped.TheVariants as stepped
-use Rattle.sf_actor.specs.Desks.{DeskHome, DeskView, known_of}
-use Rattle.sf_actor.specs.Known.{GoesOn, arrivals_told, is_sent_by, plain_arrival}
-use Rattle.sf_actor.specs.Names.{FrameOf}
-use Rattle.sf_actor.specs.Steps.{sent_by}
-use Rattle.sf_actor.specs.Tales.{sent_as, step_done}
-use Rattle.sf_actor.specs.Traces.{DoneAt, Past, SentStep, next, no_past, places_from, places_of, sends_of, sent_at, sent_with}
-use Rattle.sf_actor.specs.Tries.{ActorOf, Keeps}
-use Rattle.sf_actor_steps.specs.declared.actor.Actor.{Actor}
-use Rattle.sf_actor_set.specs.ActorSets.{KeepAs, StepsAt}
-use Rattle.law_played.proofs.Members.{has_first, has_later}
-use Rattle.law_played.proofs.ArrivedFrames.{any_passes}
+use Rattle.sf_play_report.specs.sf_actor.declared.done.Answered.{Answered}
+use Rattle.sf_play_report.specs.sf_actor.declared.done.Answered.TheVariants as answered
+use Rattle.sf_play_report.specs.sf_actor.declared.done.Done.{Done}
+use Rattle.sf_play_report.specs.sf_actor.declared.tried.Stepped.TheVariants as stepped
+use Rattle.sf_play_report.specs.sf_actor.Desks.{DeskHome, DeskView, known_of}
+use Rattle.sf_play_report.specs.sf_actor.Known.{GoesOn, arrivals_told, is_sent_by, plain_arrival}
+use Rattle.sf_play_report.specs.sf_actor.Names.{FrameOf}
+use Rattle.sf_play_report.specs.sf_actor.Steps.{sent_by}
+use Rattle.sf_play_report.specs.sf_actor.Tales.{sent_as, step_done}
+use Rattle.sf_play_report.specs.sf_actor.Traces.{DoneAt, Past, SentStep, next, no_past, places_from, places_of, sends_of, sent_at, sent_with}
+use Rattle.sf_play_report.specs.sf_actor.Tries.{ActorOf, Keeps}
+use Rattle.law_rights.specs.sf_actor_steps.declared.actor.Actor.{Actor}
+use Rattle.law_rights.specs.sf_actor_set.ActorSets.{KeepAs, StepsAt}
+use Rattle.sf_play_report.proofs.law_played_lemmas.Members.{has_first, has_later}
+use Rattle.sf_play_report.proofs.law_played_lemmas.ArrivedFrames.{any_passes}
 use Rattle.sf_play.specs.Fuel.{now_in, steps_left, to_commit, untaken, wait_left, work_left}
 use Rattle.sf_play.specs.Players.{PlayOf, home_in, view_in}
 

@@ -3,24 +3,24 @@ use Rattle.std.proofs.Common.{◌≡◌, ◌≢◌, ℕ, zero, suc, ◌+◌, ◌
 use Rattle.std.specs.Prelude.{nat_lt, slice_get, if◌then◌else◌}
 use Rattle.std.specs.List.{position}
 use Rattle.atomic_table.specs.Seated.{TableId}
-use Rattle.sf_surface.specs.Tokens.{Issued, ReadLeaseOf}
-use Rattle.sf_turns.specs.Views.{SeatView}
-use Rattle.sf_txn.specs.declared.lease.Lease.{Ghosts}
+use Rattle.sf_play_report.specs.sf_surface.Tokens.{Issued, ReadLeaseOf}
+use Rattle.sf_play_report.specs.sf_turns.Views.{SeatView}
+use Rattle.sf_play_report.specs.sf_txn.declared.lease.Lease.{Ghosts}
 use Rattle.sf_script_scene.specs.Scene.{SceneValue}
 use Rattle.sf_script_scene.specs.declared.declarations.Pick.{Pick}
-use Rattle.sf_actor.specs.declared.tried.Stepped.{Stepped}
-use Rattle.sf_actor.specs.declared.tried.Stepped.TheVariants as stepped
-use Rattle.sf_actor.specs.Tries.{ActorOf}
-use Rattle.sf_actor_set.specs.ActorSets.{number_of}
-use Rattle.sf_actor_steps.specs.declared.actor.Actor.{Actor}
-use Rattle.law_played.proofs.StuckActors.{are_stuck}
-use Rattle.law_played.specs.Actors.{mark_declared}
-use Rattle.law_played.specs.Arrivals.{entry_of}
-use Rattle.law_played.specs.Ends.{shows_of}
-use Rattle.law_played.specs.Histories.{history_shown, rising_queues}
-use Rattle.law_played.specs.Played.{FitsWhere, records_of}
-use Rattle.law_played.specs.Progress.{held_shown}
-use Rattle.law_played.specs.Stopping.{stuck_among}
+use Rattle.sf_play_report.specs.sf_actor.declared.tried.Stepped.{Stepped}
+use Rattle.sf_play_report.specs.sf_actor.declared.tried.Stepped.TheVariants as stepped
+use Rattle.sf_play_report.specs.sf_actor.Tries.{ActorOf}
+use Rattle.law_rights.specs.sf_actor_set.ActorSets.{number_of}
+use Rattle.law_rights.specs.sf_actor_steps.declared.actor.Actor.{Actor}
+use Rattle.sf_play_report.proofs.law_played_lemmas.StuckActors.{are_stuck}
+use Rattle.sf_play_report.specs.law_played.Actors.{mark_declared}
+use Rattle.sf_play_report.specs.law_played.Arrivals.{entry_of}
+use Rattle.sf_play_report.specs.law_played.Ends.{shows_of}
+use Rattle.sf_play_report.specs.law_played.Histories.{history_shown, rising_queues}
+use Rattle.sf_play_report.specs.law_played.Played.{FitsWhere, records_of}
+use Rattle.sf_play_report.specs.law_played.Progress.{held_shown}
+use Rattle.sf_play_report.specs.law_played.Stopping.{stuck_among}
 use Rattle.law_rights.specs.Vsyncs.{IsOfTurns}
 use Rattle.sf_play_report.specs.declared.report.VsyncReport.{VsyncReport}
 use Rattle.sf_play.proofs.AlongEnds.{ends_play}

@@ -9,27 +9,27 @@ use Rattle.std.proofs.lemmas.List.Elements.{All-contains, All-weaker}
 use Rattle.std.proofs.lemmas.List.Sorted.{Contains-permutation, IsPermutation-sym}
 use Rattle.atomic_table.specs.Seated.{TableId}
 use Rattle.sf_picture.specs.declared.picture.Picture.{Picture}
-use Rattle.sf_surface.specs.Tokens.{Issued, ReadLeaseOf}
-use Rattle.sf_token.specs.Arrivals.{Calls, sent}
-use Rattle.sf_turns.specs.Views.{SeatView}
-use Rattle.sf_txn.specs.declared.lease.Lease.{Ghosts}
+use Rattle.sf_play_report.specs.sf_surface.Tokens.{Issued, ReadLeaseOf}
+use Rattle.sf_play_report.specs.sf_token.Arrivals.{Calls, sent}
+use Rattle.sf_play_report.specs.sf_turns.Views.{SeatView}
+use Rattle.sf_play_report.specs.sf_txn.declared.lease.Lease.{Ghosts}
 use Rattle.sf_script_scene.specs.Limits.{IsActor, IsPick, most_actors}
 use Rattle.sf_script_scene.specs.Scene.{SceneValue}
 use Rattle.sf_script_scene.specs.declared.declarations.Pick.{Pick}
 use Rattle.sf_script_scene.specs.declared.step.ActorScript.{ActorScript}
-use Rattle.sf_actor.specs.Desks.{DeskHome, DeskView, KnowsAll}
-use Rattle.sf_actor.specs.Known.{plain_arrival}
-use Rattle.sf_actor.specs.Plain.{taken_in}
-use Rattle.sf_actor.specs.Tries.{ActorOf}
-use Rattle.sf_actor.specs.Scripts.{picture_at}
-use Rattle.sf_actor_set.specs.ActorSets.{KeepAs}
-use Rattle.sf_actor_steps.specs.declared.actor.Actor.{Actor}
-use Rattle.law_played.proofs.StepKeepsTold.{of_all}
-use Rattle.law_played.proofs.Members.{has_map}
-use Rattle.law_played.proofs.Parts.{map_twice}
-use Rattle.law_played.specs.Actors.{script_of}
-use Rattle.law_played.specs.Played.{FitsWhere}
-use Rattle.law_played.specs.Turns.{DrawAfterOwed}
+use Rattle.sf_play_report.specs.sf_actor.Desks.{DeskHome, DeskView, KnowsAll}
+use Rattle.sf_play_report.specs.sf_actor.Known.{plain_arrival}
+use Rattle.sf_play_report.specs.sf_actor.Plain.{taken_in}
+use Rattle.sf_play_report.specs.sf_actor.Tries.{ActorOf}
+use Rattle.sf_play_report.specs.sf_actor.Scripts.{picture_at}
+use Rattle.law_rights.specs.sf_actor_set.ActorSets.{KeepAs}
+use Rattle.law_rights.specs.sf_actor_steps.declared.actor.Actor.{Actor}
+use Rattle.sf_play_report.proofs.law_played_lemmas.StepKeepsTold.{of_all}
+use Rattle.sf_play_report.proofs.law_played_lemmas.Members.{has_map}
+use Rattle.sf_play_report.proofs.law_played_lemmas.Parts.{map_twice}
+use Rattle.sf_play_report.specs.law_played.Actors.{script_of}
+use Rattle.sf_play_report.specs.law_played.Played.{FitsWhere}
+use Rattle.sf_play_report.specs.law_played.Turns.{DrawAfterOwed}
 use Rattle.sf_play.proofs.PlayEnd.{fits_at_end}
 use Rattle.sf_play.proofs.PlayFuel.{few_actors, vsyncs_fit}
 use Rattle.sf_play.proofs.PlayLedger.{IsLegalDesk}

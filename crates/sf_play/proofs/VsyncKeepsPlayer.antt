@@ -8,46 +8,46 @@ use Rattle.std.proofs.lemmas.List.Elements.{All-append, All-cons, All-nil, All-t
 use Rattle.atomic_table.specs.Seated.{TableId}
 use Rattle.sf_base.specs.declared.fences.Seen.{Seen}
 use Rattle.sf_picture.specs.declared.picture.Picture.{Picture}
-use Rattle.sf_surface.specs.declared.mark.QueueMark.{QueueMark}
-use Rattle.sf_surface.specs.Histories.{Made}
-use Rattle.sf_surface.specs.Tokens.{Issued, ReadLeaseOf}
-use Rattle.sf_times.specs.declared.protocol.Knows.{Knows}
-use Rattle.sf_token.specs.Arrivals.{Calls, sent, waiting}
-use Rattle.sf_token.specs.Pending.{Arrival, IsRisingFrom}
-use Rattle.sf_turns.specs.Views.{SeatView}
-use Rattle.sf_txn.specs.declared.lease.Lease.{Ghosts}
-use Rattle.sf_commit.specs.Handlers.{HandlerOf, last_of}
-use Rattle.sf_commit.specs.OnLayers.{OnLayer}
-use Rattle.sf_commit.specs.Leases.{IsReleaseOf}
-use Rattle.sf_commit.specs.Releases.{ReleaseOf, VsyncOf}
-use Rattle.sf_commit.specs.declared.vsync.Commit.{Commit as Decided}
+use Rattle.sf_play_report.specs.sf_surface.declared.mark.QueueMark.{QueueMark}
+use Rattle.sf_play_report.specs.sf_surface.Histories.{Made}
+use Rattle.sf_play_report.specs.sf_surface.Tokens.{Issued, ReadLeaseOf}
+use Rattle.sf_play_report.specs.sf_times.declared.protocol.Knows.{Knows}
+use Rattle.sf_play_report.specs.sf_token.Arrivals.{Calls, sent, waiting}
+use Rattle.sf_play_report.specs.sf_token.Pending.{Arrival, IsRisingFrom}
+use Rattle.sf_play_report.specs.sf_turns.Views.{SeatView}
+use Rattle.sf_play_report.specs.sf_txn.declared.lease.Lease.{Ghosts}
+use Rattle.sf_play_report.specs.sf_commit.Handlers.{HandlerOf, last_of}
+use Rattle.sf_play_report.specs.sf_commit.OnLayers.{OnLayer}
+use Rattle.sf_play_report.specs.sf_commit.Leases.{IsReleaseOf}
+use Rattle.sf_play_report.specs.sf_commit.Releases.{ReleaseOf, VsyncOf}
+use Rattle.sf_play_report.specs.sf_commit.declared.vsync.Commit.{Commit as Decided}
 use Rattle.sf_script_scene.specs.Scene.{SceneValue, has_queue}
 use Rattle.sf_script_scene.specs.declared.declarations.QueueDecl.{QueueDecl}
-use Rattle.sf_actor.specs.Desks.{DeskHome, DeskView, mark_among}
-use Rattle.sf_actor.specs.Known.{frame_of, plain_arrival}
-use Rattle.sf_actor.specs.Names.{FrameOf}
-use Rattle.sf_actor.specs.Plain.{PlainOf, calls_among, home_of, taken_in, view_of}
-use Rattle.sf_actor.specs.Scripts.{picture_at}
-use Rattle.sf_actor.specs.Tries.{ActorOf, Keeps}
-use Rattle.sf_actor_steps.specs.declared.actor.Actor.{Actor}
-use Rattle.sf_actor_set.proofs.ArrivalLemmas.{sent_is, waiting_last, waiting_rises}
-use Rattle.sf_actor_set.specs.ActorSets.{ActorSetOf, KeepAs}
-use Rattle.sf_actor_set.specs.Compositing.{OnlyDesk}
-use Rattle.sf_record.specs.declared.event.Event.{Event}
-use Rattle.sf_record.specs.declared.event.Event.TheVariants as event
-use Rattle.sf_record.specs.declared.event.VsyncReport.{VsyncReport}
-use Rattle.law_played.proofs.RunGrowth.{nothing_told, tells_vsync}
-use Rattle.law_played.proofs.LeaseLemmas.{images_go_on, plain_arrivals, plain_frame, releases_go_on}
-use Rattle.law_played.proofs.ProgressLemmas.{goes_further, goes_on_by, goes_silently, releases_nothing, tells_no_more}
-use Rattle.law_played.specs.Actors.{mark_declared}
-use Rattle.law_played.specs.Commits.{commit_shown}
-use Rattle.law_played.specs.Frames.{ShowImages}
-use Rattle.law_played.specs.Framing.{framed_arrival, framed_on}
-use Rattle.law_played.specs.Histories.{Released, released_in}
-use Rattle.law_played.specs.Progress.{GoesOnBy, HasPlayed, SaysVsync, WroteWhatShows}
-use Rattle.law_played.specs.Stages.{told_of}
-use Rattle.law_played.specs.Telling.{TellRun}
-use Rattle.law_played.specs.Vsyncs.{AreVsyncs, vsync_in, vsyncs_in}
+use Rattle.sf_play_report.specs.sf_actor.Desks.{DeskHome, DeskView, mark_among}
+use Rattle.sf_play_report.specs.sf_actor.Known.{frame_of, plain_arrival}
+use Rattle.sf_play_report.specs.sf_actor.Names.{FrameOf}
+use Rattle.sf_play_report.specs.sf_actor.Plain.{PlainOf, calls_among, home_of, taken_in, view_of}
+use Rattle.sf_play_report.specs.sf_actor.Scripts.{picture_at}
+use Rattle.sf_play_report.specs.sf_actor.Tries.{ActorOf, Keeps}
+use Rattle.law_rights.specs.sf_actor_steps.declared.actor.Actor.{Actor}
+use Rattle.law_rights.proofs.sf_actor_set_lemmas.ArrivalLemmas.{sent_is, waiting_last, waiting_rises}
+use Rattle.law_rights.specs.sf_actor_set.ActorSets.{ActorSetOf, KeepAs}
+use Rattle.law_rights.specs.sf_actor_set.Compositing.{OnlyDesk}
+use Rattle.sf_play_report.specs.sf_record.declared.event.Event.{Event}
+use Rattle.sf_play_report.specs.sf_record.declared.event.Event.TheVariants as event
+use Rattle.sf_play_report.specs.sf_record.declared.event.VsyncReport.{VsyncReport}
+use Rattle.sf_play_report.proofs.law_played_lemmas.RunGrowth.{nothing_told, tells_vsync}
+use Rattle.sf_play_report.proofs.law_played_lemmas.LeaseLemmas.{images_go_on, plain_arrivals, plain_frame, releases_go_on}
+use Rattle.sf_play_report.proofs.law_played_lemmas.ProgressLemmas.{goes_further, goes_on_by, goes_silently, releases_nothing, tells_no_more}
+use Rattle.sf_play_report.specs.law_played.Actors.{mark_declared}
+use Rattle.sf_play_report.specs.law_played.Commits.{commit_shown}
+use Rattle.sf_play_report.specs.law_played.Frames.{ShowImages}
+use Rattle.sf_play_report.specs.law_played.Framing.{framed_arrival, framed_on}
+use Rattle.sf_play_report.specs.law_played.Histories.{Released, released_in}
+use Rattle.sf_play_report.specs.law_played.Progress.{GoesOnBy, HasPlayed, SaysVsync, WroteWhatShows}
+use Rattle.sf_play_report.specs.law_played.Stages.{told_of}
+use Rattle.sf_play_report.specs.law_played.Telling.{TellRun}
+use Rattle.sf_play_report.specs.law_played.Vsyncs.{AreVsyncs, vsync_in, vsyncs_in}
 use Rattle.sf_play.proofs.ArrivedFrames.{arrivals_lent}
 use Rattle.sf_play.proofs.HandlerLeases.{IsArrivedLent, IsOnLent, OfFrames, arrived_lent_on, gone_lent, on_lent_on, stays_lent, waits_lent}
 use Rattle.sf_play.proofs.CompositorReleases.{gives_grow, gives_same, gives_told}

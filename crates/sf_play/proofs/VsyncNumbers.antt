@@ -9,29 +9,29 @@ use Rattle.std.proofs.lemmas.List.Sorted.{Contains-permutation, IsPermutation-sy
 use Rattle.std.proofs.lemmas.List.Sums.{count_by-le-length, length-filter, sum_by-cons}
 use Rattle.atomic_table.specs.Seated.{TableId}
 use Rattle.sf_picture.specs.declared.picture.Picture.{Picture}
-use Rattle.sf_surface.specs.Tokens.{ReadLeaseOf}
-use Rattle.sf_token.specs.Pending.{Arrival}
+use Rattle.sf_play_report.specs.sf_surface.Tokens.{ReadLeaseOf}
+use Rattle.sf_play_report.specs.sf_token.Pending.{Arrival}
 use Rattle.sf_script_scene.specs.Limits.{IsActor, most_actors}
 use Rattle.sf_script_scene.specs.Scene.{SceneValue}
 use Rattle.sf_script_scene.specs.declared.step.ActorScript.{ActorScript}
 use Rattle.sf_script_scene.specs.declared.step.Step.{Step}
-use Rattle.sf_actor_steps.specs.declared.actor.Actor.{Actor}
-use Rattle.sf_actor.specs.declared.done.Done.{Done}
-use Rattle.sf_actor.specs.Desks.{DeskHome, DeskView}
-use Rattle.sf_actor.specs.Known.{frame_of, is_sent_by, plain_arrival}
-use Rattle.sf_actor.specs.Names.{FrameOf}
-use Rattle.sf_actor.specs.Scripts.{picture_at}
-use Rattle.sf_actor.specs.Steps.{sent_by}
-use Rattle.sf_actor.specs.Tales.{step_done}
-use Rattle.sf_actor.specs.Traces.{Past, next, no_past, places_from, sent_at}
-use Rattle.sf_actor.specs.Tries.{ActorOf, Keeps}
-use Rattle.sf_actor_set.specs.ActorSets.{KeepAs}
-use Rattle.law_played.proofs.StepKeepsTold.{of_all}
-use Rattle.law_played.proofs.Members.{has_cases, has_map, has_none, map_has}
-use Rattle.law_played.specs.Actors.{number_of, script_of}
-use Rattle.law_played.specs.Framing.{framed_arrival}
-use Rattle.law_played.specs.Holds.{is_uncommitted}
-use Rattle.law_played.specs.Vsyncs.{commits_in, vsyncs_in}
+use Rattle.law_rights.specs.sf_actor_steps.declared.actor.Actor.{Actor}
+use Rattle.sf_play_report.specs.sf_actor.declared.done.Done.{Done}
+use Rattle.sf_play_report.specs.sf_actor.Desks.{DeskHome, DeskView}
+use Rattle.sf_play_report.specs.sf_actor.Known.{frame_of, is_sent_by, plain_arrival}
+use Rattle.sf_play_report.specs.sf_actor.Names.{FrameOf}
+use Rattle.sf_play_report.specs.sf_actor.Scripts.{picture_at}
+use Rattle.sf_play_report.specs.sf_actor.Steps.{sent_by}
+use Rattle.sf_play_report.specs.sf_actor.Tales.{step_done}
+use Rattle.sf_play_report.specs.sf_actor.Traces.{Past, next, no_past, places_from, sent_at}
+use Rattle.sf_play_report.specs.sf_actor.Tries.{ActorOf, Keeps}
+use Rattle.law_rights.specs.sf_actor_set.ActorSets.{KeepAs}
+use Rattle.sf_play_report.proofs.law_played_lemmas.StepKeepsTold.{of_all}
+use Rattle.sf_play_report.proofs.law_played_lemmas.Members.{has_cases, has_map, has_none, map_has}
+use Rattle.sf_play_report.specs.law_played.Actors.{number_of, script_of}
+use Rattle.sf_play_report.specs.law_played.Framing.{framed_arrival}
+use Rattle.sf_play_report.specs.law_played.Holds.{is_uncommitted}
+use Rattle.sf_play_report.specs.law_played.Vsyncs.{commits_in, vsyncs_in}
 use Rattle.sf_play.proofs.TurnFuel.{few_weigh, one_sent, sent_many}
 use Rattle.sf_play.proofs.PlayFuel.{few_actors, many_below}
 use Rattle.sf_play.specs.Fuel.{now_in, steps_left, untaken, vsyncs_left}

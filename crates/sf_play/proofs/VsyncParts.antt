@@ -7,27 +7,27 @@ use Rattle.std.proofs.lemmas.List.Elements.{All-cons, All-head, All-nil, All-tai
 use Rattle.atomic_table.specs.Seated.{TableId}
 use Rattle.sf_base.specs.declared.fences.Seen.{Seen}
 use Rattle.sf_base.specs.declared.ids.QueueId.{QueueId}
-use Rattle.sf_layer.specs.declared.shown.Shown.{Shown}
-use Rattle.sf_surface.specs.Histories.{Made}
-use Rattle.sf_surface.specs.Objects.{ObjectOf, mark_of}
-use Rattle.sf_surface.specs.Tokens.{Issued, ReadLeaseOf}
-use Rattle.sf_surface.specs.declared.call.QCall.TheVariants as call
-use Rattle.sf_surface.specs.declared.call.QReply.{QReply}
-use Rattle.sf_surface.specs.declared.mark.QueueMark.{QueueMark}
-use Rattle.sf_token.specs.Arrivals.{Calls, waiting}
-use Rattle.sf_token.specs.Pending.{Arrival, IsRisingFrom}
-use Rattle.sf_turns.specs.Views.{SeatView}
-use Rattle.sf_txn.specs.declared.lease.Lease.{Ghosts}
-use Rattle.sf_commit.specs.Handlers.{Decides, HandlerOf, last_of}
-use Rattle.sf_commit.specs.Leases.{IsReleaseOf}
-use Rattle.sf_commit.specs.OnLayers.{OnLayer}
-use Rattle.sf_commit.specs.Releases.{ReleaseOf, VsyncOf}
+use Rattle.sf_play_report.specs.sf_layer.declared.shown.Shown.{Shown}
+use Rattle.sf_play_report.specs.sf_surface.Histories.{Made}
+use Rattle.sf_play_report.specs.sf_surface.Objects.{ObjectOf, mark_of}
+use Rattle.sf_play_report.specs.sf_surface.Tokens.{Issued, ReadLeaseOf}
+use Rattle.sf_play_report.specs.sf_surface.declared.call.QCall.TheVariants as call
+use Rattle.sf_play_report.specs.sf_surface.declared.call.QReply.{QReply}
+use Rattle.sf_play_report.specs.sf_surface.declared.mark.QueueMark.{QueueMark}
+use Rattle.sf_play_report.specs.sf_token.Arrivals.{Calls, waiting}
+use Rattle.sf_play_report.specs.sf_token.Pending.{Arrival, IsRisingFrom}
+use Rattle.sf_play_report.specs.sf_turns.Views.{SeatView}
+use Rattle.sf_play_report.specs.sf_txn.declared.lease.Lease.{Ghosts}
+use Rattle.sf_play_report.specs.sf_commit.Handlers.{Decides, HandlerOf, last_of}
+use Rattle.sf_play_report.specs.sf_commit.Leases.{IsReleaseOf}
+use Rattle.sf_play_report.specs.sf_commit.OnLayers.{OnLayer}
+use Rattle.sf_play_report.specs.sf_commit.Releases.{ReleaseOf, VsyncOf}
 use Rattle.sf_script_scene.specs.Scene.{SceneValue}
-use Rattle.sf_actor.specs.Desks.{DeskHome, MadeCall, has_queue}
-use Rattle.sf_actor.specs.Plain.{PlainOf, calls_among, home_of, taken_in, view_of}
-use Rattle.sf_actor_set.specs.ActorSets.{ActorSetOf}
-use Rattle.sf_actor_set.specs.Compositing.{OnlyDesk, Takes}
-use Rattle.law_played.proofs.Members.{has_none}
+use Rattle.sf_play_report.specs.sf_actor.Desks.{DeskHome, MadeCall, has_queue}
+use Rattle.sf_play_report.specs.sf_actor.Plain.{PlainOf, calls_among, home_of, taken_in, view_of}
+use Rattle.law_rights.specs.sf_actor_set.ActorSets.{ActorSetOf}
+use Rattle.law_rights.specs.sf_actor_set.Compositing.{OnlyDesk, Takes}
+use Rattle.sf_play_report.proofs.law_played_lemmas.Members.{has_none}
 use Rattle.sf_play.specs.Giving.{GivesFrames}
 use Rattle.sf_play.specs.Players.{PlayOf, SoFar, Stands}
 use Rattle.sf_play.proofs.VsyncKeepsPlayer.{arrived_lent, arrived_rises, only_twice}

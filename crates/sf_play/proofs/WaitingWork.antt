@@ -9,24 +9,24 @@ use Rattle.std.proofs.lemmas.List.Sums.{sum_by-append, sum_by-cons}
 use Rattle.sf_base.specs.Fences.{first_open_of}
 use Rattle.sf_base.specs.declared.fences.Seen.{Seen}
 use Rattle.sf_base.specs.declared.ids.LayerId.{LayerId}
-use Rattle.sf_txn.specs.Buffers.{Buffer}
-use Rattle.sf_txn.specs.Transactions.{Contents, without_first}
-use Rattle.sf_txn.specs.declared.lease.Lease.{Ghosts}
-use Rattle.sf_ready.specs.Facts.{FactsOf}
-use Rattle.sf_ready.specs.Holds.{barrier_hold, fence_hold, hold_of, point_hold, pressure_hold, time_hold, undrawn_hold}
-use Rattle.sf_ready.specs.declared.hold.Hold.{Hold}
-use Rattle.sf_ready.specs.declared.hold.Hold.TheVariants as hold
-use Rattle.sf_token.specs.Looking.{IsLookedArrival}
-use Rattle.sf_token.specs.Pending.{Arrival, head_of, is_of}
-use Rattle.sf_commit.specs.Handlers.{Decides, HandlerOf, begun}
-use Rattle.sf_commit.specs.declared.vsync.Commit.{Commit}
-use Rattle.sf_commit.specs.Releases.{VsyncOf}
-use Rattle.sf_tree.specs.Changes.{Rejection, after}
-use Rattle.sf_tree.specs.Trees.{TreeOf}
-use Rattle.sf_commit.specs.Rounds.{Leads, Round, commit_of, committed, facts_of, hold_at, stage_with}
-use Rattle.sf_commit_next.specs.Heads.{head_hold, ready_if}
-use Rattle.law_played.specs.Progress.{is_time}
-use Rattle.law_played.proofs.Members.{has_cases, has_here, has_later, has_none}
+use Rattle.sf_play_report.specs.sf_txn.Buffers.{Buffer}
+use Rattle.sf_play_report.specs.sf_txn.Transactions.{Contents, without_first}
+use Rattle.sf_play_report.specs.sf_txn.declared.lease.Lease.{Ghosts}
+use Rattle.sf_play_report.specs.sf_ready.Facts.{FactsOf}
+use Rattle.sf_play_report.specs.sf_ready.Holds.{barrier_hold, fence_hold, hold_of, point_hold, pressure_hold, time_hold, undrawn_hold}
+use Rattle.sf_play_report.specs.sf_ready.declared.hold.Hold.{Hold}
+use Rattle.sf_play_report.specs.sf_ready.declared.hold.Hold.TheVariants as hold
+use Rattle.sf_play_report.specs.sf_token.Looking.{IsLookedArrival}
+use Rattle.sf_play_report.specs.sf_token.Pending.{Arrival, head_of, is_of}
+use Rattle.sf_play_report.specs.sf_commit.Handlers.{Decides, HandlerOf, begun}
+use Rattle.sf_play_report.specs.sf_commit.declared.vsync.Commit.{Commit}
+use Rattle.sf_play_report.specs.sf_commit.Releases.{VsyncOf}
+use Rattle.sf_play_report.specs.sf_tree.Changes.{Rejection, after}
+use Rattle.sf_play_report.specs.sf_tree.Trees.{TreeOf}
+use Rattle.sf_play_report.specs.sf_commit.Rounds.{Leads, Round, commit_of, committed, facts_of, hold_at, stage_with}
+use Rattle.sf_play_report.specs.sf_commit_next.Heads.{head_hold, ready_if}
+use Rattle.sf_play_report.specs.law_played.Progress.{is_time}
+use Rattle.sf_play_report.proofs.law_played_lemmas.Members.{has_cases, has_here, has_later, has_none}
 use Rattle.sf_play.specs.Fuel.{to_commit, wait_left}
 
 -- later there is no longer to wait

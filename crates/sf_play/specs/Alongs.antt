@@ -2,21 +2,21 @@
 use Rattle.std.specs.Prelude.{◌≡◌, ℕ, ◌-◌, ◌≤◌, ◌==◌, Bool, false, not, ◌||◌, if◌then◌else◌}
 use Rattle.std.specs.Prelude.{List, [], ◌∷◌, ◌++◌, drop, length, map, replicate, Some, None}
 use Rattle.std.specs.List.{flat_map, list_all, list_any}
-use Rattle.sf_calls.specs.Histories.{IsLegal}
-use Rattle.sf_ready.specs.declared.hold.Hold.{Hold}
-use Rattle.sf_commit.specs.declared.vsync.Commit.{Commit}
+use Rattle.sf_play_report.specs.sf_calls.Histories.{IsLegal}
+use Rattle.sf_play_report.specs.sf_ready.declared.hold.Hold.{Hold}
+use Rattle.sf_play_report.specs.sf_commit.declared.vsync.Commit.{Commit}
 use Rattle.sf_script_scene.specs.Scene.{SceneValue}
 use Rattle.sf_script_scene.specs.declared.declarations.Pick.{Pick}
 use Rattle.sf_script_scene.specs.declared.step.ActorScript.{ActorScript}
-use Rattle.sf_surface.specs.Histories.{Answers}
-use Rattle.sf_actor.specs.Desks.{KnowsAll, mark_among}
-use Rattle.sf_actor.specs.Plain.{home_of, view_of}
-use Rattle.sf_record.specs.declared.event.Event.{Event}
-use Rattle.law_played.specs.Plays.{IsBegun, IsOver, Playing, picks_of}
-use Rattle.law_played.specs.Progress.{is_time}
-use Rattle.law_played.specs.Runs.{actor_number, rising_actors}
-use Rattle.law_played.specs.Vsyncs.{vsyncs_in}
-use Rattle.law_played.specs.Worlds.{World}
+use Rattle.sf_play_report.specs.sf_surface.Histories.{Answers}
+use Rattle.sf_play_report.specs.sf_actor.Desks.{KnowsAll, mark_among}
+use Rattle.sf_play_report.specs.sf_actor.Plain.{home_of, view_of}
+use Rattle.sf_play_report.specs.sf_record.declared.event.Event.{Event}
+use Rattle.sf_play_report.specs.law_played.Plays.{IsBegun, IsOver, Playing, picks_of}
+use Rattle.sf_play_report.specs.law_played.Progress.{is_time}
+use Rattle.sf_play_report.specs.law_played.Runs.{actor_number, rising_actors}
+use Rattle.sf_play_report.specs.law_played.Vsyncs.{vsyncs_in}
+use Rattle.sf_play_report.specs.law_played.Worlds.{World}
 use Rattle.sf_play_report.specs.Reports.{has_commits}
 use Rattle.sf_play.specs.Players.{PlayOf, SoFar, arrived_at, run_so}
 use Rattle.sf_play.specs.declared.place.Place.{Place}

@@ -1,27 +1,27 @@
 -- What a play shows at its end, and what it keeps of who rests.
 use Rattle.std.specs.Prelude.{◌≡◌, ◌++◌, Bool, true, false, List, All, Contains, length, map, take}
 use Rattle.std.specs.List.{flat_map}
-use Rattle.sf_surface.specs.Tokens.{ReadLeaseOf}
-use Rattle.sf_turns.specs.Views.{SeatView}
-use Rattle.sf_txn.specs.declared.lease.Lease.{Ghosts}
+use Rattle.sf_play_report.specs.sf_surface.Tokens.{ReadLeaseOf}
+use Rattle.sf_play_report.specs.sf_turns.Views.{SeatView}
+use Rattle.sf_play_report.specs.sf_txn.declared.lease.Lease.{Ghosts}
 use Rattle.sf_base.specs.declared.fences.Seen.{Seen}
 use Rattle.atomic_table.specs.Seated.{TableId}
-use Rattle.sf_commit.specs.Releases.{VsyncOf}
+use Rattle.sf_play_report.specs.sf_commit.Releases.{VsyncOf}
 use Rattle.sf_script_scene.specs.Scene.{SceneValue}
-use Rattle.sf_actor.specs.Known.{frame_of}
-use Rattle.sf_actor.specs.Makers.{Run}
-use Rattle.sf_actor.specs.Tries.{ActorOf}
-use Rattle.sf_record.specs.declared.event.Event.{Event}
-use Rattle.sf_record.specs.declared.event.Event.TheVariants as event
-use Rattle.law_played.specs.Arrivals.{entry_of}
-use Rattle.law_played.specs.Histories.{history_shown, rising_queues}
-use Rattle.law_played.specs.Holds.{AreHeld, uncommitted}
-use Rattle.law_played.specs.Played.{Shows, end_of, reply_events}
-use Rattle.law_played.specs.Progress.{ShowsWhatIsWritten, held_shown}
-use Rattle.law_played.specs.Runs.{rising_actors}
-use Rattle.law_played.specs.Stopping.{TellsOlder, stuck_among}
-use Rattle.law_played.specs.Stuck.{IsNotReady, next_step}
-use Rattle.law_played.specs.Vsyncs.{commits_in, vsyncs_in}
+use Rattle.sf_play_report.specs.sf_actor.Known.{frame_of}
+use Rattle.sf_play_report.specs.sf_actor.Makers.{Run}
+use Rattle.sf_play_report.specs.sf_actor.Tries.{ActorOf}
+use Rattle.sf_play_report.specs.sf_record.declared.event.Event.{Event}
+use Rattle.sf_play_report.specs.sf_record.declared.event.Event.TheVariants as event
+use Rattle.sf_play_report.specs.law_played.Arrivals.{entry_of}
+use Rattle.sf_play_report.specs.law_played.Histories.{history_shown, rising_queues}
+use Rattle.sf_play_report.specs.law_played.Holds.{AreHeld, uncommitted}
+use Rattle.sf_play_report.specs.law_played.Played.{Shows, end_of, reply_events}
+use Rattle.sf_play_report.specs.law_played.Progress.{ShowsWhatIsWritten, held_shown}
+use Rattle.sf_play_report.specs.law_played.Runs.{rising_actors}
+use Rattle.sf_play_report.specs.law_played.Stopping.{TellsOlder, stuck_among}
+use Rattle.sf_play_report.specs.law_played.Stuck.{IsNotReady, next_step}
+use Rattle.sf_play_report.specs.law_played.Vsyncs.{commits_in, vsyncs_in}
 use Rattle.sf_play.specs.Players.{PlayOf, PlayerOf, SoFar, arrived_at, home_in, run_so, taken_at, told_at, view_in, written_so}
 use Rattle.sf_play_report.specs.Reports.{has_commits}
 use Rattle.sf_play.specs.Vsyncing.{MakesVsync}

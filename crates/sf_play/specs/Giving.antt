@@ -1,10 +1,10 @@
 -- Frames that a compositor gives back to their queues.
 use Rattle.std.specs.Prelude.{◌≡◌, ℕ, List, [], ◌∷◌}
-use Rattle.sf_commit.specs.Releases.{ReleaseOf}
-use Rattle.sf_surface.specs.declared.call.QCall.TheVariants as call
-use Rattle.sf_surface.specs.declared.call.QReply.{QReply}
-use Rattle.sf_surface.specs.Tokens.{ReadLeaseOf}
-use Rattle.sf_actor.specs.Desks.{DeskHome, DeskView, MadeCall}
+use Rattle.sf_play_report.specs.sf_commit.Releases.{ReleaseOf}
+use Rattle.sf_play_report.specs.sf_surface.declared.call.QCall.TheVariants as call
+use Rattle.sf_play_report.specs.sf_surface.declared.call.QReply.{QReply}
+use Rattle.sf_play_report.specs.sf_surface.Tokens.{ReadLeaseOf}
+use Rattle.sf_play_report.specs.sf_actor.Desks.{DeskHome, DeskView, MadeCall}
 
 module _ {B : Type 0} where
   -- a frame goes back after the vsync of this number, which is a call of the compositor, whose number is 0

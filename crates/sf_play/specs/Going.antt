@@ -2,12 +2,12 @@
 use Rattle.std.specs.Prelude.{◌≡◌, ℕ, ◌<◌, List, All}
 use Rattle.atomic_table.specs.Seated.{TableId}
 use Rattle.sf_script_scene.specs.Scene.{SceneValue}
-use Rattle.sf_actor.specs.Scripts.{picture_at}
-use Rattle.sf_record.specs.Fitting.{RecordFits}
-use Rattle.sf_record.specs.declared.record.Record.{Record}
-use Rattle.law_played.specs.Ends.{ArePlayRecords}
-use Rattle.law_played.specs.Frames.{plan_of}
-use Rattle.law_played.specs.Played.{FitsWhere, Played, records_of}
+use Rattle.sf_play_report.specs.sf_actor.Scripts.{picture_at}
+use Rattle.sf_play_report.specs.sf_record.Fitting.{RecordFits}
+use Rattle.sf_play_report.specs.sf_record.declared.record.Record.{Record}
+use Rattle.sf_play_report.specs.law_played.Ends.{ArePlayRecords}
+use Rattle.sf_play_report.specs.law_played.Frames.{plan_of}
+use Rattle.sf_play_report.specs.law_played.Played.{FitsWhere, Played, records_of}
 use Rattle.sf_play_report.specs.Stages.{AreExpected, IsStage}
 use Rattle.sf_play_report.specs.declared.report.VsyncReport.{VsyncReport}
 use Rattle.sf_play.specs.Ending.{shows_at_end}

@@ -2,11 +2,11 @@
 use Rattle.std.specs.Prelude.{◌≡◌, ℕ, ◌+◌, ◌<◌, Bool, true, false, List, [], ◌∷◌, ◌++◌, Some, slice_get, slice_set}
 use Rattle.atomic_table.specs.Seated.{TableId}
 use Rattle.sf_script_scene.specs.Scene.{SceneValue}
-use Rattle.sf_actor.specs.declared.tried.Reply.{Reply}
-use Rattle.sf_actor.specs.Tries.{ActorOf}
-use Rattle.sf_actor_steps.specs.declared.actor.Actor.{Actor}
-use Rattle.sf_record.specs.declared.event.Event.TheVariants as event
-use Rattle.law_played.specs.Replies.{reply_shown}
+use Rattle.sf_play_report.specs.sf_actor.declared.tried.Reply.{Reply}
+use Rattle.sf_play_report.specs.sf_actor.Tries.{ActorOf}
+use Rattle.law_rights.specs.sf_actor_steps.declared.actor.Actor.{Actor}
+use Rattle.sf_play_report.specs.sf_record.declared.event.Event.TheVariants as event
+use Rattle.sf_play_report.specs.law_played.Replies.{reply_shown}
 use Rattle.sf_play.specs.Ending.{RestsAt}
 use Rattle.sf_play.specs.Fuel.{vsyncs_left}
 use Rattle.sf_play.specs.Players.{PlayOf, PlayerOf, SoFar, Stands}

@@ -1,40 +1,40 @@
 -- What contracts see of a player, and what it keeps: what it has shown so far is the beginning of a played run.
 use Rattle.std.specs.Prelude.{◌≡◌, ℕ, ◌≤◌, Bool, true, false, List, [], All, length, take, None, Contains}
 use Rattle.atomic_table.specs.Seated.{TableId}
-use Rattle.sf_layer.specs.declared.shown.Shown.{Shown}
-use Rattle.sf_ready.specs.declared.hold.Hold.{Hold}
-use Rattle.sf_commit.specs.Handlers.{HandlerOf}
-use Rattle.sf_commit.specs.OnLayers.{OnLayer}
-use Rattle.sf_surface.specs.declared.mark.QueueMark.{QueueMark}
-use Rattle.sf_surface.specs.Histories.{Made}
-use Rattle.sf_surface.specs.Reading.{plain_lease}
-use Rattle.sf_surface.specs.Tokens.{ReadLeaseOf}
-use Rattle.sf_token.specs.Pending.{Arrival}
-use Rattle.sf_txn.specs.Buffers.{Buffer}
+use Rattle.sf_play_report.specs.sf_layer.declared.shown.Shown.{Shown}
+use Rattle.sf_play_report.specs.sf_ready.declared.hold.Hold.{Hold}
+use Rattle.sf_play_report.specs.sf_commit.Handlers.{HandlerOf}
+use Rattle.sf_play_report.specs.sf_commit.OnLayers.{OnLayer}
+use Rattle.sf_play_report.specs.sf_surface.declared.mark.QueueMark.{QueueMark}
+use Rattle.sf_play_report.specs.sf_surface.Histories.{Made}
+use Rattle.sf_play_report.specs.sf_surface.Reading.{plain_lease}
+use Rattle.sf_play_report.specs.sf_surface.Tokens.{ReadLeaseOf}
+use Rattle.sf_play_report.specs.sf_token.Pending.{Arrival}
+use Rattle.sf_play_report.specs.sf_txn.Buffers.{Buffer}
 use Rattle.sf_script_scene.specs.Limits.{IsWithinLimits}
 use Rattle.sf_script_scene.specs.Scene.{SceneValue, has_queue}
 use Rattle.sf_script_scene.specs.declared.declarations.Pick.{Pick}
 use Rattle.sf_script_scene.specs.declared.declarations.QueueDecl.{QueueDecl}
-use Rattle.sf_actor.specs.Desks.{DeskHome, DeskView, mark_among}
-use Rattle.sf_actor.specs.Known.{frame_of}
-use Rattle.sf_actor.specs.Makers.{Run}
-use Rattle.sf_actor.specs.Names.{FrameOf}
-use Rattle.sf_actor.specs.Plain.{home_of, view_of}
-use Rattle.sf_actor.specs.Scripts.{picture_at}
-use Rattle.sf_actor.specs.Tries.{ActorOf}
-use Rattle.sf_actor.specs.Written.{FrameNumber}
-use Rattle.sf_actor_set.specs.ActorSets.{ActorSetOf, KeepAs}
-use Rattle.sf_record.specs.declared.event.Event.{Event}
-use Rattle.sf_record.specs.declared.event.VsyncReport.{VsyncReport}
-use Rattle.law_played.specs.Acquired.{TakesFrame}
-use Rattle.law_played.specs.Actors.{arrivals_of, mark_declared, run_of}
-use Rattle.law_played.specs.Frames.{ShowImages}
-use Rattle.law_played.specs.Histories.{released_in}
-use Rattle.law_played.specs.Progress.{HasPlayed}
-use Rattle.law_played.specs.Runs.{signals_in, written_in}
-use Rattle.law_played.specs.Stages.{VsyncAt, told_of}
-use Rattle.law_played.specs.Telling.{TellRun}
-use Rattle.law_played.specs.Vsyncs.{AreVsyncs, vsyncs_in}
+use Rattle.sf_play_report.specs.sf_actor.Desks.{DeskHome, DeskView, mark_among}
+use Rattle.sf_play_report.specs.sf_actor.Known.{frame_of}
+use Rattle.sf_play_report.specs.sf_actor.Makers.{Run}
+use Rattle.sf_play_report.specs.sf_actor.Names.{FrameOf}
+use Rattle.sf_play_report.specs.sf_actor.Plain.{home_of, view_of}
+use Rattle.sf_play_report.specs.sf_actor.Scripts.{picture_at}
+use Rattle.sf_play_report.specs.sf_actor.Tries.{ActorOf}
+use Rattle.sf_play_report.specs.sf_actor.Written.{FrameNumber}
+use Rattle.law_rights.specs.sf_actor_set.ActorSets.{ActorSetOf, KeepAs}
+use Rattle.sf_play_report.specs.sf_record.declared.event.Event.{Event}
+use Rattle.sf_play_report.specs.sf_record.declared.event.VsyncReport.{VsyncReport}
+use Rattle.sf_play_report.specs.law_played.Acquired.{TakesFrame}
+use Rattle.sf_play_report.specs.law_played.Actors.{arrivals_of, mark_declared, run_of}
+use Rattle.sf_play_report.specs.law_played.Frames.{ShowImages}
+use Rattle.sf_play_report.specs.law_played.Histories.{released_in}
+use Rattle.sf_play_report.specs.law_played.Progress.{HasPlayed}
+use Rattle.sf_play_report.specs.law_played.Runs.{signals_in, written_in}
+use Rattle.sf_play_report.specs.law_played.Stages.{VsyncAt, told_of}
+use Rattle.sf_play_report.specs.law_played.Telling.{TellRun}
+use Rattle.sf_play_report.specs.law_played.Vsyncs.{AreVsyncs, vsyncs_in}
 use Rattle.sf_play.specs.declared.place.Place.{Place}
 use Rattle.sf_play.specs.declared.place.Place.TheVariants as at
 

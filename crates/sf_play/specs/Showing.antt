@@ -1,15 +1,15 @@
 -- What is shown of a vsync.
 use Rattle.std.specs.Prelude.{ℕ, List, map}
 use Rattle.sf_base.specs.declared.fences.Seen.{Seen}
-use Rattle.sf_commit.specs.declared.vsync.Commit.{Commit as Decided}
-use Rattle.sf_tree.specs.Trees.{TreeOf}
+use Rattle.sf_play_report.specs.sf_commit.declared.vsync.Commit.{Commit as Decided}
+use Rattle.sf_play_report.specs.sf_tree.Trees.{TreeOf}
 use Rattle.sf_script_scene.specs.Scene.{SceneValue}
-use Rattle.sf_record.specs.declared.event.VsyncReport.{VsyncReport}
-use Rattle.sf_record.specs.declared.record.TimelineValue.{TimelineValue}
-use Rattle.law_played.specs.Commits.{commit_shown}
-use Rattle.law_played.specs.Frames.{shown_after}
-use Rattle.law_played.specs.Seeing.{value_shown}
-use Rattle.law_played.specs.Vsyncs.{rising_timelines}
+use Rattle.sf_play_report.specs.sf_record.declared.event.VsyncReport.{VsyncReport}
+use Rattle.sf_play_report.specs.sf_record.declared.record.TimelineValue.{TimelineValue}
+use Rattle.sf_play_report.specs.law_played.Commits.{commit_shown}
+use Rattle.sf_play_report.specs.law_played.Frames.{shown_after}
+use Rattle.sf_play_report.specs.law_played.Seeing.{value_shown}
+use Rattle.sf_play_report.specs.law_played.Vsyncs.{rising_timelines}
 
 -- what it saw of the declared timelines, by rising number
 abbrev pub values_shown : SceneValue → Seen → List TimelineValue

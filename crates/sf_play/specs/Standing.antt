@@ -3,9 +3,9 @@
 use Rattle.std.specs.Prelude.{◌≡◌, false, true, [], None, map}
 use Rattle.atomic_table.specs.Seated.{TableId}
 use Rattle.sf_script_scene.specs.Scene.{SceneValue}
-use Rattle.law_played.specs.Actors.{mark_declared}
-use Rattle.law_played.specs.Ends.{held_in}
-use Rattle.law_played.specs.Histories.{rising_queues}
+use Rattle.sf_play_report.specs.law_played.Actors.{mark_declared}
+use Rattle.sf_play_report.specs.law_played.Ends.{held_in}
+use Rattle.sf_play_report.specs.law_played.Histories.{rising_queues}
 use Rattle.sf_play.specs.Alongs.{PlaysSo, world_so}
 use Rattle.sf_play.specs.Happening.{StandsAt}
 use Rattle.sf_play.specs.Players.{PlayerOf, SoFar, home_in}

@@ -2,16 +2,16 @@
 use Rattle.std.specs.Prelude.{◌≡◌, ◌+◌, ◌*◌, List}
 use Rattle.atomic_table.specs.Seated.{TableId}
 use Rattle.sf_base.specs.declared.fences.Seen.{Seen}
-use Rattle.sf_commit.specs.Handlers.{Decides}
-use Rattle.sf_commit.specs.Releases.{VsyncOf}
-use Rattle.sf_surface.specs.Tokens.{ReadLeaseOf}
-use Rattle.sf_token.specs.Pending.{Arrival}
-use Rattle.sf_turns.specs.Views.{SeatView}
-use Rattle.sf_txn.specs.declared.lease.Lease.{Ghosts}
-use Rattle.sf_actor.specs.Plain.{home_of, taken_in, view_of}
-use Rattle.sf_actor.specs.Tries.{Sees}
-use Rattle.sf_actor_set.specs.ActorSets.{ActorSetOf}
-use Rattle.sf_actor_set.specs.Compositing.{OnlyDesk, Takes}
+use Rattle.sf_play_report.specs.sf_commit.Handlers.{Decides}
+use Rattle.sf_play_report.specs.sf_commit.Releases.{VsyncOf}
+use Rattle.sf_play_report.specs.sf_surface.Tokens.{ReadLeaseOf}
+use Rattle.sf_play_report.specs.sf_token.Pending.{Arrival}
+use Rattle.sf_play_report.specs.sf_turns.Views.{SeatView}
+use Rattle.sf_play_report.specs.sf_txn.declared.lease.Lease.{Ghosts}
+use Rattle.sf_play_report.specs.sf_actor.Plain.{home_of, taken_in, view_of}
+use Rattle.sf_play_report.specs.sf_actor.Tries.{Sees}
+use Rattle.law_rights.specs.sf_actor_set.ActorSets.{ActorSetOf}
+use Rattle.law_rights.specs.sf_actor_set.Compositing.{OnlyDesk, Takes}
 use Rattle.sf_play.specs.Giving.{GivesFrames}
 use Rattle.sf_play.specs.Players.{PlayOf}
 

@@ -1,9 +1,9 @@
 ghost use Rattle.std.specs.Prelude.{◌≡◌, ℕ, ◌+◌, ◌<◌, ◌≤◌, All, List, Some, false};
 ghost use Rattle.atomic_table.specs.Seated.{TableId};
 ghost use Rattle.sf_script_scene.specs.Scene.{SceneValue};
-ghost use Rattle.sf_actor.specs.Tries.{ActorOf};
-ghost use Rattle.sf_record.specs.Fitting.{RecordFits};
-ghost use Rattle.law_played.specs.Played.{FitsWhere, PlayedLiveWhere, records_of};
+ghost use Rattle.sf_play_report.specs.sf_actor.Tries.{ActorOf};
+ghost use Rattle.sf_play_report.specs.sf_record.Fitting.{RecordFits};
+ghost use Rattle.sf_play_report.specs.law_played.Played.{FitsWhere, PlayedLiveWhere, records_of};
 ghost use Rattle.sf_play.specs.Alongs.{DeskKnows};
 ghost use Rattle.sf_play.specs.Ending.{shows_late};
 ghost use Rattle.sf_play.specs.Fuel.{vsyncs_left};
@@ -15,9 +15,9 @@ ghost use Rattle.sf_play.specs.declared.place.Place.TheVariants as at;
 ghost use Rattle.sf_play.specs.declared.turn.Turn.{Turn as TurnOf};
 ghost use Rattle.sf_play.specs.declared.turn.Turn.TheVariants as turn;
 
-use sf_surface::ReadLease;
-use sf_turns::TableName;
-use sf_txn::Lease;
+use sf_play_report::sf_surface::ReadLease;
+use sf_play_report::sf_turns::TableName;
+use sf_play_report::sf_txn::Lease;
 
 /// The rounds behind a run of a scene have vsyncs whose numbers fit 32 bits, where no more than 2^31
 /// were made before.

@@ -1,8 +1,8 @@
 ghost use Rattle.std.specs.Prelude.{◌≡◌, ◌<◌, ◌||◌, ℕ, true, false, if◌then◌else◌, List, length, IfErr, IfOk, IfSome, IsErr};
 ghost use Rattle.std.specs.List.{list_any};
-ghost use Rattle.sf_ready.specs.declared.hold.Hold.{Hold as HoldValue};
-ghost use Rattle.law_played.specs.Progress.{is_time};
-ghost use Rattle.sf_actor.specs.Tries.{ActorOf};
+ghost use Rattle.sf_play_report.specs.sf_ready.declared.hold.Hold.{Hold as HoldValue};
+ghost use Rattle.sf_play_report.specs.law_played.Progress.{is_time};
+ghost use Rattle.sf_play_report.specs.sf_actor.Tries.{ActorOf};
 ghost use Rattle.sf_script_scene.specs.Scene.{SceneValue};
 ghost use Rattle.sf_play.specs.Going.{GoesAlong, GoesOn, LeavesLess};
 ghost use Rattle.sf_play.specs.Places.{settled};
@@ -16,12 +16,12 @@ ghost use Rattle.sf_play.specs.Turning.{KeepsActorSet, Picks, Rounds, TriesStep,
 use crate::kept::KeptReport;
 use crate::place::Place;
 use crate::player::Player;
-use sf_actor::Stepped;
 use sf_base::NoMemory;
-use sf_ready::Hold;
-use sf_surface::ReadLease;
-use sf_turns::TableName;
-use sf_txn::Lease;
+use sf_play_report::sf_actor::Stepped;
+use sf_play_report::sf_ready::Hold;
+use sf_play_report::sf_surface::ReadLease;
+use sf_play_report::sf_turns::TableName;
+use sf_play_report::sf_txn::Lease;
 
 /// What a turn of a play did.
 #[derive(Drop)]

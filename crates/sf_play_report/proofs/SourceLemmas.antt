@@ -8,24 +8,24 @@ use Rattle.std.proofs.lemmas.List.Elements.{All-append, All-cons, All-filter, Al
 use Rattle.std.proofs.lemmas.List.Folds.{find_at}
 use Rattle.std.proofs.lemmas.Option.{get_or_from_slice_get, none-some, same_Some, slice_get_within}
 use Rattle.sf_base.specs.declared.ids.LayerId.{LayerId}
-use Rattle.sf_layer.specs.declared.kind.Kind.{Kind}
-use Rattle.sf_layer.specs.declared.kind.Kind.TheVariants as kind
-use Rattle.sf_layer.specs.declared.layer.Layer.{Layer}
-use Rattle.sf_layer.specs.declared.shown.Shown.{Shown}
-use Rattle.sf_tree.specs.Kept.{IsDistinct}
-use Rattle.sf_tree.specs.Layers.{is_numbered, layer_of}
-use Rattle.sf_tree.proofs.TreeKept.{found_itself}
-use Rattle.sf_view.specs.Contents.{content_of, has_content}
-use Rattle.sf_view.specs.Image.{drawn_in}
-use Rattle.sf_view.specs.Views.{Draws, ViewOf, ViewsInOrder}
-use Rattle.sf_view.specs.declared.content.Content.{Content}
-use Rattle.sf_view.specs.declared.content.Content.TheVariants as content
-use Rattle.sf_view.specs.declared.drawn.Drawn.{Drawn}
-use Rattle.sf_output_shown.specs.Copies.{copied, copies, mirrors, named, number_of, with_copies, written, written_from}
-use Rattle.sf_output_shown.specs.Cuts.{cut, cut_layer, is_under, under}
-use Rattle.sf_commit.specs.Handlers.{source_of}
-use Rattle.sf_commit.specs.OnLayers.{OnLayer, is_on}
-use Rattle.sf_commit.specs.Standing.{Stands, shown_at, shown_for}
+use Rattle.law_played.specs.sf_layer.declared.kind.Kind.{Kind}
+use Rattle.law_played.specs.sf_layer.declared.kind.Kind.TheVariants as kind
+use Rattle.law_played.specs.sf_layer.declared.layer.Layer.{Layer}
+use Rattle.law_played.specs.sf_layer.declared.shown.Shown.{Shown}
+use Rattle.law_played.specs.sf_tree.Kept.{IsDistinct}
+use Rattle.law_played.specs.sf_tree.Layers.{is_numbered, layer_of}
+use Rattle.law_played.proofs.sf_tree_lemmas.TreeKept.{found_itself}
+use Rattle.law_played.specs.sf_view.Contents.{content_of, has_content}
+use Rattle.law_played.specs.sf_view.Image.{drawn_in}
+use Rattle.law_played.specs.sf_view.Views.{Draws, ViewOf, ViewsInOrder}
+use Rattle.law_played.specs.sf_view.declared.content.Content.{Content}
+use Rattle.law_played.specs.sf_view.declared.content.Content.TheVariants as content
+use Rattle.law_played.specs.sf_view.declared.drawn.Drawn.{Drawn}
+use Rattle.law_played.specs.sf_output_shown.Copies.{copied, copies, mirrors, named, number_of, with_copies, written, written_from}
+use Rattle.law_played.specs.sf_output_shown.Cuts.{cut, cut_layer, is_under, under}
+use Rattle.law_played.specs.sf_commit.Handlers.{source_of}
+use Rattle.law_played.specs.sf_commit.OnLayers.{OnLayer, is_on}
+use Rattle.law_played.specs.sf_commit.Standing.{Stands, shown_at, shown_for}
 use Rattle.sf_play_report.specs.Stages.{AllShowOn, AreSourcesOf, IsSourceOf, ShowsOn}
 
 some-none : {X : Type 0} (x : X) → Some x ≡ None → ⊥

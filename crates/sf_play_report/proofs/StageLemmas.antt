@@ -10,27 +10,27 @@ use Rattle.std.proofs.lemmas.Option.{get_or_from_slice_get, slice_get-get_or, sl
 use Rattle.std.proofs.lemmas.Slice.Zip.{all_zipped_more}
 use Rattle.sf_base.specs.Geometry.{LiesWithin}
 use Rattle.sf_base.specs.declared.ids.LayerId.{LayerId}
-use Rattle.sf_compose.specs.Readings.{IsReadable, no_picture}
-use Rattle.sf_compose.specs.Sources.{HasSource}
-use Rattle.sf_layer.specs.declared.layer.Layer.{Layer}
-use Rattle.sf_layer.specs.declared.shown.Shown.{Shown}
-use Rattle.sf_output.specs.Outputs.{IsOutput, OfImage}
-use Rattle.sf_output.specs.declared.output.Output.{Output}
-use Rattle.sf_output.specs.declared.output.Output.TheVariants as out
-use Rattle.sf_picture.specs.declared.picture.Picture.{Picture}
-use Rattle.sf_output_plan.specs.Due.{ImageDue, IsFrameDue, ShowsDue, capture_due, display_due, frame_due, hit_due, id_of, others_due, outputs_due}
-use Rattle.sf_output_plan.specs.declared.plan.CapturePlan.{CapturePlan}
-use Rattle.sf_output_plan.specs.declared.plan.Plan.{Plan}
-use Rattle.sf_output_shown.specs.Copies.{written}
-use Rattle.sf_output_shown.specs.Displays.{order_on}
-use Rattle.sf_output_shown.proofs.StackLemmas.{no_stacks}
-use Rattle.sf_tree.specs.Layers.{has_layer}
-use Rattle.sf_txn.specs.Buffers.{Shows}
-use Rattle.sf_view.specs.Views.{ViewOf, Views, ViewsInOrder}
-use Rattle.sf_view.specs.declared.content.Content.{Content}
-use Rattle.sf_view.specs.declared.content.Content.TheVariants as content
-use Rattle.sf_view.specs.declared.drawn.Drawn.{Drawn}
-use Rattle.sf_commit.specs.OnLayers.{IsPlaceOf, OnLayer}
+use Rattle.law_played.specs.sf_compose.Readings.{IsReadable, no_picture}
+use Rattle.law_played.specs.sf_compose.Sources.{HasSource}
+use Rattle.law_played.specs.sf_layer.declared.layer.Layer.{Layer}
+use Rattle.law_played.specs.sf_layer.declared.shown.Shown.{Shown}
+use Rattle.law_played.specs.sf_output.Outputs.{IsOutput, OfImage}
+use Rattle.law_played.specs.sf_output.declared.output.Output.{Output}
+use Rattle.law_played.specs.sf_output.declared.output.Output.TheVariants as out
+use Rattle.law_played.specs.sf_picture.declared.picture.Picture.{Picture}
+use Rattle.law_played.specs.sf_output_plan.Due.{ImageDue, IsFrameDue, ShowsDue, capture_due, display_due, frame_due, hit_due, id_of, others_due, outputs_due}
+use Rattle.law_played.specs.sf_output_plan.declared.plan.CapturePlan.{CapturePlan}
+use Rattle.law_played.specs.sf_output_plan.declared.plan.Plan.{Plan}
+use Rattle.law_played.specs.sf_output_shown.Copies.{written}
+use Rattle.law_played.specs.sf_output_shown.Displays.{order_on}
+use Rattle.law_played.proofs.sf_output_shown_lemmas.StackLemmas.{no_stacks}
+use Rattle.law_played.specs.sf_tree.Layers.{has_layer}
+use Rattle.law_played.specs.sf_txn.Buffers.{Shows}
+use Rattle.law_played.specs.sf_view.Views.{ViewOf, Views, ViewsInOrder}
+use Rattle.law_played.specs.sf_view.declared.content.Content.{Content}
+use Rattle.law_played.specs.sf_view.declared.content.Content.TheVariants as content
+use Rattle.law_played.specs.sf_view.declared.drawn.Drawn.{Drawn}
+use Rattle.law_played.specs.sf_commit.OnLayers.{IsPlaceOf, OnLayer}
 use Rattle.sf_play_report.specs.Stages.{AllShowOn, AreSourcesOf, FindsPictures, IsReadableView, IsSourceOf, IsSourcedBy, ShowsOn}
 use Rattle.sf_play_report.specs.declared.sourced.SourcedView.{SourcedView}
 use Rattle.sf_play_report.proofs.SourceLemmas.{AllOn, IsOnIf, cut_said, view_on, written_said}

@@ -1,3 +1,19 @@
 pub mod Plans
 pub mod Reports
 pub mod Stages
+pub use Rattle.law_played.specs as law_played
+pub use Rattle.law_played.specs.sf_actor
+pub use Rattle.law_played.specs.sf_calls
+pub use Rattle.law_played.specs.sf_commit
+pub use Rattle.law_played.specs.sf_commit_next
+pub use Rattle.law_played.specs.sf_layer
+pub use Rattle.law_played.specs.sf_output_plan
+pub use Rattle.law_played.specs.sf_ready
+pub use Rattle.law_played.specs.sf_record
+pub use Rattle.law_played.specs.sf_surface
+pub use Rattle.law_played.specs.sf_times
+pub use Rattle.law_played.specs.sf_token
+pub use Rattle.law_played.specs.sf_tree
+pub use Rattle.law_played.specs.sf_turns
+pub use Rattle.law_played.specs.sf_txn
+pub use Rattle.law_played.specs.sf_view

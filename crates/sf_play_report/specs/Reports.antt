@@ -1,6 +1,6 @@
 -- What a vsync did.
 use Rattle.std.specs.Prelude.{Bool, true, false, List, []}
-use Rattle.sf_commit.specs.declared.vsync.Commit.{Commit}
+use Rattle.law_played.specs.sf_commit.declared.vsync.Commit.{Commit}
 
 -- something was committed, or rejected as a whole
 abbrev pub has_commits : List Commit → Bool

@@ -1,23 +1,23 @@
 -- What is there to be shown: the layers, the buffers on them with their pictures, and the view of the whole tree.
 use Rattle.std.specs.Prelude.{◌≡◌, ℕ, ◌<◌, ◌≤◌, Bool, ◌==◌, List, get_or, length, map}
 use Rattle.std.specs.List.{All, AllZip, list_any}
-use Rattle.sf_commit.specs.Handlers.{HandlerOf, source_of}
-use Rattle.sf_commit.specs.OnLayers.{OnLayer}
-use Rattle.sf_commit.specs.Standing.{Stands}
-use Rattle.sf_commit.specs.declared.vsync.Commit.{Commit as Decided}
-use Rattle.sf_compose.specs.Readings.{AreReadable}
-use Rattle.sf_compose.specs.Sources.{HasSources}
-use Rattle.sf_output.specs.Outputs.{IsOutput, OfImage}
-use Rattle.sf_output.specs.declared.output.Output.{Output}
-use Rattle.sf_picture.specs.declared.picture.Picture.{Picture}
-use Rattle.sf_output_plan.specs.Due.{ImageDue, IsPlan, ShowsDue, outputs_due}
-use Rattle.sf_output_plan.specs.declared.plan.Plan.{Plan}
-use Rattle.sf_tree.specs.Trees.{TreeOf}
-use Rattle.sf_txn.specs.Buffers.{Shows}
-use Rattle.sf_view.specs.Views.{ViewOf, Views}
-use Rattle.sf_view.specs.declared.content.Content.{Content}
-use Rattle.sf_view.specs.declared.content.Content.TheVariants as content
-use Rattle.sf_view.specs.declared.drawn.Drawn.{Drawn}
+use Rattle.law_played.specs.sf_commit.Handlers.{HandlerOf, source_of}
+use Rattle.law_played.specs.sf_commit.OnLayers.{OnLayer}
+use Rattle.law_played.specs.sf_commit.Standing.{Stands}
+use Rattle.law_played.specs.sf_commit.declared.vsync.Commit.{Commit as Decided}
+use Rattle.law_played.specs.sf_compose.Readings.{AreReadable}
+use Rattle.law_played.specs.sf_compose.Sources.{HasSources}
+use Rattle.law_played.specs.sf_output.Outputs.{IsOutput, OfImage}
+use Rattle.law_played.specs.sf_output.declared.output.Output.{Output}
+use Rattle.law_played.specs.sf_picture.declared.picture.Picture.{Picture}
+use Rattle.law_played.specs.sf_output_plan.Due.{ImageDue, IsPlan, ShowsDue, outputs_due}
+use Rattle.law_played.specs.sf_output_plan.declared.plan.Plan.{Plan}
+use Rattle.law_played.specs.sf_tree.Trees.{TreeOf}
+use Rattle.law_played.specs.sf_txn.Buffers.{Shows}
+use Rattle.law_played.specs.sf_view.Views.{ViewOf, Views}
+use Rattle.law_played.specs.sf_view.declared.content.Content.{Content}
+use Rattle.law_played.specs.sf_view.declared.content.Content.TheVariants as content
+use Rattle.law_played.specs.sf_view.declared.drawn.Drawn.{Drawn}
 use Rattle.sf_play_report.specs.declared.sourced.SourcedView.{SourcedView}
 
 -- a transaction was committed, and not rejected

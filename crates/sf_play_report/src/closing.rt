@@ -1,17 +1,17 @@
 ghost use Rattle.std.specs.Prelude.{◌≡◌, IfOk, map};
-ghost use Rattle.sf_record.specs.declared.record.Record.TheVariants as rec;
+ghost use Rattle.law_played.specs.sf_record.declared.record.Record.TheVariants as rec;
 ghost use Rattle.law_played.specs.Progress.{held_shown};
 ghost use Rattle.law_played.specs.Telling.{arrival_recorded, call_recorded};
-ghost use Rattle.sf_surface.specs.Histories.{told};
-ghost use Rattle.sf_surface.specs.Objects.{mark_of};
-ghost use Rattle.sf_surface.specs.Shown.{entries_of};
+ghost use Rattle.law_played.specs.sf_surface.Histories.{told};
+ghost use Rattle.law_played.specs.sf_surface.Objects.{mark_of};
+ghost use Rattle.law_played.specs.sf_surface.Shown.{entries_of};
 
+use law_played::sf_ready::Hold;
+use law_played::sf_record::{ArrivalEntry, HeldEntry, HistoryEntry, QueueHistory, Record};
+use law_played::sf_surface::{HistEntry, QueueObject};
+use law_played::sf_token::ArrvEntry;
+use law_played::sf_turns::TableName;
 use sf_base::{Items, NoMemory};
-use sf_ready::Hold;
-use sf_record::{ArrivalEntry, HeldEntry, HistoryEntry, QueueHistory, Record};
-use sf_surface::{HistEntry, QueueObject};
-use sf_token::ArrvEntry;
-use sf_turns::TableName;
 use std::alloc::Global;
 
 fn arrival_of(entry: &ArrvEntry) -> ArrivalEntry

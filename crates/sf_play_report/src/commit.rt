@@ -1,12 +1,12 @@
 ghost use Rattle.std.specs.Prelude.{◌≡◌, ◌≤◌, IfOk, All, length, map};
-ghost use Rattle.sf_record.specs.declared.record.Record.TheVariants as rec;
+ghost use Rattle.law_played.specs.sf_record.declared.record.Record.TheVariants as rec;
 ghost use Rattle.law_played.specs.Commits.{buffer_shown, commit_shown};
 ghost use Rattle.law_played.specs.Seeing.{value_shown};
 
+use law_played::sf_commit::Commit as Decided;
+use law_played::sf_layer::Shown;
+use law_played::sf_record::{Commit, CommittedBuffer, Record, TimelineValue, VsyncHeader};
 use sf_base::{Items, LayerId, NoMemory, Seen};
-use sf_commit::Commit as Decided;
-use sf_layer::Shown;
-use sf_record::{Commit, CommittedBuffer, Record, TimelineValue, VsyncHeader};
 use std::alloc::Global;
 
 /// What the record of a commit shows of a buffer.

@@ -12,6 +12,9 @@ mod sourcing;
 
 pub use closing::{arrivals_record, held_record, history_record};
 pub use commit::{commit_record, vsync_record};
+pub use law_played::{
+    sf_actor, sf_commit, sf_output_plan, sf_ready, sf_record, sf_surface, sf_turns, sf_txn,
+};
 pub use plan::plan_of;
 pub use reply::reply_record;
 pub use report::VsyncReport;

@@ -1,12 +1,12 @@
 ghost use Rattle.std.specs.Prelude.{◌≡◌, ◌++◌, ◌≤◌, ℕ, IfOk, OnOk, filter, map};
-ghost use Rattle.sf_output_plan.specs.Due.{IsPlan};
+ghost use Rattle.law_played.specs.sf_output_plan.Due.{IsPlan};
 ghost use Rattle.sf_play_report.specs.Plans.{is_numbered};
 ghost use Rattle.law_played.specs.Frames.{capture_plan, display_plan, hit_plan, plan_of};
 ghost use Rattle.law_played.specs.Runs.{rising};
 
+use law_played::sf_output_plan::{CapturePlan, DisplayPlan, HitPlan, Plan};
+use law_played::sf_script_scene::{CaptureDecl, DisplayDecl, HitDecl, Scene};
 use sf_base::{Items, NoMemory};
-use sf_output_plan::{CapturePlan, DisplayPlan, HitPlan, Plan};
-use sf_script_scene::{CaptureDecl, DisplayDecl, HitDecl, Scene};
 use std::alloc::Global;
 
 /// What is declared under a number.

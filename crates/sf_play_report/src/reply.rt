@@ -1,10 +1,10 @@
 ghost use Rattle.std.specs.Prelude.{◌≡◌, IfOk};
-ghost use Rattle.sf_record.specs.declared.record.Record.TheVariants as rec;
+ghost use Rattle.law_played.specs.sf_record.declared.record.Record.TheVariants as rec;
 ghost use Rattle.law_played.specs.Replies.{reply_shown};
 
-use sf_actor::Reply as Told;
+use law_played::sf_actor::Reply as Told;
+use law_played::sf_record::{Record, Reply};
 use sf_base::{Items, NoMemory};
-use sf_record::{Record, Reply};
 use std::alloc::Global;
 
 /// The record of a reply.

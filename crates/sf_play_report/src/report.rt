@@ -1,9 +1,9 @@
 ghost use Rattle.std.specs.Prelude.{◌≡◌};
 ghost use Rattle.sf_play_report.specs.Reports.{has_commits};
 
+use law_played::sf_commit::Commit;
+use law_played::sf_view::View;
 use sf_base::{Items, Seen};
-use sf_commit::Commit;
-use sf_view::View;
 
 /// What a vsync did.
 #[derive(Drop)]

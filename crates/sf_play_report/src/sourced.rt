@@ -1,5 +1,5 @@
+use law_played::sf_view::View;
 use sf_base::Items;
-use sf_view::View;
 
 /// A view, with the places of its buffers in the contents.
 #[derive(Drop)]

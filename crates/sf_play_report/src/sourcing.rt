@@ -1,18 +1,18 @@
 ghost use Rattle.std.specs.List.{All, AllZip};
 ghost use Rattle.std.specs.Option.{unwrap_or};
 ghost use Rattle.std.specs.Prelude.{◌≡◌, ℕ, IfOk, IfSome, map};
-ghost use Rattle.sf_output.specs.Outputs.{IsOutput, OfImage};
-ghost use Rattle.sf_picture.specs.declared.picture.Picture.{Picture};
+ghost use Rattle.law_played.specs.sf_output.Outputs.{IsOutput, OfImage};
+ghost use Rattle.law_played.specs.sf_picture.declared.picture.Picture.{Picture};
 ghost use Rattle.sf_play_report.specs.Stages.{AllShowOn, AreExpected, AreSourced, AreSourcesOf, FindsPictures, IsSourceOf, IsSourcedBy, IsStage, ShowsOn};
-ghost use Rattle.sf_view.specs.declared.drawn.Drawn.{Drawn as DrawnOf};
+ghost use Rattle.law_played.specs.sf_view.declared.drawn.Drawn.{Drawn as DrawnOf};
 
 use crate::sourced::SourcedView;
+use law_played::sf_commit::Handler;
+use law_played::sf_output::Output;
+use law_played::sf_output_plan::{Plan, ViewsDue, views_due};
+use law_played::sf_txn::Lease;
+use law_played::sf_view::{Content, Drawn, View};
 use sf_base::{Items, NoMemory};
-use sf_commit::Handler;
-use sf_output::Output;
-use sf_output_plan::{Plan, ViewsDue, views_due};
-use sf_txn::Lease;
-use sf_view::{Content, Drawn, View};
 use std::alloc::Global;
 
 /// The place of the buffer that a drawn layer shows, 0 for a colour.

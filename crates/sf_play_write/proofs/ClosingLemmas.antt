@@ -6,34 +6,34 @@ use Rattle.std.proofs.lemmas.Bool.{cases_Bool, eq-eqb, eqb-true, ne_eqb}
 use Rattle.std.proofs.lemmas.List.{map-append, take_more}
 use Rattle.std.proofs.lemmas.List.Elements.{All-contains, filter_map-append}
 use Rattle.atomic_table.specs.Seated.{TableId}
-use Rattle.sf_picture.specs.declared.picture.Picture.{Picture}
-use Rattle.sf_surface.specs.Histories.{told}
-use Rattle.sf_surface.specs.Objects.{ObjectOf, mark_of}
-use Rattle.sf_surface.specs.declared.mark.QueueMark.{QueueMark}
-use Rattle.sf_token.specs.Arrivals.{entry_of, sent}
-use Rattle.sf_script_scene.specs.Limits.{IsWithinLimits}
-use Rattle.sf_script_scene.specs.Scene.{SceneValue}
-use Rattle.sf_script_scene.specs.declared.declarations.QueueDecl.{QueueDecl}
-use Rattle.sf_script_scene.specs.declared.step.ActorScript.{ActorScript}
-use Rattle.sf_actor.specs.Desks.{DeskHome, DeskView, mark_among}
-use Rattle.sf_actor.specs.Makers.{Run}
-use Rattle.sf_actor.specs.Plain.{calls_among}
-use Rattle.sf_actor.specs.Tries.{ActorOf}
-use Rattle.sf_actor_steps.specs.Playable.{MayPlay}
-use Rattle.sf_actor_steps.specs.declared.actor.Actor.{Actor}
-use Rattle.sf_actor_set.specs.ActorSets.{KeepAs, script_of, scripts_of}
-use Rattle.sf_record.specs.Events.{closing}
-use Rattle.sf_record.specs.declared.record.Record.{Record}
-use Rattle.sf_record.specs.declared.record.Record.TheVariants as rec
-use Rattle.sf_record.specs.declared.record.StuckEntry.{StuckEntry}
-use Rattle.law_played.proofs.StepKeepsTold.{of_all}
-use Rattle.law_played.proofs.Members.{filter_has, has_cases, has_first, has_later, has_map, has_none, joined_has, map_has}
-use Rattle.law_played.proofs.Parts.{arrivals_recorded, calls_recorded, map_twice}
-use Rattle.law_played.specs.Actors.{mark_declared}
-use Rattle.law_played.specs.Histories.{entry_shown, history_shown, queue_number, rising_queues}
-use Rattle.law_played.specs.Progress.{held_shown}
-use Rattle.law_played.specs.Stopping.{stuck_among}
-use Rattle.law_played.specs.Telling.{arrival_recorded}
+use Rattle.sf_output_screen.specs.sf_picture.declared.picture.Picture.{Picture}
+use Rattle.sf_play.specs.sf_surface.Histories.{told}
+use Rattle.sf_play.specs.sf_surface.Objects.{ObjectOf, mark_of}
+use Rattle.sf_play.specs.sf_surface.declared.mark.QueueMark.{QueueMark}
+use Rattle.sf_play.specs.sf_token.Arrivals.{entry_of, sent}
+use Rattle.sf_play.specs.sf_script_scene.Limits.{IsWithinLimits}
+use Rattle.sf_play.specs.sf_script_scene.Scene.{SceneValue}
+use Rattle.sf_play.specs.sf_script_scene.declared.declarations.QueueDecl.{QueueDecl}
+use Rattle.sf_play.specs.sf_script_scene.declared.step.ActorScript.{ActorScript}
+use Rattle.sf_play.specs.sf_actor.Desks.{DeskHome, DeskView, mark_among}
+use Rattle.sf_play.specs.sf_actor.Makers.{Run}
+use Rattle.sf_play.specs.sf_actor.Plain.{calls_among}
+use Rattle.sf_play.specs.sf_actor.Tries.{ActorOf}
+use Rattle.sf_play.specs.sf_actor_steps.Playable.{MayPlay}
+use Rattle.sf_play.specs.sf_actor_steps.declared.actor.Actor.{Actor}
+use Rattle.sf_play.specs.sf_actor_set.ActorSets.{KeepAs, script_of, scripts_of}
+use Rattle.sf_play.specs.sf_record.Events.{closing}
+use Rattle.sf_play.specs.sf_record.declared.record.Record.{Record}
+use Rattle.sf_play.specs.sf_record.declared.record.Record.TheVariants as rec
+use Rattle.sf_play.specs.sf_record.declared.record.StuckEntry.{StuckEntry}
+use Rattle.sf_play.proofs.law_played_lemmas.StepKeepsTold.{of_all}
+use Rattle.sf_play.proofs.law_played_lemmas.Members.{filter_has, has_cases, has_first, has_later, has_map, has_none, joined_has, map_has}
+use Rattle.sf_play.proofs.law_played_lemmas.Parts.{arrivals_recorded, calls_recorded, map_twice}
+use Rattle.sf_play.specs.law_played.Actors.{mark_declared}
+use Rattle.sf_play.specs.law_played.Histories.{entry_shown, history_shown, queue_number, rising_queues}
+use Rattle.sf_play.specs.law_played.Progress.{held_shown}
+use Rattle.sf_play.specs.law_played.Stopping.{stuck_among}
+use Rattle.sf_play.specs.law_played.Telling.{arrival_recorded}
 use Rattle.sf_play.specs.Ending.{shows_at_end}
 use Rattle.sf_play.specs.Players.{PlayerOf, SoFar, home_in, run_so}
 use Rattle.sf_play.specs.Standing.{StandsInRun}

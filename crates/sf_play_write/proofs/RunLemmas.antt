@@ -2,21 +2,21 @@
 use Rattle.std.proofs.Common.{◌≡◌, ℕ, List, [], ◌∷◌, ◌++◌, Option, Result, Ok, Err, ap, sym, ◌∙◌, subst, OnErr, OnOk}
 use Rattle.std.proofs.lemmas.List.Elements.{All-nil}
 use Rattle.atomic_table.specs.Seated.{TableId}
-use Rattle.sf_actor.specs.Scripts.{picture_at}
-use Rattle.sf_output_plan.specs.declared.plan.Plan.{Plan}
+use Rattle.sf_play.specs.sf_actor.Scripts.{picture_at}
+use Rattle.sf_play.specs.sf_output_plan.declared.plan.Plan.{Plan}
 use Rattle.sf_output_screen.specs.Screens.{IsShown}
 use Rattle.sf_output_screen.specs.declared.screens.OutputScreen.{OutputScreen}
-use Rattle.sf_script_scene.specs.Limits.{IsWithinLimits}
-use Rattle.sf_script_scene.specs.Scene.{SceneValue}
-use Rattle.sf_actor_set.specs.Opening.{IsSortedFrom}
-use Rattle.sf_record.specs.Events.{events_records}
-use Rattle.sf_record.specs.declared.encode.RunFault.{RunFault}
-use Rattle.sf_record.specs.declared.event.Event.{Event}
-use Rattle.sf_record.specs.declared.record.Record.{Record}
-use Rattle.law_played.proofs.PlayEnds.{has_records}
-use Rattle.law_played.specs.Frames.{plan_of}
-use Rattle.law_played.specs.Played.{opening}
-use Rattle.law_played.specs.Plays.{first_playing, stays}
+use Rattle.sf_play.specs.sf_script_scene.Limits.{IsWithinLimits}
+use Rattle.sf_play.specs.sf_script_scene.Scene.{SceneValue}
+use Rattle.sf_play.specs.sf_actor_set.Opening.{IsSortedFrom}
+use Rattle.sf_play.specs.sf_record.Events.{events_records}
+use Rattle.sf_play.specs.sf_record.declared.encode.RunFault.{RunFault}
+use Rattle.sf_play.specs.sf_record.declared.event.Event.{Event}
+use Rattle.sf_play.specs.sf_record.declared.record.Record.{Record}
+use Rattle.sf_play.proofs.law_played_lemmas.PlayEnds.{has_records}
+use Rattle.sf_play.specs.law_played.Frames.{plan_of}
+use Rattle.sf_play.specs.law_played.Played.{opening}
+use Rattle.sf_play.specs.law_played.Plays.{first_playing, stays}
 use Rattle.sf_play.specs.Going.{records_so}
 use Rattle.sf_play.specs.Players.{PlayerOf}
 use Rattle.sf_play.specs.Standing.{Begins}

@@ -7,35 +7,35 @@ use Rattle.std.proofs.lemmas.List.Concat.{flat_map-append}
 use Rattle.std.proofs.lemmas.List.Elements.{All-contains, All-weaker}
 use Rattle.std.proofs.lemmas.Option.{slice_get_read, slice_get_within}
 use Rattle.atomic_table.specs.Seated.{TableId}
-use Rattle.sf_commit.specs.declared.vsync.Commit.{Commit as Decided}
-use Rattle.sf_script_scene.specs.Limits.{IsWithinLimits}
-use Rattle.sf_script_scene.specs.Ranges.{IsTimeline}
-use Rattle.sf_script_scene.specs.Scene.{SceneValue}
-use Rattle.sf_actor.specs.Scripts.{picture_at}
-use Rattle.sf_actor.specs.declared.tried.Reply.{Reply}
-use Rattle.sf_actor_steps.specs.declared.actor.Actor.{Actor}
-use Rattle.sf_actor_set.specs.Opening.{IsSortedFrom}
-use Rattle.sf_actor_set.proofs.RisingLemmas.{sorted_rises}
-use Rattle.sf_record.specs.Events.{event_records, events_records, vsync_records}
-use Rattle.sf_record.specs.declared.event.Event.{Event}
-use Rattle.sf_record.specs.declared.event.Event.TheVariants as event
-use Rattle.sf_record.specs.declared.event.VsyncReport.{VsyncReport as Told}
-use Rattle.sf_record.specs.declared.record.Record.{Record}
-use Rattle.sf_record.specs.declared.record.Record.TheVariants as rec
-use Rattle.sf_output_plan.specs.declared.plan.Plan.{Plan}
-use Rattle.sf_play_report.specs.Reports.{has_commits}
-use Rattle.sf_play_report.specs.Stages.{is_accepted}
-use Rattle.sf_play_report.specs.declared.report.VsyncReport.{VsyncReport}
-use Rattle.law_played.proofs.PlayEnds.{has_records}
-use Rattle.law_played.proofs.StepKeepsTold.{of_all}
-use Rattle.law_played.proofs.Members.{filter_has, joined_has}
-use Rattle.law_played.proofs.RisingNumbers.{rising_is}
-use Rattle.law_played.specs.Commits.{commit_shown}
-use Rattle.law_played.specs.Frames.{is_done, plan_of, shown_due}
-use Rattle.law_played.specs.Played.{opening}
-use Rattle.law_played.specs.Replies.{reply_shown}
-use Rattle.law_played.specs.Seeing.{value_shown}
-use Rattle.law_played.specs.Vsyncs.{rising_timelines}
+use Rattle.sf_play.specs.sf_commit.declared.vsync.Commit.{Commit as Decided}
+use Rattle.sf_play.specs.sf_script_scene.Limits.{IsWithinLimits}
+use Rattle.sf_play.specs.sf_script_scene.Ranges.{IsTimeline}
+use Rattle.sf_play.specs.sf_script_scene.Scene.{SceneValue}
+use Rattle.sf_play.specs.sf_actor.Scripts.{picture_at}
+use Rattle.sf_play.specs.sf_actor.declared.tried.Reply.{Reply}
+use Rattle.sf_play.specs.sf_actor_steps.declared.actor.Actor.{Actor}
+use Rattle.sf_play.specs.sf_actor_set.Opening.{IsSortedFrom}
+use Rattle.sf_play.proofs.sf_actor_set_lemmas.RisingLemmas.{sorted_rises}
+use Rattle.sf_play.specs.sf_record.Events.{event_records, events_records, vsync_records}
+use Rattle.sf_play.specs.sf_record.declared.event.Event.{Event}
+use Rattle.sf_play.specs.sf_record.declared.event.Event.TheVariants as event
+use Rattle.sf_play.specs.sf_record.declared.event.VsyncReport.{VsyncReport as Told}
+use Rattle.sf_play.specs.sf_record.declared.record.Record.{Record}
+use Rattle.sf_play.specs.sf_record.declared.record.Record.TheVariants as rec
+use Rattle.sf_play.specs.sf_output_plan.declared.plan.Plan.{Plan}
+use Rattle.sf_play.specs.sf_play_report.Reports.{has_commits}
+use Rattle.sf_play.specs.sf_play_report.Stages.{is_accepted}
+use Rattle.sf_play.specs.sf_play_report.declared.report.VsyncReport.{VsyncReport}
+use Rattle.sf_play.proofs.law_played_lemmas.PlayEnds.{has_records}
+use Rattle.sf_play.proofs.law_played_lemmas.StepKeepsTold.{of_all}
+use Rattle.sf_play.proofs.law_played_lemmas.Members.{filter_has, joined_has}
+use Rattle.sf_play.proofs.law_played_lemmas.RisingNumbers.{rising_is}
+use Rattle.sf_play.specs.law_played.Commits.{commit_shown}
+use Rattle.sf_play.specs.law_played.Frames.{is_done, plan_of, shown_due}
+use Rattle.sf_play.specs.law_played.Played.{opening}
+use Rattle.sf_play.specs.law_played.Replies.{reply_shown}
+use Rattle.sf_play.specs.law_played.Seeing.{value_shown}
+use Rattle.sf_play.specs.law_played.Vsyncs.{rising_timelines}
 use Rattle.sf_output_screen.specs.ScreenLists.{AreShown}
 use Rattle.sf_output_screen.specs.declared.screens.OutputScreen.{OutputScreen}
 use Rattle.sf_play.specs.Going.{GoesAlong}

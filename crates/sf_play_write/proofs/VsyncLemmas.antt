@@ -6,39 +6,39 @@ use Rattle.std.proofs.lemmas.List.Elements.{All-cons, All-nil}
 use Rattle.byteorder.specs.Endian.{big_bytes}
 use Rattle.std.proofs.lemmas.Bool.{false≢true}
 use Rattle.std.proofs.lemmas.List.{drop_at, take_at}
-use Rattle.sf_commit.specs.declared.vsync.Commit.{Commit as Decided}
-use Rattle.sf_compose.proofs.RowLemmas.{frame_bytes-same}
-use Rattle.sf_compose.specs.Again.{ShowsView}
-use Rattle.sf_compose.specs.Frames.{frame_bytes}
-use Rattle.sf_layer.specs.declared.layer.Layer.{Layer}
+use Rattle.sf_play.specs.sf_commit.declared.vsync.Commit.{Commit as Decided}
+use Rattle.sf_output_screen.proofs.sf_compose_lemmas.RowLemmas.{frame_bytes-same}
+use Rattle.sf_output_screen.specs.sf_compose.Again.{ShowsView}
+use Rattle.sf_output_screen.specs.sf_compose.Frames.{frame_bytes}
+use Rattle.sf_output_screen.specs.sf_layer.declared.layer.Layer.{Layer}
 use Rattle.sf_output.specs.Outputs.{IsOutput, OfImage, map_output}
 use Rattle.sf_output.specs.declared.output.Output.{Output}
 use Rattle.sf_output.specs.declared.output.Output.TheVariants as out
-use Rattle.sf_picture.specs.declared.picture.Picture.{Picture}
-use Rattle.sf_output_plan.specs.Due.{ImageDue, outputs_due}
-use Rattle.sf_output_plan.specs.declared.plan.Plan.{Plan}
-use Rattle.sf_record.specs.Events.{output_record, vsync_records}
-use Rattle.sf_record.specs.Records.{BeginsImage, u32_bytes}
-use Rattle.sf_record.specs.Records.{image_in as record_in}
-use Rattle.sf_record.specs.declared.encode.RunFault.{RunFault}
-use Rattle.sf_record.specs.declared.event.VsyncReport.{VsyncReport as Told}
-use Rattle.sf_record.specs.declared.record.Record.{Record}
-use Rattle.sf_record.specs.declared.record.Record.TheVariants as rec
-use Rattle.sf_play_report.specs.Reports.{has_commits}
-use Rattle.sf_play_report.specs.Stages.{shows_frame}
-use Rattle.sf_play_report.specs.declared.report.VsyncReport.{VsyncReport}
-use Rattle.sf_play_report.specs.declared.sourced.SourcedView.{SourcedView}
-use Rattle.law_played.specs.Commits.{commit_shown}
-use Rattle.law_played.specs.Frames.{frame_of, shown_due}
-use Rattle.law_played.specs.Seeing.{value_shown}
+use Rattle.sf_output_screen.specs.sf_picture.declared.picture.Picture.{Picture}
+use Rattle.sf_play.specs.sf_output_plan.Due.{ImageDue, outputs_due}
+use Rattle.sf_play.specs.sf_output_plan.declared.plan.Plan.{Plan}
+use Rattle.sf_play.specs.sf_record.Events.{output_record, vsync_records}
+use Rattle.sf_play.specs.sf_record.Records.{BeginsImage, u32_bytes}
+use Rattle.sf_play.specs.sf_record.Records.{image_in as record_in}
+use Rattle.sf_play.specs.sf_record.declared.encode.RunFault.{RunFault}
+use Rattle.sf_play.specs.sf_record.declared.event.VsyncReport.{VsyncReport as Told}
+use Rattle.sf_play.specs.sf_record.declared.record.Record.{Record}
+use Rattle.sf_play.specs.sf_record.declared.record.Record.TheVariants as rec
+use Rattle.sf_play.specs.sf_play_report.Reports.{has_commits}
+use Rattle.sf_play.specs.sf_play_report.Stages.{shows_frame}
+use Rattle.sf_play.specs.sf_play_report.declared.report.VsyncReport.{VsyncReport}
+use Rattle.sf_play.specs.sf_play_report.declared.sourced.SourcedView.{SourcedView}
+use Rattle.sf_play.specs.law_played.Commits.{commit_shown}
+use Rattle.sf_play.specs.law_played.Frames.{frame_of, shown_due}
+use Rattle.sf_play.specs.law_played.Seeing.{value_shown}
 use Rattle.sf_output_screen.specs.ScreenLists.{AreShown}
 use Rattle.sf_output_screen.specs.declared.screens.OutputScreen.{OutputScreen}
 use Rattle.sf_output_screen.specs.Screens.{IsShown, IsWhole, ScreenOf, head_of, image_bytes, is_image}
 use Rattle.sf_output_screen.proofs.ScreenLemmas.{shown_bytes}
-use Rattle.sf_view.proofs.ImageLemmas.{view_image-order}
-use Rattle.sf_view.specs.Image.{image_in}
-use Rattle.sf_view.specs.Stacks.{view_image}
-use Rattle.sf_view.specs.Views.{ViewOf}
+use Rattle.sf_output_screen.proofs.sf_view_lemmas.ImageLemmas.{view_image-order}
+use Rattle.sf_output_screen.specs.sf_view.Image.{image_in}
+use Rattle.sf_output_screen.specs.sf_view.Stacks.{view_image}
+use Rattle.sf_output_screen.specs.sf_view.Views.{ViewOf}
 use Rattle.sf_play_write.proofs.WritingLemmas.{part_front, part_more, writes_more}
 use Rattle.sf_play_write.specs.Vsyncs.{AreComposed, AreViewsDue, IsComposed, IsSame, IsViewDue, image_record, pixels_in, pixels_of, records_by, records_if, shown_record, told_by, vsync_shown}
 use Rattle.sf_play_write.specs.Writing.{Writes, WritesPart}

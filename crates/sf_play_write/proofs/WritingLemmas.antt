@@ -8,11 +8,11 @@ use Rattle.std.proofs.lemmas.List.Elements.{All-append, All-cons, All-nil}
 use Rattle.std.specs.Io.KnownBytes.{Appends}
 use Rattle.sf_io.specs.Streams.{TookPrefix}
 use Rattle.sf_io.proofs.StreamLemmas.{TookPrefix-front, TookPrefix-rest}
-use Rattle.sf_record.specs.declared.encode.RunFault.{RunFault}
-use Rattle.sf_record.specs.declared.encode.RunFault.TheVariants as fault
-use Rattle.sf_record.specs.Fitting.{RecordFits}
-use Rattle.sf_record.specs.Records.{bytes_of, record_bytes}
-use Rattle.sf_record.specs.declared.record.Record.{Record}
+use Rattle.sf_play.specs.sf_record.declared.encode.RunFault.{RunFault}
+use Rattle.sf_play.specs.sf_record.declared.encode.RunFault.TheVariants as fault
+use Rattle.sf_play.specs.sf_record.Fitting.{RecordFits}
+use Rattle.sf_play.specs.sf_record.Records.{bytes_of, record_bytes}
+use Rattle.sf_play.specs.sf_record.declared.record.Record.{Record}
 use Rattle.sf_play_write.specs.Writing.{CutSome, Writes, WritesPart, WritesSome}
 
 pub one_record : (r : Record) → record_bytes r ≡ bytes_of (r ∷ [])

@@ -1,16 +1,16 @@
 -- What is written at the end of a play.
 use Rattle.std.specs.Prelude.{◌+◌, nat_lt, if◌then◌else◌, List, length, map, Option, None, Some, filter_map}
-use Rattle.sf_surface.specs.Histories.{told}
-use Rattle.sf_surface.specs.Objects.{ObjectOf, mark_of}
-use Rattle.sf_surface.specs.Shown.{entries_of}
-use Rattle.sf_token.specs.Arrivals.{entry_of, sent}
-use Rattle.sf_actor_steps.specs.declared.actor.Actor.{Actor}
-use Rattle.sf_record.specs.Events.{closing}
-use Rattle.sf_record.specs.declared.record.QueueHistory.{QueueHistory}
-use Rattle.sf_record.specs.declared.record.Record.{Record}
-use Rattle.sf_record.specs.declared.record.StuckEntry.{StuckEntry}
-use Rattle.law_played.specs.Progress.{held_shown}
-use Rattle.law_played.specs.Telling.{arrival_recorded, call_recorded}
+use Rattle.sf_play.specs.sf_surface.Histories.{told}
+use Rattle.sf_play.specs.sf_surface.Objects.{ObjectOf, mark_of}
+use Rattle.sf_play.specs.sf_surface.Shown.{entries_of}
+use Rattle.sf_play.specs.sf_token.Arrivals.{entry_of, sent}
+use Rattle.sf_play.specs.sf_actor_steps.declared.actor.Actor.{Actor}
+use Rattle.sf_play.specs.sf_record.Events.{closing}
+use Rattle.sf_play.specs.sf_record.declared.record.QueueHistory.{QueueHistory}
+use Rattle.sf_play.specs.sf_record.declared.record.Record.{Record}
+use Rattle.sf_play.specs.sf_record.declared.record.StuckEntry.{StuckEntry}
+use Rattle.sf_play.specs.law_played.Progress.{held_shown}
+use Rattle.sf_play.specs.law_played.Telling.{arrival_recorded, call_recorded}
 use Rattle.sf_play.specs.Players.{PlayerOf}
 
 module _ {B : Type 0} where

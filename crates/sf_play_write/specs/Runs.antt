@@ -1,9 +1,9 @@
 -- What is written of a whole play.
 use Rattle.std.specs.Prelude.{ℕ, List, Option}
-use Rattle.sf_script_scene.specs.Scene.{SceneValue}
-use Rattle.sf_record.specs.declared.record.Record.{Record}
-use Rattle.law_played.specs.Ends.{ArePlayRecords}
-use Rattle.law_played.specs.Played.{Played}
+use Rattle.sf_play.specs.sf_script_scene.Scene.{SceneValue}
+use Rattle.sf_play.specs.sf_record.declared.record.Record.{Record}
+use Rattle.sf_play.specs.law_played.Ends.{ArePlayRecords}
+use Rattle.sf_play.specs.law_played.Played.{Played}
 use Rattle.sf_play_write.specs.Writing.{Writes, WritesPart}
 
 -- the records of a run were written: they are those of the scene's play, and they mean what a played run means

@@ -1,19 +1,19 @@
 -- What is written of the turns of a play.
 use Rattle.std.specs.Prelude.{◌≡◌, ℕ, ◌<◌, Bool, true, false, List, [], ◌∷◌, length, Option, None, Some, slice_get}
 use Rattle.atomic_table.specs.Seated.{TableId}
-use Rattle.sf_picture.specs.declared.picture.Picture.{Picture}
-use Rattle.sf_output_plan.specs.declared.plan.Plan.{Plan}
-use Rattle.sf_script_scene.specs.Scene.{SceneValue}
-use Rattle.sf_actor.specs.Scripts.{picture_at}
-use Rattle.sf_actor.specs.declared.tried.Reply.{Reply}
-use Rattle.sf_actor_steps.specs.declared.actor.Actor.{Actor}
-use Rattle.sf_record.specs.Events.{events_records}
-use Rattle.sf_record.specs.declared.record.Record.{Record}
-use Rattle.sf_record.specs.declared.record.Record.TheVariants as rec
-use Rattle.law_played.specs.Played.{opening}
-use Rattle.law_played.specs.Replies.{reply_shown}
-use Rattle.law_played.specs.Vsyncs.{rising_timelines}
-use Rattle.law_played.specs.Frames.{plan_of}
+use Rattle.sf_output_screen.specs.sf_picture.declared.picture.Picture.{Picture}
+use Rattle.sf_play.specs.sf_output_plan.declared.plan.Plan.{Plan}
+use Rattle.sf_play.specs.sf_script_scene.Scene.{SceneValue}
+use Rattle.sf_play.specs.sf_actor.Scripts.{picture_at}
+use Rattle.sf_play.specs.sf_actor.declared.tried.Reply.{Reply}
+use Rattle.sf_play.specs.sf_actor_steps.declared.actor.Actor.{Actor}
+use Rattle.sf_play.specs.sf_record.Events.{events_records}
+use Rattle.sf_play.specs.sf_record.declared.record.Record.{Record}
+use Rattle.sf_play.specs.sf_record.declared.record.Record.TheVariants as rec
+use Rattle.sf_play.specs.law_played.Played.{opening}
+use Rattle.sf_play.specs.law_played.Replies.{reply_shown}
+use Rattle.sf_play.specs.law_played.Vsyncs.{rising_timelines}
+use Rattle.sf_play.specs.law_played.Frames.{plan_of}
 use Rattle.sf_output_screen.specs.ScreenLists.{AreShown}
 use Rattle.sf_output_screen.specs.declared.screens.OutputScreen.{OutputScreen}
 use Rattle.sf_play.specs.Going.{EndsPlay, TellsStage}

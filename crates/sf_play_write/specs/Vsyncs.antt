@@ -1,22 +1,22 @@
 -- What is written of a vsync.
 use Rattle.std.specs.Prelude.{◌≡◌, ℕ, true, if◌then◌else◌, is_some, List, [], map}
 use Rattle.std.specs.List.{All, AllZip}
-use Rattle.sf_picture.specs.declared.picture.Picture.{Picture}
-use Rattle.sf_commit.specs.declared.vsync.Commit.{Commit as Decided}
-use Rattle.sf_layer.specs.declared.layer.Layer.{Layer}
+use Rattle.sf_output_screen.specs.sf_picture.declared.picture.Picture.{Picture}
+use Rattle.sf_play.specs.sf_commit.declared.vsync.Commit.{Commit as Decided}
+use Rattle.sf_output_screen.specs.sf_layer.declared.layer.Layer.{Layer}
 use Rattle.sf_output.specs.Outputs.{IsOutput, OfImage, map_output}
 use Rattle.sf_output.specs.declared.output.Output.{Output}
-use Rattle.sf_output_plan.specs.Due.{ImageDue, ShowsDue, outputs_due}
-use Rattle.sf_output_plan.specs.declared.plan.Plan.{Plan}
-use Rattle.sf_record.specs.Events.{output_record, vsync_records}
-use Rattle.sf_record.specs.declared.event.VsyncReport.{VsyncReport as Told}
-use Rattle.sf_record.specs.declared.record.Record.{Record}
-use Rattle.sf_play_report.specs.Stages.{FindsPictures, IsReadableView, shows_frame}
-use Rattle.sf_play_report.specs.declared.report.VsyncReport.{VsyncReport}
-use Rattle.sf_play_report.specs.declared.sourced.SourcedView.{SourcedView}
-use Rattle.law_played.specs.Commits.{commit_shown}
-use Rattle.law_played.specs.Frames.{shown_due}
-use Rattle.law_played.specs.Seeing.{value_shown}
+use Rattle.sf_play.specs.sf_output_plan.Due.{ImageDue, ShowsDue, outputs_due}
+use Rattle.sf_play.specs.sf_output_plan.declared.plan.Plan.{Plan}
+use Rattle.sf_play.specs.sf_record.Events.{output_record, vsync_records}
+use Rattle.sf_play.specs.sf_record.declared.event.VsyncReport.{VsyncReport as Told}
+use Rattle.sf_play.specs.sf_record.declared.record.Record.{Record}
+use Rattle.sf_play.specs.sf_play_report.Stages.{FindsPictures, IsReadableView, shows_frame}
+use Rattle.sf_play.specs.sf_play_report.declared.report.VsyncReport.{VsyncReport}
+use Rattle.sf_play.specs.sf_play_report.declared.sourced.SourcedView.{SourcedView}
+use Rattle.sf_play.specs.law_played.Commits.{commit_shown}
+use Rattle.sf_play.specs.law_played.Frames.{shown_due}
+use Rattle.sf_play.specs.law_played.Seeing.{value_shown}
 use Rattle.sf_output_screen.specs.ScreenLists.{AreShown}
 use Rattle.sf_output_screen.specs.Screens.{IsShown, ScreenOf, image_bytes}
 use Rattle.sf_output_screen.specs.declared.screens.OutputScreen.{OutputScreen}

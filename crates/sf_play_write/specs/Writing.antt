@@ -2,9 +2,9 @@
 use Rattle.std.specs.Prelude.{ℕ, ◌≤◌, List, All, Option, length, take}
 use Rattle.std.specs.Io.KnownBytes.{Appends}
 use Rattle.sf_io.specs.Streams.{TookPrefix}
-use Rattle.sf_record.specs.Fitting.{RecordFits}
-use Rattle.sf_record.specs.Records.{bytes_of}
-use Rattle.sf_record.specs.declared.record.Record.{Record}
+use Rattle.sf_play.specs.sf_record.Fitting.{RecordFits}
+use Rattle.sf_play.specs.sf_record.Records.{bytes_of}
+use Rattle.sf_play.specs.sf_record.declared.record.Record.{Record}
 
 -- records were written, whose numbers fit their fields
 pub record Writes (old new : Option (List ℕ)) (records : List Record) : Type 0 where

@@ -1,21 +1,21 @@
 ghost use Rattle.std.specs.Prelude.{◌≡◌, ◌≤◌, ◌∷◌, ◌++◌, [], All, IfOk, IsErrOf, OnErr, OnOk, length, map, option_to_list};
 ghost use Rattle.sf_io.specs.Causes.{Rose};
-ghost use Rattle.sf_record.specs.declared.record.Record.TheVariants as rec;
-ghost use Rattle.law_played.specs.Progress.{held_shown};
+ghost use Rattle.sf_play.specs.sf_record.declared.record.Record.TheVariants as rec;
+ghost use Rattle.sf_play.specs.law_played.Progress.{held_shown};
 ghost use Rattle.sf_play_write.specs.Closings.{closing_of, history_of, stuck_at, stuck_entry};
 ghost use Rattle.sf_play_write.specs.Writing.{Writes, WritesPart};
-ghost use Rattle.sf_actor_steps.specs.declared.actor.Actor.{Actor as ActorIn};
+ghost use Rattle.sf_play.specs.sf_actor_steps.declared.actor.Actor.{Actor as ActorIn};
 
 use crate::writing::write_made;
 use sf_base::{Items, NoMemory};
 use sf_io::Sink;
 use sf_play::Player;
-use sf_ready::Hold;
-use sf_record::{Record, RunFault, StuckEntry};
-use sf_play_report::{arrivals_record, held_record, history_record};
-use sf_actor_steps::Actor;
-use sf_surface::QueueObject;
-use sf_turns::TableName;
+use sf_play::sf_actor_steps::Actor;
+use sf_play::sf_play_report::{arrivals_record, held_record, history_record};
+use sf_play::sf_ready::Hold;
+use sf_play::sf_record::{Record, RunFault, StuckEntry};
+use sf_play::sf_surface::QueueObject;
+use sf_play::sf_turns::TableName;
 use std::alloc::Global;
 
 /// An actor that has not done all its steps, with its next one.

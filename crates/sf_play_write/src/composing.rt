@@ -1,17 +1,17 @@
 ghost use denote.Param.Send.{IsSync};
 ghost use Rattle.std.specs.Prelude.{◌≡◌, ◌≤◌, ℕ, IfOk, IfSome, is_some, map, true};
 ghost use Rattle.sf_output.specs.Outputs.{IsOutput, OfImage};
-ghost use Rattle.sf_picture.specs.declared.picture.Picture.{Picture};
-ghost use Rattle.sf_play_report.specs.Stages.{FindsPictures, IsReadableView};
+ghost use Rattle.sf_output_screen.specs.sf_picture.declared.picture.Picture.{Picture};
+ghost use Rattle.sf_play.specs.sf_play_report.Stages.{FindsPictures, IsReadableView};
 ghost use Rattle.sf_output_screen.specs.ScreenLists.{AreShown};
 ghost use Rattle.sf_play_write.specs.Vsyncs.{AreImagesOf, AreReadableViews, HasView, IsComposed, KeepsShown};
 
 use sf_base::NoMemory;
-use sf_compose::Pixels;
 use sf_output::Output;
-use sf_play_report::SourcedView;
+use sf_output_screen::sf_compose::Pixels;
+use sf_output_screen::sf_view::View;
 use sf_output_screen::{Screen, Screens};
-use sf_view::View;
+use sf_play::sf_play_report::SourcedView;
 use std::alloc::Global;
 use std::thread;
 use std::thread::Threads;

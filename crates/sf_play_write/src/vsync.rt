@@ -1,14 +1,14 @@
 ghost use Rattle.std.specs.List.{list_any};
 ghost use Rattle.std.specs.Prelude.{◌≡◌, ◌≤◌, ◌∷◌, [], ℕ, All, IfOk, IsErrOf, None, OnErr, OnOk, is_some, map, true};
-ghost use Rattle.sf_commit.specs.Handlers.{HandlerOf};
+ghost use Rattle.sf_play.specs.sf_commit.Handlers.{HandlerOf};
 ghost use Rattle.sf_io.specs.Causes.{Rose};
 ghost use Rattle.sf_output.specs.Outputs.{OfImage};
-ghost use Rattle.sf_picture.specs.declared.picture.Picture.{Picture};
-ghost use Rattle.sf_record.specs.Events.{output_record};
-ghost use Rattle.sf_record.specs.declared.record.Record.TheVariants as rec;
-ghost use Rattle.sf_play_report.specs.Reports.{has_commits};
-ghost use Rattle.sf_play_report.specs.Stages.{AreExpected, IsReadableView, IsStage, is_accepted};
-ghost use Rattle.law_played.specs.Commits.{commit_shown};
+ghost use Rattle.sf_output_screen.specs.sf_picture.declared.picture.Picture.{Picture};
+ghost use Rattle.sf_play.specs.sf_record.Events.{output_record};
+ghost use Rattle.sf_play.specs.sf_record.declared.record.Record.TheVariants as rec;
+ghost use Rattle.sf_play.specs.sf_play_report.Reports.{has_commits};
+ghost use Rattle.sf_play.specs.sf_play_report.Stages.{AreExpected, IsReadableView, IsStage, is_accepted};
+ghost use Rattle.sf_play.specs.law_played.Commits.{commit_shown};
 ghost use Rattle.sf_output_screen.specs.ScreenLists.{AreShown};
 ghost use Rattle.sf_output_screen.specs.Screens.{IsShown, is_image};
 ghost use Rattle.sf_play_write.specs.Vsyncs.{AreViewsDue, FindPictures, HasView, IsSame, image_record, pixels_in, records_by, shown_record, vsync_shown};
@@ -17,15 +17,17 @@ ghost use Rattle.sf_play_write.specs.Writing.{CutSome, Writes, WritesPart, Write
 use crate::composing::compose_views;
 use crate::writing::write_made;
 use sf_base::{Items, NoMemory, Seen};
-use sf_commit::{Commit, Handler};
 use sf_io::Sink;
 use sf_output::Output;
-use sf_output_plan::Plan;
-use sf_record::{Hit, Record, RunFault, write_image};
-use sf_play_report::{SourcedView, VsyncReport, commit_record, sourced_views, vsync_record};
+use sf_output_screen::sf_view::View;
 use sf_output_screen::{Screen, Screens};
-use sf_txn::Lease;
-use sf_view::View;
+use sf_play::sf_commit::{Commit, Handler};
+use sf_play::sf_output_plan::Plan;
+use sf_play::sf_play_report::{
+    SourcedView, VsyncReport, commit_record, sourced_views, vsync_record,
+};
+use sf_play::sf_record::{Hit, Record, RunFault, write_image};
+use sf_play::sf_txn::Lease;
 use std::alloc::Global;
 use std::thread::Threads;
 

@@ -14,3 +14,4 @@ pub use record::{
     ArrivalEntry, Commit, CommittedBuffer, Frame, HeldEntry, HistoryEntry, Hit, NumberedFrame,
     QueueHistory, Record, Reply, SceneHeader, StuckEntry, Summary, TimelineValue, VsyncHeader,
 };
+pub use sf_output;

@@ -6,4 +6,5 @@ mod past;
 mod progress;
 mod tally;
 
+pub use sf_record;
 pub use tally::Tally;

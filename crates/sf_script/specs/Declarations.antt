@@ -3,8 +3,8 @@ use Rattle.std.specs.Prelude.{ℕ, ◌==◌, ◌||◌, not, if◌then◌else◌,
 use Rattle.std.specs.Str.{bytes_eq}
 use Rattle.sf_base.specs.declared.format.Format.{Format}
 use Rattle.sf_base.specs.declared.format.Format.TheVariants as format
-use Rattle.sf_picture.specs.declared.fill.Fill.{Fill}
-use Rattle.sf_picture.specs.declared.picture.Picture.{Picture}
+use Rattle.sf_script_scene.specs.sf_picture.declared.fill.Fill.{Fill}
+use Rattle.sf_script_scene.specs.sf_picture.declared.picture.Picture.{Picture}
 use Rattle.sf_script_words.specs.Text.{Text}
 use Rattle.sf_script_words.specs.Colours.{colour_at}
 use Rattle.sf_script_words.specs.Reading.{Read, ◌>>=◌, demand, end_at, fixed_at, good, number_at, word_at}

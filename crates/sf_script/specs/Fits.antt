@@ -1,7 +1,7 @@
 -- Lines that keep the ranges and the limits of a script.
 use Rattle.std.specs.Prelude.{◌≡◌, ℕ, ◌<◌, ◌≤◌, Bool, false, List, length, All, Option, IfSome}
-use Rattle.sf_picture.specs.declared.fill.Fill.{Fill}
-use Rattle.sf_picture.specs.declared.picture.Picture.{Picture}
+use Rattle.sf_script_scene.specs.sf_picture.declared.fill.Fill.{Fill}
+use Rattle.sf_script_scene.specs.sf_picture.declared.picture.Picture.{Picture}
 use Rattle.sf_script_words.specs.Text.{Text}
 use Rattle.sf_script_scene.specs.Limits.{IsHeader, IsPick, IsRgba, StepFits, most_actors}
 use Rattle.sf_script_scene.specs.Ranges.{IsCapture, IsDisplay, IsFill, IsHit, IsMirror, IsPicture, IsQueue, IsStack, IsTimeline}

@@ -12,3 +12,5 @@ pub mod Transactions
 pub mod Order
 pub mod Script
 pub mod Parse
+pub use Rattle.sf_script_scene.specs.sf_picture
+pub use Rattle.sf_script_scene.specs as sf_script_scene

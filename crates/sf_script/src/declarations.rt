@@ -11,7 +11,7 @@ ghost use Rattle.sf_script.specs.Fits.{ActorFits, IsNew, PictureFits};
 
 use crate::line::Header;
 use sf_base::{Format, Items, Rect};
-use sf_picture::{Fill, Picture};
+use sf_script_scene::sf_picture::{Fill, Picture};
 use sf_script_scene::{QueueDecl, Scene, most_actors};
 use sf_script_words::{
     Cause, WordFault, colour, demand, end, fixed, is, next_word, number32, number64, word, wrong,

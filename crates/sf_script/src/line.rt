@@ -1,5 +1,5 @@
 use sf_base::Items;
-use sf_picture::{Fill, Picture};
+use sf_script_scene::sf_picture::{Fill, Picture};
 use sf_script_scene::{CaptureDecl, DisplayDecl, HitDecl, Pick, QueueDecl, Step};
 
 /// The two sides of a queue.

@@ -18,4 +18,5 @@ pub use declarations::{CaptureDecl, DisplayDecl, HitDecl, Pick, QueueDecl};
 pub use limits::{most_actors, most_layers};
 pub use points::Points;
 pub use scene::Scene;
+pub use sf_picture;
 pub use step::{ActorScript, Step};

@@ -5,7 +5,7 @@ use Rattle.atomic_table.specs.Seated.{TableId}
 use Rattle.sf_base.specs.Fences.{Fence, no_points}
 use Rattle.sf_base.specs.declared.ids.ActorId.{ActorId}
 use Rattle.sf_base.specs.declared.status.QStatus.{QStatus}
-use Rattle.sf_picture.specs.declared.picture.Picture.{Picture}
+use Rattle.sf_turns.specs.sf_picture.declared.picture.Picture.{Picture}
 use Rattle.sf_slots.specs.declared.calls.PlainCall.TheVariants as plain
 use Rattle.sf_slots.specs.declared.calls.PlainReply.TheVariants as reply
 use Rattle.sf_slots.specs.declared.calls.WriteToken.{WriteToken}

@@ -11,8 +11,8 @@ use Rattle.sf_base.specs.declared.ids.QueueId.{QueueId}
 use Rattle.sf_base.specs.declared.status.QStatus.{QStatus}
 use Rattle.sf_base.specs.declared.status.QStatus.TheVariants.{BadValue}
 use Rattle.sf_calls.specs.Histories.{entry}
-use Rattle.sf_picture.specs.Pixels.{HasSize}
-use Rattle.sf_picture.specs.declared.picture.Picture.{Picture}
+use Rattle.sf_turns.specs.sf_picture.Pixels.{HasSize}
+use Rattle.sf_turns.specs.sf_picture.declared.picture.Picture.{Picture}
 use Rattle.sf_slots.specs.declared.calls.PlainCall.TheVariants as plain
 use Rattle.sf_slots.specs.declared.calls.PlainReply.TheVariants as reply
 use Rattle.sf_slots.specs.declared.calls.WriteToken.{WriteToken}

@@ -6,8 +6,8 @@ use Rattle.std.proofs.lemmas.Slice.Eq.{slice_eq-Decides}
 use Rattle.sf_base.proofs.Deciding.{both_decide, decides_as, nat_decides, rect_decides, rgba_decides}
 use Rattle.sf_base.specs.declared.format.Format.{Format}
 use Rattle.sf_base.specs.declared.format.Format.TheVariants as format
-use Rattle.sf_picture.specs.declared.fill.Fill.{Fill}
-use Rattle.sf_picture.specs.declared.picture.Picture.{Picture}
+use Rattle.sf_turns.specs.sf_picture.declared.fill.Fill.{Fill}
+use Rattle.sf_turns.specs.sf_picture.declared.picture.Picture.{Picture}
 use Rattle.sf_surface.specs.Pictures.{same_fill, same_format, same_picture}
 
 fill_by : (f g : Fill) → f.rect ≡ g.rect → f.colour ≡ g.colour → f ≡ g

@@ -8,7 +8,7 @@ use Rattle.sf_base.specs.declared.status.QStatus.TheVariants as status
 use Rattle.sf_calls.specs.declared.object.Entry.{Entry}
 use Rattle.sf_calls.specs.declared.object.Answer.{Answer}
 use Rattle.sf_calls.specs.declared.object.Answer.TheVariants.{Replies, Waits}
-use Rattle.sf_picture.specs.declared.picture.Picture.{Picture}
+use Rattle.sf_turns.specs.sf_picture.declared.picture.Picture.{Picture}
 use Rattle.sf_slots.specs.declared.calls.Entry.{Entry as Told}
 use Rattle.sf_slots.specs.declared.calls.PlainReply.{PlainReply}
 use Rattle.sf_slots.specs.declared.calls.PlainReply.TheVariants as plain

@@ -6,8 +6,8 @@ use Rattle.sf_base.specs.declared.format.Format.{Format}
 use Rattle.sf_base.specs.declared.format.Format.TheVariants as format
 use Rattle.sf_base.specs.declared.geometry.Rect.{Rect}
 use Rattle.sf_base.specs.declared.pixel.Rgba.{Rgba}
-use Rattle.sf_picture.specs.declared.fill.Fill.{Fill}
-use Rattle.sf_picture.specs.declared.picture.Picture.{Picture}
+use Rattle.sf_turns.specs.sf_picture.declared.fill.Fill.{Fill}
+use Rattle.sf_turns.specs.sf_picture.declared.picture.Picture.{Picture}
 
 abbrev pub same_format : Format → Format → Bool
 same_format format.Rgba format.Rgba = true

@@ -11,8 +11,8 @@ use crate::token::{Loose, WriteLease};
 use crate::values::Room;
 use crate::work::Work;
 use sf_base::{ActorId, Fence, QueueId, SlotId};
-use sf_picture::Painted;
 use sf_slots::{Held, Slots};
+use sf_turns::sf_picture::Painted;
 use sf_turns::{TableName, Turn};
 
 /// A loose buffer as a lease to write, in the slot where it is now.

@@ -1,6 +1,6 @@
 use crate::token::{Ending, Loose, Owing, ReadLease, WriteLease};
 use sf_base::{Fence, Items, QStatus, Rect};
-use sf_picture::{Painted, Picture};
+use sf_turns::sf_picture::{Painted, Picture};
 use sf_turns::{Permit, TableName};
 
 /// A call on a queue, with the tokens that it brings.

@@ -11,9 +11,9 @@ use crate::rights::{Finished, finish};
 use crate::token::WriteLease;
 use crate::values::Room;
 use sf_base::{ActorId, Fence, NoMemory, QStatus, QueueId};
-use sf_picture::Painted;
 use sf_queue::{cancel_allowed, lent_refusal};
 use sf_slots::Slots;
+use sf_turns::sf_picture::Painted;
 use sf_turns::{TableName, Turn};
 use std::alloc::Global;
 

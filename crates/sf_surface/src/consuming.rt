@@ -12,8 +12,8 @@ use crate::replies::{gives, refused};
 use crate::token::{Loose, ReadLease};
 use crate::values::Room;
 use sf_base::{ActorId, Fence, QueueId, Rect, SlotId};
-use sf_picture::Painted;
 use sf_slots::{Held, Item, Slots};
+use sf_turns::sf_picture::Painted;
 use sf_turns::{TableName, Turn};
 use std::marker::PhantomData;
 

@@ -22,8 +22,8 @@ use crate::settings::{abandon, set_async, set_max_acquired, set_max_dequeued};
 use crate::values::Room;
 use sf_base::{ActorId, NoMemory, QueueId};
 use sf_calls::Outcome;
-use sf_picture::Painted;
 use sf_slots::Slots;
+use sf_turns::sf_picture::Painted;
 use sf_turns::{TableName, Turn};
 use std::alloc::Global;
 

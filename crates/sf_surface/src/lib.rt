@@ -36,5 +36,7 @@ pub use drawing::DrawFault;
 pub use entry::HistEntry;
 pub use mark::QueueMark;
 pub use object::QueueObject;
+pub use sf_slots;
+pub use sf_turns;
 pub use token::{Ending, Loose, Owing, ReadLease, WriteLease};
 pub use work::Work;

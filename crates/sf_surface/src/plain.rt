@@ -6,9 +6,9 @@ ghost use Rattle.sf_surface.specs.Tokens.{is_drawn};
 use crate::token::{ReadLease, WriteLease};
 use crate::work::Work;
 use sf_base::{QueueId, SlotId};
-use sf_picture::Picture;
 use sf_slots::Held;
 use sf_turns::TableName;
+use sf_turns::sf_picture::Picture;
 
 /// What a lease says of its buffer to a queue.
 #[derive(Clone, Copy)]

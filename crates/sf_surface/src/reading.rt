@@ -1,7 +1,7 @@
 use crate::token::ReadLease;
 use sf_base::{Fence, NoMemory, QueueId, Rect, SlotId};
-use sf_picture::Painted;
 use sf_slots::Held;
+use sf_turns::sf_picture::Painted;
 use sf_turns::{Busy, Inside, TableName, TurnSeat};
 use sf_txn::Lease;
 use std::alloc::Global;

@@ -10,8 +10,8 @@ use crate::replies::{gives, refused};
 use crate::token::WriteLease;
 use crate::values::Room;
 use sf_base::{ActorId, QueueId};
-use sf_picture::Painted;
 use sf_slots::Slots;
+use sf_turns::sf_picture::Painted;
 use sf_turns::{TableName, Turn};
 
 /// Makes the lent buffer known to its producer.

@@ -7,7 +7,7 @@ ghost use Rattle.sf_surface.specs.Tokens.{turn_of, turn_after, ending_of, ending
 use crate::token::Ending;
 use crate::work::Work;
 use sf_base::NoMemory;
-use sf_picture::{Painted, Picture};
+use sf_turns::sf_picture::{Painted, Picture};
 use sf_turns::{Owed, TableName, Turn};
 use std::alloc::Global;
 use std::marker::PhantomData;

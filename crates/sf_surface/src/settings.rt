@@ -6,8 +6,8 @@ use crate::call::{QCall, QReply};
 use crate::replies::answer;
 use crate::values::Room;
 use sf_base::ActorId;
-use sf_picture::Painted;
 use sf_slots::Slots;
+use sf_turns::sf_picture::Painted;
 use sf_turns::{TableName, Turn};
 
 /// Sets how many buffers the producer may hold.

@@ -1,7 +1,7 @@
 use crate::work::Work;
 use sf_base::{Fence, QueueId, Rect, SlotId};
-use sf_picture::Painted;
 use sf_slots::Held;
+use sf_turns::sf_picture::Painted;
 use sf_turns::{Busy, Owed, TableName, Turn};
 use std::marker::{Model, PhantomData};
 

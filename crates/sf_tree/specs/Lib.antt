@@ -14,3 +14,4 @@ pub mod Search
 pub mod Answers
 pub mod Known
 pub mod Ranking
+pub use Rattle.sf_layer.specs as sf_layer

@@ -16,4 +16,5 @@ mod tree;
 
 pub use apply::ApplyFault;
 pub use laws::no_layer_reaches_itself;
+pub use sf_layer;
 pub use tree::Tree;

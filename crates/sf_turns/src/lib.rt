@@ -25,6 +25,7 @@ pub use naming::TableName;
 pub use open::open_turns;
 pub use owed::Owed;
 pub use seat::TurnSeat;
+pub use sf_picture;
 pub use stamped::Stamped;
 pub use stock::{Permit, Stock};
 pub use turn::Turn;

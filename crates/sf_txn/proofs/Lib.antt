@@ -7,3 +7,4 @@ pub mod Places
 pub mod MergedOperations
 pub mod Fronts
 pub mod Distinct
+pub use Rattle.sf_layer.proofs as sf_layer_lemmas

@@ -14,4 +14,5 @@ mod transaction;
 
 pub use buffer::BufferOp;
 pub use lease::Lease;
+pub use sf_layer;
 pub use transaction::{Parts, Transaction};

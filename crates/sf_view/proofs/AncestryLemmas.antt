@@ -1,9 +1,9 @@
 -- Ancestors, step by step.
 use Rattle.std.proofs.Common.{◌≡◌, ℕ, zero, suc, ◌-◌, ◌+◌, ◌<◌, ◌≤◌, List, [], ◌∷◌, ◌++◌, length, Option, Some, None, refl, ap, ◌∙◌, sym, arith, append_assoc}
 use Rattle.std.specs.List.{All}
-use Rattle.sf_layer.specs.declared.layer.Layer.{Layer}
-use Rattle.sf_layer.specs.declared.parent.Parent.{Parent}
-use Rattle.sf_layer.specs.declared.parent.Parent.TheVariants as parent
+use Rattle.sf_tree.specs.sf_layer.declared.layer.Layer.{Layer}
+use Rattle.sf_tree.specs.sf_layer.declared.parent.Parent.{Parent}
+use Rattle.sf_tree.specs.sf_layer.declared.parent.Parent.TheVariants as parent
 use Rattle.sf_tree.specs.Layers.{layer_of, parent_layer}
 use Rattle.sf_tree.specs.Kept.{IsRanked}
 use Rattle.sf_tree.specs.Known.{Outranks}

@@ -5,7 +5,7 @@ use Rattle.sf_base.specs.Paint.{painted}
 use Rattle.sf_base.specs.declared.pixel.Rgba.{Rgba}
 use Rattle.sf_base.specs.declared.ids.LayerId.{LayerId}
 use Rattle.sf_tree.specs.DrawOrder.{draw_order}
-use Rattle.sf_layer.specs.declared.layer.Layer.{Layer}
+use Rattle.sf_tree.specs.sf_layer.declared.layer.Layer.{Layer}
 use Rattle.sf_picture.specs.declared.picture.Picture.{Picture}
 use Rattle.sf_view.specs.declared.drawn.Drawn.{Drawn}
 use Rattle.sf_view.specs.Contents.{content_of, pixel_of, source_of}

@@ -1,14 +1,14 @@
 -- Bounds of layers, layer by layer.
 use Rattle.std.proofs.Common.{◌≡◌, ℕ, suc, ◌<◌, ◌≤◌, Bool, true, false, ◌&&◌, List, length, get_or, Option, Some, None, refl, ap, ◌∙◌, sym, arith, ℤ, pos, ◌+ℤ◌, ◌≢◌, replicate, length-set}
 use Rattle.std.proofs.lemmas.Int.{ints}
-use Rattle.sf_layer.specs.declared.layer.Layer.{Layer}
+use Rattle.sf_tree.specs.sf_layer.declared.layer.Layer.{Layer}
 use Rattle.std.proofs.lemmas.Bool.{eqb-true, eq-eqb, true_from_ne_false}
 use Rattle.std.specs.Prelude.{eqb, int_le, int_lt, IfSome}
 use Rattle.sf_base.specs.Geometry.{LiesWithin}
-use Rattle.sf_layer.specs.Ranges.{IsCoordinate}
-use Rattle.sf_layer.specs.declared.kind.Kind.{Kind}
-use Rattle.sf_layer.specs.declared.kind.Kind.TheVariants as kind
-use Rattle.sf_layer.specs.declared.shown.Shown.{Shown}
+use Rattle.sf_tree.specs.sf_layer.Ranges.{IsCoordinate}
+use Rattle.sf_tree.specs.sf_layer.declared.kind.Kind.{Kind}
+use Rattle.sf_tree.specs.sf_layer.declared.kind.Kind.TheVariants as kind
+use Rattle.sf_tree.specs.sf_layer.declared.shown.Shown.{Shown}
 use Rattle.sf_tree.specs.Kept.{IsLayerInRange}
 use Rattle.sf_view.specs.declared.content.Content.{Content}
 use Rattle.sf_view.specs.declared.content.Content.TheVariants as content

@@ -4,7 +4,7 @@ use Rattle.std.specs.List.{filter, filter_map}
 use Rattle.std.proofs.lemmas.List.{take_more}
 use Rattle.std.proofs.lemmas.List.Elements.{filter_map-append, filter-append}
 use Rattle.sf_base.specs.declared.ids.LayerId.{LayerId}
-use Rattle.sf_layer.specs.declared.layer.Layer.{Layer}
+use Rattle.sf_tree.specs.sf_layer.declared.layer.Layer.{Layer}
 use Rattle.sf_tree.specs.Layers.{layer_of}
 use Rattle.sf_view.specs.declared.content.Content.{Content}
 use Rattle.sf_view.specs.Contents.{content_of, has_content}

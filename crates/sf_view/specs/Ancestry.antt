@@ -3,7 +3,7 @@ use Rattle.std.specs.Prelude.{ℕ, zero, suc, Bool, true, ◌&&◌, List, [], �
 use Rattle.sf_base.specs.Blend.{product}
 use Rattle.sf_base.specs.Geometry.{is_within}
 use Rattle.sf_base.specs.declared.geometry.Rect.{Rect}
-use Rattle.sf_layer.specs.declared.layer.Layer.{Layer}
+use Rattle.sf_tree.specs.sf_layer.declared.layer.Layer.{Layer}
 use Rattle.sf_tree.specs.Layers.{parent_layer}
 
 abbrev pub and_above : (Layer → List Layer) → Option Layer → List Layer

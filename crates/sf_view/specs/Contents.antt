@@ -2,10 +2,10 @@
 use Rattle.std.specs.Prelude.{ℕ, Bool, true, Option, Some, None, is_some, ℤ, pos, negsuc, neg_ℤ, ◌+ℤ◌, if◌then◌else◌}
 use Rattle.sf_base.specs.Geometry.{covers}
 use Rattle.sf_base.specs.declared.pixel.Rgba.{Rgba}
-use Rattle.sf_layer.specs.declared.kind.Kind.{Kind}
-use Rattle.sf_layer.specs.declared.kind.Kind.TheVariants as kind
-use Rattle.sf_layer.specs.declared.layer.Layer.{Layer}
-use Rattle.sf_layer.specs.declared.shown.Shown.{Shown}
+use Rattle.sf_tree.specs.sf_layer.declared.kind.Kind.{Kind}
+use Rattle.sf_tree.specs.sf_layer.declared.kind.Kind.TheVariants as kind
+use Rattle.sf_tree.specs.sf_layer.declared.layer.Layer.{Layer}
+use Rattle.sf_tree.specs.sf_layer.declared.shown.Shown.{Shown}
 use Rattle.sf_picture.specs.Pixels.{pixel_at}
 use Rattle.sf_picture.specs.declared.picture.Picture.{Picture}
 use Rattle.sf_view.specs.declared.content.Content.{Content}

@@ -10,3 +10,6 @@ pub mod Placements
 pub use Rattle.sf_tree.specs.Layers
 pub use Rattle.sf_tree.specs.DrawOrder
 pub use Rattle.sf_picture.specs.Pixels
+pub use Rattle.sf_tree.specs.sf_layer
+pub use Rattle.sf_picture.specs as sf_picture
+pub use Rattle.sf_tree.specs as sf_tree

@@ -1,7 +1,7 @@
 -- Where a layer lies on a display, found from the root down.
 use Rattle.std.specs.Prelude.{◌≡◌, ℕ, Option, Some, None, slice_get, slice_index_or, ◌*◌, ◌≤◌, Bool, ◌&&◌, List, length, ℤ, pos, neg_ℤ, ◌≤ℤ◌}
 use Rattle.sf_base.specs.Geometry.{is_within}
-use Rattle.sf_layer.specs.declared.layer.Layer.{Layer}
+use Rattle.sf_tree.specs.sf_layer.declared.layer.Layer.{Layer}
 use Rattle.sf_view.specs.declared.content.Content.{Content}
 use Rattle.sf_view.specs.declared.content.Content.TheVariants as content
 use Rattle.sf_view.specs.declared.placement.Placement.{Placement}

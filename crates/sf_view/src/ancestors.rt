@@ -3,8 +3,8 @@ ghost use Rattle.sf_tree.specs.Layers.{parent_layer};
 ghost use Rattle.sf_view.specs.Ancestry.{ancestry};
 
 use sf_base::NoMemory;
-use sf_layer::{Layer, Parent};
 use sf_tree::Tree;
+use sf_tree::sf_layer::{Layer, Parent};
 use std::alloc::Global;
 
 // The layer that a layer hangs from, if it is one.

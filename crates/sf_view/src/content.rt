@@ -2,7 +2,7 @@ ghost use Rattle.std.specs.Prelude.{◌≡◌};
 ghost use Rattle.sf_view.specs.Contents.{content_of};
 
 use sf_base::Rgba;
-use sf_layer::{Kind, Layer, Shown};
+use sf_tree::sf_layer::{Kind, Layer, Shown};
 
 /// What a drawn layer shows.
 #[derive(Clone, Copy)]

@@ -16,4 +16,7 @@ pub use ancestors::ancestry;
 pub use content::Content;
 pub use drawn::Drawn;
 pub use laws::a_view_has_the_image_of_its_order;
+pub use sf_picture;
+pub use sf_tree;
+pub use sf_tree::sf_layer;
 pub use view::{View, view_in_order, view_of};

@@ -1,7 +1,7 @@
 ghost use Rattle.std.specs.Prelude.{◌≡◌, ◌<◌, ◌≤◌, ◌∷◌, [], List, length, ℕ, ◌&&◌, ℤ, ◌+ℤ◌};
 ghost use Rattle.std.specs.List.{All};
-ghost use Rattle.sf_layer.specs.Ranges.{IsCrop};
-ghost use Rattle.sf_layer.specs.declared.layer.Layer.{Layer as LayerValue};
+ghost use Rattle.sf_tree.specs.sf_layer.Ranges.{IsCrop};
+ghost use Rattle.sf_tree.specs.sf_layer.declared.layer.Layer.{Layer as LayerValue};
 ghost use Rattle.sf_tree.specs.Kept.{IsLayerInRange};
 ghost use Rattle.sf_view.specs.Placements.{HasSmallCrop, is_in_bounds, IsInReach, IsOnDisplay, IsPlaced};
 ghost use Rattle.sf_view.specs.Boxes.{box_of};
@@ -11,7 +11,7 @@ ghost use Rattle.sf_view.specs.Views.{IsDisplay};
 use crate::content::Content;
 use crate::interval::Interval;
 use sf_base::{Rect, mul};
-use sf_layer::Layer;
+use sf_tree::sf_layer::Layer;
 
 // Where a layer lies on the display, how opaque it is drawn, and the part of the display to which
 // its crop and those of its ancestors cut it.

@@ -1,5 +1,5 @@
 ghost use Rattle.std.specs.Prelude.{◌≡◌, ◌+◌, ◌<◌, length, slice_get};
-ghost use Rattle.sf_layer.specs.declared.layer.Layer.{Layer as LayerValue};
+ghost use Rattle.sf_tree.specs.sf_layer.declared.layer.Layer.{Layer as LayerValue};
 ghost use Rattle.sf_tree.specs.Kept.{IsTree};
 ghost use Rattle.sf_tree.specs.Known.{Outranks};
 ghost use Rattle.sf_tree.specs.Layers.{layer_of, parent_layer};
@@ -8,8 +8,8 @@ ghost use Rattle.sf_view.specs.Placements.{AreFound, IsPlaced};
 ghost use Rattle.sf_view.specs.Views.{IsDisplay};
 
 use crate::placement::Placement;
-use sf_layer::{Layer, Parent};
 use sf_tree::Tree;
+use sf_tree::sf_layer::{Layer, Parent};
 
 // The layer that stands at an index of the tree.
 pub fn layer_at(tree: &Tree, index: usize) -> Layer

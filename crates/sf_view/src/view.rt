@@ -1,5 +1,5 @@
 ghost use Rattle.std.specs.Prelude.{◌≡◌, ◌≤◌, IfOk, List, pos, ◌≤ℤ◌};
-ghost use Rattle.sf_layer.specs.declared.layer.Layer.{Layer as LayerValue};
+ghost use Rattle.sf_tree.specs.sf_layer.declared.layer.Layer.{Layer as LayerValue};
 ghost use Rattle.sf_tree.specs.Kept.{IsLayerInRange};
 ghost use Rattle.sf_view.specs.Ancestry.{ancestry};
 ghost use Rattle.sf_view.specs.Clips.{IsClipOf};
@@ -13,8 +13,8 @@ use crate::interval::Interval;
 use crate::placement::{Placement, cut_to_content};
 use crate::placing::{layer_at, place};
 use sf_base::{Items, LayerId, NoMemory, Rect};
-use sf_layer::Layer;
 use sf_tree::Tree;
+use sf_tree::sf_layer::Layer;
 use std::alloc::Global;
 use std::marker::Model;
 

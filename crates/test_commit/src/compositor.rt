@@ -2,7 +2,6 @@ ghost use Rattle.std.specs.Prelude.{◌≡◌, false};
 ghost use Rattle.sf_commit.specs.Handlers.{last_of};
 ghost use Rattle.sf_token.specs.Pending.{IsRisingFrom};
 
-use test_leases::{Ends, Page, Writes};
 use sf_base::Seen;
 use sf_commit::{Contents, Handler, Vsync};
 use sf_picture::Painted;
@@ -10,6 +9,7 @@ use sf_token::Arrived;
 use std::alloc::Global;
 use std::marker::Model;
 use std::mem;
+use test_leases::{Ends, Page, Writes};
 
 /// A compositor, the pixels that it lent, and what arrived for it since its last vsync.
 pub struct Compositor {

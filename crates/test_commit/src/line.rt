@@ -1,12 +1,12 @@
 ghost use Rattle.std.specs.Prelude.{◌≡◌, true, Some, [], ◌∷◌};
 
-use test_leases::Page;
 use sf_base::ActorId;
 use sf_calls::{CallLock, Pass};
 use sf_token::{Arrivals, ArriveCall, ArriveReply};
 use std::alloc::Global;
 use std::marker::Brand;
 use std::sync::Wait;
+use test_leases::Page;
 
 // Makes a call under the lock.
 fn call<W: Wait>(

@@ -7,8 +7,6 @@ use crate::told::{
     tell_arrivals, tell_layers, tell_looks, tell_pixels, tell_reads, tell_taken, tell_tokens,
     tell_vsync,
 };
-use test_words::{actor, layer, number32, number64, point, point_fence, token};
-use test_leases::{Ends, Page, Writes};
 use sf_base::{ActorId, Fence, QueueId, Rect, Seen, TokenId};
 use sf_layer::{Kind, Op, Parent, Shown};
 use sf_ready::{Facts, hold_of};
@@ -18,6 +16,8 @@ use std::alloc::Global;
 use std::mem;
 use std::str::SplitWhitespace;
 use std::sync::Wait;
+use test_leases::{Ends, Page, Writes};
+use test_words::{actor, layer, number32, number64, point, point_fence, token};
 
 // All of a page.
 const PIXEL: Rect = Rect {

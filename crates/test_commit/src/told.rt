@@ -1,10 +1,10 @@
-use test_leases::{Ends, Page};
 use sf_base::{Fence, TimelineId, TokenId};
 use sf_commit::{Commit, Release, Vsync};
 use sf_picture::Painted;
 use sf_ready::Hold;
 use sf_token::{Arrived, ArrvEntry, Looks};
 use std::alloc::{AllocError, Global};
+use test_leases::{Ends, Page};
 
 /// What was taken: each transaction's number, and whose it is, of which step and for which token.
 pub fn tell_taken(told: &mut String, list: &[Arrived<Page>]) -> Result<(), AllocError> {

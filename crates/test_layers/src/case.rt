@@ -1,8 +1,6 @@
 use crate::answer::Answer;
 use crate::made::Made;
 use crate::{answer, compose, fill, frames, operation, read, scene, show};
-use test_words::{any_layer, number32, number64};
-use test_leases::Page;
 use sf_base::{LayerId, NoMemory, TokenId};
 use sf_layer::{Kind, Op, Parent};
 use sf_picture::Painted;
@@ -13,6 +11,8 @@ use std::alloc::{AllocError, Global};
 use std::str::SplitWhitespace;
 use std::thread::Threads;
 use std::{io, mem};
+use test_leases::Page;
+use test_words::{any_layer, number32, number64};
 
 /// What a case has come to.
 #[derive(Drop)]

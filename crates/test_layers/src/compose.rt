@@ -3,7 +3,6 @@ ghost use Rattle.std.specs.Prelude.{◌≡◌, ◌≤◌, IfSome, IsTrue};
 ghost use Rattle.sf_base.specs.Geometry.{IsWithin, LiesWithin};
 ghost use Rattle.sf_compose.specs.Readings.{IsReadable};
 
-use test_words::{colour, is_buffer_size, number32, rect};
 use sf_base::{Format, Items, Rect};
 use sf_compose::{compose, compose_frame, compose_one, compose_seen};
 use sf_damage::visible;
@@ -13,6 +12,7 @@ use sf_view::{Content, Drawn, View};
 use std::alloc::Global;
 use std::str::SplitWhitespace;
 use std::thread::Threads;
+use test_words::{colour, is_buffer_size, number32, rect};
 
 /// How many fills or rectangles a line has at most.
 pub const MOST_PARTS: u32 = 64;

@@ -1,9 +1,9 @@
 //! Two fences, and what was observed of the timelines.
 use crate::answer::Answer;
 use crate::made::Made;
-use test_words::point;
 use sf_base::Fence;
 use std::str::SplitWhitespace;
+use test_words::point;
 
 impl Made {
     /// Does what a line says of fences.

@@ -3,12 +3,12 @@ ghost use Rattle.sf_layer.specs.Ranges.{IsOperation};
 ghost use Rattle.sf_txn.specs.Transactions.{shows_of};
 
 use crate::show;
-use test_leases::Page;
 use sf_base::{Fence, LayerId, NoMemory, QueueId, Rect};
 use sf_layer::{Op, Shown};
 use sf_txn::{BufferOp, Transaction};
 use std::alloc::Global;
 use std::io;
+use test_leases::Page;
 
 /// Whether a transaction may be given the operation without a lease.
 fn is_settable(layer: LayerId, op: &Op) -> bool

@@ -3,7 +3,6 @@
 use crate::compose::{MOST_PARTS, Work, add, whole};
 use crate::regions::bounded;
 use crate::show;
-use test_words::{number32, rect};
 use sf_base::Rect;
 use sf_damage::{dirty, visible};
 use sf_picture::Painted;
@@ -14,6 +13,7 @@ use std::alloc::Global;
 use std::io;
 use std::str::SplitWhitespace;
 use std::thread::Threads;
+use test_words::{number32, rect};
 
 /// Prints where one view of a display differs from another.
 pub fn changed(rt: &impl Print, alloc: Global, before: &View, view: &View) -> io::Result<()> {

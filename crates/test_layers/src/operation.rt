@@ -1,7 +1,7 @@
-use test_words::{any_layer, colour, coordinate, flag, number8, number32, number64, rect};
 use sf_base::{LayerId, QueueId, Rect};
 use sf_layer::{Kind, Op, Parent, Shown};
 use std::str::SplitWhitespace;
+use test_words::{any_layer, colour, coordinate, flag, number8, number32, number64, rect};
 
 /// What a layer hangs from: the display, nothing, or the layer of a number.
 fn parent(words: &mut SplitWhitespace<'_>) -> Option<Parent> {

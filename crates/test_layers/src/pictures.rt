@@ -5,11 +5,11 @@ ghost use Rattle.sf_picture.specs.Pixels.{HasSize};
 use crate::answer::Answer;
 use crate::made::Made;
 use crate::rows::{format_of, hex_colour};
-use test_words::{buffer_size, is_buffer_size, number32, rect};
 use sf_base::Items;
 use sf_picture::{Fill, Painted, Picture, blank, paint};
 use std::alloc::Global;
 use std::str::SplitWhitespace;
+use test_words::{buffer_size, is_buffer_size, number32, rect};
 
 impl Made {
     /// Does what a line says of pictures. None where it can't be done.

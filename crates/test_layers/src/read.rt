@@ -1,10 +1,10 @@
 ghost use Rattle.std.specs.Prelude.{◌≡◌, ◌≤◌, IfOk};
 
-use test_leases::{Ends, Page, Writes};
 use sf_base::NoMemory;
 use sf_txn::{BufferOp, Lease, Transaction};
 use std::alloc::Global;
 use std::io;
+use test_leases::{Ends, Page, Writes};
 
 /// Someone who knows of this many writes that ended, and of no read that did.
 fn knowing(count: u32) -> Writes {

@@ -4,11 +4,11 @@ ghost use Rattle.sf_region.specs.Points.{IsInBounds, moved};
 
 use crate::answer::Answer;
 use crate::made::Made;
-use test_words::{coordinate, rect};
 use sf_base::{NoMemory, Rect};
 use sf_region::Region;
 use std::alloc::Global;
 use std::str::SplitWhitespace;
+use test_words::{coordinate, rect};
 
 const FAR: i64 = 33554432;
 

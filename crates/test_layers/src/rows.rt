@@ -3,11 +3,11 @@ ghost use Rattle.std.specs.Prelude.{◌≡◌, ◌%◌, ◌<◌, length};
 
 use crate::answer::Answer;
 use crate::made::Made;
-use test_words::number8;
 use sf_base::{Format, Rgba, mul, over, seen_as};
 use sf_rows::{blend_colour, blend_row, blend_row_opaque, pick_row};
 use std::alloc::{AllocError, Global};
 use std::str::SplitWhitespace;
+use test_words::number8;
 
 /// How many pixels a row has at most.
 const MOST_PIXELS: u32 = 64;

@@ -3,7 +3,6 @@ ghost use Rattle.std.specs.Prelude.{◌≡◌, ◌≤◌, IfSome, IsTrue, length
 ghost use Rattle.sf_layer.specs.Ranges.{IsOperation};
 ghost use Rattle.sf_view.specs.Views.{IsDisplay};
 
-use test_words::number32;
 use sf_base::LayerId;
 use sf_layer::Op;
 use sf_tree::{ApplyFault, Tree};
@@ -11,6 +10,7 @@ use sf_view::{View, ancestry, view_in_order, view_of};
 use std::alloc::Global;
 use std::io;
 use std::str::SplitWhitespace;
+use test_words::number32;
 
 /// Whether a transaction may carry these operations.
 fn are_operations(ops: &[(LayerId, Op)]) -> bool

@@ -1,5 +1,4 @@
 use crate::gate::{MeetingGate, SlowGate, StepOf};
-use test_lines::{Body, Records, TAGS, push_records};
 use sf_app::run;
 use sf_io::{Gate, MemSink, MemSource, OpenGate};
 use std::alloc::Global;
@@ -7,6 +6,7 @@ use std::rt::Files;
 use std::sync::Wait;
 use std::thread::Threads;
 use std::{fs, io};
+use test_lines::{Body, Records, TAGS, push_records};
 
 /// How many of the writes of a run fail in turn: those of the first record, of vsyncs and of replies.
 const FAILING_WRITES: u64 = 24;

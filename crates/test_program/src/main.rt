@@ -43,7 +43,6 @@ mod sizes;
 
 use case::{Case, cases, names};
 use pieces::Halting;
-use test_lines::{push_counts, push_records};
 use sf_app::run;
 use sf_io::{Gate, MemSink, MemSource, OpenGate, ReadSource, WriteSink};
 use sizes::history_length;
@@ -51,6 +50,7 @@ use std::alloc::Global;
 use std::io;
 use std::sync::Wait;
 use std::thread::Threads;
+use test_lines::{push_counts, push_records};
 
 /// More calls on a queue than a script can make.
 const LONG_HISTORY: u32 = 65_536;

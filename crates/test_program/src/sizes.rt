@@ -1,6 +1,6 @@
+use sf_app::{HistoryEntry, QueueHistory, Record, write_record};
 use sf_base::Items;
 use sf_io::MemSink;
-use sf_record::{HistoryEntry, QueueHistory, Record, write_record};
 use std::alloc::Global;
 use std::io;
 

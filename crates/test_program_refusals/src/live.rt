@@ -1,12 +1,10 @@
 ghost use Rattle.std.specs.Prelude.{true, false, OnOk};
-ghost use Rattle.sf_live.specs.Runs.{MayLive, WroteLive};
+ghost use Rattle.sf_app.specs.sf_live.Runs.{MayLive, WroteLive};
 
+use sf_app::sf_live::{live, live_queue};
+use sf_app::{RunFault, Scene, Stock, TableName, TurnSeat};
 use sf_io::{Gate, Sink};
-use sf_live::{live, live_queue};
 use sf_picture::Painted;
-use sf_record::RunFault;
-use sf_script_scene::Scene;
-use sf_turns::{Stock, TableName, TurnSeat};
 use std::alloc::Global;
 use std::sync::Wait;
 use std::thread::Threads;

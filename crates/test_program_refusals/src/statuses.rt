@@ -1,7 +1,7 @@
 ghost use Rattle.std.specs.Prelude.{◌≡◌, None, map};
 ghost use Rattle.std.specs.String.{string_bytes};
 ghost use Rattle.sf_io.specs.Causes.{Rose};
-ghost use Rattle.sf_app_options.specs.Options.{options_of};
+ghost use Rattle.sf_app.specs.sf_app_options.Options.{options_of};
 ghost use Rattle.sf_app.specs.Statuses.{RefusedScript};
 
 use sf_app::run;

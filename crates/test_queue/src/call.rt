@@ -1,8 +1,8 @@
 //! What a line of a case asks for: a call, and the words after its name.
-use test_words::{actor, fence, number32, number64, present_time, rect, slot};
 use sf_base::{ActorId, Fence, Rect, SlotId};
 use std::alloc::Global;
 use std::str::SplitWhitespace;
+use test_words::{actor, fence, number32, number64, present_time, rect, slot};
 
 /// What a line asks for.
 #[derive(Clone, Copy)]

@@ -18,10 +18,10 @@ mod tools;
 mod turns;
 
 use call::Rights;
-use test_words::{BufferSize, buffer_size};
 use std::alloc::Global;
 use std::io;
 use std::sync::Wait;
+use test_words::{BufferSize, buffer_size};
 
 /// What the first line of a case says: what its rights are, and its queue's default size.
 fn head_of(head: &str) -> Option<(Rights, BufferSize)> {

@@ -6,12 +6,12 @@ ghost use Rattle.sf_slots.specs.Queue.{told_of};
 use crate::call::{Call, Rights, Said, read};
 use crate::reply::{acquired, done, handed_back, known, lent, refused, seated, taken_in};
 use crate::state;
-use test_words::{BufferSize, is_buffer_size};
 use sf_base::{ActorId, NoMemory, QueueId};
 use sf_queue::QueueOrder;
 use sf_slots::Slots;
 use std::alloc::Global;
 use std::io;
+use test_words::{BufferSize, is_buffer_size};
 
 /// The right to a new buffer, where a dequeue needs one.
 fn fresh(q: &Slots<u64>, said: &Said) -> Option<u64>

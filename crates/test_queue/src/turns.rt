@@ -8,7 +8,6 @@ use crate::compositor::Compositor;
 use crate::desk::{Caller, Desk};
 use crate::run::Run;
 use crate::tools::Tools;
-use test_words::BufferSize;
 use sf_base::{NoMemory, Seen};
 use sf_picture::Painted;
 use sf_surface::Gives;
@@ -17,6 +16,7 @@ use std::alloc::Global;
 use std::io;
 use std::marker::Brand;
 use std::sync::Wait;
+use test_words::BufferSize;
 
 /// How many permits a case has.
 const PERMITS: u32 = 100;

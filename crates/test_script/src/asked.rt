@@ -1,6 +1,6 @@
 use crate::scripts::push_line;
-use sf_base::NoMemory;
 use sf_app_options::{About, Intake, Options, OptionsFault, Run};
+use sf_base::NoMemory;
 use sf_script_words::next_line;
 use std::alloc::Global;
 use std::str;

@@ -1,7 +1,7 @@
 use crate::asked::push_all_asked;
 use sf_base::NoMemory;
-use sf_script_generate::generate;
 use sf_script::{ParseFault, ScriptFault, parse};
+use sf_script_generate::generate;
 use sf_script_words::{next_line, next_word, number_within};
 use std::alloc::Global;
 

@@ -2,7 +2,6 @@
 ghost use Rattle.std.specs.Prelude.{◌≡◌, ◌+◌, ◌<◌, ◌≤◌, [], ◌∷◌, length, map, IfSome};
 ghost use Rattle.std.specs.List.{All};
 
-use test_leases::Page;
 use sf_base::ActorId;
 use sf_intake::{Intake, Sender, Taker};
 use sf_token::Arrived;
@@ -11,6 +10,7 @@ use std::alloc::Global;
 use std::marker::Brand;
 use std::sync::Wait;
 use std::thread::{Threads, join};
+use test_leases::Page;
 
 /// The greatest stamp that a client's transactions carry: that of its third step.
 const NEWEST: u64 = 3;

@@ -1,6 +1,6 @@
 use Rattle.std.proofs.Common.{ℕ, ap, refl}
-use Rattle.sf_surface.specs.Reading.{PlainLease}
-use Rattle.sf_actor.specs.Makers.{BufferOf}
+use Rattle.law_threads.specs.sf_surface.Reading.{PlainLease}
+use Rattle.law_threads.specs.sf_actor.Makers.{BufferOf}
 use Rattle.law_joins.proofs.KnownBeginnings.{tied_in_run, tied_standing}
 use Rattle.law_joins.proofs.rights.a_run_in_threads_goes_on.Goals as goal
 

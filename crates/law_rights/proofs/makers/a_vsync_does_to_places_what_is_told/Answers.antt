@@ -1,6 +1,6 @@
 use Rattle.std.proofs.Common.{ap}
-use Rattle.sf_actor.specs.Makers.{BufferOf}
-use Rattle.sf_surface.specs.Reading.{PlainLease}
+use Rattle.sf_actor_set.specs.sf_actor.Makers.{BufferOf}
+use Rattle.sf_actor_set.specs.sf_surface.Reading.{PlainLease}
 use Rattle.law_rights.proofs.VsyncLedger.{vsync_returns}
 use Rattle.law_rights.proofs.makers.a_vsync_does_to_places_what_is_told.Goals as goal
 

@@ -1,6 +1,6 @@
 use Rattle.std.proofs.Common.{◌≡◌, ap}
-use Rattle.sf_actor.specs.Makers.{BufferOf}
-use Rattle.sf_surface.specs.Reading.{PlainLease}
+use Rattle.sf_actor_set.specs.sf_actor.Makers.{BufferOf}
+use Rattle.sf_actor_set.specs.sf_surface.Reading.{PlainLease}
 use Rattle.law_rights.proofs.MakersPlayed.{vsync_makers}
 use Rattle.law_rights.proofs.runs.a_vsync_leaves_makers_standing.Goals as goal
 

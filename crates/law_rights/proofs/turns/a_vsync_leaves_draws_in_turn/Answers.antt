@@ -1,6 +1,6 @@
 use Rattle.std.proofs.Common.{◌≡◌, ap}
-use Rattle.sf_actor.specs.Makers.{BufferOf}
-use Rattle.sf_surface.specs.Reading.{PlainLease}
+use Rattle.sf_actor_set.specs.sf_actor.Makers.{BufferOf}
+use Rattle.sf_actor_set.specs.sf_surface.Reading.{PlainLease}
 use Rattle.law_rights.proofs.InTurnSteps.{vsync_in_turn}
 use Rattle.law_rights.proofs.turns.a_vsync_leaves_draws_in_turn.Goals as goal
 

@@ -1,9 +1,9 @@
-use Rattle.sf_actor.specs.Scripts.{picture_at}
-use Rattle.law_rights.proofs.EmptyLedger.{begins_standing}
+use Rattle.law_draws.specs.sf_actor.Scripts.{picture_at}
+use Rattle.law_draws.proofs.law_rights_lemmas.EmptyLedger.{begins_standing}
 use Rattle.law_threads.specs.Cuts.{HasLedger}
 use Rattle.std.proofs.Common.{ap, refl}
-use Rattle.sf_actor.specs.Makers.{BufferOf}
-use Rattle.sf_surface.specs.Reading.{PlainLease}
+use Rattle.law_draws.specs.sf_actor.Makers.{BufferOf}
+use Rattle.law_draws.specs.sf_surface.Reading.{PlainLease}
 use Rattle.law_threads.specs.Members.{whole_of}
 use Rattle.law_threads.proofs.LedgerViews.{close_keeps, ledger_gives, ledger_rests}
 use Rattle.law_threads.proofs.LedgerAtTiedJoin.{own_apart, tied_close, tied_holds, tied_stands}

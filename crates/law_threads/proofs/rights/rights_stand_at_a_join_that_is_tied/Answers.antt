@@ -1,8 +1,8 @@
 use Rattle.std.proofs.Common.{ap, refl}
-use Rattle.sf_actor.specs.Makers.{BufferOf}
-use Rattle.sf_surface.specs.Reading.{PlainLease}
+use Rattle.law_draws.specs.sf_actor.Makers.{BufferOf}
+use Rattle.law_draws.specs.sf_surface.Reading.{PlainLease}
 use Rattle.law_draws.proofs.JoinedDraws.{draws_stand}
-use Rattle.sf_actor.specs.Scripts.{picture_at}
+use Rattle.law_draws.specs.sf_actor.Scripts.{picture_at}
 use Rattle.law_threads.proofs.RightsAtTiedJoin.{ledger_join, rights_join}
 use Rattle.law_threads.proofs.rights.rights_stand_at_a_join_that_is_tied.Goals as goal
 

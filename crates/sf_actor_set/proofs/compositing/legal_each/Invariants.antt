@@ -1,8 +1,8 @@
 use Rattle.std.proofs.Common.{take}
 use Rattle.std.specs.List.{All}
-use Rattle.sf_calls.specs.Histories.{IsLegal}
-use Rattle.sf_surface.specs.Histories.{Answers}
-use Rattle.sf_surface.specs.Objects.{ObjectOf, mark_of}
+use Rattle.sf_commit.specs.sf_calls.Histories.{IsLegal}
+use Rattle.sf_actor_steps.specs.sf_surface.Histories.{Answers}
+use Rattle.sf_actor_steps.specs.sf_surface.Objects.{ObjectOf, mark_of}
 use Rattle.sf_actor_set.proofs.compositing.legal_each.Given as goal
 
 abbrev pub invariant-loop-object : goal.invariant-loop-object

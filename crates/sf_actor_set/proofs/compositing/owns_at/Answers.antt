@@ -1,5 +1,5 @@
 use Rattle.std.proofs.Common.{◌≡◌, subst}
-use Rattle.sf_actor.specs.Plain.{PlainOf}
+use Rattle.sf_actor_steps.specs.sf_actor.Plain.{PlainOf}
 use Rattle.sf_actor_set.proofs.compositing.owns_at.Goals as goal
 
 pub returns : goal.returns

@@ -1,8 +1,8 @@
 use Rattle.std.proofs.Common.{subst}
 use Rattle.std.specs.Prelude.{IfOk}
 use Rattle.sf_commit.specs.Releases.{ReleaseOf}
-use Rattle.sf_surface.specs.declared.call.QReply.{QReply}
-use Rattle.sf_surface.specs.Tokens.{ReadLeaseOf}
+use Rattle.sf_actor_steps.specs.sf_surface.declared.call.QReply.{QReply}
+use Rattle.sf_actor_steps.specs.sf_surface.Tokens.{ReadLeaseOf}
 use Rattle.sf_actor_set.proofs.CompositingLemmas.{Released, outcome_ends, outcome_goes, outcome_never, outcome_released, outcome_stays}
 use Rattle.sf_actor_set.proofs.compositing.release_at.Goals as goal
 

@@ -1,6 +1,6 @@
 use Rattle.std.proofs.Common.{subst}
 use Rattle.sf_base.specs.Points.{points_from}
-use Rattle.sf_actor.specs.Plain.{PlainOf, taken_in}
+use Rattle.sf_actor_steps.specs.sf_actor.Plain.{PlainOf, taken_in}
 use Rattle.sf_actor_set.specs.Compositing.{GoesOnDesk}
 use Rattle.sf_actor_set.proofs.CompositingLemmas.{looks_on}
 use Rattle.sf_actor_set.proofs.compositing.see_at.Goals as goal

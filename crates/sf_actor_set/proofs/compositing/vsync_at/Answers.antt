@@ -1,5 +1,5 @@
 use Rattle.std.proofs.Common.{subst}
-use Rattle.sf_actor.specs.Plain.{PlainOf, taken_in}
+use Rattle.sf_actor_steps.specs.sf_actor.Plain.{PlainOf, taken_in}
 use Rattle.sf_actor_set.specs.Compositing.{GoesOnDesk}
 use Rattle.sf_actor_set.proofs.CompositingLemmas.{turns_on}
 use Rattle.sf_actor_set.proofs.compositing.vsync_at.Goals as goal

@@ -1,5 +1,5 @@
 use Rattle.std.proofs.Common.{ap, arith}
-use Rattle.sf_actor.specs.Tries.{dequeues_in}
+use Rattle.sf_actor_steps.specs.sf_actor.Tries.{dequeues_in}
 use Rattle.sf_actor_set.proofs.OpeningLemmas.{dequeues_few}
 use Rattle.sf_actor_set.proofs.open.open_actor.Goals as goal
 

@@ -1,7 +1,7 @@
 use Rattle.std.proofs.Common.{◌≤◌, length, arith}
 use Rattle.std.proofs.lemmas.List.Sorted.{All-permutation, sum_by-IsPermutation}
-use Rattle.sf_script_scene.specs.declared.step.ActorScript.{ActorScript}
-use Rattle.sf_actor.specs.Tries.{dequeues_in}
+use Rattle.sf_actor_steps.specs.sf_script_scene.declared.step.ActorScript.{ActorScript}
+use Rattle.sf_actor_steps.specs.sf_actor.Tries.{dequeues_in}
 use Rattle.sf_actor_set.proofs.open.open_actors.Goals as goal
 
 pub open_each_actor-requires-clause-few : goal.open_each_actor-requires-clause-few

@@ -2,7 +2,7 @@ use Rattle.std.proofs.Common.{◌∙◌, ap, rules}
 use Rattle.std.proofs.lemmas.Iterator.Adapters.{YieldsList-from_vec}
 use Rattle.std.proofs.lemmas.Iterator.Consumers.{YieldsList-end, YieldsList-turn}
 use Rattle.std.proofs.lemmas.List.{length_push}
-use Rattle.sf_turns.specs.Views.{StockView}
+use Rattle.sf_actor_steps.specs.sf_turns.Views.{StockView}
 use Rattle.sf_actor_set.proofs.OpeningLemmas.{next_enough, opening_last, opening_more}
 use Rattle.sf_actor_set.proofs.open.open_each_actor.Goals as goal
 

@@ -1,6 +1,6 @@
 use Rattle.std.proofs.lemmas.List.Elements.{All-same}
 use Rattle.std.proofs.lemmas.List.Sorted.{All-permutation}
-use Rattle.sf_script_scene.specs.Ranges.{IsQueue}
+use Rattle.sf_actor_steps.specs.sf_script_scene.Ranges.{IsQueue}
 use Rattle.sf_actor_set.proofs.open.open_queues.Goals as goal
 
 pub open_each-requires : goal.open_each-requires

@@ -1,7 +1,7 @@
 use Rattle.std.proofs.Common.{◌≡◌, rules, subst, List}
 use Rattle.std.specs.List.Sorted.{IsPermutation}
 use Rattle.std.proofs.lemmas.List.Sorted.{IsNonDecreasingBy-from_sort_by_key}
-use Rattle.sf_script_scene.specs.declared.declarations.QueueDecl.{QueueDecl}
+use Rattle.sf_actor_steps.specs.sf_script_scene.declared.declarations.QueueDecl.{QueueDecl}
 use Rattle.sf_actor_set.proofs.open.rising_queues.Goals as goal
 
 pub returns : goal.returns

@@ -1,6 +1,6 @@
 use Rattle.std.proofs.Common.{rules}
 use Rattle.std.proofs.lemmas.List.Sorted.{IsNonDecreasingBy-from_sort_by_key}
-use Rattle.sf_script_scene.specs.declared.step.ActorScript.{ActorScript}
+use Rattle.sf_actor_steps.specs.sf_script_scene.declared.step.ActorScript.{ActorScript}
 use Rattle.sf_actor_set.proofs.open.rising_scripts.Goals as goal
 
 pub returns : goal.returns

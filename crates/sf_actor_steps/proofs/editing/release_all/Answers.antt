@@ -1,6 +1,6 @@
 use Rattle.std.proofs.Common.{◌∙◌, List, subst}
-use Rattle.sf_surface.specs.Tokens.{ReadLeaseOf}
-use Rattle.sf_txn.specs.Buffers.{Buffer}
+use Rattle.sf_actor.specs.sf_surface.Tokens.{ReadLeaseOf}
+use Rattle.sf_actor.specs.sf_txn.Buffers.{Buffer}
 use Rattle.sf_actor.specs.Desks.{DeskHome}
 use Rattle.sf_actor_steps.specs.Editing.{Releases}
 use Rattle.sf_actor_steps.proofs.EditingLemmas.{ReleasesRest, released_one}

@@ -1,5 +1,5 @@
 use Rattle.std.proofs.Common.{Err, Ok}
-use Rattle.sf_script.specs.Parse.{parsed_of}
+use Rattle.law_generated.specs.sf_script.Parse.{parsed_of}
 use Rattle.sf_app.proofs.StatusLemmas.{script_unread, spelled_as}
 use Rattle.sf_app.proofs.session.play_script.Goals as goal
 

@@ -1,6 +1,6 @@
 use Rattle.std.proofs.Common.{ap, arith, subst, ◌∙◌, Err, OnErr, Result}
-use Rattle.sf_record.specs.declared.encode.RunFault.{RunFault}
-use Rattle.sf_play_write.specs.Writing.{CutSome}
+use Rattle.sf_record_sums.specs.sf_record.declared.encode.RunFault.{RunFault}
+use Rattle.sf_live.specs.sf_play_write.Writing.{CutSome}
 use Rattle.sf_app.proofs.StatusLemmas.{fault_part, fault_shown, fault_whole, script_cut}
 use Rattle.sf_app.proofs.session.refuse.Goals as goal
 

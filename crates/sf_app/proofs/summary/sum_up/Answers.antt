@@ -1,7 +1,7 @@
 use Rattle.std.proofs.Common.{ap, refl, subst, Some}
 use Rattle.std.specs.Prelude.{ℕ, List}
-use Rattle.sf_play_write.proofs.WritingLemmas.{one_part, one_written}
-use Rattle.sf_play_write.specs.Runs.{WroteRun}
+use Rattle.sf_live.proofs.sf_play_write_lemmas.WritingLemmas.{one_part, one_written}
+use Rattle.sf_live.specs.sf_play_write.Runs.{WroteRun}
 use Rattle.sf_app.proofs.ShownLemmas.{cut_shows_nothing, err_then, ok_then, sum_shows, sum_shows_part}
 use Rattle.sf_app.proofs.summary.sum_up.Goals as goal
 

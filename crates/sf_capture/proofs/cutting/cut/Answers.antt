@@ -1,6 +1,6 @@
 use Rattle.std.proofs.Common.{◌∙◌, sym, subst, map}
 use Rattle.sf_output_shown.specs.Cuts.{cut_layer}
-use Rattle.sf_tree.specs.Kept.{IsTree}
+use Rattle.sf_output_shown.specs.sf_tree.Kept.{IsTree}
 use Rattle.sf_capture.proofs.CutLemmas.{IsTree-cut}
 use Rattle.sf_capture.proofs.cutting.cut.Goals as goal
 

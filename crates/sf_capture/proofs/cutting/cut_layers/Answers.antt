@@ -1,6 +1,6 @@
 use Rattle.std.proofs.Common.{◌∷◌, ◌++◌, [], List, map, take, ap, sym, ◌∙◌}
 use Rattle.std.proofs.lemmas.List.{map_more, take_all}
-use Rattle.sf_layer.specs.declared.layer.Layer.{Layer}
+use Rattle.sf_output_shown.specs.sf_layer.declared.layer.Layer.{Layer}
 use Rattle.sf_output_shown.specs.Cuts.{cut_layer}
 use Rattle.sf_capture.proofs.cutting.cut_layers.Goals as goal
 

@@ -1,6 +1,6 @@
 use Rattle.std.proofs.Common.{◌∷◌, ◌++◌, List, map, ap, sym, ◌∙◌, append_assoc, arith}
 use Rattle.std.proofs.lemmas.List.{append-nil}
-use Rattle.sf_txn.specs.Buffers.{Buffer}
+use Rattle.sf_commit_next.specs.sf_txn.Buffers.{Buffer}
 use Rattle.sf_commit.proofs.ListLemmas.{empty_of}
 use Rattle.sf_commit.specs.OnLayers.{OnLayer, brought}
 use Rattle.sf_commit.proofs.commit.give_up.Goals as goal

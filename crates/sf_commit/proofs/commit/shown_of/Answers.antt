@@ -1,6 +1,6 @@
 use Rattle.std.proofs.Common.{ap, ◌∙◌, map}
 use Rattle.std.proofs.lemmas.List.{take_all}
-use Rattle.sf_txn.specs.Transactions.{shown_by}
+use Rattle.sf_commit_next.specs.sf_txn.Transactions.{shown_by}
 use Rattle.sf_commit.proofs.ListLemmas.{map_more}
 use Rattle.sf_commit.proofs.commit.shown_of.Goals as goal
 

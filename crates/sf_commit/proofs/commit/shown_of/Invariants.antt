@@ -1,5 +1,5 @@
 use Rattle.std.proofs.Common.{◌≡◌, map, take}
-use Rattle.sf_txn.specs.Transactions.{shown_by}
+use Rattle.sf_commit_next.specs.sf_txn.Transactions.{shown_by}
 use Rattle.sf_commit.proofs.commit.shown_of.Given as goal
 
 abbrev pub invariant-loop-buffer : goal.invariant-loop-buffer

@@ -2,7 +2,7 @@ use Rattle.std.proofs.Common.{◌≡◌, false}
 use Rattle.std.specs.Prelude.{◌==◌}
 use Rattle.std.specs.List.{list_any}
 use Rattle.sf_base.specs.declared.ids.TokenId.{TokenId}
-use Rattle.sf_token.specs.Pending.{is_of}
+use Rattle.sf_commit_next.specs.sf_token.Pending.{is_of}
 use Rattle.sf_commit_next.specs.Asking.{has_token}
 use Rattle.sf_commit.proofs.decide.all_tokens.Given as goal
 

@@ -1,6 +1,6 @@
 use Rattle.std.proofs.Common.{◌≡◌, ◌∙◌, ap, subst, refl, true}
 use Rattle.std.specs.Option.{IfSome}
-use Rattle.sf_token.specs.Pending.{QueuesOf}
+use Rattle.sf_commit_next.specs.sf_token.Pending.{QueuesOf}
 use Rattle.sf_commit_next.proofs.AskingLemmas.{enough_after, out_none}
 use Rattle.sf_commit.proofs.DecideLemmas.{begins, ends, goes_on, shrinks}
 use Rattle.sf_commit_next.specs.Asking.{has_token}

@@ -1,10 +1,10 @@
 use Rattle.std.proofs.Common.{◌∙◌, ap, subst, sym}
 use Rattle.std.specs.List.{All, AllZip}
-use Rattle.sf_ready.specs.Facts.{FactsOf, HasSame}
+use Rattle.sf_commit_next.specs.sf_ready.Facts.{FactsOf, HasSame}
 use Rattle.std.proofs.lemmas.List.Elements.{All-append}
-use Rattle.sf_token.specs.Looking.{AllLeases, IsLookedArrival}
-use Rattle.sf_token.specs.Pending.{Arrival, IsRisingFrom, QueuesOf}
-use Rattle.sf_txn.specs.Buffers.{Buffer}
+use Rattle.sf_commit_next.specs.sf_token.Looking.{AllLeases, IsLookedArrival}
+use Rattle.sf_commit_next.specs.sf_token.Pending.{Arrival, IsRisingFrom, QueuesOf}
+use Rattle.sf_commit_next.specs.sf_txn.Buffers.{Buffer}
 use Rattle.sf_commit.proofs.FollowLemmas.{looked_all, looks_rise, rising_append, rising_looked}
 use Rattle.sf_commit.proofs.HeldLemmas.{held_is, looks_begin, looks_stay}
 use Rattle.sf_commit.specs.Handlers.{last_of}

@@ -2,7 +2,7 @@ use Rattle.std.proofs.Common.{◌≡◌, ◌∙◌, ◌<◌, ◌+◌, List, Opti
 use Rattle.std.specs.Option.{is_some, unwrap_or}
 use Rattle.std.proofs.lemmas.List.{drop_more}
 use Rattle.std.proofs.lemmas.List.Elements.{All-head}
-use Rattle.sf_picture.specs.declared.picture.Picture.{Picture}
+use Rattle.sf_view.specs.sf_picture.declared.picture.Picture.{Picture}
 use Rattle.sf_commit.proofs.LendLemmas.{taken_is, there_rest}
 use Rattle.sf_commit.proofs.ListLemmas.{map_more}
 use Rattle.sf_commit.proofs.SettleLemmas.{some_here}

@@ -1,5 +1,5 @@
 use Rattle.std.proofs.Common.{◌++◌, List, Option, map, subst, sym}
-use Rattle.sf_picture.specs.declared.picture.Picture.{Picture}
+use Rattle.sf_view.specs.sf_picture.declared.picture.Picture.{Picture}
 use Rattle.sf_commit.proofs.LendLemmas.{there_left}
 use Rattle.sf_commit.specs.Lending.{AreThere, read_of}
 use Rattle.sf_commit.proofs.lending.take_back.Goals as goal

@@ -1,7 +1,7 @@
 use Rattle.std.proofs.Common.{◌≡◌, Ok, refl, subst}
 use Rattle.std.proofs.lemmas.Result.{on_ok_weaker}
-use Rattle.sf_layer.specs.declared.op.Op.{Op}
-use Rattle.sf_tree.specs.Changes.{changed}
+use Rattle.sf_view.specs.sf_layer.declared.op.Op.{Op}
+use Rattle.sf_view.specs.sf_tree.Changes.{changed}
 use Rattle.sf_commit.proofs.PressedLemmas.{gone_by_op, kept_by_op, kept_same, set_by_op, set_same}
 use Rattle.sf_commit.proofs.note.note_op.Goals as goal
 

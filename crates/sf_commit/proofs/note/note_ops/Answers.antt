@@ -1,5 +1,5 @@
 use Rattle.std.proofs.Common.{◌∙◌, ap}
-use Rattle.sf_ready.specs.Facts.{FactsOf}
+use Rattle.sf_commit_next.specs.sf_ready.Facts.{FactsOf}
 use Rattle.sf_commit.proofs.PressedLemmas.{comes_all, comes_on}
 use Rattle.sf_commit.proofs.note.note_ops.Goals as goal
 

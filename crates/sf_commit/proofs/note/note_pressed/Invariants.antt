@@ -1,5 +1,5 @@
 use Rattle.std.proofs.Common.{◌≡◌, take}
-use Rattle.sf_ready.specs.Facts.{HasSame}
+use Rattle.sf_commit_next.specs.sf_ready.Facts.{HasSame}
 use Rattle.sf_commit.specs.Rounds.{pressed_in}
 use Rattle.sf_commit.proofs.note.note_pressed.Given as goal
 

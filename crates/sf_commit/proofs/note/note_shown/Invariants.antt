@@ -1,5 +1,5 @@
 use Rattle.std.proofs.Common.{◌≡◌, ◌++◌, take}
-use Rattle.sf_ready.specs.Facts.{HasSame, TellsSame}
+use Rattle.sf_commit_next.specs.sf_ready.Facts.{HasSame, TellsSame}
 use Rattle.sf_commit.specs.Rounds.{frames_in, layers_in}
 use Rattle.sf_commit.proofs.note.note_shown.Given as goal
 

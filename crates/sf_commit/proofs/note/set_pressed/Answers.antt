@@ -1,5 +1,5 @@
 use Rattle.std.proofs.Common.{ap}
-use Rattle.sf_ready.specs.Facts.{FactsOf}
+use Rattle.sf_commit_next.specs.sf_ready.Facts.{FactsOf}
 use Rattle.sf_commit.proofs.PressedLemmas.{removed_one}
 use Rattle.sf_commit.proofs.note.set_pressed.Goals as goal
 

@@ -1,7 +1,7 @@
 use Rattle.std.proofs.Common.{arith, ◌∙◌, ◌<◌, ◌∷◌, ◌++◌, true, List, ap, sym, subst, append_assoc, length}
 use Rattle.std.proofs.lemmas.List.{append-nil}
 use Rattle.sf_base.specs.Fences.{no_points}
-use Rattle.sf_picture.specs.declared.picture.Picture.{Picture}
+use Rattle.sf_view.specs.sf_picture.declared.picture.Picture.{Picture}
 use Rattle.sf_commit.proofs.ListLemmas.{empty_of}
 use Rattle.sf_commit.proofs.SettleLemmas.{image_is, some_here}
 use Rattle.sf_commit.specs.Inside.{ShowsHere}

@@ -1,6 +1,6 @@
 use Rattle.std.proofs.Common.{◌≡◌, ◌++◌}
 use Rattle.sf_commit.specs.Handlers.{last_of}
-use Rattle.sf_token.specs.Pending.{IsRisingFrom}
+use Rattle.sf_commit_next.specs.sf_token.Pending.{IsRisingFrom}
 use Rattle.sf_commit.proofs.receive.receive.Given as goal
 
 abbrev pub invariant-loop-one : goal.invariant-loop-one

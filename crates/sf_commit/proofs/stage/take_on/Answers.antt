@@ -1,5 +1,5 @@
 use Rattle.std.proofs.Common.{◌∙◌, sym, ap, Some}
-use Rattle.sf_txn.proofs.Firsts.{find-None, find-Some, without_first-None, without_first-Some}
+use Rattle.sf_commit_next.proofs.sf_txn_lemmas.Firsts.{find-None, find-Some, without_first-None, without_first-Some}
 use Rattle.sf_commit.specs.OnLayers.{is_on}
 use Rattle.sf_commit.proofs.stage.take_on.Goals as goal
 

@@ -1,7 +1,7 @@
 use Rattle.std.proofs.Common.{◌+◌, ◌-◌, ◌*◌, ◌∙◌, ap, arith, pos, refl, neg_ℤ, ◌+ℤ◌, length}
 use Rattle.std.proofs.lemmas.List.Edits.{length-between}
 use Rattle.sf_base.specs.Bytes.{pixel_in}
-use Rattle.sf_view.specs.Contents.{unsigned}
+use Rattle.sf_damage.specs.sf_view.Contents.{unsigned}
 use Rattle.sf_compose.proofs.CropLemmas.{crop_pixel, crop_room}
 use Rattle.sf_compose.proofs.SpanLemmas.{pixel_between}
 use Rattle.sf_compose.proofs.crop.crop_row.Goals as goal

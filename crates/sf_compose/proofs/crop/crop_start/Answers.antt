@@ -2,8 +2,8 @@ use Rattle.std.proofs.Common.{◌≡◌, ◌-◌, ◌<◌, ap, arith, refl, pos,
 use Rattle.std.proofs.lemmas.Int.{to_z-of_z}
 use mir.Syntax.{w32}
 use mir.Val.{SFits}
-use Rattle.sf_picture.specs.declared.picture.Picture.{Picture}
-use Rattle.sf_view.specs.Contents.{unsigned}
+use Rattle.sf_damage.specs.sf_picture.declared.picture.Picture.{Picture}
+use Rattle.sf_damage.specs.sf_view.Contents.{unsigned}
 use Rattle.sf_compose.proofs.CropLemmas.{columns_below, place_below, row_room, row_small}
 use Rattle.sf_compose.proofs.crop.crop_start.Goals as goal
 

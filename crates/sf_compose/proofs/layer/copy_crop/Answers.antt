@@ -1,9 +1,9 @@
 use Rattle.std.proofs.Common.{◌+◌, ◌-◌, ◌*◌, ℕ, arith, pos, neg_ℤ, ◌+ℤ◌, ap, false}
 use Rattle.sf_base.specs.Bytes.{pixel_in}
 use Rattle.sf_base.specs.Paint.{painted}
-use Rattle.sf_picture.specs.Pixels.{pixel_at}
-use Rattle.sf_view.specs.Contents.{unsigned}
-use Rattle.sf_view.specs.Image.{opaque_black}
+use Rattle.sf_damage.specs.sf_picture.Pixels.{pixel_at}
+use Rattle.sf_damage.specs.sf_view.Contents.{unsigned}
+use Rattle.sf_damage.specs.sf_view.Image.{opaque_black}
 use Rattle.sf_compose.specs.Frames.{is_in_box}
 use Rattle.sf_compose.proofs.BegunLemmas.{beside_row, beside_rows, Spares-painted, Spares-then}
 use Rattle.sf_compose.proofs.CropLemmas.{both_left, both_right}

@@ -1,8 +1,8 @@
 use Rattle.std.proofs.Common.{ℕ, pos, ◌+ℤ◌, neg_ℤ}
 use Rattle.sf_base.specs.Paint.{painted}
 use Rattle.sf_base.specs.declared.pixel.Rgba.{Rgba}
-use Rattle.sf_picture.specs.Pixels.{pixel_at}
-use Rattle.sf_view.specs.Contents.{unsigned}
+use Rattle.sf_damage.specs.sf_picture.Pixels.{pixel_at}
+use Rattle.sf_damage.specs.sf_view.Contents.{unsigned}
 use Rattle.sf_compose.specs.Frames.{is_in_box}
 use Rattle.sf_compose.specs.Painting.{Paints}
 use Rattle.sf_compose.proofs.layer.copy_crop.Given as goal

@@ -5,10 +5,10 @@ use Rattle.sf_base.specs.Geometry.{is_within, LiesWithin}
 use Rattle.sf_base.specs.Paint.{painted}
 use Rattle.sf_base.specs.declared.geometry.Rect.{Rect}
 use Rattle.sf_base.specs.declared.pixel.Rgba.{Rgba}
-use Rattle.sf_picture.specs.Pixels.{pixel_at, ShowsPicture}
-use Rattle.sf_picture.specs.Solid.{IsSolid}
-use Rattle.sf_picture.specs.declared.picture.Picture.{Picture}
-use Rattle.sf_view.specs.Contents.{source_of, unsigned}
+use Rattle.sf_damage.specs.sf_picture.Pixels.{pixel_at, ShowsPicture}
+use Rattle.sf_damage.specs.sf_picture.Solid.{IsSolid}
+use Rattle.sf_damage.specs.sf_picture.declared.picture.Picture.{Picture}
+use Rattle.sf_damage.specs.sf_view.Contents.{source_of, unsigned}
 use Rattle.sf_compose.specs.Frames.{is_in_box}
 use Rattle.sf_compose.specs.Painting.{PaintsSpan}
 use Rattle.sf_compose.proofs.CropLemmas.{both_left, both_right, crop_pixel, crop_room, crop_small, crop_solid, next_row}

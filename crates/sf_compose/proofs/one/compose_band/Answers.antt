@@ -3,7 +3,7 @@ use Rattle.std.proofs.lemmas.List.{take_all}
 use Rattle.std.proofs.lemmas.List.Folds.{list_any_more}
 use Rattle.sf_base.specs.declared.geometry.Rect.{Rect}
 use Rattle.sf_base.specs.Geometry.{covers}
-use Rattle.sf_region.specs.Points.{has}
+use Rattle.sf_damage.specs.sf_region.Points.{has}
 use Rattle.sf_compose.specs.Frames.{Repaints}
 use Rattle.sf_compose.specs.Readings.{read_image}
 use Rattle.sf_compose.proofs.FrameLemmas.{Repaints-none, Repaints-then}

@@ -1,8 +1,8 @@
 use Rattle.std.proofs.Common.{◌≡◌, ◌∙◌, List, map, pos, ap, refl, sym, subst}
 use Rattle.sf_base.specs.Geometry.{covers}
-use Rattle.sf_view.specs.Image.{opaque_black}
-use Rattle.sf_view.specs.Views.{ViewOf}
-use Rattle.sf_view.specs.declared.drawn.Drawn.{Drawn}
+use Rattle.sf_damage.specs.sf_view.Image.{opaque_black}
+use Rattle.sf_damage.specs.sf_view.Views.{ViewOf}
+use Rattle.sf_damage.specs.sf_view.declared.drawn.Drawn.{Drawn}
 use Rattle.sf_compose.specs.Painting.{is_in_area, Paints}
 use Rattle.sf_compose.specs.Readings.{read_image, under_drawn}
 use Rattle.sf_compose.proofs.BegunLemmas.{Repaints-area}

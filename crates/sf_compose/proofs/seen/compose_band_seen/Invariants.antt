@@ -1,5 +1,5 @@
 use Rattle.std.proofs.Common.{map, take, pos}
-use Rattle.sf_region.specs.Points.{has}
+use Rattle.sf_damage.specs.sf_region.Points.{has}
 use Rattle.sf_compose.specs.Frames.{Repaints}
 use Rattle.sf_compose.specs.Readings.{read_image}
 use Rattle.sf_compose.proofs.seen.compose_band_seen.Given as goal

@@ -1,7 +1,7 @@
 use Rattle.std.proofs.Common.{◌≡◌, ◌∙◌, ◌&&◌, ◌⊎◌, ◌<◌, List, get_or, length, map, pos, subst, arith}
 use Rattle.std.proofs.lemmas.Slice.Zip.{AllZip-long}
 use Rattle.sf_base.specs.declared.geometry.Rect.{Rect}
-use Rattle.sf_region.specs.Points.{has}
+use Rattle.sf_damage.specs.sf_region.Points.{has}
 use Rattle.sf_compose.specs.Painting.{is_in_area, Paints}
 use Rattle.sf_compose.specs.Readings.{IsReadable, under_one}
 use Rattle.sf_compose.proofs.BegunLemmas.{AreSeenAt-long}

@@ -2,7 +2,7 @@ use Rattle.std.proofs.Common.{◌-◌, true}
 use Rattle.sf_base.specs.Paint.{painted}
 use Rattle.sf_base.specs.Bytes.{pixel_in}
 use Rattle.sf_rows.specs.Pixels.{opaque_pixel}
-use Rattle.sf_view.specs.Contents.{source_of}
+use Rattle.sf_damage.specs.sf_view.Contents.{source_of}
 use Rattle.sf_compose.proofs.SpanLemmas.{PaintsSpan-part, moved_back}
 use Rattle.sf_compose.proofs.spans.paint_row_opaque.Goals as goal
 

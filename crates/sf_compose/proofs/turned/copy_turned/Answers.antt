@@ -1,5 +1,5 @@
 use Rattle.std.proofs.Common.{arith, false}
-use Rattle.sf_view.specs.Image.{opaque_black}
+use Rattle.sf_damage.specs.sf_view.Image.{opaque_black}
 use Rattle.sf_compose.specs.Frames.{is_in_box}
 use Rattle.sf_compose.proofs.BegunLemmas.{Spares-painted, Spares-then}
 use Rattle.sf_compose.proofs.PaintLemmas.{box_without_sides, Paints-none}

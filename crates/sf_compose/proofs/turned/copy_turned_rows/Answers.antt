@@ -1,7 +1,7 @@
 use Rattle.std.proofs.Common.{◌+◌, ◌-◌, ◌*◌, ℕ, arith, pos, ap}
 use Rattle.sf_base.specs.Bytes.{pixel_in}
 use Rattle.sf_base.specs.Paint.{painted}
-use Rattle.sf_view.specs.Image.{opaque_black}
+use Rattle.sf_damage.specs.sf_view.Image.{opaque_black}
 use Rattle.sf_compose.specs.Frames.{is_in_box}
 use Rattle.sf_compose.specs.Turns.{pixel_shown}
 use Rattle.sf_compose.proofs.BegunLemmas.{beside_row, beside_rows, Spares-painted, Spares-then}

@@ -1,6 +1,6 @@
 use Rattle.std.proofs.Common.{ℕ, ap, arith, pos, refl, sym}
 use Rattle.sf_base.specs.Paint.{painted}
-use Rattle.sf_view.specs.Contents.{source_of}
+use Rattle.sf_damage.specs.sf_view.Contents.{source_of}
 use Rattle.sf_compose.specs.Turns.{pixel_shown}
 use Rattle.sf_compose.proofs.PaintLemmas.{box_without_sides, Paints-none, Paints-same}
 use Rattle.sf_compose.proofs.TurnLemmas.{block_point, Paints-block, Paints-sides}

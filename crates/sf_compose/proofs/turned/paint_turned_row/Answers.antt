@@ -1,7 +1,7 @@
 use Rattle.std.proofs.Common.{◌≡◌, ◌+◌, ◌-◌, ap, arith}
 use Rattle.sf_base.specs.Paint.{painted}
 use Rattle.sf_base.specs.declared.pixel.Rgba.{Rgba}
-use Rattle.sf_view.specs.Contents.{source_of}
+use Rattle.sf_damage.specs.sf_view.Contents.{source_of}
 use Rattle.sf_compose.proofs.SpanLemmas.{PaintsSpan-same}
 use Rattle.sf_compose.proofs.turned.paint_turned_row.Goals as goal
 

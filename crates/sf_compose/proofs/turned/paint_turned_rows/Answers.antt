@@ -1,6 +1,6 @@
 use Rattle.std.proofs.Common.{◌+◌, ℕ, arith, pos, ap}
 use Rattle.sf_base.specs.Paint.{painted}
-use Rattle.sf_view.specs.Contents.{source_of}
+use Rattle.sf_damage.specs.sf_view.Contents.{source_of}
 use Rattle.sf_compose.specs.Frames.{is_in_box}
 use Rattle.sf_compose.specs.Turns.{pixel_shown}
 use Rattle.sf_compose.proofs.FrameLemmas.{box_higher, box_without_height}

@@ -1,6 +1,6 @@
 use Rattle.std.proofs.Common.{pos}
 use Rattle.sf_base.specs.Paint.{painted}
-use Rattle.sf_view.specs.Contents.{source_of}
+use Rattle.sf_damage.specs.sf_view.Contents.{source_of}
 use Rattle.sf_compose.specs.Frames.{is_in_box}
 use Rattle.sf_compose.specs.Painting.{Paints}
 use Rattle.sf_compose.specs.Turns.{pixel_shown}

@@ -1,6 +1,6 @@
 use Rattle.std.proofs.Common.{◌≡◌, ◌∙◌, ◌+◌, ◌*◌, ap, arith, rules, pos, to_z, of_z, w32, ℕ}
-use Rattle.sf_picture.specs.declared.picture.Picture.{Picture}
-use Rattle.sf_view.specs.Contents.{unsigned}
+use Rattle.sf_damage.specs.sf_picture.declared.picture.Picture.{Picture}
+use Rattle.sf_damage.specs.sf_view.Contents.{unsigned}
 use Rattle.sf_compose.specs.Turns.{point_shown, step_of}
 use Rattle.sf_compose.proofs.TurnLemmas.{turned_has, turned_pixel}
 use Rattle.sf_compose.proofs.turned.pick_turned.Goals as goal

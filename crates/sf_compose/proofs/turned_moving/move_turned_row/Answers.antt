@@ -4,10 +4,10 @@ use Rattle.sf_base.specs.Geometry.{covers, LiesWithin}
 use Rattle.sf_base.specs.Paint.{painted}
 use Rattle.sf_base.specs.declared.geometry.Rect.{Rect}
 use Rattle.sf_base.specs.declared.pixel.Rgba.{Rgba}
-use Rattle.sf_picture.specs.Solid.{IsSolid}
-use Rattle.sf_picture.specs.declared.picture.Picture.{Picture}
-use Rattle.sf_view.specs.Boxes.{box_of}
-use Rattle.sf_view.specs.Contents.{source_of}
+use Rattle.sf_damage.specs.sf_picture.Solid.{IsSolid}
+use Rattle.sf_damage.specs.sf_picture.declared.picture.Picture.{Picture}
+use Rattle.sf_damage.specs.sf_view.Boxes.{box_of}
+use Rattle.sf_damage.specs.sf_view.Contents.{source_of}
 use Rattle.sf_compose.specs.Painting.{PaintsSpan}
 use Rattle.sf_compose.specs.Turns.{pixel_shown}
 use Rattle.sf_compose.proofs.SolidLemmas.{moved_whole}

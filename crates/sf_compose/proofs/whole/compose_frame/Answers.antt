@@ -1,7 +1,7 @@
 use Rattle.std.proofs.Common.{◌≡◌, ◌<◌, ◌∙◌, ◌*◌, ℕ, map, ap, arith, length, pos, subst, sym, true}
 use Rattle.sf_base.specs.Geometry.{covers}
-use Rattle.sf_view.specs.Stacks.{view_image}
-use Rattle.sf_view.specs.Views.{ViewOf}
+use Rattle.sf_damage.specs.sf_view.Stacks.{view_image}
+use Rattle.sf_damage.specs.sf_view.Views.{ViewOf}
 use Rattle.sf_compose.proofs.FrameLemmas.{covers_display, whole_frame}
 use Rattle.sf_compose.proofs.ReadingLemmas.{read_image-same}
 use Rattle.sf_compose.proofs.RowLemmas.{frame-from, written}

@@ -6,15 +6,15 @@ use Rattle.std.proofs.lemmas.List.Sorted.{All-permutation}
 use Rattle.sf_picture.specs.declared.picture.Picture.{Picture}
 use Rattle.sf_script_scene.specs.declared.step.ActorScript.{ActorScript}
 use Rattle.sf_script_scene.specs.declared.declarations.QueueDecl.{QueueDecl}
-use Rattle.sf_surface.specs.Objects.{mark_of}
-use Rattle.sf_actor.specs.Plain.{PlainOf, home_of, view_of}
-use Rattle.sf_actor.specs.Scripts.{picture_at}
-use Rattle.sf_actor_steps.specs.Actors.{IsActor}
-use Rattle.sf_actor_steps.specs.declared.actor.Actor.{Actor}
-use Rattle.sf_actor_set.specs.Opening.{IsSortedFrom, OpensQueues, new_actors}
-use Rattle.sf_actor_set.specs.Scripts.{permits_of}
-use Rattle.sf_live_seats.specs.Closing.{HasNoCalls}
-use Rattle.sf_live_threads.specs.Seating.{IsNewcomer, number_of}
+use Rattle.sf_live_compositor.specs.sf_surface.Objects.{mark_of}
+use Rattle.sf_live_compositor.specs.sf_actor.Plain.{PlainOf, home_of, view_of}
+use Rattle.sf_live_compositor.specs.sf_actor.Scripts.{picture_at}
+use Rattle.sf_live_compositor.specs.sf_actor_steps.Actors.{IsActor}
+use Rattle.sf_live_compositor.specs.sf_actor_steps.declared.actor.Actor.{Actor}
+use Rattle.sf_live_compositor.specs.sf_actor_set.Opening.{IsSortedFrom, OpensQueues, new_actors}
+use Rattle.sf_live_compositor.specs.sf_actor_set.Scripts.{permits_of}
+use Rattle.sf_live_compositor.specs.sf_live_seats.Closing.{HasNoCalls}
+use Rattle.sf_live_compositor.specs.sf_live_threads.Seating.{IsNewcomer, number_of}
 use Rattle.sf_live.proofs.Newcomers.{few_opened, newcomers, numbers_same, opened_bare, rise_behind}
 use Rattle.sf_live.proofs.OpenedScenes.{are_actors, marks_opened, stock_below, stock_once}
 use Rattle.sf_live.proofs.opening.open.Goals as goal

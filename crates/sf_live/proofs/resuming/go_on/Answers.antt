@@ -1,8 +1,8 @@
 use Rattle.std.proofs.Common.{◌∙◌, ap, subst, sym}
 use Rattle.sf_script_scene.specs.Limits.{most_layers}
-use Rattle.sf_play.specs.Players.{PlayerOf}
-use Rattle.sf_play.specs.Standing.{IsStanding}
-use Rattle.sf_live_threads.specs.Gates.{HavePassed}
+use Rattle.sf_live_compositor.specs.sf_play.Players.{PlayerOf}
+use Rattle.sf_live_compositor.specs.sf_play.Standing.{IsStanding}
+use Rattle.sf_live_compositor.specs.sf_live_threads.Gates.{HavePassed}
 use Rattle.sf_live.proofs.GoingOn.{has_shown, same_player, tells_joined}
 use Rattle.sf_live.proofs.resuming.go_on.Goals as goal
 

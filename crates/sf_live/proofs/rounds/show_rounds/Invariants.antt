@@ -1,8 +1,8 @@
 use Rattle.std.proofs.Common.{◌≡◌, ℕ, ◌≤◌, List, Option}
 use Rattle.sf_script_scene.specs.Scene.{SceneValue}
-use Rattle.sf_play.specs.Going.{fuel_of}
-use Rattle.sf_play.specs.Players.{home_in}
-use Rattle.sf_live_threads.specs.Gates.{HavePassed}
+use Rattle.sf_live_compositor.specs.sf_play.Going.{fuel_of}
+use Rattle.sf_live_compositor.specs.sf_play.Players.{home_in}
+use Rattle.sf_live_compositor.specs.sf_live_threads.Gates.{HavePassed}
 use Rattle.sf_live.specs.Rounds.{HasShown}
 use Rattle.sf_live.proofs.rounds.show_rounds.Given as goal
 

@@ -2,14 +2,14 @@ use Rattle.std.proofs.Common.{Bool, List, not, subst, sym}
 use Rattle.atomic_table.specs.Seated.{TableId}
 use Rattle.sf_picture.specs.declared.picture.Picture.{Picture}
 use Rattle.sf_script_scene.specs.Scene.{SceneValue}
-use Rattle.sf_actor.specs.Plain.{home_of, view_of}
-use Rattle.sf_actor_set.specs.ActorSets.{KeepAs}
-use Rattle.sf_play.specs.Players.{PlayerOf, SoFar}
-use Rattle.sf_play.specs.Standing.{StandsInRun}
+use Rattle.sf_live_compositor.specs.sf_actor.Plain.{home_of, view_of}
+use Rattle.sf_live_compositor.specs.sf_actor_set.ActorSets.{KeepAs}
+use Rattle.sf_live_compositor.specs.sf_play.Players.{PlayerOf, SoFar}
+use Rattle.sf_live_compositor.specs.sf_play.Standing.{StandsInRun}
 use Rattle.sf_live.specs.Rounds.{ShowsOn, turn_written}
-use Rattle.sf_actor.specs.Scripts.{picture_at}
-use Rattle.sf_play_write.proofs.ClosingLemmas.{few_steps}
-use Rattle.sf_play_write.proofs.TurnLemmas.{timelines_within}
+use Rattle.sf_live_compositor.specs.sf_actor.Scripts.{picture_at}
+use Rattle.sf_live_compositor.proofs.sf_play_write_lemmas.ClosingLemmas.{few_steps}
+use Rattle.sf_live_compositor.proofs.sf_play_write_lemmas.TurnLemmas.{timelines_within}
 use Rattle.sf_live.proofs.GateLemmas.{turned}
 use Rattle.sf_live.proofs.RoundLemmas.{cut_before, may_write, shows_on, turn_cut}
 use Rattle.sf_live.proofs.rounds.show_turn.Goals as goal

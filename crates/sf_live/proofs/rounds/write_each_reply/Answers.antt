@@ -1,7 +1,7 @@
 use Rattle.std.proofs.Common.{arith}
-use Rattle.sf_record.specs.declared.record.Record.TheVariants as rec
-use Rattle.law_played.specs.Replies.{reply_shown}
-use Rattle.sf_play_write.proofs.WritingLemmas.{each_more, each_part, still_later, writes_none}
+use Rattle.sf_live_compositor.specs.sf_record.declared.record.Record.TheVariants as rec
+use Rattle.sf_live_compositor.specs.law_played.Replies.{reply_shown}
+use Rattle.sf_live_compositor.proofs.sf_play_write_lemmas.WritingLemmas.{each_more, each_part, still_later, writes_none}
 use Rattle.sf_live.proofs.rounds.write_each_reply.Goals as goal
 
 pub loop-reply-init : goal.loop-reply-init

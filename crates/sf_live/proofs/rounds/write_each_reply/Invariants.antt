@@ -1,7 +1,7 @@
 use Rattle.std.proofs.Common.{◌≤◌, map, take}
-use Rattle.sf_record.specs.declared.record.Record.TheVariants as rec
-use Rattle.law_played.specs.Replies.{reply_shown}
-use Rattle.sf_play_write.specs.Writing.{Writes}
+use Rattle.sf_live_compositor.specs.sf_record.declared.record.Record.TheVariants as rec
+use Rattle.sf_live_compositor.specs.law_played.Replies.{reply_shown}
+use Rattle.sf_live_compositor.specs.sf_play_write.Writing.{Writes}
 use Rattle.sf_live.proofs.rounds.write_each_reply.Given as goal
 
 abbrev pub invariant-loop-reply : goal.invariant-loop-reply

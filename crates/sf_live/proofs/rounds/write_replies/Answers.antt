@@ -1,9 +1,9 @@
 use Rattle.std.proofs.Common.{List, map, subst, arith}
-use Rattle.sf_actor.specs.declared.tried.Reply.{Reply}
-use Rattle.sf_record.specs.declared.record.Record.TheVariants as rec
-use Rattle.law_played.specs.Replies.{reply_shown}
-use Rattle.sf_play_write.specs.Writing.{Writes, WritesPart}
-use Rattle.sf_play_write.proofs.WritingLemmas.{still_later, writes_none}
+use Rattle.sf_live_compositor.specs.sf_actor.declared.tried.Reply.{Reply}
+use Rattle.sf_live_compositor.specs.sf_record.declared.record.Record.TheVariants as rec
+use Rattle.sf_live_compositor.specs.law_played.Replies.{reply_shown}
+use Rattle.sf_live_compositor.specs.sf_play_write.Writing.{Writes, WritesPart}
+use Rattle.sf_live_compositor.proofs.sf_play_write_lemmas.WritingLemmas.{still_later, writes_none}
 use Rattle.sf_live.specs.Rounds.{reply_records}
 use Rattle.sf_live.proofs.EndLemmas.{pieces_more, pieces_part}
 use Rattle.sf_live.proofs.rounds.write_replies.Goals as goal

@@ -1,5 +1,5 @@
 use Rattle.std.proofs.Common.{◌≤◌, take}
-use Rattle.sf_play_write.specs.Writing.{Writes}
+use Rattle.sf_live_compositor.specs.sf_play_write.Writing.{Writes}
 use Rattle.sf_live.specs.Rounds.{all_reply_records}
 use Rattle.sf_live.proofs.rounds.write_replies.Given as goal
 

@@ -1,9 +1,9 @@
 use Rattle.std.proofs.Common.{List, ◌∙◌, ap, subst}
-use Rattle.sf_actor_steps.specs.declared.actor.Actor.{Actor}
-use Rattle.sf_actor_set.specs.ActorSets.{ActorSetOf}
-use Rattle.sf_play_write.specs.Closings.{closing_of}
-use Rattle.sf_play_write.specs.Writing.{Writes, WritesPart}
-use Rattle.sf_play_write.proofs.WritingLemmas.{last_cut, last_written, part_front}
+use Rattle.sf_live_compositor.specs.sf_actor_steps.declared.actor.Actor.{Actor}
+use Rattle.sf_live_compositor.specs.sf_actor_set.ActorSets.{ActorSetOf}
+use Rattle.sf_live_compositor.specs.sf_play_write.Closings.{closing_of}
+use Rattle.sf_live_compositor.specs.sf_play_write.Writing.{Writes, WritesPart}
+use Rattle.sf_live_compositor.proofs.sf_play_write_lemmas.WritingLemmas.{last_cut, last_written, part_front}
 use Rattle.sf_live.specs.Rounds.{all_reply_records}
 use Rattle.sf_live.proofs.rounds.write_rest.Goals as goal
 

@@ -1,5 +1,5 @@
 use Rattle.std.proofs.Common.{Bool, OnOk, subst}
-use Rattle.sf_play_write.proofs.ClosingLemmas.{few_steps}
+use Rattle.sf_live_compositor.proofs.sf_play_write_lemmas.ClosingLemmas.{few_steps}
 use Rattle.sf_live.specs.Runs.{WroteLive}
 use Rattle.sf_live.proofs.EndLemmas.{live_cut, live_written}
 use Rattle.sf_live.proofs.rounds.write_rounds.Goals as goal

@@ -1,15 +1,15 @@
 use Rattle.std.proofs.Common.{ap, ◌∙◌, subst, sym, OnErr, OnOk}
-use Rattle.sf_commit.specs.Handlers.{HandlerOf}
-use Rattle.sf_surface.specs.Tokens.{ReadLeaseOf}
-use Rattle.sf_actor.specs.Scripts.{picture_at}
-use Rattle.sf_play.specs.Playing.{expected_by}
-use Rattle.sf_play.specs.declared.turn.Turn.{Turn}
-use Rattle.sf_play_report.specs.Stages.{IsStage}
-use Rattle.sf_play_report.specs.declared.report.VsyncReport.{VsyncReport}
-use Rattle.sf_output_screen.specs.ScreenLists.{AreShown}
-use Rattle.sf_play_write.specs.Vsyncs.{vsync_shown}
-use Rattle.sf_play_write.specs.Writing.{Writes, WritesPart}
-use Rattle.sf_play_write.proofs.WritingLemmas.{writes_none}
+use Rattle.sf_live_compositor.specs.sf_commit.Handlers.{HandlerOf}
+use Rattle.sf_live_compositor.specs.sf_surface.Tokens.{ReadLeaseOf}
+use Rattle.sf_live_compositor.specs.sf_actor.Scripts.{picture_at}
+use Rattle.sf_live_compositor.specs.sf_play.Playing.{expected_by}
+use Rattle.sf_live_compositor.specs.sf_play.declared.turn.Turn.{Turn}
+use Rattle.sf_live_compositor.specs.sf_play_report.Stages.{IsStage}
+use Rattle.sf_live_compositor.specs.sf_play_report.declared.report.VsyncReport.{VsyncReport}
+use Rattle.sf_live_compositor.specs.sf_output_screen.ScreenLists.{AreShown}
+use Rattle.sf_live_compositor.specs.sf_play_write.Vsyncs.{vsync_shown}
+use Rattle.sf_live_compositor.specs.sf_play_write.Writing.{Writes, WritesPart}
+use Rattle.sf_live_compositor.proofs.sf_play_write_lemmas.WritingLemmas.{writes_none}
 use Rattle.sf_live.specs.Rounds.{MayWriteTurn, turn_written}
 use Rattle.sf_live.proofs.RoundLemmas.{none_written, stage_told, expected_told}
 use Rattle.sf_live.proofs.rounds.write_turn.Goals as goal

@@ -1,5 +1,5 @@
-use Rattle.sf_live_threads.proofs.AttendLemmas.{of_ok}
-use Rattle.sf_record.specs.declared.encode.RunFault.TheVariants.{NoMemory}
+use Rattle.sf_live_compositor.proofs.sf_live_threads_lemmas.AttendLemmas.{of_ok}
+use Rattle.sf_live_compositor.specs.sf_record.declared.encode.RunFault.TheVariants.{NoMemory}
 use Rattle.sf_live.proofs.RunLemmas.{came_returned, came_together, cut_ended, cut_returned, cut_threads, kept, kept_first, no_write_fault, of_err, ran}
 use Rattle.sf_live.proofs.running.run_threads.Goals as goal
 

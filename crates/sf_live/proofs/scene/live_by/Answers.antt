@@ -1,11 +1,11 @@
 use Rattle.std.proofs.Common.{ap, arith, rules, ◌∙◌, subst, [], ◌∷◌}
 use Rattle.sf_live_compositor.proofs.FaultCounts.{rose_since}
-use Rattle.law_played.specs.Played.{opening}
+use Rattle.sf_live_compositor.specs.law_played.Played.{opening}
 use Rattle.sf_script_scene.specs.Limits.{IsWithinLimits}
 use Rattle.sf_script_scene.specs.Scene.{SceneValue}
-use Rattle.sf_actor_set.specs.Opening.{IsSortedFrom}
-use Rattle.sf_play_write.proofs.TurnLemmas.{timelines_are}
-use Rattle.sf_play_write.proofs.WritingLemmas.{cut_part}
+use Rattle.sf_live_compositor.specs.sf_actor_set.Opening.{IsSortedFrom}
+use Rattle.sf_live_compositor.proofs.sf_play_write_lemmas.TurnLemmas.{timelines_are}
+use Rattle.sf_live_compositor.proofs.sf_play_write_lemmas.WritingLemmas.{cut_part}
 use Rattle.sf_live.proofs.scene.live_by.Goals as goal
 
 pub returns-in-Err : goal.returns-in-Err

@@ -1,11 +1,11 @@
 use Rattle.std.proofs.Common.{◌≤◌, ◌∷◌, [], arith, refl, rules, subst, sym, OnErr, OnOk}
 use Rattle.sf_io.specs.Causes.{Rose}
 use Rattle.sf_live_compositor.proofs.FaultCounts.{rose_since}
-use Rattle.sf_play_write.specs.Writing.{CutSome}
-use Rattle.sf_live_threads.proofs.AttendLemmas.{of_ok}
-use Rattle.law_played.specs.Played.{opening}
-use Rattle.sf_play_write.proofs.WritingLemmas.{cut_more}
-use Rattle.sf_live_seats.specs.Seats.{tells_of}
+use Rattle.sf_live_compositor.specs.sf_play_write.Writing.{CutSome}
+use Rattle.sf_live_compositor.proofs.sf_live_threads_lemmas.AttendLemmas.{of_ok}
+use Rattle.sf_live_compositor.specs.law_played.Played.{opening}
+use Rattle.sf_live_compositor.proofs.sf_play_write_lemmas.WritingLemmas.{cut_more}
+use Rattle.sf_live_compositor.specs.sf_live_seats.Seats.{tells_of}
 use Rattle.sf_live.specs.Runs.{WroteLive}
 use Rattle.sf_live.proofs.RunLemmas.{goes_from, has_come, of_err, run_came, starts_here}
 use Rattle.sf_live.proofs.scene.run_opened.Goals as goal

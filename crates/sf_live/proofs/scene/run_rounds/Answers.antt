@@ -1,6 +1,6 @@
 use Rattle.std.proofs.Common.{Bool, OnOk, subst, sym}
-use Rattle.sf_commit.specs.Handlers.{HandlerOf}
-use Rattle.sf_surface.specs.Tokens.{ReadLeaseOf}
+use Rattle.sf_live_compositor.specs.sf_commit.Handlers.{HandlerOf}
+use Rattle.sf_live_compositor.specs.sf_surface.Tokens.{ReadLeaseOf}
 use Rattle.sf_live.specs.Resuming.{GoesFrom}
 use Rattle.sf_live.specs.Runs.{WroteLive}
 use Rattle.sf_live.proofs.GoingOn.{shown_so}

@@ -1,7 +1,7 @@
 use Rattle.std.proofs.Common.{◌≤◌, Bool, arith, sym, subst}
-use Rattle.law_played.proofs.LimitLemmas.{few_layers}
+use Rattle.sf_live_compositor.proofs.law_played_lemmas.LimitLemmas.{few_layers}
 use Rattle.sf_script_scene.specs.Scene.{SceneValue}
-use Rattle.sf_actor_set.specs.Scripts.{permits_of}
+use Rattle.sf_live_compositor.specs.sf_actor_set.Scripts.{permits_of}
 use Rattle.sf_live.specs.Runs.{LiveEnded}
 use Rattle.sf_live.proofs.StartOfRun.{may_run, of_scene}
 use Rattle.sf_live.proofs.RunLemmas.{ended_early}

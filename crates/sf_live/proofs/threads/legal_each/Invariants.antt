@@ -1,8 +1,8 @@
 use Rattle.std.proofs.Common.{take}
 use Rattle.std.specs.Prelude.{All}
 use Rattle.sf_calls.specs.Histories.{IsLegal}
-use Rattle.sf_surface.specs.Histories.{Answers}
-use Rattle.sf_surface.specs.Objects.{ObjectOf, mark_of}
+use Rattle.sf_live_compositor.specs.sf_surface.Histories.{Answers}
+use Rattle.sf_live_compositor.specs.sf_surface.Objects.{ObjectOf, mark_of}
 use Rattle.sf_live.proofs.threads.legal_each.Given as goal
 
 abbrev pub invariant-loop-object : goal.invariant-loop-object

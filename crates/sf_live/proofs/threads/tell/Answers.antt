@@ -1,10 +1,10 @@
 use Rattle.std.proofs.Common.{◌∙◌, List, map, subst}
 use Rattle.sf_calls.specs.Histories.{IsLegal}
-use Rattle.sf_surface.specs.Histories.{Answers}
-use Rattle.sf_surface.specs.Objects.{ObjectOf, mark_of}
-use Rattle.sf_actor.specs.Desks.{mark_among}
-use Rattle.sf_actor.specs.Plain.{calls_among}
-use Rattle.sf_actor_set.proofs.CompositingLemmas.{legal_among}
+use Rattle.sf_live_compositor.specs.sf_surface.Histories.{Answers}
+use Rattle.sf_live_compositor.specs.sf_surface.Objects.{ObjectOf, mark_of}
+use Rattle.sf_live_compositor.specs.sf_actor.Desks.{mark_among}
+use Rattle.sf_live_compositor.specs.sf_actor.Plain.{calls_among}
+use Rattle.sf_live_compositor.proofs.sf_actor_set_lemmas.CompositingLemmas.{legal_among}
 use Rattle.sf_live.proofs.threads.tell.Goals as goal
 
 pub returns-clause-legal : goal.returns-clause-legal

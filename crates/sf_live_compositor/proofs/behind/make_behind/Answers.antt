@@ -1,8 +1,8 @@
 use Rattle.std.proofs.Common.{◌+◌, List, map, ◌∙◌, sym, subst}
 use Rattle.std.specs.Prelude.{IfOk}
 use Rattle.std.proofs.lemmas.List.{map-id}
-use Rattle.sf_picture.specs.declared.picture.Picture.{Picture}
-use Rattle.sf_play.specs.Playing.{expected_by}
+use Rattle.sf_live_threads.specs.sf_picture.declared.picture.Picture.{Picture}
+use Rattle.sf_play_write.specs.sf_play.Playing.{expected_by}
 use Rattle.sf_play_write.specs.Vsyncs.{AreImagesOf, AreReadableViews}
 use Rattle.sf_live_compositor.specs.Vsyncs.{Sitting}
 use Rattle.sf_live_compositor.proofs.GivenBack.{all_at_hand, all_given}

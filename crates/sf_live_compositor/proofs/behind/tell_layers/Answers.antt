@@ -1,5 +1,5 @@
 use Rattle.std.proofs.Common.{◌≤◌, length, subst}
-use Rattle.sf_tree.specs.Trees.{TreeOf}
+use Rattle.sf_live_threads.specs.sf_tree.Trees.{TreeOf}
 use Rattle.sf_live_compositor.proofs.behind.tell_layers.Goals as goal
 
 pub returns-clause-few : goal.returns-clause-few

@@ -2,10 +2,10 @@ use Rattle.std.proofs.Common.{◌∙◌, refl, rules, sym, subst}
 use Rattle.std.specs.Prelude.{List}
 use Rattle.std.proofs.lemmas.Iterator.Adapters.{YieldsList-from_vec}
 use Rattle.std.proofs.lemmas.Iterator.Consumers.{YieldsList-end}
-use Rattle.sf_commit.specs.Releases.{ReleaseOf}
-use Rattle.sf_surface.specs.Tokens.{ReadLeaseOf}
-use Rattle.law_rights.specs.Standing.{GiveAll}
-use Rattle.sf_live_seats.specs.Seats.{home_of, view_of}
+use Rattle.sf_live_threads.specs.sf_commit.Releases.{ReleaseOf}
+use Rattle.sf_live_threads.specs.sf_surface.Tokens.{ReadLeaseOf}
+use Rattle.sf_play_write.specs.law_rights.Standing.{GiveAll}
+use Rattle.sf_live_threads.specs.sf_live_seats.Seats.{home_of, view_of}
 use Rattle.sf_live_compositor.proofs.SeatGrowth.{gave_more, gave_none, map_same}
 use Rattle.sf_live_compositor.proofs.release.release_all.Goals as goal
 

@@ -1,11 +1,11 @@
 use Rattle.std.proofs.Common.{subst}
 use Rattle.std.specs.Prelude.{OnOk}
-use Rattle.sf_commit.specs.Releases.{ReleaseOf}
-use Rattle.sf_surface.specs.declared.call.QCall.TheVariants as call
-use Rattle.sf_surface.specs.declared.call.QReply.{QReply}
-use Rattle.sf_surface.specs.Tokens.{ReadLeaseOf}
-use Rattle.sf_actor.specs.Desks.{MadeCall}
-use Rattle.sf_live_seats.specs.Seats.{home_of, view_of}
+use Rattle.sf_live_threads.specs.sf_commit.Releases.{ReleaseOf}
+use Rattle.sf_live_threads.specs.sf_surface.declared.call.QCall.TheVariants as call
+use Rattle.sf_live_threads.specs.sf_surface.declared.call.QReply.{QReply}
+use Rattle.sf_live_threads.specs.sf_surface.Tokens.{ReadLeaseOf}
+use Rattle.sf_live_threads.specs.sf_actor.Desks.{MadeCall}
+use Rattle.sf_live_threads.specs.sf_live_seats.Seats.{home_of, view_of}
 use Rattle.sf_live_compositor.proofs.ReturnedFrame.{ends_given, given, gives_it, step_given}
 use Rattle.sf_live_compositor.proofs.release.release_one.Goals as goal
 

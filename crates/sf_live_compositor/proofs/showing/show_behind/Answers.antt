@@ -1,7 +1,7 @@
 use Rattle.std.proofs.Common.{◌≡◌, ◌+◌, false, ap, map, ◌∙◌, subst}
-use Rattle.sf_commit.specs.Handlers.{HandlerOf}
-use Rattle.sf_surface.specs.Tokens.{ReadLeaseOf}
-use Rattle.sf_play.specs.Playing.{expected_by}
+use Rattle.sf_live_threads.specs.sf_commit.Handlers.{HandlerOf}
+use Rattle.sf_live_threads.specs.sf_surface.Tokens.{ReadLeaseOf}
+use Rattle.sf_play_write.specs.sf_play.Playing.{expected_by}
 use Rattle.sf_play_write.specs.Vsyncs.{AreImagesOf}
 use Rattle.sf_play_write.specs.Writing.{Writes}
 use Rattle.sf_play_write.proofs.VsyncLemmas.{composed_shown, records_are}

@@ -1,6 +1,6 @@
 use Rattle.std.proofs.Common.{◌≡◌, ◌+◌, false, ap, ◌∙◌}
-use Rattle.sf_commit.specs.Handlers.{HandlerOf}
-use Rattle.sf_surface.specs.Tokens.{ReadLeaseOf}
+use Rattle.sf_live_threads.specs.sf_commit.Handlers.{HandlerOf}
+use Rattle.sf_live_threads.specs.sf_surface.Tokens.{ReadLeaseOf}
 use Rattle.sf_live_compositor.specs.Sitting.{MakesVsync}
 use Rattle.sf_live_compositor.specs.Vsyncs.{Sitting}
 use Rattle.sf_live_compositor.proofs.Shown.{if_ok, is_stage, on_ok, sits_on}

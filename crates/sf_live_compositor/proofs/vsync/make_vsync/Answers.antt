@@ -1,15 +1,15 @@
 use Rattle.std.proofs.Common.{◌≡◌, ℕ, ◌+◌, ◌*◌, ◌≤◌, List, ◌∙◌, ap, arith, refl, rules, subst, sym}
-use Rattle.sf_calls_stamped.specs.Stamps.{unstamped}
-use Rattle.sf_surface.specs.Tokens.{ReadLeaseOf}
-use Rattle.sf_commit.specs.Handlers.{HandlerOf, last_of}
-use Rattle.sf_commit.specs.Releases.{ReleaseOf, VsyncOf}
-use Rattle.sf_actor.specs.Plain.{taken_in}
-use Rattle.law_rights.specs.Standing.{GiveAll}
-use Rattle.sf_live_seats.specs.declared.seats.Seats.{Seats}
-use Rattle.sf_live_seats.specs.Arriving.{ArrivalsPass}
-use Rattle.sf_live_seats.specs.Seats.{home_of, view_of}
-use Rattle.sf_live_seats.proofs.FirstSeatsKept.{stays_looked, stays_sent}
-use Rattle.sf_live_seats.specs.Moves.{MadeLater}
+use Rattle.sf_live_threads.specs.sf_calls_stamped.Stamps.{unstamped}
+use Rattle.sf_live_threads.specs.sf_surface.Tokens.{ReadLeaseOf}
+use Rattle.sf_live_threads.specs.sf_commit.Handlers.{HandlerOf, last_of}
+use Rattle.sf_live_threads.specs.sf_commit.Releases.{ReleaseOf, VsyncOf}
+use Rattle.sf_live_threads.specs.sf_actor.Plain.{taken_in}
+use Rattle.sf_play_write.specs.law_rights.Standing.{GiveAll}
+use Rattle.sf_live_threads.specs.sf_live_seats.declared.seats.Seats.{Seats}
+use Rattle.sf_live_threads.specs.sf_live_seats.Arriving.{ArrivalsPass}
+use Rattle.sf_live_threads.specs.sf_live_seats.Seats.{home_of, view_of}
+use Rattle.sf_live_threads.proofs.sf_live_seats_lemmas.FirstSeatsKept.{stays_looked, stays_sent}
+use Rattle.sf_live_threads.specs.sf_live_seats.Moves.{MadeLater}
 use Rattle.sf_live_compositor.proofs.GivenBack.{makes_lent}
 use Rattle.sf_live_compositor.proofs.SeatGrowth.{reported, stays_on}
 use Rattle.sf_live_compositor.proofs.TakenNumbers.{take_rises}

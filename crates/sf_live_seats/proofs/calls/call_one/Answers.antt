@@ -1,5 +1,5 @@
 use Rattle.std.proofs.Common.{ℕ, ap, arith}
-use Rattle.sf_surface.specs.declared.call.QCall.{QCall}
+use Rattle.sf_actor.specs.sf_surface.declared.call.QCall.{QCall}
 use Rattle.sf_live_seats.specs.Seats.{lock_mark}
 use Rattle.sf_live_seats.proofs.PassCall.{made_one, not_made, told, waits_one}
 use Rattle.sf_live_seats.proofs.calls.call_one.Goals as goal

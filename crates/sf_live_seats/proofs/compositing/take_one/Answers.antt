@@ -1,7 +1,7 @@
 use Rattle.std.proofs.Common.{◌∙◌, List, ap, sym}
-use Rattle.sf_surface.specs.Tokens.{ReadLeaseOf}
-use Rattle.sf_token.specs.Pending.{Arrival}
-use Rattle.sf_token.specs.declared.arrivals.ArriveReply.TheVariants as reply
+use Rattle.sf_actor.specs.sf_surface.Tokens.{ReadLeaseOf}
+use Rattle.sf_intake.specs.sf_token.Pending.{Arrival}
+use Rattle.sf_intake.specs.sf_token.declared.arrivals.ArriveReply.TheVariants as reply
 use Rattle.sf_live_seats.proofs.PassTake.{newest_took, rose_took, took_one}
 use Rattle.sf_live_seats.proofs.compositing.take_one.Goals as goal
 

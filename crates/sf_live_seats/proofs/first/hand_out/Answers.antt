@@ -1,6 +1,6 @@
 use Rattle.std.proofs.Common.{◌∙◌, ℕ, None, ap, refl, subst, sym}
 use Rattle.sf_intake.specs.Views.{SenderView, new_sender}
-use Rattle.sf_surface.specs.Tokens.{ReadLeaseOf}
+use Rattle.sf_actor.specs.sf_surface.Tokens.{ReadLeaseOf}
 use Rattle.sf_live_seats.specs.declared.at_intake.AtIntake.TheVariants as at
 use Rattle.sf_live_seats.specs.First.{HandsOut, MayHandOut}
 use Rattle.sf_live_seats.proofs.ReunitedPass.{some_same}

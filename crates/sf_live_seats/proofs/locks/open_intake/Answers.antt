@@ -1,7 +1,7 @@
 use Rattle.std.proofs.Common.{◌≡◌, ◌∙◌, ℕ, None, Some, ap, refl, subst, sym}
 use Rattle.std.specs.Prelude.{Bool}
 use Rattle.sf_intake.specs.Views.{TakerView, first_taker}
-use Rattle.sf_surface.specs.Tokens.{ReadLeaseOf}
+use Rattle.sf_actor.specs.sf_surface.Tokens.{ReadLeaseOf}
 use Rattle.sf_live_seats.specs.declared.at_intake.AtIntake.TheVariants as at
 use Rattle.sf_live_seats.specs.Closing.{OpensIntake}
 use Rattle.sf_live_seats.proofs.locks.open_intake.Goals as goal

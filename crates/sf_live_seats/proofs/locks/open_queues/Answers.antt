@@ -1,7 +1,7 @@
 use Rattle.std.proofs.Common.{◌≡◌, ◌∷◌, List, subst, rules}
 use Rattle.std.proofs.lemmas.List.{nil_from_length}
 use Rattle.std.specs.Vec.Iter.{into_iter_items}
-use Rattle.sf_surface.specs.Objects.{ObjectOf}
+use Rattle.sf_actor.specs.sf_surface.Objects.{ObjectOf}
 use Rattle.sf_live_seats.proofs.OpenedLocks.{OpenSoFar, open_ends, open_goes_on, open_starts}
 use Rattle.sf_live_seats.proofs.locks.open_queues.Goals as goal
 

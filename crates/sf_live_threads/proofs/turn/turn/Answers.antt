@@ -1,5 +1,5 @@
 use Rattle.std.proofs.Common.{◌∙◌, ap, sym, subst}
-use Rattle.sf_actor.specs.Scripts.{picture_at}
+use Rattle.sf_actor_steps.specs.sf_actor.Scripts.{picture_at}
 use Rattle.sf_actor_steps.specs.Actors.{IsKept}
 use Rattle.sf_live_seats.specs.Shared.{IsHome, SharedOf}
 use Rattle.sf_live_seats.specs.Shared as shared

@@ -1,7 +1,7 @@
 use Rattle.std.proofs.Common.{◌<◌, ◌∷◌, ◌++◌, [], List, map, take, ap, sym, ◌∙◌}
 use Rattle.std.proofs.lemmas.List.{map_more, take_all}
 use Rattle.std.proofs.lemmas.List.Elements.{All-push}
-use Rattle.sf_layer.specs.declared.layer.Layer.{Layer}
+use Rattle.sf_output_shown.specs.sf_layer.declared.layer.Layer.{Layer}
 use Rattle.sf_output_shown.specs.Copies.{copied}
 use Rattle.sf_mirror.proofs.copies.copy_all.Goals as goal
 

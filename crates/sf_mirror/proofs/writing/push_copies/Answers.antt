@@ -1,7 +1,7 @@
 use Rattle.std.proofs.Common.{◌≡◌, ◌∙◌, ◌+◌, ◌<◌, ◌≤◌, ◌++◌, List, ap, arith, is_some, length, map, sym, subst, true}
 use Rattle.std.specs.List.{All}
 use Rattle.std.proofs.lemmas.List.{length-map}
-use Rattle.sf_layer.specs.declared.layer.Layer.{Layer}
+use Rattle.sf_output_shown.specs.sf_layer.declared.layer.Layer.{Layer}
 use Rattle.sf_base.specs.declared.ids.LayerId.{LayerId}
 use Rattle.sf_output_shown.specs.Copies.{copied, copy_of, named, number_of}
 use Rattle.sf_output_shown.specs.Cuts.{under}

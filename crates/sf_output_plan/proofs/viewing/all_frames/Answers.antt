@@ -1,5 +1,5 @@
 use Rattle.std.proofs.Common.{List, IfOk, map, subst, sym}
-use Rattle.sf_layer.specs.declared.layer.Layer.{Layer}
+use Rattle.sf_display.specs.sf_layer.declared.layer.Layer.{Layer}
 use Rattle.sf_output_plan.specs.Due.{AreShown, IsFrameDue, display_due}
 use Rattle.sf_output_plan.proofs.DueLemmas.{unmirrored}
 use Rattle.sf_output_plan.proofs.viewing.all_frames.Goals as goal

@@ -1,5 +1,5 @@
 use Rattle.std.proofs.Common.{List, map, take}
-use Rattle.sf_layer.specs.declared.layer.Layer.{Layer}
+use Rattle.sf_display.specs.sf_layer.declared.layer.Layer.{Layer}
 use Rattle.sf_output_plan.specs.Due.{AreShown, ShowsDue, frame_due, hit_due}
 use Rattle.sf_output_plan.specs.declared.plan.Plan.{Plan}
 use Rattle.sf_output_plan.proofs.viewing.hits_in.Given as goal

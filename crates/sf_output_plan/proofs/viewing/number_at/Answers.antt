@@ -1,6 +1,6 @@
 use Rattle.std.proofs.Common.{◌≡◌, ap, ◌∙◌, sym, rules, w32}
 use mir.Val.{of_z, to_z}
-use Rattle.sf_output_shown.specs.Displays.{order_on}
+use Rattle.sf_display.specs.sf_output_shown.Displays.{order_on}
 use Rattle.sf_output_plan.specs.Due.{hit_number}
 use Rattle.sf_output_plan.proofs.DueLemmas.{hit_is}
 use Rattle.sf_output_plan.proofs.viewing.number_at.Goals as goal

@@ -1,10 +1,10 @@
 use Rattle.std.proofs.Common.{◌≡◌, ◌+◌, ◌≤◌, ◌-◌, ◌∙◌, Option, Some, None, sym, arith, ap, subst}
-use Rattle.sf_layer.specs.declared.layer.Layer.{Layer}
-use Rattle.sf_tree.specs.Known.{Outranks}
-use Rattle.sf_tree.specs.Layers.{parent_layer}
-use Rattle.sf_tree.proofs.Lookups.{layer_of-none, layer_of-place}
-use Rattle.sf_tree.proofs.Places.{index_of_inside}
-use Rattle.sf_tree.proofs.ShowLemmas.{at_found, Outranks-le, Outranks-parent}
+use Rattle.sf_view.specs.sf_layer.declared.layer.Layer.{Layer}
+use Rattle.sf_view.specs.sf_tree.Known.{Outranks}
+use Rattle.sf_view.specs.sf_tree.Layers.{parent_layer}
+use Rattle.sf_view.proofs.sf_tree_lemmas.Lookups.{layer_of-none, layer_of-place}
+use Rattle.sf_view.proofs.sf_tree_lemmas.Places.{index_of_inside}
+use Rattle.sf_view.proofs.sf_tree_lemmas.ShowLemmas.{at_found, Outranks-le, Outranks-parent}
 use Rattle.sf_view.specs.Ancestry.{ancestry, and_above}
 use Rattle.sf_view.proofs.AncestryLemmas.{ancestry-is}
 use Rattle.sf_output_shown.specs.Above.{found_above, found_on}

@@ -1,5 +1,5 @@
 use Rattle.std.proofs.Common.{◌≡◌, ◌<◌, ◌+◌, length, ap, sym, ◌∙◌, refl, arith}
-use Rattle.sf_tree.proofs.ShowLemmas.{Outranks-le, Outranks-tree, layer_at, map-take-more, written_back}
+use Rattle.sf_view.proofs.sf_tree_lemmas.ShowLemmas.{Outranks-le, Outranks-tree, layer_at, map-take-more, written_back}
 use Rattle.sf_output_shown.specs.Above.{found_above}
 use Rattle.sf_output_shown.proofs.above.found_above.Goals as goal
 

@@ -1,7 +1,7 @@
 use Rattle.std.proofs.Common.{◌≡◌, ◌<◌, ◌∷◌, ◌++◌, [], length, get_or, is_some, ap, sym, ◌∙◌, arith}
 use Rattle.std.proofs.lemmas.Option.{get_or_from_slice_get}
-use Rattle.sf_layer.specs.declared.layer.Layer.{Layer}
-use Rattle.sf_tree.proofs.ShowLemmas.{layer_at}
+use Rattle.sf_view.specs.sf_layer.declared.layer.Layer.{Layer}
+use Rattle.sf_view.proofs.sf_tree_lemmas.ShowLemmas.{layer_at}
 use Rattle.sf_output_shown.specs.Cuts.{is_under}
 use Rattle.sf_output_shown.proofs.AboveLemmas.{kept-more, kept-same, under-at}
 use Rattle.sf_output_shown.proofs.below.under.Goals as goal

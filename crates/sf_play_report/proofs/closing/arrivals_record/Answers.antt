@@ -1,6 +1,6 @@
 use Rattle.std.proofs.Common.{◌∷◌, ◌++◌, [], List, map, take, ap, sym, ◌∙◌}
 use Rattle.std.proofs.lemmas.List.{map_more}
-use Rattle.sf_record.specs.declared.record.ArrivalEntry.{ArrivalEntry}
+use Rattle.law_played.specs.sf_record.declared.record.ArrivalEntry.{ArrivalEntry}
 use Rattle.law_played.specs.Telling.{arrival_recorded}
 use Rattle.sf_play_report.proofs.closing.arrivals_record.Goals as goal
 

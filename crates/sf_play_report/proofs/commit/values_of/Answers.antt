@@ -1,6 +1,6 @@
 use Rattle.std.proofs.Common.{◌∷◌, ◌++◌, [], List, map, take, ap, sym, ◌∙◌}
 use Rattle.std.proofs.lemmas.List.{map_more, take_all}
-use Rattle.sf_record.specs.declared.record.TimelineValue.{TimelineValue}
+use Rattle.law_played.specs.sf_record.declared.record.TimelineValue.{TimelineValue}
 use Rattle.law_played.specs.Seeing.{value_shown}
 use Rattle.sf_play_report.proofs.commit.values_of.Goals as goal
 

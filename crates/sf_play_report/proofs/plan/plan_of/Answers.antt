@@ -1,12 +1,12 @@
 use Rattle.std.proofs.Common.{ap, map, subst, sym, ◌∙◌}
-use Rattle.sf_output_plan.specs.Due.{IsPlan}
+use Rattle.law_played.specs.sf_output_plan.Due.{IsPlan}
 use Rattle.law_played.proofs.FrameLemmas.{is_plan}
 use Rattle.law_played.specs.Frames.{capture_plan, display_plan, hit_plan, plan_of}
 use Rattle.law_played.specs.Runs.{rising}
-use Rattle.sf_script_scene.specs.Limits.{IsWithinLimits}
-use Rattle.sf_script_scene.specs.declared.declarations.CaptureDecl.{CaptureDecl}
-use Rattle.sf_script_scene.specs.declared.declarations.DisplayDecl.{DisplayDecl}
-use Rattle.sf_script_scene.specs.declared.declarations.HitDecl.{HitDecl}
+use Rattle.law_played.specs.sf_script_scene.Limits.{IsWithinLimits}
+use Rattle.law_played.specs.sf_script_scene.declared.declarations.CaptureDecl.{CaptureDecl}
+use Rattle.law_played.specs.sf_script_scene.declared.declarations.DisplayDecl.{DisplayDecl}
+use Rattle.law_played.specs.sf_script_scene.declared.declarations.HitDecl.{HitDecl}
 use Rattle.sf_play_report.proofs.plan.plan_of.Goals as goal
 
 pub returns-clause-value : goal.returns-clause-value

@@ -4,9 +4,9 @@ use Rattle.std.proofs.lemmas.Iterator.Adapters.{YieldsList-from_vec}
 use Rattle.std.proofs.lemmas.Iterator.Consumers.{YieldsList-end, YieldsList-turn}
 use Rattle.std.proofs.lemmas.List.{map-id}
 use Rattle.std.proofs.lemmas.Slice.Zip.{all_zipped_more}
-use Rattle.sf_output.specs.Outputs.{IsOutput, OfImage}
-use Rattle.sf_output.specs.declared.output.Output.{Output}
-use Rattle.sf_view.specs.Views.{ViewOf}
+use Rattle.law_played.specs.sf_output.Outputs.{IsOutput, OfImage}
+use Rattle.law_played.specs.sf_output.declared.output.Output.{Output}
+use Rattle.law_played.specs.sf_view.Views.{ViewOf}
 use Rattle.sf_play_report.specs.Stages.{AllShowOn, IsSourcedBy}
 use Rattle.sf_play_report.specs.declared.sourced.SourcedView.{SourcedView}
 use Rattle.sf_play_report.proofs.sourcing.sourced_outputs.Goals as goal

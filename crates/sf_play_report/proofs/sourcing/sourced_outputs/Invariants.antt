@@ -1,5 +1,5 @@
 use Rattle.std.specs.List.{AllZip}
-use Rattle.sf_output.specs.Outputs.{IsOutput}
+use Rattle.law_played.specs.sf_output.Outputs.{IsOutput}
 use Rattle.sf_play_report.specs.Stages.{IsSourcedBy}
 use Rattle.sf_play_report.proofs.sourcing.sourced_outputs.Given as goal
 

@@ -1,13 +1,13 @@
 use Rattle.std.proofs.Common.{List, [], ◌∷◌, ◌++◌, ap, subst, ◌∙◌}
 use Rattle.std.specs.Option.{unwrap_or}
-use Rattle.sf_output.specs.declared.output.Output.{Output}
-use Rattle.sf_output.specs.declared.output.Output.TheVariants as out
-use Rattle.sf_output_plan.specs.Due.{AreShown, IsFrameDue, others_due, outputs_due}
-use Rattle.sf_output_shown.specs.Copies.{written}
-use Rattle.sf_tree.specs.DrawOrder.{draw_order}
-use Rattle.sf_tree.specs.Kept.{IsDistinct}
-use Rattle.sf_tree.specs.Trees.{TreeOf}
-use Rattle.sf_commit.specs.OnLayers.{OnLayer}
+use Rattle.law_played.specs.sf_output.declared.output.Output.{Output}
+use Rattle.law_played.specs.sf_output.declared.output.Output.TheVariants as out
+use Rattle.law_played.specs.sf_output_plan.Due.{AreShown, IsFrameDue, others_due, outputs_due}
+use Rattle.law_played.specs.sf_output_shown.Copies.{written}
+use Rattle.law_played.specs.sf_tree.DrawOrder.{draw_order}
+use Rattle.law_played.specs.sf_tree.Kept.{IsDistinct}
+use Rattle.law_played.specs.sf_tree.Trees.{TreeOf}
+use Rattle.law_played.specs.sf_commit.OnLayers.{OnLayer}
 use Rattle.sf_play_report.specs.declared.sourced.SourcedView.{SourcedView}
 use Rattle.sf_play_report.proofs.SourceLemmas.{own_sources, tree_on}
 use Rattle.sf_play_report.proofs.StageLemmas.{all_found, all_made, all_readable, dues_of, frame_shows, others_on, own_on, views_on}

@@ -1,16 +1,16 @@
 use Rattle.std.proofs.Common.{◌≡◌, ℕ, List, [], ◌∷◌, ◌++◌, map, ap, ◌∙◌, subst, OnErr, OnOk}
 use Rattle.std.specs.Prelude.{IfOk}
-use Rattle.sf_ready.specs.declared.hold.Hold.{Hold}
-use Rattle.sf_token.specs.Arrivals.{entry_of, sent}
-use Rattle.sf_token.specs.declared.arrivals.ArrvEntry.{ArrvEntry}
-use Rattle.sf_surface.specs.Objects.{ObjectOf}
-use Rattle.sf_actor.specs.Plain.{PlainOf}
-use Rattle.sf_actor_steps.specs.declared.actor.Actor.{Actor}
-use Rattle.sf_actor_set.specs.ActorSets.{ActorSetOf}
-use Rattle.sf_record.specs.declared.record.Record.{Record}
-use Rattle.sf_record.specs.declared.record.Record.TheVariants as rec
-use Rattle.law_played.specs.Progress.{held_shown}
-use Rattle.law_played.specs.Telling.{arrival_recorded}
+use Rattle.sf_play.specs.sf_ready.declared.hold.Hold.{Hold}
+use Rattle.sf_play.specs.sf_token.Arrivals.{entry_of, sent}
+use Rattle.sf_play.specs.sf_token.declared.arrivals.ArrvEntry.{ArrvEntry}
+use Rattle.sf_play.specs.sf_surface.Objects.{ObjectOf}
+use Rattle.sf_play.specs.sf_actor.Plain.{PlainOf}
+use Rattle.sf_play.specs.sf_actor_steps.declared.actor.Actor.{Actor}
+use Rattle.sf_play.specs.sf_actor_set.ActorSets.{ActorSetOf}
+use Rattle.sf_play.specs.sf_record.declared.record.Record.{Record}
+use Rattle.sf_play.specs.sf_record.declared.record.Record.TheVariants as rec
+use Rattle.sf_play.specs.law_played.Progress.{held_shown}
+use Rattle.sf_play.specs.law_played.Telling.{arrival_recorded}
 use Rattle.sf_play_write.specs.Closings.{history_of, stuck_at}
 use Rattle.sf_play_write.specs.Writing.{Writes, WritesPart}
 use Rattle.sf_play_write.proofs.ClosingLemmas.{arrived_of, rest_of}

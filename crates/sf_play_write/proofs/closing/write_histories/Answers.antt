@@ -1,5 +1,5 @@
 use Rattle.std.proofs.Common.{arith}
-use Rattle.sf_record.specs.declared.record.Record.TheVariants as rec
+use Rattle.sf_play.specs.sf_record.declared.record.Record.TheVariants as rec
 use Rattle.sf_play_write.specs.Closings.{history_of}
 use Rattle.sf_play_write.proofs.WritingLemmas.{each_more, each_part, still_later, writes_none}
 use Rattle.sf_play_write.proofs.closing.write_histories.Goals as goal

@@ -1,5 +1,5 @@
 use Rattle.std.proofs.Common.{◌≤◌, map, take}
-use Rattle.sf_record.specs.declared.record.Record.TheVariants as rec
+use Rattle.sf_play.specs.sf_record.declared.record.Record.TheVariants as rec
 use Rattle.sf_play_write.specs.Closings.{history_of}
 use Rattle.sf_play_write.specs.Writing.{Writes}
 use Rattle.sf_play_write.proofs.closing.write_histories.Given as goal

@@ -1,6 +1,6 @@
 use Rattle.std.proofs.Common.{[], ◌∷◌, map, refl}
-use Rattle.sf_record.specs.declared.record.Record.TheVariants as rec
-use Rattle.law_played.specs.Progress.{held_shown}
+use Rattle.sf_play.specs.sf_record.declared.record.Record.TheVariants as rec
+use Rattle.sf_play.specs.law_played.Progress.{held_shown}
 use Rattle.sf_play_write.specs.Closings.{stuck_at}
 use Rattle.sf_play_write.proofs.WritingLemmas.{last_cut, last_written, part_front, part_more, writes_more}
 use Rattle.sf_play_write.proofs.closing.write_rest.Goals as goal

@@ -1,5 +1,5 @@
 use Rattle.std.proofs.Common.{map, subst, sym}
-use Rattle.sf_compose.specs.Sources.{HasSources}
+use Rattle.sf_output_screen.specs.sf_compose.Sources.{HasSources}
 use Rattle.sf_play_write.proofs.VsyncLemmas.{frame_bytes_are}
 use Rattle.sf_play_write.proofs.composing.compose_on.Goals as goal
 

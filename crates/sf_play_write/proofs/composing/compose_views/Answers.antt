@@ -5,8 +5,8 @@ use Rattle.std.proofs.lemmas.List.{map-id}
 use Rattle.std.proofs.lemmas.List.Elements.{All-nil, All-push}
 use Rattle.sf_output.specs.Outputs.{IsOutput, OfImage}
 use Rattle.sf_output.specs.declared.output.Output.{Output}
-use Rattle.sf_play_report.specs.Stages.{FindsPictures, IsReadableView}
-use Rattle.sf_play_report.specs.declared.sourced.SourcedView.{SourcedView}
+use Rattle.sf_play.specs.sf_play_report.Stages.{FindsPictures, IsReadableView}
+use Rattle.sf_play.specs.sf_play_report.declared.sourced.SourcedView.{SourcedView}
 use Rattle.sf_play_write.specs.Vsyncs.{AreComposed, HasView, IsComposed}
 use Rattle.sf_play_write.proofs.VsyncLemmas.{zip_push}
 use Rattle.sf_play_write.proofs.composing.compose_views.Goals as goal

@@ -1,6 +1,6 @@
 use Rattle.std.proofs.Common.{ℕ, All, map}
 use Rattle.sf_output.specs.Outputs.{OfImage}
-use Rattle.sf_picture.specs.declared.picture.Picture.{Picture}
+use Rattle.sf_output_screen.specs.sf_picture.declared.picture.Picture.{Picture}
 use Rattle.sf_output_screen.specs.ScreenLists.{AreShown}
 use Rattle.sf_play_write.specs.Vsyncs.{AreComposed, FindPictures, HasView, KeepsShown}
 use Rattle.sf_play_write.proofs.composing.compose_views.Given as goal

@@ -1,6 +1,6 @@
 use Rattle.std.proofs.Common.{ap, ◌∙◌, subst}
-use Rattle.sf_script_scene.specs.Limits.{IsWithinLimits}
-use Rattle.sf_script_scene.specs.Scene.{SceneValue}
+use Rattle.sf_play.specs.sf_script_scene.Limits.{IsWithinLimits}
+use Rattle.sf_play.specs.sf_script_scene.Scene.{SceneValue}
 use Rattle.sf_play_write.proofs.RunLemmas.{is_ready, nothing_written}
 use Rattle.sf_play_write.proofs.play.show_play.Goals as goal
 

@@ -1,5 +1,5 @@
 use Rattle.std.proofs.Common.{ℕ, ◌≤◌, [], List, Option}
-use Rattle.sf_script_scene.specs.Scene.{SceneValue}
+use Rattle.sf_play.specs.sf_script_scene.Scene.{SceneValue}
 use Rattle.sf_play.specs.Going.{fuel_of}
 use Rattle.sf_play_write.specs.Turns.{IsWriting}
 use Rattle.sf_play_write.proofs.play.show_turns.Given as goal

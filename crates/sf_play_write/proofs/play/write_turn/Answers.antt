@@ -1,16 +1,16 @@
 use Rattle.std.proofs.Common.{List, get_or, ◌∙◌, ap, subst, sym, OnErr, OnOk}
-use Rattle.sf_actor.specs.Scripts.{picture_at}
-use Rattle.sf_record.specs.declared.record.Record.{Record}
-use Rattle.sf_actor_steps.specs.declared.actor.Actor.{Actor}
-use Rattle.sf_actor_set.specs.ActorSets.{ActorSetOf}
+use Rattle.sf_play.specs.sf_actor.Scripts.{picture_at}
+use Rattle.sf_play.specs.sf_record.declared.record.Record.{Record}
+use Rattle.sf_play.specs.sf_actor_steps.declared.actor.Actor.{Actor}
+use Rattle.sf_play.specs.sf_actor_set.ActorSets.{ActorSetOf}
 use Rattle.sf_play.specs.declared.turn.Turn.{Turn}
-use Rattle.sf_commit.specs.Handlers.{HandlerOf}
-use Rattle.sf_output_plan.specs.declared.plan.Plan.{Plan}
+use Rattle.sf_play.specs.sf_commit.Handlers.{HandlerOf}
+use Rattle.sf_play.specs.sf_output_plan.declared.plan.Plan.{Plan}
 use Rattle.sf_play.specs.Playing.{expected_by}
-use Rattle.sf_play_report.specs.Stages.{AreExpected, IsStage}
-use Rattle.sf_play_report.specs.declared.report.VsyncReport.{VsyncReport}
+use Rattle.sf_play.specs.sf_play_report.Stages.{AreExpected, IsStage}
+use Rattle.sf_play.specs.sf_play_report.declared.report.VsyncReport.{VsyncReport}
 use Rattle.sf_output_screen.specs.ScreenLists.{AreShown}
-use Rattle.sf_surface.specs.Tokens.{ReadLeaseOf}
+use Rattle.sf_play.specs.sf_surface.Tokens.{ReadLeaseOf}
 use Rattle.sf_play_write.specs.Vsyncs.{vsync_shown}
 use Rattle.sf_play_write.specs.Turns.{MayShowTurn, newest_shown, turn_shown}
 use Rattle.sf_play_write.specs.Writing.{Writes, WritesPart}

@@ -1,6 +1,6 @@
 use Rattle.std.proofs.Common.{List, sym, subst, ◌∙◌}
 use Rattle.std.proofs.lemmas.List.{map-id}
-use Rattle.sf_picture.specs.declared.picture.Picture.{Picture}
+use Rattle.sf_output_screen.specs.sf_picture.declared.picture.Picture.{Picture}
 use Rattle.sf_play_write.specs.Vsyncs.{AreReadableViews, FindPictures}
 use Rattle.sf_play_write.proofs.VsyncLemmas.{vsync_cut, vsync_written}
 use Rattle.sf_play_write.proofs.WritingLemmas.{cut_none, part_none, some_cut, some_written}

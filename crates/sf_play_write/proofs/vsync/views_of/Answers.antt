@@ -1,7 +1,7 @@
 use Rattle.std.proofs.Common.{sym, ◌∙◌}
 use Rattle.sf_output.specs.Outputs.{IsOutput}
-use Rattle.sf_output_plan.specs.Due.{outputs_due}
-use Rattle.sf_play_report.specs.Stages.{shows_frame}
+use Rattle.sf_play.specs.sf_output_plan.Due.{outputs_due}
+use Rattle.sf_play.specs.sf_play_report.Stages.{shows_frame}
 use Rattle.sf_play_write.specs.Vsyncs.{IsViewDue}
 use Rattle.sf_play_write.proofs.VsyncLemmas.{if_ok, none_due, some_due}
 use Rattle.sf_play_write.proofs.vsync.views_of.Goals as goal

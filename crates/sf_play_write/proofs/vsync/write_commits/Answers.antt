@@ -1,6 +1,6 @@
 use Rattle.std.proofs.Common.{arith}
-use Rattle.sf_record.specs.declared.record.Record.TheVariants as rec
-use Rattle.law_played.specs.Commits.{commit_shown}
+use Rattle.sf_play.specs.sf_record.declared.record.Record.TheVariants as rec
+use Rattle.sf_play.specs.law_played.Commits.{commit_shown}
 use Rattle.sf_play_write.proofs.WritingLemmas.{each_more, each_part, still_later, writes_none}
 use Rattle.sf_play_write.proofs.vsync.write_commits.Goals as goal
 

@@ -1,6 +1,6 @@
 use Rattle.std.proofs.Common.{◌≤◌, map, take}
-use Rattle.sf_record.specs.declared.record.Record.TheVariants as rec
-use Rattle.law_played.specs.Commits.{commit_shown}
+use Rattle.sf_play.specs.sf_record.declared.record.Record.TheVariants as rec
+use Rattle.sf_play.specs.law_played.Commits.{commit_shown}
 use Rattle.sf_play_write.specs.Writing.{Writes}
 use Rattle.sf_play_write.proofs.vsync.write_commits.Given as goal
 

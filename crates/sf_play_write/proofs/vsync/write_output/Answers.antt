@@ -1,6 +1,6 @@
 use Rattle.std.proofs.Common.{refl, subst, sym, [], ◌∷◌, OnErr, OnOk}
 use Rattle.sf_output.specs.declared.output.Output.{Output}
-use Rattle.sf_record.specs.declared.record.Record.TheVariants as rec
+use Rattle.sf_play.specs.sf_record.declared.record.Record.TheVariants as rec
 use Rattle.sf_output_screen.specs.Screens.{ScreenOf}
 use Rattle.sf_play_write.specs.Vsyncs.{shown_record}
 use Rattle.sf_play_write.specs.Writing.{Writes, WritesPart}

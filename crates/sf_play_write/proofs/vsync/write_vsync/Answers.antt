@@ -1,8 +1,8 @@
 use Rattle.std.proofs.Common.{List, ◌∙◌, ap, map, subst, sym}
-use Rattle.sf_commit.specs.declared.vsync.Commit.{Commit as Decided}
-use Rattle.sf_record.specs.declared.record.Record.TheVariants as rec
-use Rattle.sf_play_report.specs.Reports.{has_commits}
-use Rattle.law_played.specs.Commits.{commit_shown}
+use Rattle.sf_play.specs.sf_commit.declared.vsync.Commit.{Commit as Decided}
+use Rattle.sf_play.specs.sf_record.declared.record.Record.TheVariants as rec
+use Rattle.sf_play.specs.sf_play_report.Reports.{has_commits}
+use Rattle.sf_play.specs.law_played.Commits.{commit_shown}
 use Rattle.sf_play_write.specs.Vsyncs.{pixels_in, told_by}
 use Rattle.sf_play_write.specs.Writing.{Writes, WritesPart}
 use Rattle.sf_play_write.proofs.VsyncLemmas.{all_records, head_by, head_cut, middle_cut, no_records, tail_part, tail_written}

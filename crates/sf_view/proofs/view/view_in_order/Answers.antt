@@ -3,7 +3,7 @@ use Rattle.std.specs.List.{All, AllZip}
 use Rattle.std.proofs.lemmas.List.{take_all}
 use Rattle.std.proofs.lemmas.List.Elements.{All-push}
 use Rattle.std.proofs.lemmas.Slice.Zip.{all_zipped_more}
-use Rattle.sf_layer.specs.declared.layer.Layer.{Layer}
+use Rattle.sf_tree.specs.sf_layer.declared.layer.Layer.{Layer}
 use Rattle.sf_tree.specs.Kept.{IsLayerInRange}
 use Rattle.sf_tree.proofs.Lookups.{layer_of-none, layer_of-place}
 use Rattle.sf_tree.proofs.Ranks.{All-layer_of}

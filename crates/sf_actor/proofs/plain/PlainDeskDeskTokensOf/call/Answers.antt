@@ -1,6 +1,6 @@
 use Rattle.std.proofs.Common.{true, ◌≡◌, subst, sym}
 use Rattle.std.specs.Prelude.{IfOk}
-use Rattle.sf_calls.specs.Calling.{IfFaultNoMemory, IfFaultNotYet}
+use Rattle.sf_token.specs.sf_calls.Calling.{IfFaultNoMemory, IfFaultNotYet}
 use Rattle.sf_actor.specs.Desks.{IsAsBefore, MadeCall, WaitsForCall, has_queue}
 use Rattle.sf_actor.specs.Plain.{PlainOf, home_of, view_of}
 use Rattle.sf_actor.proofs.PlainLemmas.{after_call, home_stays, if_made, if_no_memory, if_waits, no_queue, with_queue}

@@ -1,9 +1,9 @@
 use Rattle.std.proofs.Common.{◌∙◌, List, ap, map, subst}
-use Rattle.sf_calls.specs.Histories.{IsLegal}
-use Rattle.sf_surface.specs.Histories.{Answers}
-use Rattle.sf_surface.specs.Objects.{ObjectOf, mark_of}
-use Rattle.sf_actor.specs.Desks.{mark_among}
-use Rattle.sf_actor.specs.Plain.{calls_among}
+use Rattle.sf_commit.specs.sf_calls.Histories.{IsLegal}
+use Rattle.sf_actor_steps.specs.sf_surface.Histories.{Answers}
+use Rattle.sf_actor_steps.specs.sf_surface.Objects.{ObjectOf, mark_of}
+use Rattle.sf_actor_steps.specs.sf_actor.Desks.{mark_among}
+use Rattle.sf_actor_steps.specs.sf_actor.Plain.{calls_among}
 use Rattle.sf_actor_set.specs.ActorSets.{ActorSetOf}
 use Rattle.sf_actor_set.proofs.CompositingLemmas.{legal_among}
 use Rattle.sf_actor_set.proofs.actor_set.ActorSet.legal.Goals as goal

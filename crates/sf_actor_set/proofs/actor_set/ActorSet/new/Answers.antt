@@ -1,6 +1,6 @@
 use Rattle.std.proofs.Common.{◌∙◌, ap, List, subst}
-use Rattle.sf_script_scene.specs.declared.step.ActorScript.{ActorScript}
-use Rattle.sf_actor.specs.Plain.{PlainOf}
+use Rattle.sf_actor_steps.specs.sf_script_scene.declared.step.ActorScript.{ActorScript}
+use Rattle.sf_actor_steps.specs.sf_actor.Plain.{PlainOf}
 use Rattle.sf_actor_set.specs.Opening.{OpensActors}
 use Rattle.sf_actor_set.proofs.ActorSetLemmas.{actor_set_is, actor_set_opens, enough_for}
 use Rattle.sf_actor_set.proofs.actor_set.ActorSet.new.Goals as goal

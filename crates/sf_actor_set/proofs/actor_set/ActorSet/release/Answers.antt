@@ -1,7 +1,7 @@
 use Rattle.std.proofs.Common.{subst}
 use Rattle.std.specs.Prelude.{IfErr}
-use Rattle.sf_actor.specs.Desks.{IsAsBefore}
-use Rattle.sf_actor.specs.Plain.{PlainOf, taken_in, view_of}
+use Rattle.sf_actor_steps.specs.sf_actor.Desks.{IsAsBefore}
+use Rattle.sf_actor_steps.specs.sf_actor.Plain.{PlainOf, taken_in, view_of}
 use Rattle.sf_actor_set.specs.ActorSets.{ActorSetOf}
 use Rattle.sf_actor_set.proofs.CompositingLemmas.{actor_set_goes_on, only_desk}
 use Rattle.sf_actor_set.proofs.actor_set.ActorSet.release.Goals as goal

@@ -1,4 +1,4 @@
-use Rattle.sf_actor.specs.Plain.{PlainOf, taken_in}
+use Rattle.sf_actor_steps.specs.sf_actor.Plain.{PlainOf, taken_in}
 use Rattle.sf_actor_set.proofs.CompositingLemmas.{actor_set_goes_on, only_desk}
 use Rattle.sf_actor_set.proofs.actor_set.ActorSet.see.Goals as goal
 

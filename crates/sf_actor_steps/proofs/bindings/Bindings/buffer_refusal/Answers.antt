@@ -1,7 +1,7 @@
 use Rattle.std.proofs.Common.{cond, None, Some, ◌∙◌, ap, sym}
 use Rattle.std.specs.Prelude.{◌==◌}
 use Rattle.std.proofs.lemmas.Option.{MatchOption-at_none}
-use Rattle.sf_surface.specs.Tokens.{ReadLeaseOf}
+use Rattle.sf_actor.specs.sf_surface.Tokens.{ReadLeaseOf}
 use Rattle.sf_actor_steps.specs.Bindings.{holdings_of}
 use Rattle.sf_actor_steps.proofs.RefusalLemmas.{buffer_frame, buffer_no_frame, buffer_no_number}
 use Rattle.sf_actor_steps.proofs.bindings.Bindings.buffer_refusal.Goals as goal

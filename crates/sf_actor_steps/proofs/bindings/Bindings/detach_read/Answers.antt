@@ -1,8 +1,8 @@
 use Rattle.std.proofs.Common.{ℕ, subst, Option}
 use Rattle.std.specs.Option.{option_copied}
 use Rattle.sf_base.specs.Fences.{Fence}
-use Rattle.sf_picture.specs.declared.picture.Picture.{Picture}
-use Rattle.sf_script_scene.specs.declared.step.Step.TheVariants as step
+use Rattle.sf_actor.specs.sf_picture.declared.picture.Picture.{Picture}
+use Rattle.sf_actor.specs.sf_script_scene.declared.step.Step.TheVariants as step
 use Rattle.sf_actor.specs.Desks.{DeskHome}
 use Rattle.sf_actor.specs.Names.{name_in}
 use Rattle.sf_actor.specs.Points.{frame_fence}

@@ -1,6 +1,6 @@
 use Rattle.std.proofs.Common.{cond, None, Some, ◌∙◌, Bool, ap, not, sym}
-use Rattle.sf_picture.specs.declared.picture.Picture.{Picture}
-use Rattle.sf_surface.specs.Tokens.{is_size_of}
+use Rattle.sf_actor.specs.sf_picture.declared.picture.Picture.{Picture}
+use Rattle.sf_actor.specs.sf_surface.Tokens.{is_size_of}
 use Rattle.sf_actor.specs.Scripts.{picture_at}
 use Rattle.sf_actor_steps.specs.Bindings.{holdings_of}
 use Rattle.sf_actor_steps.proofs.RefusalLemmas.{draw_empty, draw_lent, draw_owed}

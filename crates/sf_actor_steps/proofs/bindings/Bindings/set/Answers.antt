@@ -1,6 +1,6 @@
 use Rattle.std.proofs.Common.{sym, subst}
-use Rattle.sf_layer.specs.Ranges.{IsOperation}
-use Rattle.sf_layer.specs.declared.op.Op.{Op}
+use Rattle.sf_actor.specs.sf_layer.Ranges.{IsOperation}
+use Rattle.sf_actor.specs.sf_layer.declared.op.Op.{Op}
 use Rattle.sf_actor.specs.Scripts.{layer_of}
 use Rattle.sf_actor_steps.proofs.ShowingLemmas.{plain_op}
 use Rattle.sf_actor_steps.proofs.bindings.Bindings.set.Goals as goal

@@ -1,9 +1,9 @@
 use Rattle.std.proofs.Common.{◌∙◌, None, Some, List, Option, get_or, slice_set, refl, ap, sym, subst}
 use Rattle.sf_base.specs.declared.ids.ActorId.{ActorId}
-use Rattle.sf_surface.specs.Tokens.{ReadLeaseOf}
+use Rattle.sf_actor.specs.sf_surface.Tokens.{ReadLeaseOf}
 use Rattle.std.specs.Prelude.{option_to_list}
-use Rattle.sf_txn.specs.Buffers.{Buffer}
-use Rattle.sf_txn.specs.Transactions.{Contents, replaced_by, set_buffer}
+use Rattle.sf_actor.specs.sf_txn.Buffers.{Buffer}
+use Rattle.sf_actor.specs.sf_txn.Transactions.{Contents, replaced_by, set_buffer}
 use Rattle.sf_actor.specs.declared.holding.Holding.TheVariants as holding
 use Rattle.sf_actor_steps.specs.Editing.{IsThere, Releases, ReleasesAll, buffer_with}
 use Rattle.sf_actor_steps.specs.declared.bindings.Bindings.{Bindings}

@@ -1,7 +1,7 @@
 use Rattle.std.proofs.Common.{◌≡◌, ◌∷◌, ◌++◌, Option, Some, refl, sym, subst, ap, ◌∙◌}
 use Rattle.std.specs.Prelude.{option_to_list}
 use Rattle.std.specs.Option.{option_map}
-use Rattle.sf_turns.specs.Views.{PermitView}
+use Rattle.sf_actor.specs.sf_turns.Views.{PermitView}
 use Rattle.sf_actor_steps.specs.Forming.{IsOfTable}
 use Rattle.sf_actor_steps.proofs.bindings.Bindings.take_permit.Goals as goal
 

@@ -2,9 +2,9 @@ use Rattle.std.proofs.Common.{◌≡◌, ◌∙◌, ap, subst, sym, map}
 use Rattle.std.specs.Result.{OnOk}
 use Rattle.std.proofs.lemmas.Result.{on_ok_weaker}
 use Rattle.sf_base.specs.declared.ids.TokenId.{TokenId}
-use Rattle.sf_token.specs.Pending.{Arrival}
-use Rattle.sf_tree.specs.Changes.{after}
-use Rattle.sf_txn.specs.Transactions.{shown_by}
+use Rattle.sf_commit_next.specs.sf_token.Pending.{Arrival}
+use Rattle.sf_view.specs.sf_tree.Changes.{after}
+use Rattle.sf_commit_next.specs.sf_txn.Transactions.{shown_by}
 use Rattle.sf_commit.proofs.CommitLemmas.{notes, tells}
 use Rattle.sf_commit.specs.Inside.{Notes}
 use Rattle.sf_commit.specs.Rounds.{StageOf, shown_if, stage_after, told_of}

@@ -1,7 +1,7 @@
 use Rattle.std.proofs.Common.{◌≡◌, ◌∙◌, List, Ok, ap, sym, subst}
 use Rattle.sf_base.specs.declared.ids.LayerId.{LayerId}
-use Rattle.sf_layer.specs.declared.op.Op.{Op}
-use Rattle.sf_tree.specs.Changes.{after}
+use Rattle.sf_view.specs.sf_layer.declared.op.Op.{Op}
+use Rattle.sf_view.specs.sf_tree.Changes.{after}
 use Rattle.sf_commit.proofs.CommitLemmas.{applied}
 use Rattle.sf_commit.specs.Rounds.{StageOf, accepted}
 use Rattle.sf_commit.proofs.commit.Stage.follow.Goals as goal

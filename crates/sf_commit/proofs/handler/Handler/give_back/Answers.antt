@@ -1,8 +1,8 @@
 use Rattle.std.proofs.Common.{◌≡◌, ◌∙◌, ◌≤◌, ◌++◌, false, [], List, Some, None, ap, length, map, sym, subst, arith}
 use Rattle.std.specs.Option.{option_map}
 use Rattle.std.proofs.lemmas.List.{length-map}
-use Rattle.sf_picture.specs.declared.picture.Picture.{Picture}
-use Rattle.sf_txn.specs.Leases.{IsEyeAfter}
+use Rattle.sf_view.specs.sf_picture.declared.picture.Picture.{Picture}
+use Rattle.sf_commit_next.specs.sf_txn.Leases.{IsEyeAfter}
 use Rattle.sf_commit.proofs.MarkLemmas.{back_made, lends_these, room_back, room_these, unchanged_these}
 use Rattle.sf_commit.specs.Handlers.{HandlerOf}
 use Rattle.sf_commit.specs.Leases.{pictures, pictures_here}

@@ -2,9 +2,9 @@ use Rattle.std.proofs.Common.{◌≡◌, ◌≤◌, ◌∙◌, Bool, true, false
 use Rattle.std.specs.Prelude.{if◌then◌else◌}
 use Rattle.std.specs.List.{All}
 use Rattle.std.specs.Option.{option_map}
-use Rattle.sf_token.specs.Pending.{IsRisingFrom}
-use Rattle.sf_tree.specs.Trees.{TreeOf}
-use Rattle.sf_txn.specs.Leases.{IsEyeAfter}
+use Rattle.sf_commit_next.specs.sf_token.Pending.{IsRisingFrom}
+use Rattle.sf_view.specs.sf_tree.Trees.{TreeOf}
+use Rattle.sf_commit_next.specs.sf_txn.Leases.{IsEyeAfter}
 use Rattle.sf_commit.proofs.MarkLemmas.{room_failed, room_made, some_map}
 use Rattle.sf_commit.proofs.SettleLemmas.{eye_same}
 use Rattle.sf_commit.proofs.VsyncLemmas.{IsReadable, Makes, Tried, begins_with, decides_same, decides_vsync, fits_of, kept_as, kept_at_once, kept_early, kept_vsync, known_of, stage_on}

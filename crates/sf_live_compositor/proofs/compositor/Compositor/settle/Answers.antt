@@ -1,5 +1,5 @@
 use Rattle.std.proofs.Common.{Some, Err, ap, arith, sym, ◌∙◌}
-use Rattle.sf_record.specs.declared.encode.RunFault.{RunFault}
+use Rattle.sf_play_write.specs.sf_record.declared.encode.RunFault.{RunFault}
 use Rattle.sf_play_write.proofs.WritingLemmas.{cut_more, some_more}
 use Rattle.sf_live_compositor.specs.Vsyncs.{Sitting}
 use Rattle.sf_live_compositor.proofs.Due.{sits_all, sits_then, written_by}

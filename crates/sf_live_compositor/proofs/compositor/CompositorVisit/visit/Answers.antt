@@ -1,11 +1,11 @@
 use Rattle.std.proofs.Common.{◌+◌, Option, Err, ap, arith, refl, sym, subst, ◌∙◌}
 use Rattle.std.specs.Prelude.{IfSome}
-use Rattle.sf_play.specs.Playing.{expected_by}
-use Rattle.sf_record.specs.declared.encode.RunFault.{RunFault}
-use Rattle.sf_play_report.specs.Stages.{IsStage}
-use Rattle.sf_play_report.specs.declared.report.VsyncReport.{VsyncReport}
-use Rattle.sf_live_seats.specs.declared.first.FirstSeats.{FirstSeats}
-use Rattle.sf_live_seats.proofs.FirstSeatsKept.{stays_first}
+use Rattle.sf_play_write.specs.sf_play.Playing.{expected_by}
+use Rattle.sf_play_write.specs.sf_record.declared.encode.RunFault.{RunFault}
+use Rattle.sf_play_write.specs.sf_play_report.Stages.{IsStage}
+use Rattle.sf_play_write.specs.sf_play_report.declared.report.VsyncReport.{VsyncReport}
+use Rattle.sf_live_threads.specs.sf_live_seats.declared.first.FirstSeats.{FirstSeats}
+use Rattle.sf_live_threads.proofs.sf_live_seats_lemmas.FirstSeatsKept.{stays_first}
 use Rattle.sf_play_write.proofs.WritingLemmas.{cut_more, some_more}
 use Rattle.sf_live_compositor.specs.Vsyncs.{Sitting}
 use Rattle.sf_live_compositor.proofs.Due.{sits_behind, stage_due, written_by}

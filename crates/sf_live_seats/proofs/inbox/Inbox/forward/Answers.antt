@@ -6,8 +6,8 @@ use Rattle.std.specs.Vec.Iter.{into_iter_items}
 use Rattle.std.proofs.Math.Nat.{le-max_left, le-max_right}
 use Rattle.std.proofs.lemmas.List.{set-get_or}
 use Rattle.sf_intake.specs.Posts.{newest_of}
-use Rattle.sf_surface.specs.Tokens.{ReadLeaseOf}
-use Rattle.sf_token.specs.Pending.{Arrival}
+use Rattle.sf_actor.specs.sf_surface.Tokens.{ReadLeaseOf}
+use Rattle.sf_intake.specs.sf_token.Pending.{Arrival}
 use Rattle.sf_live_seats.specs.declared.inbox.Courier.{Courier}
 use Rattle.sf_live_seats.specs.declared.inbox.Inbox.{Inbox}
 use Rattle.sf_live_seats.specs.Inboxes.{IsAbleTo, is_courier, left_of}

@@ -3,7 +3,7 @@ use Rattle.std.specs.Prelude.{Contains}
 use Rattle.sf_calls.specs.Histories.{GoesOnWithout, IsLegal, calls_by}
 use Rattle.sf_calls_stamped.specs.Stamps.{AnswersStamped, unstamped}
 use Rattle.sf_calls_stamped.proofs.StampLemmas.{legal_without, rises}
-use Rattle.sf_token.specs.Arrivals.{AnswersCall}
+use Rattle.sf_intake.specs.sf_token.Arrivals.{AnswersCall}
 use Rattle.sf_actor.specs.Plain.{PlainOf}
 use Rattle.sf_calls.specs.Passes.{TookAll}
 use Rattle.sf_live_seats.specs.Arriving.{ArrivalEntry, ArrivalsPass}

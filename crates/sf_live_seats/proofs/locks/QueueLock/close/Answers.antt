@@ -3,8 +3,8 @@ use Rattle.sf_calls.specs.Histories.{GoesOnWithout, IsLegal, calls_by}
 use Rattle.sf_calls.specs.Passes.{TookAll}
 use Rattle.sf_calls_stamped.specs.Stamps.{AnswersStamped, unstamped}
 use Rattle.sf_calls_stamped.proofs.StampLemmas.{legal_without, rises}
-use Rattle.sf_surface.specs.Histories.{Answers}
-use Rattle.sf_surface.specs.Objects.{mark_of}
+use Rattle.sf_actor.specs.sf_surface.Histories.{Answers}
+use Rattle.sf_actor.specs.sf_surface.Objects.{mark_of}
 use Rattle.sf_live_seats.specs.Closing.{IsClosed, IsLast}
 use Rattle.sf_live_seats.specs.Seats.{QueueEntry, QueuePass, mark_in}
 use Rattle.sf_live_seats.proofs.locks.QueueLock.close.Goals as goal

@@ -1,6 +1,6 @@
 use Rattle.std.proofs.Common.{length, ap, arith}
 use Rattle.sf_intake.specs.Views.{SenderView}
-use Rattle.sf_surface.specs.Tokens.{ReadLeaseOf}
+use Rattle.sf_actor.specs.sf_surface.Tokens.{ReadLeaseOf}
 use Rattle.sf_live_seats.proofs.outbox.Outbox.send.Goals as goal
 
 pub send-requires-clause-few : goal.send-requires-clause-few

@@ -1,7 +1,7 @@
 use Rattle.std.proofs.Common.{◌≡◌, ℕ, ◌≤◌, ◌∙◌, ap, subst, sym}
-use Rattle.sf_turns.specs.Counts.{range}
-use Rattle.sf_actor_set.specs.Scripts.{permits_of}
-use Rattle.sf_commit.specs.Handlers.{new_handler}
+use Rattle.sf_play_report.specs.sf_turns.Counts.{range}
+use Rattle.law_rights.specs.sf_actor_set.Scripts.{permits_of}
+use Rattle.sf_play_report.specs.sf_commit.Handlers.{new_handler}
 use Rattle.sf_script_scene.specs.Scene.{SceneValue}
 use Rattle.sf_play.proofs.Rights.{begins, begins_player}
 use Rattle.sf_play.proofs.player.Player.new.Goals as goal

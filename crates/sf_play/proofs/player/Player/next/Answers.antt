@@ -1,6 +1,6 @@
 use Rattle.std.proofs.Common.{◌∙◌, ap, refl, subst, sym, ℕ}
-use Rattle.sf_surface.specs.Reading.{PlainLease}
-use Rattle.sf_actor.specs.Makers.{BufferOf}
+use Rattle.sf_play_report.specs.sf_surface.Reading.{PlainLease}
+use Rattle.sf_play_report.specs.sf_actor.Makers.{BufferOf}
 use Rattle.sf_play.proofs.NextTurn.{goes, goes_with, keeps_as, less, may_make, stays, told, turned}
 use Rattle.sf_play.specs.Places.{settled}
 use Rattle.sf_play.specs.Players.{PlayOf, PlayerOf}

@@ -1,7 +1,7 @@
 use Rattle.std.proofs.Common.{◌≡◌, ◌∙◌, ◌==◌, Some, ap, subst, sym}
 use Rattle.std.specs.List.{position}
-use Rattle.sf_actor_steps.specs.declared.actor.Actor.{Actor}
-use Rattle.sf_actor_set.specs.ActorSets.{number_of}
+use Rattle.law_rights.specs.sf_actor_steps.declared.actor.Actor.{Actor}
+use Rattle.law_rights.specs.sf_actor_set.ActorSets.{number_of}
 use Rattle.sf_play.specs.Players.{PlayerOf}
 use Rattle.sf_play.proofs.TurnParts.{picks_step}
 use Rattle.sf_play.proofs.player.Player.pick.Goals as goal

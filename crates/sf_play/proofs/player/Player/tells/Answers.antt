@@ -1,5 +1,5 @@
 use Rattle.std.proofs.Common.{◌≤◌, length, subst}
-use Rattle.sf_tree.specs.Trees.{TreeOf}
+use Rattle.sf_play_report.specs.sf_tree.Trees.{TreeOf}
 use Rattle.sf_play.proofs.player.Player.tells.Goals as goal
 
 pub returns : goal.returns

@@ -1,9 +1,9 @@
 use Rattle.std.proofs.Common.{◌≡◌, ap, refl, subst, sym, true, ◌∙◌, ◌+◌, ◌*◌, List, ℕ}
 use Rattle.std.specs.List.{All}
-use Rattle.sf_commit.specs.Releases.{ReleaseOf, VsyncOf}
-use Rattle.sf_surface.specs.Tokens.{ReadLeaseOf}
-use Rattle.sf_actor.specs.Desks.{DeskHome, has_queue}
-use Rattle.sf_actor.specs.Plain.{home_of, taken_in, view_of}
+use Rattle.sf_play_report.specs.sf_commit.Releases.{ReleaseOf, VsyncOf}
+use Rattle.sf_play_report.specs.sf_surface.Tokens.{ReadLeaseOf}
+use Rattle.sf_play_report.specs.sf_actor.Desks.{DeskHome, has_queue}
+use Rattle.sf_play_report.specs.sf_actor.Plain.{home_of, taken_in, view_of}
 use Rattle.sf_play.specs.Giving.{GivesFrames}
 use Rattle.sf_play.specs.Players.{PlayOf, PlayerOf, Stands}
 use Rattle.sf_play.proofs.VsyncParts.{queues_there, rises_then}

@@ -1,7 +1,7 @@
 use Rattle.std.proofs.Common.{◌∙◌, ap, sym, refl, subst, inl, inr}
 use Rattle.sf_base.specs.Fences.{IsSignalled}
-use Rattle.sf_picture.specs.Pixels.{HasSize}
-use Rattle.sf_picture.specs.declared.picture.Picture.{Picture}
+use Rattle.sf_turns.specs.sf_picture.Pixels.{HasSize}
+use Rattle.sf_turns.specs.sf_picture.declared.picture.Picture.{Picture}
 use Rattle.sf_turns.specs.Views.{Leaves}
 use Rattle.sf_surface.specs.Drawing.{IsShort, MayEnter}
 use Rattle.sf_surface.specs.Tokens.{Issued, OwingOf}

@@ -1,7 +1,7 @@
 use Rattle.std.proofs.Common.{◌≡◌, ◌&&◌, sym, ap, ◌∙◌, arith, rules, to_z, of_z, w32, ℤ, ◌+ℤ◌, length, ℕ}
 use Rattle.std.proofs.lemmas.Int.{ints}
 use Rattle.sf_base.specs.Blend.{product}
-use Rattle.sf_layer.specs.Ranges.{IsCrop}
+use Rattle.sf_tree.specs.sf_layer.Ranges.{IsCrop}
 use Rattle.sf_view.specs.Ancestry.{is_in_crops, place_of}
 use Rattle.sf_view.specs.Placements.{is_in_display}
 use Rattle.sf_view.specs.Intervals.{is_in_interval}
