@@ -1,15 +1,17 @@
 #!/usr/bin/env python3
 """Times how transactions arrive: in calls under one lock, and through an intake.
 
-So many threads send as often as they can, while the first one takes; both ways in turns, and the
-best of several runs of each counts. What a run takes beside its transactions is taken off: the
-time of one that sends none. The program is arrivals.txt over the crates as they stand, compiled
-without any proof; it wants the kit's `rt`, and is no part of the gate.
-
-usage: run.py [TIMES]     how often each is run; 9 if absent
+So many threads send as often as they can, while the first one takes; all ways in turns, and the
+best of several runs of each counts, on the clock and of the processors. What a run takes beside its
+transactions is taken off: the time of one that sends none. The program is arrivals.txt over the
+crates as they stand, compiled without any proof; it wants the kit's `rt`, and is no part of the gate.
+Where valgrind is installed it counts the instructions of one thread that sends and takes, too.
 """
+import argparse
 import glob
 import os
+import re
+import resource
 import shutil
 import subprocess
 import sys
@@ -20,24 +22,25 @@ HERE = os.path.dirname(os.path.abspath(__file__))
 TOP = os.path.join(HERE, "..", "..")
 sys.path.insert(0, os.path.join(TOP, "tools"))
 
-import compiling  # noqa: E402
-import small_program  # noqa: E402
+from surbeldoi.build import compiling, small_program  # noqa: E402
 
-SENDERS = (1, 4, 16, 64)
+SENDERS = (1, 2, 4, 8, 16, 64)
 ALL = 64_000
 WAYS = ("lock", "queue")
+# How many transactions one thread sends while its instructions are counted: the difference of both runs counts.
+FEW, MANY = 1_000, 3_000
 # What the kit's compiler is asked for.
 OPTIONS = ("-O3", "-march=x86-64-v2", "-ffunction-sections", "-fdata-sections", "-fPIE", "--no-default-config")
 
 
-def make(folder):
-    """The crates that the program uses, and its own, without their contracts; answers the folder of its own."""
-    source = small_program.contents(HERE, "arrivals.txt")
-    lines = small_program.listed_crates(small_program.contents(TOP, "crates.txt"))
+def make(folder, top):
+    """The crates of a checkout that the program uses, and its own, without their contracts; answers the folder of its own."""
+    source = small_program.contents(top, "bench", "arrivals", "arrivals.txt")
+    lines = small_program.listed_crates(small_program.contents(top, "crates.txt"))
     uses = sorted(small_program.used_in([source]) & set(lines))
-    needed = small_program.below(uses, TOP, lines)
+    needed = small_program.below(uses, top, lines)
     for crate in needed:
-        copied = shutil.copytree(os.path.join(TOP, "crates", crate, "src"), os.path.join(folder, "crates", crate, "src"))
+        copied = shutil.copytree(os.path.join(top, "crates", crate, "src"), os.path.join(folder, "crates", crate, "src"))
         for path in glob.glob(os.path.join(copied, "**", "*.rt"), recursive=True):
             small_program.write(path, small_program.without_contracts(small_program.contents(path)))
     own = os.path.join(folder, "crates", "arrivals")
@@ -45,7 +48,7 @@ def make(folder):
     small_program.write(os.path.join(own, "src", "main.rt"), source)
     listed = [f"{lines[crate][0]}: {' '.join(name for name in lines[crate][1] if name in needed or name not in lines)}" for crate in sorted(needed)]
     small_program.write(os.path.join(folder, "crates.txt"), "\n".join([*listed, "arrivals: " + " ".join(uses)]) + "\n")
-    shutil.copy(os.path.join(TOP, "HANDLES"), folder)
+    shutil.copy(os.path.join(top, "HANDLES"), folder)
     return own
 
 
@@ -64,9 +67,9 @@ def module_of(crate, folder):
     return kept
 
 
-def build(folder):
-    """The program, compiled by the kit."""
-    module, program, kit = module_of(make(folder), folder), os.path.join(folder, "arrivals"), compiling.kit()
+def build(folder, top):
+    """The program over the crates of a checkout, compiled by the kit."""
+    module, program, kit = module_of(make(folder, top), folder), os.path.join(folder, "arrivals"), compiling.kit()
     tools, library = os.path.join(kit, "toolchain"), os.path.join(kit, "toolchain", "lib")
     begins, needed, ends = ([os.path.join(library, name) for name in names] for names in (compiling.BEGINS, compiling.LIBRARIES, compiling.ENDS))
     subprocess.run([os.path.join(tools, "bin", "clang"), "--target=x86_64-unknown-linux-gnu", *OPTIONS, "-c", "-x", "ir", module, "-o", module + ".o"], check=True)
@@ -76,25 +79,64 @@ def build(folder):
 
 
 def seconds(program, way, senders, count):
-    began = time.perf_counter()
+    """What a run takes on the clock, and of the processors."""
+    used, began = resource.getrusage(resource.RUSAGE_CHILDREN), time.perf_counter()
     told = subprocess.run([program, way, str(senders), str(count)], stdout=subprocess.PIPE, check=True).stdout
+    clock, after = time.perf_counter() - began, resource.getrusage(resource.RUSAGE_CHILDREN)
     if int(told) != senders * count:
         raise SystemExit(f"{way}: {told!r} of {senders * count} transactions arrived")
-    return time.perf_counter() - began
+    return clock, after.ru_utime + after.ru_stime - used.ru_utime - used.ru_stime
+
+
+def instructions(program, folder):
+    """What a transaction takes that one thread sends and takes, in instructions."""
+    counts = []
+    for count in (FEW, MANY):
+        command = ["valgrind", "--tool=callgrind", f"--callgrind-out-file={folder}/callgrind", program, "alone", str(count)]
+        told = subprocess.run(command, stdout=subprocess.PIPE, stderr=subprocess.PIPE, check=True)
+        if int(told.stdout) != count:
+            raise SystemExit(f"alone: {told.stdout!r} of {count} transactions arrived")
+        counts.append(int(re.search(rb"Collected : (\d+)", told.stderr)[1]))
+    return (counts[1] - counts[0]) / (MANY - FEW)
+
+
+def least(runs):
+    return tuple(map(min, zip(*runs)))
+
+
+def compare(programs, senders, times):
+    """Of each way, by its name: how many transactions a second arrive, and what each takes of the processors, in microseconds."""
+    runs = {}
+    for _ in range(times):
+        for name, (program, way) in programs.items():
+            for count in (0, ALL // senders):
+                runs.setdefault((name, count), []).append(seconds(program, way, senders, count))
+    told = {}
+    for name in programs:
+        (none, none_used), (whole, used) = least(runs[name, 0]), least(runs[name, ALL // senders])
+        told[name] = ALL / (whole - none), (used - none_used) / ALL * 1e6
+    return told
 
 
 def main(words):
-    times = int(words[0]) if words else 9
+    parser = argparse.ArgumentParser(description=__doc__.splitlines()[0])
+    parser.add_argument("times", nargs="?", type=int, default=9, help="how often each is run; 9 if absent")
+    parser.add_argument("--before", metavar="FOLDER", help="another checkout, whose lock is timed beside, in turns")
+    asked = parser.parse_args(words)
+    checkouts = {"": TOP, **({" before": asked.before} if asked.before else {})}
     with tempfile.TemporaryDirectory() as folder:
-        program = build(folder)
-        print("transactions a second, best of", times)
+        built = {}
+        for name, top in checkouts.items():
+            own = os.path.join(folder, name.strip() or "now")
+            os.makedirs(own)
+            built[name] = build(own, top)
+        programs = {**{way: (built[""], way) for way in WAYS}, **{f"lock{name}": (program, "lock") for name, program in built.items()}}
+        if shutil.which("valgrind"):
+            print("instructions a transaction, one thread: " + ", ".join(f"lock{name} {instructions(program, folder):,.0f}" for name, program in built.items()))
+        print("transactions a second, and microseconds of the processors for each; best of", asked.times)
         for senders in SENDERS:
-            best = {way: [seconds(program, way, senders, 0), seconds(program, way, senders, ALL // senders)] for way in WAYS}
-            for _ in range(times - 1):
-                for way in WAYS:
-                    best[way] = [min(best[way][0], seconds(program, way, senders, 0)), min(best[way][1], seconds(program, way, senders, ALL // senders))]
-            told = {way: ALL / (whole - none) for way, (none, whole) in best.items()}
-            print(f"{senders:3} senders: " + ", ".join(f"{way} {told[way]:,.0f}" for way in WAYS) + f"; queue {told['queue'] / told['lock']:.2f} times")
+            told = compare(programs, senders, asked.times)
+            print(f"{senders:3} senders: " + ", ".join(f"{name} {rate:,.0f} ({used:.2f})" for name, (rate, used) in told.items()))
 
 
 if __name__ == "__main__":

@@ -1,1 +1,2 @@
 pub mod IntakeLemmas
+mod CrowdLemmas

@@ -1,4 +1,4 @@
-//! A counter that adds numbers up to a total of 1000, as an object under a lock.
+//! A counter that adds numbers up to a total of 100000, as an object under a lock.
 ghost use Rattle.std.specs.Prelude.{◌≡◌, [], reverse};
 ghost use Rattle.test_threads.specs.Counts.{Counts};
 
@@ -6,7 +6,10 @@ use sf_calls::{Entry, Object, Outcome};
 use std::alloc::Global;
 use std::marker::Model;
 
-/// A total of at most 1000, and the calls that made it.
+/// The greatest total.
+const MOST: u64 = 100_000;
+
+/// A total of at most 100000, and the calls that made it.
 #[derive(Drop)]
 pub struct Counter {
     total: u64,
@@ -77,7 +80,7 @@ impl Object for Counter {
     }
 
     fn apply(&mut self, by: u32, call: u64) -> Outcome<u64, u64> {
-        if call > 1000 || self.total + call > 1000 {
+        if call > MOST || self.total + call > MOST {
             return Outcome::NotYet(call);
         }
         let total = self.total + call;

@@ -7,6 +7,7 @@
 mod answer;
 mod counted;
 mod counter;
+mod crowd_run;
 mod entered;
 mod intake_run;
 mod lock_run;

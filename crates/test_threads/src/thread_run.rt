@@ -1,10 +1,11 @@
-//! What threads do at once. Each line is a word and how often.
+//! What threads do at once. Each line is a word and how often; before it, where their number is not
+//! fixed, how many threads.
 ghost use Rattle.std.specs.Prelude.{◌≡◌, Some, IfOk};
 
 use crate::counter::Counter;
 use crate::lock_run::Run;
 use crate::words::{number, words};
-use crate::{intake_run, signals_run, write_run};
+use crate::{crowd_run, intake_run, signals_run, write_run};
 use sf_base::NoMemory;
 use sf_calls::{CallFault, CallLock, Pass};
 use std::alloc::Global;
@@ -13,7 +14,7 @@ use std::sync::Wait;
 use std::thread::{Threads, join};
 
 /// What both callers add: it fits into the total once.
-const NUMBER: u64 = 600;
+const NUMBER: u64 = 60_000;
 
 /// Adds the number. The total, or none where the call came back.
 fn add_once<W: Wait>(
@@ -99,13 +100,14 @@ pub fn play<R: Print + Threads + Wait + Sync>(
     lines: &[String],
 ) -> io::Result<()> {
     for line in lines {
-        let [word, times, _, _] = words(line);
-        let times = number(times).unwrap_or(0);
+        let [word, first, second, _] = words(line);
+        let times = number(first).unwrap_or(0);
         let count = match word {
             "signals" => signals_run::play(rt, alloc, times),
             "writes" => write_run::play(rt, alloc, times),
             "sends" => intake_run::play(rt, alloc, times),
             "adds" => add_rounds(rt, alloc, times),
+            "add-ones" => crowd_run::play(rt, alloc, times, number(second).unwrap_or(0)),
             _ => 0,
         };
         println!(rt; "{line}: {count}")?;
