@@ -1,0 +1,1 @@
+"""How a program that plays scenes is made, and watched while it runs."""

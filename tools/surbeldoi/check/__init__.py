@@ -1,0 +1,1 @@
+"""Whether records mean what a scene allows."""

@@ -1,0 +1,1 @@
+"""Scripts: their words and forms, the scenes that they describe, and the fault of one that is none."""
