@@ -1,0 +1,1 @@
+"""A page to look into a run, for a browser."""
