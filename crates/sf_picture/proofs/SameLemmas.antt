@@ -5,7 +5,7 @@ use Rattle.std.specs.Bool.{Decides}
 use Rattle.std.specs.Ordering.{int_eq}
 use Rattle.std.specs.Cmp.Lexicographic.{pointwise}
 use Rattle.std.proofs.lemmas.Slice.Eq.{slice_eq-Decides}
-use Rattle.sf_base.proofs.Deciding.{both_decide, decides_as, rect_decides, rgba_decides}
+use Rattle.sf_base.proofs.Decisions.{both_decide, decides_as, rect_decides, rgba_decides}
 use Rattle.sf_base.specs.declared.geometry.Rect.{Rect}
 use Rattle.sf_base.specs.declared.pixel.Rgba.{Rgba}
 use Rattle.sf_picture.specs.declared.fill.Fill.{Fill}

@@ -1,5 +1,6 @@
--- Filling a row after the rows above it, and a fill after the fills before it.
-use Rattle.std.proofs.Common.{◌≡◌, ℕ, ◌+◌, ◌*◌, ◌<◌, ◌≤◌, pos, ◌∙◌, inl, inr, List, ℤ, [], ◌∷◌, arith, true, false, if◌then◌else◌, nat_le, nat_lt, ◌&&◌, suc, Bool, ap, refl, find, reverse, take, length, get_or, Option, Some}
+-- Filling a row after the rows above it, a fill after the fills before it, and bytes that need no filling.
+use Rattle.std.proofs.Common.{◌≡◌, ℕ, ◌+◌, ◌*◌, ◌<◌, ◌≤◌, pos, ◌∙◌, inl, inr, List, ℤ, [], ◌∷◌, arith, true, false, if◌then◌else◌, nat_le, nat_lt, ◌&&◌, suc, Bool, ap, refl, find, reverse, take, length, get_or, slice_index, Option, Some, replicate, sym}
+use Rattle.std.proofs.Math.ListN.{get_or-eq_default}
 use Rattle.std.proofs.Math.Nat.{mul-le-mul_right}
 use Rattle.std.proofs.lemmas.Bool.{cases_lt}
 use Rattle.std.proofs.lemmas.Bool.Decides.{nat_tests}
@@ -9,10 +10,25 @@ use Rattle.sf_base.specs.Bytes.{FillsSpan, pixel_in}
 use Rattle.sf_base.specs.Formats.{seen_as}
 use Rattle.sf_base.specs.Geometry.{covers, is_within}
 use Rattle.sf_base.specs.declared.format.Format.{Format}
-use Rattle.sf_picture.specs.Pixels.{colour_at, colour_of, transparent}
+use Rattle.sf_base.specs.declared.format.Format.TheVariants as format
+use Rattle.sf_picture.specs.Pixels.{ShowsPicture, colour_at, colour_of, transparent}
+use Rattle.sf_picture.specs.declared.picture.Picture.{Picture}
 use Rattle.sf_picture.specs.declared.fill.Fill.{Fill}
-use Rattle.std.proofs.lemmas.List.{take_more, reverse-append}
-use Rattle.sf_picture.specs.Spans.{CoversAll, PaintsRows, PaintsFill, ShowsFills}
+use Rattle.std.proofs.lemmas.List.{get_or-replicate, length-replicate, take_more, reverse-append}
+use Rattle.sf_picture.specs.inner.Spans.{CoversAll, PaintsRows, PaintsFill, ShowsFills, ShowsNothing}
+
+-- each byte of so many that are 0, and each beyond them, reads as 0
+zero_byte : (n i : ℕ) → slice_index (replicate n 0) i ≡ 0
+zero_byte n i = elim (cases_lt i n) [
+  | inl inside ↦ get_or-replicate n i 0 0 inside
+  | inr beyond ↦
+      let zeros : List ℕ = replicate n 0 in
+      let long : length zeros ≡ n = length-replicate n 0 in
+      get_or-eq_default zeros 0 (omega (arith, long, beyond))
+]
+
+zeros : (n i : ℕ) → pixel_in (replicate n 0) i ≡ transparent
+zeros n i = rw (zero_byte n (4 * i), zero_byte n (4 * i + 1), zero_byte n (4 * i + 2), zero_byte n (4 * i + 3)) refl
 
 -- a row's pixels come before those of each later row
 row_before : (w x y z : ℕ) → x < w → y < z → y * w + x < z * w
@@ -121,4 +137,23 @@ ShowsFills-none format w h old new filled = record {
       let e : suc y * w ≡ y * w + w = omega arith in
       let turned : h * w ≡ w * h = omega arith in
       filled.inside (y * w + x) (omega arith) (omega (arith, last, e, turned));
+}
+
+-- what is seen of a point that no fill covers
+nothing_at : (of : Format) (fills : List Fill) → of ≡ format.Rgba → length fills ≡ 0 → (x y : ℕ) → seen_as of (colour_at fills x y) ≡ transparent
+unfolding seen_as
+nothing_at of [] alpha none x y = rw alpha refl
+nothing_at of (fill ∷ fills) alpha none x y = absurd (omega (arith, none))
+
+-- a picture without fills in a format with alpha
+pub ShowsNothing-unfilled : (picture : Picture) → picture.format ≡ format.Rgba → length picture.fills ≡ 0 → ShowsNothing picture
+ShowsNothing-unfilled picture alpha none = record {
+  pixels = nothing_at picture.format picture.fills alpha none;
+}
+
+-- bytes that are all 0 are the pixels of a picture of transparent black
+pub ShowsPicture-nothing : (picture : Picture) → ShowsNothing picture → ShowsPicture picture (replicate (4 * (picture.width * picture.height)) 0)
+ShowsPicture-nothing picture nothing = record {
+  size = length-replicate _ _;
+  pixels = λ x y in_row in_column. zeros (4 * (picture.width * picture.height)) (y * picture.width + x) ∙ sym (nothing.pixels x y);
 }

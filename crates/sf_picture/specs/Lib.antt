@@ -1,3 +1,3 @@
 pub mod Pixels
 pub mod Solid
-pub mod Spans
+pub mod inner

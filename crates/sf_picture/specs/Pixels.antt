@@ -11,6 +11,7 @@ use Rattle.sf_picture.specs.declared.picture.Picture.{Picture}
 abbrev pub transparent : Rgba
 transparent = record { r = 0; g = 0; b = 0; a = 0 }
 
+-- the colour of a fill, transparent black where there is none
 abbrev pub colour_of : Option Fill → Rgba
 colour_of None = transparent
 colour_of (Some fill) = fill.colour

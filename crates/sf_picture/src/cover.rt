@@ -1,3 +1,4 @@
+//! Which colour a pixel has: that of the last fill that covers it.
 ghost use Rattle.std.specs.Prelude.{◌≡◌, find, pos, reverse};
 ghost use Rattle.std.specs.Option.{option_copied};
 ghost use Rattle.sf_base.specs.Geometry.{covers};

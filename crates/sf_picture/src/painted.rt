@@ -1,13 +1,15 @@
-ghost use Rattle.std.specs.Prelude.{◌≡◌, ◌*◌, ◌≤◌, ◌↔◌, IfOk, IfErr, IsTrue, length, take};
+//! A picture with its pixels: the block of bytes that a buffer has, which a producer paints and the
+//! compositor reads.
+ghost use Rattle.std.specs.Prelude.{◌≡◌, ◌*◌, ◌≤◌, ◌↔◌, IfOk, IfErr, IsTrue, length, take, true};
 ghost use Rattle.sf_picture.specs.Pixels.{HasSize, IsPainted, ShowsPicture};
 ghost use Rattle.sf_picture.specs.Solid.{IsSolid};
-ghost use Rattle.sf_picture.specs.Spans.{ShowsFills};
+ghost use Rattle.sf_picture.specs.inner.Spans.{ShowsFills, ShowsNothing};
 
 use crate::cover::TRANSPARENT;
 use crate::picture::Picture;
 use crate::solid::are_all_solid;
-use crate::spans::{covers_all, fill_span, paint_fill};
-use sf_base::{NoMemory, seen_as};
+use crate::spans::{count_covered, fill_span, paint_fill};
+use sf_base::{Format, NoMemory, seen_as};
 use std::alloc::Global;
 use std::marker::Model;
 
@@ -85,8 +87,8 @@ fn with_pixels(picture: Picture, bytes: Vec<u8>) -> Painted
     }
 }
 
-/// Paints what lies below the fills, or the first of them where it covers every pixel; and how many
-/// fills it painted.
+/// Paints the last fill that covers every pixel, or what lies below all fills where none does; and
+/// up to how many fills the pixels show then. What an earlier fill paints is not seen.
 fn paint_ground(bytes: &mut [u8], picture: &Picture) -> usize
     requires size { HasSize picture.now }
     requires room { length bytes.old ≡ 4 * (picture.now.width * picture.now.height) }
@@ -95,11 +97,16 @@ fn paint_ground(bytes: &mut [u8], picture: &Picture) -> usize
     ensures shows { ShowsFills picture.now.format (take result picture.now.fills) picture.now.width picture.now.height bytes.new }
 {
     let fills = picture.fills.as_slice();
-    if let Some(first) = fills.first() {
-        if covers_all(first, picture.width, picture.height) {
-            paint_fill(bytes, picture.width, picture.height, picture.format, first);
-            return 1;
-        }
+    let covered = count_covered(fills, picture.width, picture.height);
+    if covered > 0 {
+        paint_fill(
+            bytes,
+            picture.width,
+            picture.height,
+            picture.format,
+            &fills[covered - 1],
+        );
+        return covered;
     }
     let ground = seen_as(picture.format, TRANSPARENT);
     let count = picture.width as usize * picture.height as usize;
@@ -126,6 +133,16 @@ fn paint_all(bytes: &mut [u8], picture: &Picture)
     }
 }
 
+/// Whether a picture has no fill, in a format with alpha: its bytes are all 0.
+fn shows_nothing(picture: &Picture) -> bool
+    ensures { result ≡ true → ShowsNothing picture.now }
+{
+    match picture.format {
+        Format::Rgba => picture.fills.len() == 0,
+        Format::Rgbx | Format::Rgb565 => false,
+    }
+}
+
 /// A picture's pixels. Where there is no memory for them, the picture comes back.
 pub fn paint(alloc: Global, picture: Picture) -> Result<Painted, (NoMemory, Picture)>
     requires size { HasSize picture }
@@ -135,7 +152,9 @@ pub fn paint(alloc: Global, picture: Picture) -> Result<Painted, (NoMemory, Pict
     let count = 4 * picture.width as usize * picture.height as usize;
     match vec![in alloc; 0u8; count] {
         Ok(mut bytes) => {
-            paint_all(&mut bytes, &picture);
+            if !shows_nothing(&picture) {
+                paint_all(&mut bytes, &picture);
+            }
             Ok(with_pixels(picture, bytes))
         }
         Err(_) => Err((NoMemory, picture)),

@@ -1,3 +1,5 @@
+//! What a client draws, as plain data: size, fills and format. A script declares pictures, and a
+//! frame names the one that it shows.
 ghost use Rattle.std.specs.Prelude.{◌≡◌, ◌<◌, ◌≤◌, ◌↔◌, [], IfOk, IsTrue};
 
 use crate::cover::top_colour;

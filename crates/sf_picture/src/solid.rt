@@ -1,10 +1,11 @@
+//! Whether all pixels of a painted picture hide what lies below, asked once when it is painted.
 ghost use Rattle.std.specs.Prelude.{◌≡◌, ℕ, ◌+◌, ◌*◌, ◌/◌, ◌<◌, ◌≤◌, ◌↔◌, length, slice_index, IsTrue};
 ghost use Rattle.sf_picture.specs.Solid.{AreSolid};
 
 use sf_base::get_pixel;
 use std::simd::prelude::*;
 
-// Whether no lane is below the least word whose highest byte is 255.
+/// Whether no lane is below the least word whose highest byte is 255.
 #[inline(always)]
 fn are_highest(words: u32x16) -> bool
     ensures { IsTrue result → (j : ℕ) → j < 16 → 4278190080 ≤ slice_index words j }
@@ -20,7 +21,7 @@ pub fn are_solid(pixels: u8x64) -> bool
     are_highest(u32x16::from_le_bytes(pixels))
 }
 
-// How many pixels from the first on have an alpha of 255, as far as blocks of sixteen tell.
+/// How many pixels from the first on have an alpha of 255, as far as blocks of sixteen tell.
 fn solid_blocks(bytes: &[u8]) -> usize
     ensures within { 4 * result ≤ length bytes.now }
     ensures solid { AreSolid result bytes.now }
@@ -35,7 +36,7 @@ fn solid_blocks(bytes: &[u8]) -> usize
     at / 4
 }
 
-// Whether each pixel has an alpha of 255.
+/// Whether each pixel has an alpha of 255.
 pub(crate) fn are_all_solid(bytes: &[u8]) -> bool
     ensures { IsTrue result ↔ AreSolid (length bytes.now / 4) bytes.now }
 {

@@ -1,8 +1,9 @@
+//! Paints one fill of a picture, row by row.
 ghost use Rattle.std.specs.Prelude.{◌≡◌, ◌*◌, ◌<◌, ◌≤◌, ℕ, length, pos, true};
 ghost use Rattle.sf_base.specs.Bytes.{FillsSpan};
 ghost use Rattle.sf_base.specs.Formats.{seen_as};
 ghost use Rattle.sf_base.specs.Geometry.{is_within};
-ghost use Rattle.sf_picture.specs.Spans.{CoversAll, PaintsFill};
+ghost use Rattle.sf_picture.specs.inner.Spans.{CoversAll, EndsCovered, PaintsFill};
 
 use crate::fill::Fill;
 use sf_base::{Format, Rgba, clipped, put_pixel, seen_as};
@@ -32,6 +33,20 @@ pub(crate) fn covers_all(fill: &Fill, width: u32, height: u32) -> bool
 {
     spans_all(fill.rect.x, fill.rect.width, width)
         && spans_all(fill.rect.y, fill.rect.height, height)
+}
+
+/// How many fills there are up to the last one that covers every pixel; 0 where none does.
+pub(crate) fn count_covered(fills: &[Fill], width: u32, height: u32) -> usize
+    ensures { EndsCovered fills.now result width height }
+{
+    let mut count = fills.len();
+    while count > 0 {
+        if covers_all(&fills[count - 1], width, height) {
+            return count;
+        }
+        count -= 1;
+    }
+    0
 }
 
 /// Fills what lies inside a picture of this size and format, row by row.

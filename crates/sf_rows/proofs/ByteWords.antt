@@ -31,9 +31,6 @@ word_at a long small j h =
 byte_at : (a : List ℕ) → length a ≡ 16 → Each1 (λ x. x < 256) a → (i : ℕ) → i < 16 → slice_index a i < 256
 byte_at a long small i h = Each1-get_or (λ x. x < 256) a i 0 (omega (arith, long, h)) small
 
-length_words : (a : List ℕ) → length (words a) ≡ 8
-length_words a = refl
-
 low_of : (w x y : ℕ) → x < 256 → w ≡ x + 256 * y → bit_and w 255 ≡ x
 low_of w x y h is = rw (and_mask w 8) (omega (arith, h, is))
 

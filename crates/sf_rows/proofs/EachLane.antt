@@ -4,7 +4,7 @@ use mathlib.Core.List.{map}
 use lib.ListN.{replicate}
 use lib.Lanes.{zip2, Each1, sel_l}
 use Rattle.sf_base.specs.Blend.{product}
-use Rattle.sf_rows.specs.Channels.{capped_sum}
+use Rattle.sf_rows.specs.inner.Channels.{capped_sum}
 
 abbrev pub Small : List ℕ → Type 0
 Small xs = Each1 (λ x. x ≤ 255) xs

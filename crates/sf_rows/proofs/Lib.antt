@@ -3,5 +3,5 @@ pub mod EachLane
 pub mod PickLemmas
 pub mod PixelLemmas
 pub mod QuadWords
-pub mod Rounding
+pub mod RoundedProducts
 pub mod RowLemmas

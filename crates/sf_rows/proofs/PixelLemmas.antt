@@ -5,7 +5,7 @@ use Rattle.sf_base.specs.Bytes.{FillsSpan, pixel_in}
 use Rattle.sf_base.specs.Blend.{product, blended}
 use Rattle.sf_base.specs.Paint.{painted}
 use Rattle.sf_base.specs.declared.pixel.Rgba.{Rgba}
-use Rattle.sf_rows.specs.Channels.{alpha_place, row_channel, opaque_source, opaque_channel, colour_part, colour_channel, PaintedPixels}
+use Rattle.sf_rows.specs.inner.Channels.{alpha_place, row_channel, opaque_source, opaque_channel, colour_part, colour_channel, PaintedPixels}
 use Rattle.sf_rows.specs.Pixels.{opaque_pixel, PaintedBelow}
 
 -- the pixel of a row of which each channel is known

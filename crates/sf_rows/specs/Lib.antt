@@ -1,2 +1,2 @@
-pub mod Channels
 pub mod Pixels
+pub mod inner

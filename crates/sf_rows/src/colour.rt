@@ -1,7 +1,8 @@
+//! The kernel for a row of one colour, which colour layers take.
 ghost use Rattle.std.specs.Prelude.{◌≡◌, ℕ, ◌*◌, ◌%◌, ◌<◌, length, slice_index};
 ghost use Rattle.sf_base.specs.Bytes.{pixel_in};
 ghost use Rattle.sf_base.specs.Paint.{painted};
-ghost use Rattle.sf_rows.specs.Channels.{colour_channel, colour_part, PaintedPixels};
+ghost use Rattle.sf_rows.specs.inner.Channels.{colour_channel, colour_part, PaintedPixels};
 
 use crate::lanes::{four_pixels, four_times};
 use crate::rest::paint_pixel;

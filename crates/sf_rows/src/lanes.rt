@@ -1,8 +1,9 @@
+//! Four pixels at a time in 128-bit lanes: the arithmetic that all row kernels share.
 ghost use Rattle.std.specs.Prelude.{◌≡◌, ℕ, ◌+◌, ◌-◌, ◌*◌, ◌/◌, ◌<◌, ◌≤◌, length, List, slice_index, IsTrue};
 ghost use Rattle.std.specs.Simd.Lanes.{zip2, Each1};
 ghost use Rattle.sf_base.specs.Blend.{product};
-ghost use Rattle.sf_rows.specs.Channels.{capped_sum, mix, row_channel, alpha_place};
-ghost use Rattle.sf_rows.specs.Channels.{opaque_source, opaque_channel, colour_part};
+ghost use Rattle.sf_rows.specs.inner.Channels.{capped_sum, mix, row_channel, alpha_place};
+ghost use Rattle.sf_rows.specs.inner.Channels.{opaque_source, opaque_channel, colour_part};
 
 use sf_base::Rgba;
 use std::simd::prelude::*;

@@ -1,7 +1,8 @@
+//! The kernel for a row of pixels whose own alpha does not count, which opaque layers take.
 ghost use Rattle.std.specs.Prelude.{◌≡◌, ℕ, ◌*◌, ◌%◌, ◌<◌, length};
 ghost use Rattle.sf_base.specs.Bytes.{pixel_in};
 ghost use Rattle.sf_base.specs.Paint.{painted};
-ghost use Rattle.sf_rows.specs.Channels.{opaque_channel, PaintedPixels};
+ghost use Rattle.sf_rows.specs.inner.Channels.{opaque_channel, PaintedPixels};
 ghost use Rattle.sf_rows.specs.Pixels.{opaque_pixel};
 
 use crate::lanes::{four_opaque_pixels, four_opaque_whole};

@@ -1,3 +1,4 @@
+//! Picks a row of a turned or mirrored layer out of its buffer, before a kernel blends it.
 ghost use Rattle.std.specs.Prelude.{◌≡◌, ℕ, ◌*◌, ◌%◌, ◌<◌, ◌≤◌, ◌^◌, pos, neg_ℤ, length};
 ghost use Rattle.sf_base.specs.Bytes.{pixel_in};
 ghost use Rattle.sf_rows.specs.Pixels.{HasPixel, picked, PickedBelow};

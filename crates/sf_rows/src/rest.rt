@@ -1,3 +1,4 @@
+//! The last pixels of a row, which blocks of four leave, one by one.
 ghost use Rattle.std.specs.Prelude.{◌≡◌, ◌+◌, ◌*◌, ◌≤◌, length};
 ghost use Rattle.sf_base.specs.Bytes.{FillsSpan, pixel_in};
 ghost use Rattle.sf_base.specs.Paint.{painted};

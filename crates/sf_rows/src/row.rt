@@ -1,7 +1,8 @@
+//! The kernel for a row of premultiplied pixels, which most layers with buffers take.
 ghost use Rattle.std.specs.Prelude.{◌≡◌, ℕ, ◌*◌, ◌%◌, ◌<◌, length};
 ghost use Rattle.sf_base.specs.Bytes.{pixel_in};
 ghost use Rattle.sf_base.specs.Paint.{painted};
-ghost use Rattle.sf_rows.specs.Channels.{row_channel, PaintedPixels};
+ghost use Rattle.sf_rows.specs.inner.Channels.{row_channel, PaintedPixels};
 
 use crate::lanes::{are_solid, four_pixels, four_whole_pixels};
 use crate::rest::paint_pixel;

@@ -1,5 +1,5 @@
 use Rattle.std.proofs.Common.{take}
-use Rattle.sf_picture.specs.Spans.{ShowsFills}
+use Rattle.sf_picture.specs.inner.Spans.{ShowsFills}
 use Rattle.sf_picture.proofs.painted.paint_all.Given as goal
 
 abbrev pub invariant-loop-at : goal.invariant-loop-at

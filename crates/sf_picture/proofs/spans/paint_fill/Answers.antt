@@ -4,7 +4,7 @@ use mir.Syntax.{w32}
 use mir.Val.{SFits}
 use Rattle.sf_base.specs.Geometry.{is_within}
 use Rattle.sf_base.specs.declared.pixel.Rgba.{Rgba}
-use Rattle.sf_picture.specs.Spans.{PaintsFill}
+use Rattle.sf_picture.specs.inner.Spans.{PaintsFill}
 use Rattle.sf_picture.proofs.SpanLemmas.{PaintsFill-rows, PaintsRows-more}
 use Rattle.sf_picture.proofs.spans.paint_fill.Goals as goal
 

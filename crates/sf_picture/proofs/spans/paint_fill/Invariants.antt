@@ -1,4 +1,4 @@
-use Rattle.sf_picture.specs.Spans.{PaintsRows}
+use Rattle.sf_picture.specs.inner.Spans.{PaintsRows}
 use Rattle.sf_picture.proofs.spans.paint_fill.Given as goal
 
 abbrev pub invariant-loop-y : goal.invariant-loop-y

@@ -1,5 +1,5 @@
 use Rattle.std.proofs.Common.{length, ◌-◌}
-use Rattle.sf_rows.specs.Channels.{PaintedPixels, colour_channel}
+use Rattle.sf_rows.specs.inner.Channels.{PaintedPixels, colour_channel}
 use Rattle.sf_rows.proofs.colour.colour_blocks.Given as goal
 
 abbrev pub invariant-loop-dst : goal.invariant-loop-dst

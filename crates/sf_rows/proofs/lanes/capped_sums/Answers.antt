@@ -1,7 +1,7 @@
 use Rattle.std.proofs.Common.{arith}
 use Rattle.std.proofs.lemmas.Simd.{bytes_below}
 use Rattle.sf_rows.proofs.EachLane.{are_capped}
-use Rattle.sf_rows.proofs.Rounding.{one_capped}
+use Rattle.sf_rows.proofs.RoundedProducts.{one_capped}
 use Rattle.sf_rows.proofs.lanes.capped_sums.Goals as goal
 
 pub returns : goal.returns

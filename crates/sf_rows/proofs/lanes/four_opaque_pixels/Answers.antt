@@ -1,6 +1,6 @@
 use Rattle.std.proofs.Common.{◌≡◌, ◌≤◌, ◌+◌, ◌*◌, ◌∙◌, slice_index, subst, refl, arith}
 use Rattle.std.proofs.lemmas.Simd.{bytes_below, Each1-get_or}
-use Rattle.sf_rows.specs.Channels.{mix, opaque_source}
+use Rattle.sf_rows.specs.inner.Channels.{mix, opaque_source}
 use Rattle.sf_rows.proofs.ByteWords.{joined_of}
 use Rattle.sf_rows.proofs.RowLemmas.{opaque_of, opaque_small}
 use Rattle.sf_rows.proofs.lanes.four_opaque_pixels.Goals as goal

@@ -1,5 +1,5 @@
 use Rattle.std.proofs.Common.{refl}
-use Rattle.sf_rows.specs.Channels.{colour_part}
+use Rattle.sf_rows.specs.inner.Channels.{colour_part}
 use Rattle.sf_rows.proofs.RowLemmas.{below_sixteen}
 use Rattle.sf_rows.proofs.lanes.four_times.Goals as goal
 

@@ -1,5 +1,5 @@
 use Rattle.std.proofs.Common.{◌≡◌, ℕ, ◌<◌, ◌≤◌, ◌-◌, ◌+◌, ◌*◌, ◌%◌, ◌++◌, slice_index, subst, arith}
-use Rattle.sf_rows.specs.Channels.{alpha_place}
+use Rattle.sf_rows.specs.inner.Channels.{alpha_place}
 use Rattle.sf_rows.proofs.RowLemmas.{below_eight}
 use Rattle.sf_rows.proofs.ByteWords.{left_one, small_at}
 use Rattle.sf_rows.proofs.lanes.left_by_alphas.Goals as goal

@@ -1,8 +1,8 @@
 use Rattle.std.proofs.Common.{◌≤◌, sym, subst, arith}
 use lib.Lanes.{Each1}
-use Rattle.sf_rows.specs.Channels.{mix}
+use Rattle.sf_rows.specs.inner.Channels.{mix}
 use Rattle.sf_rows.proofs.EachLane.{zip2_each, are_mixed}
-use Rattle.sf_rows.proofs.Rounding.{mix_lane, mix_small}
+use Rattle.sf_rows.proofs.RoundedProducts.{mix_lane, mix_small}
 use Rattle.sf_rows.proofs.lanes.mixed.Goals as goal
 
 pub returns-clause-value : goal.returns-clause-value

@@ -2,7 +2,7 @@ use Rattle.std.proofs.Common.{◌≡◌, ◌≤◌, sym, subst, arith, refl}
 use lib.Lanes.{Each1, zip2}
 use Rattle.sf_base.specs.Blend.{product}
 use Rattle.sf_rows.proofs.EachLane.{map_same, zip2_each, are_products}
-use Rattle.sf_rows.proofs.Rounding.{one_lane, product_small}
+use Rattle.sf_rows.proofs.RoundedProducts.{one_lane, product_small}
 use Rattle.sf_rows.proofs.lanes.products.Goals as goal
 
 pub overflow_cast-result : goal.overflow_cast-result

@@ -1,5 +1,5 @@
 use Rattle.std.proofs.Common.{length, ◌-◌}
-use Rattle.sf_rows.specs.Channels.{PaintedPixels, row_channel}
+use Rattle.sf_rows.specs.inner.Channels.{PaintedPixels, row_channel}
 use Rattle.sf_rows.proofs.row.row_blocks.Given as goal
 
 abbrev pub invariant-loop-dst : goal.invariant-loop-dst

@@ -5,13 +5,7 @@ use lib.Dec.{ltb}
 use lib.Lanes.{top, zip2}
 use lib.ListN.{replicate}
 use Rattle.sf_base.specs.Blend.{product}
-use Rattle.sf_rows.specs.Channels.{capped_sum, mix}
-
-pub rounded_by_shifts : (p : ℕ) → p ≤ 65025 → (p + 128 + (p + 128) / 256) / 256 ≡ (p + 127) / 255
-rounded_by_shifts p le = omega arith
-
-pub rounded_by_product : (p : ℕ) → p ≤ 65025 → (p + 128) * 257 / 65536 ≡ (p + 127) / 255
-rounded_by_product p le = omega arith
+use Rattle.sf_rows.specs.inner.Channels.{capped_sum, mix}
 
 -- a product of two channels
 pub product_le : (x y : ℕ) → x ≤ 255 → y ≤ 255 → x * y ≤ 65025
