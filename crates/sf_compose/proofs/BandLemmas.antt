@@ -6,7 +6,7 @@ use Rattle.std.proofs.Math.Nat.{mul-le-mul_right}
 use Rattle.sf_base.specs.Bytes.{pixel_in}
 use Rattle.sf_base.specs.declared.pixel.Rgba.{Rgba}
 use Rattle.sf_compose.specs.declared.band.Band.{Band}
-use Rattle.sf_compose.specs.Bands.{HasRows, IsCut}
+use Rattle.sf_compose.specs.inner.Bands.{HasRows, IsCut}
 use Rattle.sf_compose.specs.Frames.{Repaints}
 use Rattle.sf_compose.proofs.SpanLemmas.{pixel_same}
 

@@ -11,12 +11,12 @@ use Rattle.sf_damage.specs.sf_picture.declared.picture.Picture.{Picture}
 use Rattle.sf_damage.specs.sf_view.Image.{opaque_black}
 use Rattle.sf_damage.specs.sf_view.declared.drawn.Drawn.{Drawn}
 use Rattle.sf_compose.specs.declared.area.Area.{Area}
-use Rattle.sf_compose.specs.Begun.{IsBegun, Spares}
+use Rattle.sf_compose.specs.inner.Begun.{IsBegun, Spares}
 use Rattle.sf_compose.specs.Frames.{is_in_box, Repaints}
-use Rattle.sf_compose.specs.Ground.{hides}
-use Rattle.sf_compose.specs.Painting.{is_in_area, Paints}
+use Rattle.sf_compose.specs.inner.Ground.{hides}
+use Rattle.sf_compose.specs.inner.Painting.{is_in_area, Paints}
 use Rattle.sf_compose.specs.Readings.{AreReadable, IsReadable, under_drawn, under_one}
-use Rattle.sf_compose.specs.Seen.{AreSeenAt}
+use Rattle.sf_compose.specs.inner.Seen.{AreSeenAt}
 use Rattle.sf_compose.proofs.GroundLemmas.{hidden}
 use Rattle.sf_compose.proofs.LayerLemmas.{under_drawn-more}
 use Rattle.sf_compose.proofs.PaintLemmas.{painted-black, Paints-then}

@@ -54,8 +54,8 @@ pub row_room : (row column n w h : ℕ) → row < h → column + n ≤ w → (ro
 row_room row column n w h low narrow =
     let above : suc row * w ≤ h * w = mul-le-mul_right w low in
     let next : suc row * w ≡ row * w + w = omega arith in
-    let turned : h * w ≡ w * h = omega arith in
-    omega (arith, above, next, turned)
+    let oriented : h * w ≡ w * h = omega arith in
+    omega (arith, above, next, oriented)
 
 pub row_small : (row column w h : ℕ) → row < h → h ≤ 512 → w ≤ 512 → column ≤ w → row * w + column ≤ 262144
 row_small row column w h low few narrow inside =

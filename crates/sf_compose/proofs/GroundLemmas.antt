@@ -13,8 +13,8 @@ use Rattle.sf_damage.specs.sf_view.declared.content.Content.{Content}
 use Rattle.sf_damage.specs.sf_view.declared.content.Content.TheVariants as content
 use Rattle.sf_damage.specs.sf_view.declared.drawn.Drawn.{Drawn}
 use Rattle.sf_compose.specs.declared.area.Area.{Area}
-use Rattle.sf_compose.specs.Ground.{has_area, hides, is_solid, is_solid_colour, may_hide, spans}
-use Rattle.sf_compose.specs.Painting.{is_in_area}
+use Rattle.sf_compose.specs.inner.Ground.{has_area, hides, is_solid, is_solid_colour, may_hide, spans}
+use Rattle.sf_compose.specs.inner.Painting.{is_in_area}
 use Rattle.sf_compose.specs.Readings.{pixel_from, under_one}
 
 -- the pixels of a solid layer have whole alphas

@@ -11,7 +11,7 @@ use Rattle.sf_base.specs.Bytes.{pixel_in}
 use Rattle.sf_damage.proofs.VisibleLemmas.{nothing-left}
 use Rattle.sf_damage.specs.sf_view.Image.{opaque_black}
 use Rattle.sf_compose.specs.Frames.{is_in_box}
-use Rattle.sf_compose.specs.Painting.{Paints, PaintsSpan}
+use Rattle.sf_compose.specs.inner.Painting.{Paints, PaintsSpan}
 
 -- no point
 pub Paints-none : (w base : ℕ) (p : ℕ → ℕ → Bool) (f : ℕ → ℕ → Rgba → Rgba) (old : List ℕ) → ((x y : ℕ) → p x y ≡ false) → Paints w base p f old old

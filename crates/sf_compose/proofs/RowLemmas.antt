@@ -105,8 +105,8 @@ frame_prefix bytes at width (suc y) room pixels =
 -- bytes that have the pixels of an image are its frame
 pub frame-from : (bytes : List ℕ) (at : ℕ → ℕ → Rgba) (width height : ℕ) → length bytes ≡ 4 * (width * height) → ((x y : ℕ) → x < width → y < height → pixel_in bytes (y * width + x) ≡ at x y) → bytes ≡ frame_bytes at width height
 frame-from bytes at width height size pixels =
-    let turned : height * width ≡ width * height = omega arith in
-    let all : 4 * (height * width) ≡ length bytes = omega (arith, size, turned) in
+    let oriented : height * width ≡ width * height = omega arith in
+    let all : 4 * (height * width) ≡ length bytes = omega (arith, size, oriented) in
     sym (take_whole bytes (4 * (height * width)) all) ∙ frame_prefix bytes at width height (omega (arith, all)) pixels
 
 -- a vector that was written through a slice

@@ -18,10 +18,10 @@ use Rattle.sf_damage.specs.sf_view.Views.{is_in_clip}
 use Rattle.sf_damage.specs.sf_view.declared.content.Content.TheVariants as content
 use Rattle.sf_damage.specs.sf_view.declared.drawn.Drawn.{Drawn}
 use Rattle.sf_compose.specs.declared.area.Area.{Area}
-use Rattle.sf_compose.specs.Painting.{is_in_area, Paints}
-use Rattle.sf_compose.specs.Begun.{IsBegun, Spares}
+use Rattle.sf_compose.specs.inner.Painting.{is_in_area, Paints}
+use Rattle.sf_compose.specs.inner.Begun.{IsBegun, Spares}
 use Rattle.sf_compose.specs.Readings.{AreReadable, IsReadable, pixel_from, under_drawn, under_one}
-use Rattle.sf_compose.specs.Seen.{AreSeenAt}
+use Rattle.sf_compose.specs.inner.Seen.{AreSeenAt}
 use Rattle.sf_compose.proofs.BegunLemmas.{AllZip-drop, Spares-painted, Spares-then}
 use Rattle.sf_compose.proofs.PaintLemmas.{Paints-none, Paints-then}
 
@@ -45,16 +45,20 @@ both_or true h c = refl
 both_or false h c = refl
 
 -- one rectangle more
-pub Paints-part : (w base : ℕ) (area part : Area) (parts : List Rect) (i : ℕ) (d : Rect) (f : ℕ → ℕ → Rgba → Rgba) (old mid new : List ℕ) → IsDisjoint parts → i < length parts → Paints w base (λ x y. is_in_area area x y && has (take i parts) (pos x) (pos y)) f old mid → Paints w base (is_in_area part) f mid new → ((x y : ℕ) → is_in_area part x y ≡ (is_in_area area x y && covers (get_or parts i d) (pos x) (pos y))) → Paints w base (λ x y. is_in_area area x y && has (take (i + 1) parts) (pos x) (pos y)) f old new
-Paints-part w base area part parts i d f old mid new apart h a b points =
-    Paints-then w base (λ x y. is_in_area area x y && has (take i parts) (pos x) (pos y)) (is_in_area part) (λ x y. is_in_area area x y && has (take (i + 1) parts) (pos x) (pos y)) f old mid new a b
-    (λ x y. ap (λ (t : Bool). is_in_area area x y && t) (list_any_more (λ rect. covers rect (pos x) (pos y)) parts i d h)
-    ∙ (both_or (is_in_area area x y) (has (take i parts) (pos x) (pos y)) (covers (get_or parts i d) (pos x) (pos y))
-    ∙ ap (λ (t : Bool). (is_in_area area x y && has (take i parts) (pos x) (pos y)) || t) (sym (points x y))))
-    (λ x y t. false_from_ne_true (is_in_area part x y) (λ u.
-    apart_at parts i d (pos x) (pos y) apart h (and_parts (is_in_area area x y) _ t).1 (and_parts (is_in_area area x y) _ (sym (points x y) ∙ u)).1))
+pub Paints-piece : (w base : ℕ) (test piece : ℕ → ℕ → Bool) (parts : List Rect) (i : ℕ) (d : Rect) (f : ℕ → ℕ → Rgba → Rgba) (old mid new : List ℕ) → IsDisjoint parts → i < length parts → Paints w base (λ x y. test x y && has (take i parts) (pos x) (pos y)) f old mid → Paints w base piece f mid new
+    → ((x y : ℕ) → piece x y ≡ (test x y && covers (get_or parts i d) (pos x) (pos y))) → Paints w base (λ x y. test x y && has (take (i + 1) parts) (pos x) (pos y)) f old new
+Paints-piece w base test piece parts i d f old mid new apart h a b points =
+    Paints-then w base (λ x y. test x y && has (take i parts) (pos x) (pos y)) piece (λ x y. test x y && has (take (i + 1) parts) (pos x) (pos y)) f old mid new a b
+    (λ x y. ap (λ (t : Bool). test x y && t) (list_any_more (λ rect. covers rect (pos x) (pos y)) parts i d h)
+    ∙ (both_or (test x y) (has (take i parts) (pos x) (pos y)) (covers (get_or parts i d) (pos x) (pos y))
+    ∙ ap (λ (t : Bool). (test x y && has (take i parts) (pos x) (pos y)) || t) (sym (points x y))))
+    (λ x y t. false_from_ne_true (piece x y) (λ u.
+    apart_at parts i d (pos x) (pos y) apart h (and_parts (test x y) _ t).1 (and_parts (test x y) _ (sym (points x y) ∙ u)).1))
 
-right_false : (a : Bool) → (a && false) ≡ false
+pub Paints-part : (w base : ℕ) (area part : Area) (parts : List Rect) (i : ℕ) (d : Rect) (f : ℕ → ℕ → Rgba → Rgba) (old mid new : List ℕ) → IsDisjoint parts → i < length parts → Paints w base (λ x y. is_in_area area x y && has (take i parts) (pos x) (pos y)) f old mid → Paints w base (is_in_area part) f mid new → ((x y : ℕ) → is_in_area part x y ≡ (is_in_area area x y && covers (get_or parts i d) (pos x) (pos y))) → Paints w base (λ x y. is_in_area area x y && has (take (i + 1) parts) (pos x) (pos y)) f old new
+Paints-part w base area part parts i d f old mid new apart h a b points = Paints-piece w base (is_in_area area) (is_in_area part) parts i d f old mid new apart h a b points
+
+pub right_false : (a : Bool) → (a && false) ≡ false
 right_false true = refl
 right_false false = refl
 
@@ -99,10 +103,10 @@ seen_at test (l ∷ ls) (region ∷ regions) zero d r x y h visible t = visible.
 seen_at test (l ∷ ls) (region ∷ regions) (suc n) d r x y h visible t = seen_at test ls regions n d r x y (omega arith) visible.1 t
 
 -- one layer more, painted where it shows
-IsBegun-seen : (w base : ℕ) (area : Area) (contents : List Picture) (layers : List Drawn) (sources : List ℕ) (shows : List (List Rect)) (n : ℕ) (d : Drawn) (s : ℕ) (r : List Rect) (old new : List ℕ) → n < length layers → n < length sources → AreReadable contents layers sources → AreSeenAt (is_in_area area) layers shows
-    → Paints w base (λ x y. is_in_area area x y && has (get_or shows n r) (pos x) (pos y)) (λ x y under. under_one contents (pos x) (pos y) under (get_or layers n d) (get_or sources n s)) old new
-    → IsBegun w base (is_in_area area) contents layers sources n old → IsBegun w base (is_in_area area) contents layers sources (n + 1) new
-IsBegun-seen w base area contents layers sources shows n d s r old new h k readable visible painted begun = rw (add-one n) (record {
+pub IsBegun-seen : (w base : ℕ) (test : ℕ → ℕ → Bool) (contents : List Picture) (layers : List Drawn) (sources : List ℕ) (shows : List (List Rect)) (n : ℕ) (d : Drawn) (s : ℕ) (r : List Rect) (old new : List ℕ) → n < length layers → n < length sources → AreReadable contents layers sources → AreSeenAt test layers shows
+    → Paints w base (λ x y. test x y && has (get_or shows n r) (pos x) (pos y)) (λ x y under. under_one contents (pos x) (pos y) under (get_or layers n d) (get_or sources n s)) old new
+    → IsBegun w base test contents layers sources n old → IsBegun w base test contents layers sources (n + 1) new
+IsBegun-seen w base test contents layers sources shows n d s r old new h k readable visible painted begun = rw (add-one n) (record {
   image = λ x y wide low t.
       (let drawn = get_or layers n d in
       let source = get_or sources n s in
@@ -111,7 +115,7 @@ IsBegun-seen w base area contents layers sources shows n d s r old new h k reada
       let under = pixel_in old ((y - base) * w + x) in
       let here : pixel_in new ((y - base) * w + x) ≡ (if has (get_or shows n r) (pos x) (pos y) then under_one contents (pos x) (pos y) under drawn source else under) = rw t at (painted.pixels x y wide low) in
       ap (λ (p : Rgba). under_drawn contents (pos x) (pos y) p above later) here
-      ∙ (seen-step contents drawn above source later (pos x) (pos y) (has (get_or shows n r) (pos x) (pos y)) under (AllZip-drop (λ drawn source. IsReadable contents drawn.content source) (suc n) layers sources readable.all) (seen_at (is_in_area area) layers shows n d r x y h visible t)
+      ∙ (seen-step contents drawn above source later (pos x) (pos y) (has (get_or shows n r) (pos x) (pos y)) under (AllZip-drop (λ drawn source. IsReadable contents drawn.content source) (suc n) layers sources readable.all) (seen_at test layers shows n d r x y h visible t)
       ∙ (ap (λ (ls : List Drawn). under_drawn contents (pos x) (pos y) under ls (source ∷ later)) (sym (drop-cons layers n d h)) ∙ (ap (λ (ss : List ℕ). under_drawn contents (pos x) (pos y) under (drop n layers) ss) (sym (drop-cons sources n s k)) ∙ begun.image x y wide low t))));
 })
 
@@ -148,7 +152,7 @@ IsBegun-shown w base area contents layers sources shows n d s r first old new h 
 IsBegun-shown w base area contents layers sources shows n d s r first old new h k readable visible (inr parts) spared begun = (
   Spares-then w base (is_in_area area) first old new spared
       (Spares-painted w base (λ x y. is_in_area area x y && has (get_or shows n r) (pos x) (pos y)) (is_in_area area) _ old new parts (λ x y t. part_beside area (get_or shows n r) x y t)),
-  IsBegun-seen w base area contents layers sources shows n d s r old new h k readable visible parts begun,
+  IsBegun-seen w base (is_in_area area) contents layers sources shows n d s r old new h k readable visible parts begun,
 )
 
 -- and none

@@ -8,7 +8,7 @@ use Rattle.sf_base.specs.Bytes.{FillsSpan, pixel_in}
 use Rattle.sf_base.specs.Paint.{painted}
 use Rattle.sf_base.specs.declared.pixel.Rgba.{Rgba}
 use Rattle.sf_damage.specs.sf_view.Contents.{source_of}
-use Rattle.sf_compose.specs.Solid.{CopiesBelow, CopiesTo}
+use Rattle.sf_compose.specs.inner.Solid.{CopiesBelow, CopiesTo}
 use Rattle.sf_compose.proofs.SpanLemmas.{pixel_same}
 
 -- nothing is copied yet

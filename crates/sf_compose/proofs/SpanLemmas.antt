@@ -7,7 +7,7 @@ use Rattle.std.proofs.lemmas.Simd.{get_or-put_chunk_below, get_or-put_chunk_at, 
 use Rattle.std.proofs.lemmas.List.Edits.{get_or-between, length-between}
 use Rattle.sf_base.specs.declared.pixel.Rgba.{Rgba}
 use Rattle.sf_base.specs.Bytes.{pixel_in}
-use Rattle.sf_compose.specs.Painting.{PaintsSpan}
+use Rattle.sf_compose.specs.inner.Painting.{PaintsSpan}
 
 -- four bytes that are equal make equal pixels
 pub pixel_same : (xs ys : List ℕ) (i j : ℕ) → ((c : ℕ) → c < 4 → get_or xs (4 * i + c) 0 ≡ get_or ys (4 * j + c) 0) → pixel_in xs i ≡ pixel_in ys j

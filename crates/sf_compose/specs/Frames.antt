@@ -28,6 +28,7 @@ pub record Repaints (width top bottom : ℕ) (test : ℕ → ℕ → Bool) (imag
   pub pixels : (x y : ℕ) → x < width → top ≤ y → y < bottom
       → pixel_in new ((y - top) * width + x) ≡ (if test x y then image x y else pixel_in old ((y - top) * width + x))
 
+-- a pixel as four bytes
 abbrev pub four_bytes : Rgba → List ℕ
 four_bytes pixel = pixel.r ∷ pixel.g ∷ pixel.b ∷ pixel.a ∷ []
 

@@ -1,5 +1,6 @@
+//! A rectangle of points of a frame, by its edges.
 ghost use Rattle.std.specs.Prelude.{◌≡◌, ◌<◌, ◌≤◌, ℕ, pos, ◌&&◌};
-ghost use Rattle.sf_compose.specs.Painting.{is_in_area};
+ghost use Rattle.sf_compose.specs.inner.Painting.{is_in_area};
 ghost use Rattle.sf_base.specs.Geometry.{is_within};
 
 use sf_base::{Rect, clipped};
@@ -14,7 +15,7 @@ pub struct Area {
     pub bottom: u32,
 }
 
-// The points of an area that a rectangle has.
+/// The points of an area that a rectangle has.
 pub fn cut(area: Area, rect: &Rect) -> Area
     ensures top { area.top ≤ result.top }
     ensures right { result.right ≤ area.right }
@@ -32,7 +33,7 @@ pub fn cut(area: Area, rect: &Rect) -> Area
     }
 }
 
-// How many points an area has.
+/// How many points an area has.
 pub fn points_of(area: Area) -> u64 {
     let width = u64::from(area.right.saturating_sub(area.left));
     width.saturating_mul(u64::from(area.bottom.saturating_sub(area.top)))

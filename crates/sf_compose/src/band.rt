@@ -1,6 +1,7 @@
+//! Rows of a frame: what one thread composes.
 ghost use Rattle.std.specs.Prelude.{◌≡◌, ◌-◌, ◌*◌, ◌<◌, ◌≤◌, ℕ, true};
-ghost use Rattle.sf_compose.specs.Bands.{IsInBand};
-ghost use Rattle.sf_compose.specs.Painting.{is_in_area};
+ghost use Rattle.sf_compose.specs.inner.Bands.{IsInBand};
+ghost use Rattle.sf_compose.specs.inner.Painting.{is_in_area};
 
 use crate::area::Area;
 use sf_damage::sf_view::View;
@@ -14,7 +15,7 @@ pub struct Band {
     pub bottom: u32,
 }
 
-// All rows of a view's display.
+/// All rows of a view's display.
 pub fn all_rows(view: &View) -> Band
     ensures width { result.width ≡ view.now.width }
     ensures top { result.top ≡ 0 }
@@ -27,7 +28,7 @@ pub fn all_rows(view: &View) -> Band
     }
 }
 
-// The points of a band.
+/// The points of a band.
 pub fn area_of(band: Band) -> Area
     ensures within { IsInBand band result }
     ensures points { (x y : ℕ) → x < band.width → band.top ≤ y → y < band.bottom → is_in_area result x y ≡ true }
@@ -40,7 +41,7 @@ pub fn area_of(band: Band) -> Area
     }
 }
 
-// The number of the first pixel of a row in its band.
+/// The number of the first pixel of a row in its band.
 pub fn row_start(band: Band, y: u32) -> usize
     requires { band.top ≤ y }
     ensures { result ≡ (y - band.top) * band.width }

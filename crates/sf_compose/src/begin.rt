@@ -1,9 +1,10 @@
+//! How an area is begun: from the topmost layer that hides all below it, or on black.
 ghost use Rattle.std.specs.Prelude.{◌≡◌, ◌≤◌, length, map};
-ghost use Rattle.sf_compose.specs.Bands.{HasRows, IsInBand};
-ghost use Rattle.sf_compose.specs.Begun.{IsBegun, Spares};
-ghost use Rattle.sf_compose.specs.Painting.{is_in_area};
+ghost use Rattle.sf_compose.specs.inner.Bands.{HasRows, IsInBand};
+ghost use Rattle.sf_compose.specs.inner.Begun.{IsBegun, Spares};
+ghost use Rattle.sf_compose.specs.inner.Painting.{is_in_area};
 ghost use Rattle.sf_compose.specs.Readings.{AreReadable};
-ghost use Rattle.sf_compose.specs.Seen.{ArePaintable};
+ghost use Rattle.sf_compose.specs.inner.Seen.{ArePaintable};
 
 use crate::area::Area;
 use crate::band::Band;
@@ -12,9 +13,9 @@ use crate::layer::{copy_layer, paint_area};
 use crate::pixels::Pixels;
 use sf_damage::sf_view::Drawn;
 
-// Begins an area under drawn layers, and tells from which of them on it is still to be painted: from
-// the topmost one that hides all of it, or behind that one where its pixels were copied. Where none
-// hides it, the area is black, and all of them are to be painted.
+/// Begins an area under drawn layers, and tells from which of them on it is still to be painted: from
+/// the topmost one that hides all of it, or behind that one where its pixels were copied. Where none
+/// hides it, the area is black, and all of them are to be painted.
 pub fn begin<C: Pixels>(
     layers: &[Drawn],
     contents: &[C],

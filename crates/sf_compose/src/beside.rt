@@ -1,8 +1,10 @@
+//! Composes bands of a frame in threads that begin one right after another, and one band in the
+//! caller's.
 ghost use Rattle.std.specs.Prelude.{◌≡◌, ◌-◌, ◌*◌, ◌<◌, ◌≤◌, ℕ, Bool, List};
 ghost use denote.Param.Send.{IsSync};
 ghost use Rattle.sf_base.specs.declared.pixel.Rgba.{Rgba as RgbaIn};
 ghost use Rattle.sf_compose.specs.declared.band.Band.{Band as BandIn};
-ghost use Rattle.sf_compose.specs.Bands.{AcceptsBands, HasRows, IsCut, RepaintsBands};
+ghost use Rattle.sf_compose.specs.inner.Bands.{AcceptsBands, HasRows, IsCut, RepaintsBands};
 ghost use Rattle.sf_compose.specs.Frames.{Repaints};
 
 use crate::band::Band;
@@ -10,7 +12,7 @@ use crate::share::Share;
 use std::thread;
 use std::thread::Threads;
 
-// The first rows of a band, at most so many, and those below.
+/// The first rows of a band, at most so many, and those below.
 fn cut_off(band: Band, rows: u32) -> (Band, Band)
     requires some { 1 ≤ rows }
     requires rows { band.top < band.bottom }
@@ -30,7 +32,7 @@ fn cut_off(band: Band, rows: u32) -> (Band, Band)
     )
 }
 
-// How many bytes a band has.
+/// How many bytes a band has.
 fn size_of(band: Band) -> usize
     requires ordered { band.top ≤ band.bottom }
     requires fits { 4 * ((band.bottom - band.top) * band.width) < 18446744073709551616 }
@@ -39,7 +41,7 @@ fn size_of(band: Band) -> usize
     4 * ((band.bottom - band.top) as usize * band.width as usize)
 }
 
-// Has the rows of a band composed, in as many threads as share them, and by the caller's where that is one.
+/// Has the rows of a band composed, in as many threads as share them, and by the caller's where that is one.
 pub fn compose_bands<R: Threads + Sync, F: Fn(Band, &mut [u8]) + Sync>(
     rt: &R,
     f: &F,
@@ -60,8 +62,8 @@ pub fn compose_bands<R: Threads + Sync, F: Fn(Band, &mut [u8]) + Sync>(
     }
 }
 
-// Has the rows of a band composed, each share in a thread. All threads begin one right after another,
-// since the one that starts them composes nothing itself but where no thread can be made.
+/// Has the rows of a band composed, each share in a thread. All threads begin one right after another,
+/// since the one that starts them composes nothing itself but where no thread can be made.
 #[cycle(bands)]
 fn start_each<R: Threads + Sync, F: Fn(Band, &mut [u8]) + Sync>(
     rt: &R,
@@ -84,7 +86,7 @@ fn start_each<R: Threads + Sync, F: Fn(Band, &mut [u8]) + Sync>(
     start_beside(rt, f, share.rest(), first, now, below, later);
 }
 
-// Composes a band in this thread.
+/// Composes a band in this thread.
 fn compose_here<F: Fn(Band, &mut [u8])>(f: &F, band: Band, bytes: &mut [u8])
     requires room { HasRows band bytes.old }
     requires accepts { AcceptsBands F.Fn f.now }
@@ -94,7 +96,7 @@ fn compose_here<F: Fn(Band, &mut [u8])>(f: &F, band: Band, bytes: &mut [u8])
     f(band, bytes);
 }
 
-// Has a band composed in a thread, and the rows below it beside.
+/// Has a band composed in a thread, and the rows below it beside.
 #[cycle(bands)]
 fn start_beside<R: Threads + Sync, F: Fn(Band, &mut [u8]) + Sync>(
     rt: &R,

@@ -1,3 +1,4 @@
+//! The pixels of a picture that a crop shows at the points of a row.
 ghost use Rattle.std.specs.Prelude.{◌≡◌, ◌+◌, ◌-◌, ◌*◌, ◌<◌, ◌≤◌, ℕ, length, pos, true, ◌≤ℤ◌, ◌+ℤ◌, neg_ℤ};
 ghost use Rattle.std.specs.List.{between};
 ghost use Rattle.sf_base.specs.Bytes.{pixel_in};
@@ -17,7 +18,7 @@ pub struct Crop {
     pub alpha: u8,
 }
 
-// The coordinate of a picture at a point, where the edge of a crop stands at a place.
+/// The coordinate of a picture at a point, where the edge of a crop stands at a place.
 fn coordinate(at: u32, place: i32, edge: i32) -> usize
     requires placed { place ≤ℤ pos at }
     requires cropped { pos 0 ≤ℤ edge }
@@ -26,8 +27,8 @@ fn coordinate(at: u32, place: i32, edge: i32) -> usize
     (i64::from(at) - i64::from(place) + i64::from(edge)) as usize
 }
 
-// The number of the picture's pixel that a crop shows at a point of a row from one on and before
-// another: that of the first. The others follow it.
+/// The number of the picture's pixel that a crop shows at a point of a row from one on and before
+/// another: that of the first. The others follow it.
 pub fn crop_start(picture: &Painted, crop: Crop, y: u32, left: u32, right: u32) -> usize
     requires crop { LiesWithin crop.rect picture.now.width picture.now.height }
     requires ordered { left < right }
@@ -43,7 +44,7 @@ pub fn crop_start(picture: &Painted, crop: Crop, y: u32, left: u32, right: u32) 
     row * picture.picture().width as usize + column
 }
 
-// So many pixels of bytes, from one on.
+/// So many pixels of bytes, from one on.
 fn pixels_from(bytes: &[u8], from: usize, count: usize) -> &[u8]
     requires { 4 * (from + count) ≤ length bytes.now }
     ensures { result.now ≡ between (4 * from) (4 * (from + count)) bytes.now }
@@ -51,7 +52,7 @@ fn pixels_from(bytes: &[u8], from: usize, count: usize) -> &[u8]
     &bytes[4 * from..4 * (from + count)]
 }
 
-// The pixels of a crop at the points of a row from one on and before another.
+/// The pixels of a crop at the points of a row from one on and before another.
 pub fn crop_row(picture: &Painted, crop: Crop, y: u32, left: u32, right: u32) -> &[u8]
     requires crop { LiesWithin crop.rect picture.now.width picture.now.height }
     requires ordered { left < right }
@@ -67,8 +68,8 @@ pub fn crop_row(picture: &Painted, crop: Crop, y: u32, left: u32, right: u32) ->
     pixels_from(picture.bytes(), from, (right - left) as usize)
 }
 
-// The pixels of a crop that is as wide as its picture and starts at column 0, at the points of the rows
-// from one on and before another.
+/// The pixels of a crop that is as wide as its picture and starts at column 0, at the points of the rows
+/// from one on and before another.
 pub fn crop_rows(picture: &Painted, crop: Crop, width: u32, top: u32, bottom: u32) -> &[u8]
     requires crop { LiesWithin crop.rect picture.now.width picture.now.height }
     requires wide { width ≡ picture.now.width }

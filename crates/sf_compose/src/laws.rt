@@ -1,3 +1,5 @@
+//! Laws about composed frames, called for their clauses alone: in whatever parts a view is
+//! composed, its frame is one.
 ghost use Rattle.std.specs.Prelude.{◌≡◌, ℕ, List, pos};
 ghost use Rattle.sf_damage.specs.sf_picture.declared.picture.Picture.{Picture};
 ghost use Rattle.sf_damage.specs.sf_view.Stacks.{view_image};

@@ -1,15 +1,16 @@
+//! Paints one drawn layer over an area of a frame: a colour, a crop of a buffer, or an oriented crop.
 ghost use Rattle.std.specs.Prelude.{◌≡◌, ◌+◌, ◌-◌, ◌*◌, ◌<◌, ◌≤◌, ℕ, length, map, pos, true, IsTrue, ◌&&◌, ◌+ℤ◌, neg_ℤ};
 ghost use Rattle.sf_base.specs.Paint.{painted};
 ghost use Rattle.sf_base.specs.Bytes.{pixel_in};
 ghost use Rattle.sf_base.specs.declared.pixel.Rgba.{Rgba as RgbaValue};
-ghost use Rattle.sf_compose.specs.Bands.{HasRows, IsInBand};
-ghost use Rattle.sf_compose.specs.Begun.{Spares};
-ghost use Rattle.sf_compose.specs.Painting.{is_in_area, Paints, PaintsSpan};
+ghost use Rattle.sf_compose.specs.inner.Bands.{HasRows, IsInBand};
+ghost use Rattle.sf_compose.specs.inner.Begun.{Spares};
+ghost use Rattle.sf_compose.specs.inner.Painting.{is_in_area, Paints, PaintsSpan};
 ghost use Rattle.sf_compose.specs.Readings.{AreReadable, IsReadable, under_drawn, under_one};
-ghost use Rattle.sf_compose.specs.Seen.{ArePaintable, IsPaintable};
+ghost use Rattle.sf_compose.specs.inner.Seen.{ArePaintable, IsPaintable};
 ghost use Rattle.sf_damage.specs.sf_picture.Pixels.{pixel_at};
 ghost use Rattle.sf_base.specs.Geometry.{covers, is_within, LiesWithin};
-ghost use Rattle.sf_compose.specs.Turns.{pixel_shown};
+ghost use Rattle.sf_compose.specs.inner.Orientations.{pixel_shown};
 ghost use Rattle.sf_damage.specs.sf_view.Boxes.{box_of};
 ghost use Rattle.sf_damage.specs.sf_view.Contents.{source_of, unsigned};
 
@@ -19,15 +20,15 @@ use crate::contents::read;
 use crate::crop::{Crop, crop_row};
 use crate::ground::may_hide;
 use crate::moving::move_crop;
+use crate::oriented::{Oriented, copy_oriented, paint_oriented};
 use crate::pixels::Pixels;
 use crate::spans::{copy_pixels, paint_colour, paint_pixels};
-use crate::turned::{Turned, copy_turned, paint_turned};
 use sf_base::Rgba;
 use sf_damage::sf_layer::Shown;
 use sf_damage::sf_picture::Painted;
 use sf_damage::sf_view::{Content, Drawn};
 
-// Paints a colour over an area.
+/// Paints a colour over an area.
 pub fn paint_area(frame: &mut [u8], band: Band, area: Area, colour: Rgba, alpha: u8)
     requires within { IsInBand band area }
     requires room { HasRows band frame.old }
@@ -48,7 +49,7 @@ pub fn paint_area(frame: &mut [u8], band: Band, area: Area, colour: Rgba, alpha:
     }
 }
 
-// Paints the points of a row from one on and before another, where the row starts at a pixel of the frame.
+/// Paints the points of a row from one on and before another, where the row starts at a pixel of the frame.
 fn paint_crop_row(
     picture: &Painted,
     crop: Crop,
@@ -80,8 +81,8 @@ fn paint_crop_row(
     );
 }
 
-// Copies the points of such a row, and tells whether all of them hide what was there. If not, some of
-// them may be copied.
+/// Copies the points of such a row, and tells whether all of them hide what was there. If not, some of
+/// them may be copied.
 fn copy_crop_row(
     picture: &Painted,
     crop: Crop,
@@ -107,7 +108,7 @@ fn copy_crop_row(
     copy_pixels(frame, start + left as usize, start + right as usize, row)
 }
 
-// Paints a crop over an area that it covers.
+/// Paints a crop over an area that it covers.
 fn paint_crop(picture: &Painted, crop: Crop, frame: &mut [u8], band: Band, area: Area)
     requires crop { LiesWithin crop.rect picture.now.width picture.now.height }
     requires inside { (x y : ℕ) → is_in_area area x y ≡ true
@@ -132,8 +133,8 @@ fn paint_crop(picture: &Painted, crop: Crop, frame: &mut [u8], band: Band, area:
     }
 }
 
-// Copies a crop over an area that it covers, and tells whether each of its pixels hides what was
-// there. If not, some of them may be copied.
+/// Copies a crop over an area that it covers, and tells whether each of its pixels hides what was
+/// there. If not, some of them may be copied.
 fn copy_crop(picture: &Painted, crop: Crop, frame: &mut [u8], band: Band, area: Area) -> bool
     requires crop { LiesWithin crop.rect picture.now.width picture.now.height }
     requires inside { (x y : ℕ) → is_in_area area x y ≡ true
@@ -162,7 +163,7 @@ fn copy_crop(picture: &Painted, crop: Crop, frame: &mut [u8], band: Band, area: 
     true
 }
 
-// A colour as its layer shows it: the alpha of an opaque layer's counts as 255.
+/// A colour as its layer shows it: the alpha of an opaque layer's counts as 255.
 fn seen_colour(colour: Rgba, opaque: bool) -> Rgba
     ensures { result ≡ source_of opaque colour }
 {
@@ -173,7 +174,7 @@ fn seen_colour(colour: Rgba, opaque: bool) -> Rgba
     }
 }
 
-// Paints what a drawn layer shows of a buffer over an area that its box has.
+/// Paints what a drawn layer shows of a buffer over an area that its box has.
 fn paint_buffer(
     picture: &Painted,
     shown: Shown,
@@ -199,18 +200,18 @@ fn paint_buffer(
         };
         paint_crop(picture, crop, frame, band, area);
     } else {
-        let turned = Turned {
+        let oriented = Oriented {
             crop: shown.crop,
             orient: drawn.orient,
             place: drawn.place,
             opaque: drawn.opaque,
             alpha: drawn.alpha,
         };
-        paint_turned(picture, turned, frame, band, area);
+        paint_oriented(picture, oriented, frame, band, area);
     }
 }
 
-// Paints a drawn layer over the points of an area that are in its clip.
+/// Paints a drawn layer over the points of an area that are in its clip.
 pub fn paint_layer<C: Pixels>(
     drawn: &Drawn,
     contents: &[C],
@@ -238,8 +239,8 @@ pub fn paint_layer<C: Pixels>(
     }
 }
 
-// Copies what a drawn layer shows of a buffer over an area that its box has, and tells whether each
-// of its pixels hides what was there. If not, some of them may be copied.
+/// Copies what a drawn layer shows of a buffer over an area that its box has, and tells whether each
+/// of its pixels hides what was there. If not, some of them may be copied.
 fn copy_buffer(
     picture: &Painted,
     shown: Shown,
@@ -266,19 +267,19 @@ fn copy_buffer(
         };
         copy_crop(picture, crop, frame, band, area)
     } else {
-        let turned = Turned {
+        let oriented = Oriented {
             crop: shown.crop,
             orient: drawn.orient,
             place: drawn.place,
             opaque: false,
             alpha: 255,
         };
-        copy_turned(picture, turned, frame, band, area)
+        copy_oriented(picture, oriented, frame, band, area)
     }
 }
 
-// Copies what a drawn layer shows over an area, and tells whether it hides what was there at each
-// point of it. If not, some points of the area may be copied.
+/// Copies what a drawn layer shows over an area, and tells whether it hides what was there at each
+/// point of it. If not, some points of the area may be copied.
 pub fn copy_layer<C: Pixels>(
     drawn: &Drawn,
     contents: &[C],
@@ -306,7 +307,7 @@ pub fn copy_layer<C: Pixels>(
     }
 }
 
-// Paints drawn layers over an area, from the back.
+/// Paints drawn layers over an area, from the back.
 pub fn paint_layers<C: Pixels>(
     layers: &[Drawn],
     contents: &[C],

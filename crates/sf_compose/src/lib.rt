@@ -3,7 +3,7 @@
 //! only in the part that is asked for. It is composed in slices of rows, all layers one after another
 //! in each. Each layer goes row by row, one call of a row kernel for each, and a slice begins with the
 //! topmost layer that hides all of it.
-//! Of a buffer that is turned or mirrored, each row is first picked into a row of its own, or, where
+//! Of a buffer that is oriented or mirrored, each row is first picked into a row of its own, or, where
 //! its pixels are only moved, straight into the frame.
 #![tactic(auto)]
 
@@ -18,16 +18,17 @@ mod laws;
 mod layer;
 mod moving;
 mod one;
+mod oriented;
+mod oriented_moving;
 mod parallel;
 mod pixels;
+mod scattered;
 mod seen;
 mod share;
 mod slices;
 mod solid;
 mod spans;
 mod steps;
-mod turned;
-mod turned_moving;
 mod whole;
 
 pub use laws::{
@@ -37,6 +38,9 @@ pub use one::compose_one;
 pub use parallel::{compose, compose_seen_by};
 pub use pixels::Pixels;
 pub use seen::compose_seen;
-pub use sf_damage;
-pub use sf_damage::{sf_layer, sf_picture, sf_region, sf_view};
+pub use sf_damage::sf_layer::Shown;
+pub use sf_damage::sf_picture::Painted;
+pub use sf_damage::sf_region::Region;
+pub use sf_damage::sf_view::{Content, Drawn, View};
+pub use sf_damage::{dirty, visible};
 pub use whole::compose_frame;

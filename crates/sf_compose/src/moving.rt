@@ -1,8 +1,9 @@
+//! Copies crops of pictures that hide what lies below, many rows at once where it can.
 ghost use Rattle.std.specs.Prelude.{◌≡◌, ◌<◌, ℕ, Bool, pos, true, ◌+ℤ◌, neg_ℤ, ◌&&◌};
 ghost use Rattle.sf_base.specs.Paint.{painted};
 ghost use Rattle.sf_base.specs.declared.pixel.Rgba.{Rgba as RgbaValue};
-ghost use Rattle.sf_compose.specs.Bands.{HasRows, IsInBand};
-ghost use Rattle.sf_compose.specs.Painting.{is_in_area, Paints};
+ghost use Rattle.sf_compose.specs.inner.Bands.{HasRows, IsInBand};
+ghost use Rattle.sf_compose.specs.inner.Painting.{is_in_area, Paints};
 ghost use Rattle.sf_damage.specs.sf_picture.Pixels.{pixel_at};
 ghost use Rattle.sf_damage.specs.sf_picture.Solid.{IsSolid};
 ghost use Rattle.sf_base.specs.Geometry.{is_within, LiesWithin};
@@ -14,7 +15,7 @@ use crate::crop::{Crop, crop_rows, crop_start};
 use crate::spans::{move_part, move_pixels};
 use sf_damage::sf_picture::Painted;
 
-// Moves the points of rows over those of a frame that is as wide as they are.
+/// Moves the points of rows over those of a frame that is as wide as they are.
 fn move_rows(picture: &Painted, crop: Crop, frame: &mut [u8], band: Band, area: Area)
     requires crop { LiesWithin crop.rect picture.now.width picture.now.height }
     requires solid { IsSolid picture.now }
@@ -41,8 +42,8 @@ fn move_rows(picture: &Painted, crop: Crop, frame: &mut [u8], band: Band, area: 
     );
 }
 
-// Moves a crop of a solid picture over an area that it covers: all rows at once where they follow one
-// another in both, else row by row.
+/// Moves a crop of a solid picture over an area that it covers: all rows at once where they follow one
+/// another in both, else row by row.
 pub fn move_crop(picture: &Painted, crop: Crop, frame: &mut [u8], band: Band, area: Area)
     requires crop { LiesWithin crop.rect picture.now.width picture.now.height }
     requires solid { IsSolid picture.now }

@@ -1,10 +1,11 @@
+//! Composes a part of a frame in one thread, each layer wherever it is in the part.
 ghost use Rattle.std.specs.Prelude.{◌≡◌, ◌*◌, ◌≤◌, length, map, drop, OnErr, OnOk, pos};
 ghost use Rattle.sf_base.specs.Geometry.{covers};
-ghost use Rattle.sf_compose.specs.Bands.{HasRows, IsInBand};
+ghost use Rattle.sf_compose.specs.inner.Bands.{HasRows, IsInBand};
 ghost use Rattle.sf_compose.specs.Frames.{KeepsRest, Repaints, ShowsPart};
-ghost use Rattle.sf_compose.specs.Painting.{is_in_area, Paints};
+ghost use Rattle.sf_compose.specs.inner.Painting.{is_in_area, Paints};
 ghost use Rattle.sf_compose.specs.Readings.{AreReadable, read_image, under_drawn};
-ghost use Rattle.sf_compose.specs.Seen.{ArePaintable};
+ghost use Rattle.sf_compose.specs.inner.Seen.{ArePaintable};
 ghost use Rattle.sf_damage.specs.sf_region.Points.{has};
 ghost use Rattle.sf_damage.specs.sf_view.Image.{opaque_black};
 
@@ -51,7 +52,7 @@ pub fn compose_one<C: Pixels>(
     Ok(())
 }
 
-// Composes the points of a band that lie in a part.
+/// Composes the points of a band that lie in a part.
 pub fn compose_band<C: Pixels>(
     view: &View,
     contents: &[C],
@@ -70,7 +71,7 @@ pub fn compose_band<C: Pixels>(
     }
 }
 
-// Composes the points of a band that lie in a rectangle.
+/// Composes the points of a band that lie in a rectangle.
 pub fn compose_rect<C: Pixels>(
     view: &View,
     contents: &[C],
@@ -88,7 +89,7 @@ pub fn compose_rect<C: Pixels>(
     compose_area(view.drawn.as_slice(), contents, sources, band, area, frame);
 }
 
-// Composes an area, slice by slice.
+/// Composes an area, slice by slice.
 fn compose_area<C: Pixels>(
     layers: &[Drawn],
     contents: &[C],
@@ -116,7 +117,7 @@ fn compose_area<C: Pixels>(
     }
 }
 
-// Composes an area, layer after layer.
+/// Composes an area, layer after layer.
 fn compose_slice<C: Pixels>(
     layers: &[Drawn],
     contents: &[C],
@@ -136,7 +137,7 @@ fn compose_slice<C: Pixels>(
     paint_from(first, layers, contents, sources, band, area, frame);
 }
 
-// Paints drawn layers from a number on over an area, from the back.
+/// Paints drawn layers from a number on over an area, from the back.
 fn paint_from<C: Pixels>(
     first: usize,
     layers: &[Drawn],

@@ -1,5 +1,7 @@
+//! Composes a part of a frame in as many threads as are worth their start: what a screen calls for
+//! each image.
 ghost use Rattle.std.specs.Prelude.{◌≡◌, ◌*◌, ◌≤◌, length, map, OnErr, OnOk, pos};
-ghost use Rattle.sf_compose.specs.Bands.{HasRows};
+ghost use Rattle.sf_compose.specs.inner.Bands.{HasRows};
 ghost use Rattle.sf_compose.specs.Frames.{KeepsRest, Repaints, ShowsPart};
 ghost use Rattle.sf_compose.specs.Readings.{AreReadable, read_image};
 ghost use Rattle.sf_damage.specs.Visible.{AreVisibleIn};
@@ -16,12 +18,12 @@ use sf_damage::sf_region::Region;
 use sf_damage::sf_view::View;
 use std::thread::Threads;
 
-// How many points of layers are painted in a part if each layer shows in all of it.
+/// How many points of layers are painted in a part if each layer shows in all of it.
 fn work_of(view: &View, part: &Region) -> u64 {
     points_in(part, all_rows(view)).saturating_mul(view.drawn.len() as u64)
 }
 
-// How many are painted if of each layer only so much shows. One worker need not know.
+/// How many are painted if of each layer only so much shows. One worker need not know.
 fn work_of_seen(workers: u32, view: &View, shows: &[Region], part: &Region) -> u64 {
     if workers <= 1 {
         return 0;

@@ -1,3 +1,4 @@
+//! What has pixels to show, as a trait.
 ghost use Rattle.std.specs.Prelude.{◌≡◌};
 ghost use Rattle.sf_damage.specs.sf_picture.declared.picture.Picture.{Picture as PictureValue};
 

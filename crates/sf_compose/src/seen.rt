@@ -1,10 +1,12 @@
+//! Composes a part of a frame in one thread, of each layer only what the layers in front of it
+//! leave to be seen.
 ghost use Rattle.std.specs.Prelude.{◌≡◌, ◌*◌, ◌&&◌, ◌⊎◌, length, map, OnErr, OnOk, pos};
 ghost use Rattle.sf_base.specs.Geometry.{covers};
-ghost use Rattle.sf_compose.specs.Bands.{HasRows, IsInBand};
+ghost use Rattle.sf_compose.specs.inner.Bands.{HasRows, IsInBand};
 ghost use Rattle.sf_compose.specs.Frames.{KeepsRest, Repaints, ShowsPart};
-ghost use Rattle.sf_compose.specs.Painting.{is_in_area, Paints};
+ghost use Rattle.sf_compose.specs.inner.Painting.{is_in_area, Paints};
 ghost use Rattle.sf_compose.specs.Readings.{AreReadable, IsReadable, read_image, under_drawn, under_one};
-ghost use Rattle.sf_compose.specs.Seen.{ArePaintable, AreSeenAt, IsPaintable};
+ghost use Rattle.sf_compose.specs.inner.Seen.{ArePaintable, AreSeenAt, IsPaintable};
 ghost use Rattle.sf_damage.specs.Visible.{AreVisibleAt, AreVisibleIn};
 ghost use Rattle.sf_damage.specs.sf_region.Canonical.{IsDisjoint};
 ghost use Rattle.sf_damage.specs.sf_region.Points.{has};
@@ -15,6 +17,7 @@ use crate::band::{Band, all_rows, area_of};
 use crate::begin::begin;
 use crate::layer::paint_layer;
 use crate::pixels::Pixels;
+use crate::scattered::compose_scattered;
 use crate::slices::{rows_at_once, slice_from};
 use crate::steps::is_faster_whole;
 use sf_base::{NoMemory, Rect};
@@ -22,8 +25,11 @@ use sf_damage::sf_region::Region;
 use sf_damage::sf_view::{Drawn, View};
 use std::alloc::Global;
 
-// Paints a drawn layer over the points of an area that lie in rectangles, no two of which share a
-// point.
+// A part of more rectangles is composed layer by layer, where more layers are drawn.
+const MANY: usize = 16;
+
+/// Paints a drawn layer over the points of an area that lie in rectangles, no two of which share a
+/// point.
 fn paint_parts<C: Pixels>(
     drawn: &Drawn,
     contents: &[C],
@@ -46,8 +52,8 @@ fn paint_parts<C: Pixels>(
     }
 }
 
-// Paints a drawn layer over the points of an area that lie in parts of its clip, no two of which share a
-// point, or over all points of the area where that takes fewer steps.
+/// Paints a drawn layer over the points of an area that lie in parts of its clip, no two of which share a
+/// point, or over all points of the area where that takes fewer steps.
 fn paint_shown<C: Pixels>(
     drawn: &Drawn,
     contents: &[C],
@@ -76,8 +82,8 @@ fn paint_shown<C: Pixels>(
     }
 }
 
-// Composes an area, layer after layer, of each only what shows, or all of it where that is faster:
-// what does not show is painted over.
+/// Composes an area, layer after layer, of each only what shows, or all of it where that is faster:
+/// what does not show is painted over.
 fn compose_slice_seen<C: Pixels>(
     layers: &[Drawn],
     contents: &[C],
@@ -103,7 +109,7 @@ fn compose_slice_seen<C: Pixels>(
     }
 }
 
-// Composes an area, slice by slice, of each layer only what shows.
+/// Composes an area, slice by slice, of each layer only what shows.
 fn compose_area_seen<C: Pixels>(
     layers: &[Drawn],
     contents: &[C],
@@ -133,7 +139,7 @@ fn compose_area_seen<C: Pixels>(
     }
 }
 
-// Composes the points of a band that lie in a rectangle, of each layer only what shows.
+/// Composes the points of a band that lie in a rectangle, of each layer only what shows.
 fn compose_rect_seen<C: Pixels>(
     view: &View,
     contents: &[C],
@@ -161,7 +167,7 @@ fn compose_rect_seen<C: Pixels>(
     );
 }
 
-// Composes the points of a band that lie in a part, of each layer only what shows.
+/// Composes the points of a band that lie in a part, of each layer only what shows.
 pub fn compose_band_seen<C: Pixels>(
     view: &View,
     contents: &[C],
@@ -177,6 +183,10 @@ pub fn compose_band_seen<C: Pixels>(
     ensures { Repaints band.width band.top band.bottom (λ x y. has part.now (pos x) (pos y))
         (read_image (map C.picture contents.now) view.now sources.now) frame.old frame.new }
 {
+    if part.rects().len() > MANY && shows.len() > MANY {
+        compose_scattered(view, contents, sources, shows, part, band, frame);
+        return;
+    }
     for rect in part.rects() {
         compose_rect_seen(view, contents, sources, shows, rect, band, frame);
     }

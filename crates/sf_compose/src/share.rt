@@ -1,3 +1,4 @@
+//! How rows are shared among threads, and how many threads are worth their start.
 ghost use Rattle.std.specs.Prelude.{◌≡◌, ◌<◌, ◌≤◌};
 
 use crate::area::{cut, points_of};
@@ -14,14 +15,14 @@ pub struct Share<'a> {
     threads: u32,
 }
 
-// For how many starts so many threads wait, added up, that begin one after another.
+/// For how many starts so many threads wait, added up, that begin one after another.
 fn waits(threads: u32) -> u64 {
     let others = u64::from(threads.saturating_sub(1));
     u64::from(threads).saturating_mul(others) / 2
 }
 
-// How many threads are worth what it takes to begin them. One more is if there is so much to paint as
-// would be painted while it, those before it and the one that starts them all wait.
+/// How many threads are worth what it takes to begin them. One more is if there is so much to paint as
+/// would be painted while it, those before it and the one that starts them all wait.
 fn worth(workers: u32, work: u64) -> u32
     ensures { 1 ≤ result }
 {
@@ -32,7 +33,7 @@ fn worth(workers: u32, work: u64) -> u32
     threads
 }
 
-// How many points of a part a band has.
+/// How many points of a part a band has.
 pub fn points_in(part: &Region, band: Band) -> u64 {
     let rows = area_of(band);
     let mut points = 0u64;
@@ -42,8 +43,8 @@ pub fn points_in(part: &Region, band: Band) -> u64 {
     points
 }
 
-// How many rows from a band's top on have so many points of a part, at least one; all rows where they
-// have fewer.
+/// How many rows from a band's top on have so many points of a part, at least one; all rows where they
+/// have fewer.
 fn rows_of(part: &Region, band: Band, points: u64) -> u32
     requires { band.top < band.bottom }
     ensures { 1 ≤ result }
@@ -65,7 +66,7 @@ fn rows_of(part: &Region, band: Band, points: u64) -> u32
 }
 
 impl<'a> Share<'a> {
-    // A part among at most so many workers, where so many points of layers are painted.
+    /// A part among at most so many workers, where so many points of layers are painted.
     pub fn among(workers: u32, part: &'a Region, work: u64) -> Share<'a> {
         Share {
             part,
@@ -73,12 +74,12 @@ impl<'a> Share<'a> {
         }
     }
 
-    // Whether one thread has all that is left.
+    /// Whether one thread has all that is left.
     pub fn is_last(self) -> bool {
         self.threads <= 1
     }
 
-    // How many rows of a band the next thread has, from its top on; the last one has all.
+    /// How many rows of a band the next thread has, from its top on; the last one has all.
     pub fn first_rows(self, band: Band) -> u32
         requires { band.top < band.bottom }
         ensures { 1 ≤ result }
@@ -90,7 +91,7 @@ impl<'a> Share<'a> {
         rows_of(self.part, band, points)
     }
 
-    // What is left for the threads after the next one.
+    /// What is left for the threads after the next one.
     pub fn rest(self) -> Share<'a> {
         Share {
             threads: self.threads.saturating_sub(1),

@@ -1,3 +1,4 @@
+//! Slices of an area that stay in a processor's cache while all layers are painted on them.
 ghost use Rattle.std.specs.Prelude.{◌≡◌, ◌<◌, ◌≤◌};
 
 use crate::area::Area;
@@ -6,7 +7,7 @@ use crate::area::Area;
 // processor's cache until the last layer is painted.
 const SLICE_BYTES: usize = 262_144;
 
-// How many rows of an area are composed at a time.
+/// How many rows of an area are composed at a time.
 pub fn rows_at_once(area: Area) -> u32
     requires { area.left < area.right }
     ensures { 1 ≤ result }
@@ -15,7 +16,7 @@ pub fn rows_at_once(area: Area) -> u32
     (SLICE_BYTES / row).max(1) as u32
 }
 
-// The rows of an area from one on, at most so many.
+/// The rows of an area from one on, at most so many.
 pub fn slice_from(area: Area, top: u32, rows: u32) -> Area
     requires some { 1 ≤ rows }
     requires inside { top < area.bottom }

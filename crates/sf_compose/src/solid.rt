@@ -1,11 +1,12 @@
+//! Copies a row of pixels as long as they hide what was there.
 ghost use Rattle.std.specs.Prelude.{◌≡◌, ℕ, ◌+◌, ◌*◌, ◌/◌, ◌%◌, ◌<◌, ◌≤◌, length, IsTrue};
-ghost use Rattle.sf_compose.specs.Solid.{CopiesBelow};
+ghost use Rattle.sf_compose.specs.inner.Solid.{CopiesBelow};
 
 use sf_base::{get_pixel, put_pixel};
 use sf_damage::sf_picture::are_solid;
 use std::simd::prelude::*;
 
-// Copies pixels as long as each of sixteen has an alpha of 255, and says how many are copied.
+/// Copies pixels as long as each of sixteen has an alpha of 255, and says how many are copied.
 #[inline(always)]
 fn copy_blocks(dst: &mut [u8], src: &[u8]) -> usize
     requires { length src.now ≡ length dst.old }
@@ -24,8 +25,8 @@ fn copy_blocks(dst: &mut [u8], src: &[u8]) -> usize
     at / 4
 }
 
-// Copies a row of pixels over another of the same length, as long as their alphas are 255, and tells
-// whether that is all of them.
+/// Copies a row of pixels over another of the same length, as long as their alphas are 255, and tells
+/// whether that is all of them.
 pub fn copy_solid(dst: &mut [u8], src: &[u8]) -> bool
     requires same { length src.now ≡ length dst.old }
     requires whole { length dst.old % 4 ≡ 0 }

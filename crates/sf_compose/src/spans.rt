@@ -1,6 +1,7 @@
+//! The pixels of one row of a frame, painted by the kernels of `sf_rows`.
 ghost use Rattle.std.specs.Prelude.{◌≡◌, ℕ, ◌+◌, ◌-◌, ◌*◌, ◌≤◌, length, true, IsTrue};
 ghost use Rattle.sf_base.specs.Paint.{painted};
-ghost use Rattle.sf_compose.specs.Painting.{PaintsSpan};
+ghost use Rattle.sf_compose.specs.inner.Painting.{PaintsSpan};
 ghost use Rattle.sf_base.specs.Bytes.{pixel_in};
 ghost use Rattle.sf_base.specs.declared.pixel.Rgba.{Rgba as RgbaValue};
 ghost use Rattle.sf_damage.specs.sf_view.Contents.{source_of};
@@ -9,7 +10,7 @@ use crate::solid::copy_solid;
 use sf_base::Rgba;
 use sf_rows::{blend_colour, blend_row, blend_row_opaque};
 
-// Paints a colour over the pixels from one number on and before another.
+/// Paints a colour over the pixels from one number on and before another.
 pub fn paint_colour(frame: &mut [u8], start: usize, end: usize, colour: Rgba, alpha: u8)
     requires ordered { start ≤ end }
     requires within { 4 * end ≤ length frame.old }
@@ -18,7 +19,7 @@ pub fn paint_colour(frame: &mut [u8], start: usize, end: usize, colour: Rgba, al
     blend_colour(&mut frame[4 * start..4 * end], colour, alpha);
 }
 
-// Paints pixels over those from one number on and before another.
+/// Paints pixels over those from one number on and before another.
 fn paint_row(frame: &mut [u8], start: usize, end: usize, row: &[u8], alpha: u8)
     requires ordered { start ≤ end }
     requires within { 4 * end ≤ length frame.old }
@@ -28,7 +29,7 @@ fn paint_row(frame: &mut [u8], start: usize, end: usize, row: &[u8], alpha: u8)
     blend_row(&mut frame[4 * start..4 * end], row, alpha);
 }
 
-// The same of pixels that count as opaque.
+/// The same of pixels that count as opaque.
 fn paint_row_opaque(frame: &mut [u8], start: usize, end: usize, row: &[u8], alpha: u8)
     requires ordered { start ≤ end }
     requires within { 4 * end ≤ length frame.old }
@@ -38,7 +39,7 @@ fn paint_row_opaque(frame: &mut [u8], start: usize, end: usize, row: &[u8], alph
     blend_row_opaque(&mut frame[4 * start..4 * end], row, alpha);
 }
 
-// Paints pixels, which may count as opaque, over those from one number on and before another.
+/// Paints pixels, which may count as opaque, over those from one number on and before another.
 pub fn paint_pixels(frame: &mut [u8], start: usize, end: usize, row: &[u8], opaque: bool, alpha: u8)
     requires ordered { start ≤ end }
     requires within { 4 * end ≤ length frame.old }
@@ -53,7 +54,7 @@ pub fn paint_pixels(frame: &mut [u8], start: usize, end: usize, row: &[u8], opaq
     }
 }
 
-// Moves pixels over those from one number on and before another.
+/// Moves pixels over those from one number on and before another.
 pub fn move_pixels(frame: &mut [u8], start: usize, end: usize, row: &[u8])
     requires ordered { start ≤ end }
     requires within { 4 * end ≤ length frame.old }
@@ -63,8 +64,8 @@ pub fn move_pixels(frame: &mut [u8], start: usize, end: usize, row: &[u8])
     frame[4 * start..4 * end].copy_from_slice(row);
 }
 
-// Moves pixels over others. It is not inlined: a loop over rows that calls it keeps what it needs in
-// registers, and the copy looks at both rows itself.
+/// Moves pixels over others. It is not inlined: a loop over rows that calls it keeps what it needs in
+/// registers, and the copy looks at both rows itself.
 #[inline(never)]
 fn move_row(row: &mut [u8], pixels: &[u8])
     requires { length row.old ≡ length pixels.now }
@@ -74,7 +75,7 @@ fn move_row(row: &mut [u8], pixels: &[u8])
     row.copy_from_slice(pixels);
 }
 
-// Moves so many pixels of others, from one number on, over those from a number on.
+/// Moves so many pixels of others, from one number on, over those from a number on.
 pub fn move_part(frame: &mut [u8], to: usize, pixels: &[u8], from: usize, count: usize)
     requires room { 4 * (to + count) ≤ length frame.old }
     requires within { 4 * (from + count) ≤ length pixels.now }
@@ -86,8 +87,8 @@ pub fn move_part(frame: &mut [u8], to: usize, pixels: &[u8], from: usize, count:
     );
 }
 
-// Copies pixels over those from one number on and before another, and tells whether all of them hide
-// what was there. If not, some of them may be copied.
+/// Copies pixels over those from one number on and before another, and tells whether all of them hide
+/// what was there. If not, some of them may be copied.
 pub fn copy_pixels(frame: &mut [u8], start: usize, end: usize, row: &[u8]) -> bool
     requires ordered { start ≤ end }
     requires within { 4 * end ≤ length frame.old }

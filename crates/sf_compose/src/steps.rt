@@ -1,3 +1,4 @@
+//! Whether a layer is painted faster as a whole than by the parts of it that are seen.
 ghost use Rattle.std.specs.Prelude.{map};
 ghost use Rattle.sf_compose.specs.Readings.{IsReadable};
 
@@ -11,8 +12,8 @@ use sf_damage::sf_view::{Content, Drawn};
 // A row that is moved by itself takes as long as so many pixels more.
 const ROW_PIXELS: u64 = 128;
 
-// How long it takes to move the pixels of an area, counted in pixels. Rows of the whole width are moved
-// at once.
+/// How long it takes to move the pixels of an area, counted in pixels. Rows of the whole width are moved
+/// at once.
 fn steps_of(area: Area, band: Band) -> u64 {
     let points = points_of(area);
     if area.left == 0 && area.right == band.width {
@@ -22,7 +23,7 @@ fn steps_of(area: Area, band: Band) -> u64 {
     points.saturating_add(rows.saturating_mul(ROW_PIXELS))
 }
 
-// How long it takes for each of some parts of an area.
+/// How long it takes for each of some parts of an area.
 fn steps_of_parts(parts: &[Rect], band: Band, area: Area) -> u64 {
     let mut steps: u64 = 0;
     for part in parts {
@@ -31,7 +32,7 @@ fn steps_of_parts(parts: &[Rect], band: Band, area: Area) -> u64 {
     steps
 }
 
-// Whether the pixels of a drawn layer are moved as they are.
+/// Whether the pixels of a drawn layer are moved as they are.
 fn is_moved<C: Pixels>(drawn: &Drawn, contents: &[C], source: u32) -> bool
     requires { IsReadable (map C.picture contents.now) drawn.now.content source }
 {
@@ -43,8 +44,8 @@ fn is_moved<C: Pixels>(drawn: &Drawn, contents: &[C], source: u32) -> bool
     }
 }
 
-// Whether a drawn layer is painted over an area faster as a whole than by parts of its clip. It is not
-// inlined: most layers show in one part, and the loop over all layers is shorter without it.
+/// Whether a drawn layer is painted over an area faster as a whole than by parts of its clip. It is not
+/// inlined: most layers show in one part, and the loop over all layers is shorter without it.
 #[inline(never)]
 pub fn is_faster_whole<C: Pixels>(
     drawn: &Drawn,

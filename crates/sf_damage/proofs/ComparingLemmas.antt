@@ -10,7 +10,7 @@ use Rattle.sf_region.specs.Points.{has}
 use Rattle.sf_view.specs.Stacks.{sheet_of}
 use Rattle.sf_view.specs.Views.{is_in_clip}
 use Rattle.sf_view.specs.declared.drawn.Drawn.{Drawn}
-use Rattle.sf_damage.specs.Comparing.{Comparison, Differ, IsPushed, IsTold, has_part, has_piece}
+use Rattle.sf_damage.specs.inner.Comparing.{Comparison, Differ, IsPushed, IsTold, has_part, has_piece}
 use Rattle.sf_damage.specs.Damage.{DiffersIn, stack_in}
 use Rattle.sf_damage.specs.declared.pieces.Piece.{Piece}
 use Rattle.sf_damage.proofs.DiffersLemmas.{IsSplit}

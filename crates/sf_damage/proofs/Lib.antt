@@ -1,8 +1,9 @@
 mod BoundsLemmas
 mod ComparingLemmas
+mod ConstantLemmas
+mod CutLemmas
 mod DiffersLemmas
 mod GatheredLemmas
-mod HalvingLemmas
 mod ListLemmas
 mod MeetingLemmas
 mod SharedLemmas
@@ -10,5 +11,6 @@ mod ShowingLemmas
 mod SplitLemmas
 mod StackLemmas
 pub mod VisibleLemmas
+mod WindowLemmas
 pub use Rattle.sf_view.proofs.sf_tree_lemmas
 pub use Rattle.sf_view.proofs as sf_view_lemmas

@@ -7,7 +7,7 @@ use Rattle.std.proofs.lemmas.Int.{ints}
 use Rattle.sf_base.specs.Geometry.{covers, is_within}
 use Rattle.sf_base.specs.declared.geometry.Rect.{Rect}
 use Rattle.sf_region.specs.Points.{has}
-use Rattle.sf_damage.specs.Meeting.{meets, rect_has, span_has, spans_meet}
+use Rattle.sf_damage.specs.inner.Meeting.{meets, rect_has, span_has, spans_meet}
 
 span_point : (start other at : ℤ) (extent many : ℕ) → is_within start extent at ≡ true → is_within other many at ≡ true → spans_meet start extent other many ≡ true
 span_point start other at extent many a b = grind (arith, ints, nat_tests)
@@ -57,7 +57,7 @@ span_more : (start other at : ℤ) (extent many : ℕ) → span_has start extent
 span_more start other at extent many a b = grind (arith, ints, nat_tests)
 
 -- a rectangle that has all of another has each of its points
-rect_more : (r q : Rect) (x y : ℤ) → rect_has r q ≡ true → covers q x y ≡ true → covers r x y ≡ true
+pub rect_more : (r q : Rect) (x y : ℤ) → rect_has r q ≡ true → covers q x y ≡ true → covers r x y ≡ true
 unfolding covers
 rect_more r q x y a b =
     let whole = and_parts (span_has r.x r.width q.x q.width) _ a in

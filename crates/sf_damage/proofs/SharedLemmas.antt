@@ -1,5 +1,5 @@
 -- Lists that begin or end alike.
-use Rattle.std.proofs.Common.{◌≡◌, ℕ, suc, ◌+◌, ◌-◌, ◌<◌, ℤ, Bool, true, false, cond, List, [], ◌∷◌, ◌++◌, length, get_or, take, drop, refl, ap, ◌∙◌, sym, subst, arith}
+use Rattle.std.proofs.Common.{◌≡◌, ◌↔◌, ℕ, suc, ◌+◌, ◌-◌, ◌<◌, ℤ, Bool, true, false, cond, List, [], ◌∷◌, ◌++◌, length, get_or, take, drop, refl, ap, ◌∙◌, sym, subst, arith}
 use Rattle.std.specs.List.{filter}
 use Rattle.std.specs.Prelude.{map}
 use Rattle.std.proofs.Math.Seq.{drop-cons}
@@ -38,34 +38,30 @@ stack_in-append (d ∷ ds) ys x y = by_test (is_in_clip d x y) (stack_in-append 
     by_test true e = ap (λ (s : List Sheet). sheet_of d ∷ s) e
     by_test false e = e
 
--- what two lists share at an end tells no difference
-pub same-front : (olds news : List Drawn) (i : ℕ) (region : List Rect) → take i olds ≡ take i news → DamagesLists (drop i olds) (drop i news) region → DamagesLists olds news region
-same-front olds news i region same d = record {
-  points = λ x y.
-      (let old : stack_in olds x y ≡ stack_in (take i olds) x y ++ stack_in (drop i olds) x y = ap (λ (l : List Drawn). stack_in l x y) (sym (take-append-drop i olds)) ∙ stack_in-append (take i olds) (drop i olds) x y in
-      let new : stack_in news x y ≡ stack_in (take i olds) x y ++ stack_in (drop i news) x y =
-      ap (λ (l : List Drawn). stack_in l x y) (sym (take-append-drop i news)) ∙ (stack_in-append (take i news) (drop i news) x y ∙ ap (λ (l : List Drawn). stack_in l x y ++ stack_in (drop i news) x y) (sym same)) in (
-        (λ t e. (d.points x y).0 t (append_cancel_left (stack_in (take i olds) x y) _ _ (sym old ∙ (e ∙ new)))),
-        (λ apart. (d.points x y).1 (λ e. apart (old ∙ (ap (λ (s : List Sheet). stack_in (take i olds) x y ++ s) e ∙ sym new)))),
-      ));
-}
+-- what two lists share at the front tells no difference
+same-front : (olds news : List Drawn) (i : ℕ) (x y : ℤ) → take i olds ≡ take i news → (stack_in (drop i olds) x y ≡ stack_in (drop i news) x y) ↔ (stack_in olds x y ≡ stack_in news x y)
+same-front olds news i x y same =
+    let old : stack_in olds x y ≡ stack_in (take i olds) x y ++ stack_in (drop i olds) x y = ap (λ (l : List Drawn). stack_in l x y) (sym (take-append-drop i olds)) ∙ stack_in-append (take i olds) (drop i olds) x y in
+    let new : stack_in news x y ≡ stack_in (take i olds) x y ++ stack_in (drop i news) x y =
+    ap (λ (l : List Drawn). stack_in l x y) (sym (take-append-drop i news)) ∙ (stack_in-append (take i news) (drop i news) x y ∙ ap (λ (l : List Drawn). stack_in l x y ++ stack_in (drop i news) x y) (sym same)) in
+    ((λ e. old ∙ (ap (λ (s : List Sheet). stack_in (take i olds) x y ++ s) e ∙ sym new)), (λ e. append_cancel_left (stack_in (take i olds) x y) _ _ (sym old ∙ (e ∙ new))))
 
-pub same-back : (olds news : List Drawn) (i j : ℕ) (region : List Rect) → drop i olds ≡ drop j news → DamagesLists (take i olds) (take j news) region → DamagesLists olds news region
-same-back olds news i j region same d = record {
-  points = λ x y.
-      (let old : stack_in olds x y ≡ stack_in (take i olds) x y ++ stack_in (drop i olds) x y = ap (λ (l : List Drawn). stack_in l x y) (sym (take-append-drop i olds)) ∙ stack_in-append (take i olds) (drop i olds) x y in
-      let new : stack_in news x y ≡ stack_in (take j news) x y ++ stack_in (drop i olds) x y =
-      ap (λ (l : List Drawn). stack_in l x y) (sym (take-append-drop j news)) ∙ (stack_in-append (take j news) (drop j news) x y ∙ ap (λ (l : List Drawn). stack_in (take j news) x y ++ stack_in l x y) (sym same)) in (
-        (λ t e. (d.points x y).0 t (append_cancel_right _ _ (stack_in (drop i olds) x y) (sym old ∙ (e ∙ new)))),
-        (λ apart. (d.points x y).1 (λ e. apart (old ∙ (ap (λ (s : List Sheet). s ++ stack_in (drop i olds) x y) e ∙ sym new)))),
-      ));
-}
+-- nor what they share at the back
+same-back : (olds news : List Drawn) (i j : ℕ) (x y : ℤ) → drop i olds ≡ drop j news → (stack_in (take i olds) x y ≡ stack_in (take j news) x y) ↔ (stack_in olds x y ≡ stack_in news x y)
+same-back olds news i j x y same =
+    let old : stack_in olds x y ≡ stack_in (take i olds) x y ++ stack_in (drop i olds) x y = ap (λ (l : List Drawn). stack_in l x y) (sym (take-append-drop i olds)) ∙ stack_in-append (take i olds) (drop i olds) x y in
+    let new : stack_in news x y ≡ stack_in (take j news) x y ++ stack_in (drop i olds) x y =
+    ap (λ (l : List Drawn). stack_in l x y) (sym (take-append-drop j news)) ∙ (stack_in-append (take j news) (drop j news) x y ∙ ap (λ (l : List Drawn). stack_in (take j news) x y ++ stack_in l x y) (sym same)) in
+    ((λ e. old ∙ (ap (λ (s : List Sheet). s ++ stack_in (drop i olds) x y) e ∙ sym new)), (λ e. append_cancel_right _ _ (stack_in (drop i olds) x y) (sym old ∙ (e ∙ new))))
 
-pub same-ends : (olds news old_rest new_rest : List Drawn) (i j k : ℕ) (region : List Rect) → old_rest ≡ drop i olds → new_rest ≡ drop i news → take i olds ≡ take i news → drop j old_rest ≡ drop k new_rest
-    → DamagesLists (take j old_rest) (take k new_rest) region → DamagesLists olds news region
-same-ends olds news old_rest new_rest i j k region old new front back d =
-    same-front olds news i region front
-    (subst (λ (l : List Drawn). DamagesLists (drop i olds) l region) new (subst (λ (l : List Drawn). DamagesLists l new_rest region) old (same-back old_rest new_rest j k region back d)))
+pub same-ends : (olds news old_rest new_rest : List Drawn) (i j k : ℕ) (x y : ℤ) → old_rest ≡ drop i olds → new_rest ≡ drop i news → take i olds ≡ take i news → drop j old_rest ≡ drop k new_rest
+    → (stack_in (take j old_rest) x y ≡ stack_in (take k new_rest) x y) ↔ (stack_in olds x y ≡ stack_in news x y)
+same-ends olds news old_rest new_rest i j k x y old new front back =
+    let inner = same-back old_rest new_rest j k x y back in
+    let outer = same-front olds news i x y front in
+    let one = ap (λ (l : List Drawn). stack_in l x y) old in
+    let other = ap (λ (l : List Drawn). stack_in l x y) new in
+    ((λ e. outer.0 (sym one ∙ (inner.0 e ∙ other))), (λ e. inner.1 (one ∙ (outer.1 e ∙ sym other))))
 
 -- views are compared by their layers
 pub Damages-views : (old new : ViewOf) (olds news : List Drawn) (region : List Rect) → olds ≡ old.drawn → news ≡ new.drawn → DamagesLists olds news region → Damages old new region

@@ -9,7 +9,7 @@ use Rattle.sf_base.specs.declared.geometry.Rect.{Rect}
 use Rattle.sf_region.specs.Points.{IsInBounds, has}
 use Rattle.sf_view.specs.Views.{is_in_clip}
 use Rattle.sf_view.specs.declared.drawn.Drawn.{Drawn}
-use Rattle.sf_damage.specs.Showing.{HideAt, IsShown}
+use Rattle.sf_damage.specs.inner.Showing.{HideAt, IsShown}
 use Rattle.sf_damage.specs.Visible.{AreVisibleAt, AreWithin, hides_all, hides_at}
 use Rattle.sf_damage.proofs.GatheredLemmas.{has-append}
 

@@ -19,10 +19,10 @@ stack-both d os ns x y e = by_test (is_in_clip d x y) refl
     by_test true t = stack-in d os x y t ∙ (ap (λ (s : List Sheet). sheet_of d ∷ s) e ∙ sym (stack-in d ns x y t))
     by_test false t = stack-out d os x y t ∙ (e ∙ sym (stack-out d ns x y t))
 
-sheets-tail : (a b : Sheet) (s t : List Sheet) → (a ∷ s) ≡ (b ∷ t) → s ≡ t
+pub sheets-tail : (a b : Sheet) (s t : List Sheet) → (a ∷ s) ≡ (b ∷ t) → s ≡ t
 sheets-tail a b s t e = cc
 
-sheets-head : (a b : Sheet) (s t : List Sheet) → (a ∷ s) ≡ (b ∷ t) → a ≡ b
+pub sheets-head : (a b : Sheet) (s t : List Sheet) → (a ∷ s) ≡ (b ∷ t) → a ≡ b
 sheets-head a b s t e = cc
 
 sheets-some : (a : Sheet) (s : List Sheet) → (a ∷ s) ≡ [] → ⊥

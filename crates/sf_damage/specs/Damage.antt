@@ -1,10 +1,11 @@
 -- Where two views of a display differ.
-use Rattle.std.specs.Prelude.{◌≡◌, ◌≢◌, ◌↔◌, ℕ, ℤ, Bool, List, false, map, filter, IsTrue}
+use Rattle.std.specs.Prelude.{◌≡◌, ◌≢◌, ◌↔◌, ◌||◌, ℕ, ℤ, Bool, List, false, map, filter, IsTrue}
 use Rattle.std.specs.List.{All}
+use Rattle.sf_base.specs.Geometry.{covers}
 use Rattle.sf_base.specs.declared.geometry.Rect.{Rect}
 use Rattle.sf_view.specs.sf_picture.declared.picture.Picture.{Picture}
 use Rattle.sf_region.specs.Points.{has, IsInBounds}
-use Rattle.sf_damage.specs.Meeting.{meets}
+use Rattle.sf_damage.specs.inner.Meeting.{meets}
 use Rattle.sf_view.specs.Stacks.{Sheet, sheet_of, stack, view_image}
 use Rattle.sf_view.specs.Views.{ViewOf, is_in_clip}
 use Rattle.sf_view.specs.declared.drawn.Drawn.{Drawn}
@@ -24,6 +25,17 @@ stack_in layers x y = map sheet_of (filter (λ drawn. is_in_clip drawn x y) laye
 -- of the points of a part a region has exactly those where the stacks of two lists differ
 pub record DiffersIn (olds news : List Drawn) (part region : List Rect) : Type 0 where
   pub points : (x y : ℤ) → IsTrue (has region x y) ↔ (IsTrue (has part x y) × (stack_in olds x y ≢ stack_in news x y))
+
+-- of the points of a window rectangles have exactly those where the stacks of two lists differ
+pub record DiffersWithin (olds news : List Drawn) (window : Rect) (rects : List Rect) : Type 0 where
+  pub near : All IsInBounds rects
+  pub points : (x y : ℤ) → IsTrue (has rects x y) ↔ (IsTrue (covers window x y) × (stack_in olds x y ≢ stack_in news x y))
+
+-- two rectangles have the points of a window
+pub record AreHalves (window : Rect) (halves : Rect × Rect) : Type 0 where
+  pub first : IsInBounds halves.0
+  pub second : IsInBounds halves.1
+  pub points : (x y : ℤ) → covers window x y ≡ (covers halves.0 x y || covers halves.1 x y)
 
 -- beside a region the stacks of two lists are equal
 pub record IsSameBeside (olds news : List Drawn) (region : List Rect) : Type 0 where

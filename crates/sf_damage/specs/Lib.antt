@@ -1,9 +1,6 @@
-pub mod Comparing
 pub mod Damage
-pub mod Manners
-pub mod Meeting
-pub mod Showing
 pub mod Visible
+pub mod inner
 pub use Rattle.sf_view.specs.sf_layer
 pub use Rattle.sf_view.specs.sf_picture
 pub use Rattle.sf_region.specs as sf_region

@@ -1,3 +1,4 @@
+//! The least rectangle that has the points of a region.
 ghost use Rattle.std.specs.Prelude.{◌≡◌, ℤ, ◌≤ℤ◌, ◌+ℤ◌, pos, true};
 ghost use Rattle.sf_base.specs.Geometry.{covers, is_within};
 ghost use Rattle.sf_region.specs.Points.{IsInBounds, far, has, neg_far};
@@ -13,7 +14,7 @@ const NOWHERE: Rect = Rect {
     height: 0,
 };
 
-// How many coordinates there are from one on and before another.
+/// How many coordinates there are from one on and before another.
 fn count_from(first: i32, end: i32) -> u32
     requires from { neg_far ≤ℤ first }
     requires to { end ≤ℤ far }
@@ -23,7 +24,7 @@ fn count_from(first: i32, end: i32) -> u32
     (end - first) as u32
 }
 
-// The least span of coordinates that has those of two.
+/// The least span of coordinates that has those of two.
 fn span_of_both(start: i32, extent: u32, other: i32, many: u32) -> (i32, u32)
     requires from { neg_far ≤ℤ start }
     requires to { (start +ℤ pos extent) ≤ℤ far }
@@ -39,7 +40,7 @@ fn span_of_both(start: i32, extent: u32, other: i32, many: u32) -> (i32, u32)
     (first, count_from(first, end))
 }
 
-// The least rectangle that has the points of two.
+/// The least rectangle that has the points of two.
 fn rect_of_both(one: &Rect, other: &Rect) -> Rect
     requires one { IsInBounds one.now }
     requires other { IsInBounds other.now }
@@ -60,9 +61,10 @@ fn rect_of_both(one: &Rect, other: &Rect) -> Rect
     }
 }
 
-// The least rectangle that has the points of a region.
+/// The least rectangle that has the points of a region.
 pub fn bounds(region: &Region) -> Rect
-    ensures { (x y : ℤ) → has region.now x y ≡ true → covers result x y ≡ true }
+    ensures near { IsInBounds result }
+    ensures points { (x y : ℤ) → has region.now x y ≡ true → covers result x y ≡ true }
 {
     let mut all = NOWHERE;
     for rect in region.rects() {

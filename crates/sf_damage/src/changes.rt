@@ -1,3 +1,5 @@
+//! Where two lists of drawn layers can differ at all: the clips of layers that came, went or
+//! changed.
 ghost use Rattle.std.specs.List.{All};
 ghost use Rattle.std.specs.Prelude.{◌≡◌, ◌++◌, ℤ, IfOk, OnOk, false, map};
 ghost use Rattle.sf_region.specs.Points.{IsInBounds, has};
@@ -11,7 +13,7 @@ use sf_view::Drawn;
 use std::alloc::Global;
 use std::collections::BTreeMap;
 
-// Where the layer of each number stands in a list.
+/// Where the layer of each number stands in a list.
 fn places_of(alloc: Global, layers: &[Drawn]) -> Result<BTreeMap<u32, usize>, NoMemory> {
     let mut places = BTreeMap::new(alloc);
     for (place, drawn) in layers.iter().enumerate() {
@@ -20,7 +22,7 @@ fn places_of(alloc: Global, layers: &[Drawn]) -> Result<BTreeMap<u32, usize>, No
     Ok(places)
 }
 
-// How many layers stand before the one that is the same as this, from a place on, if one is.
+/// How many layers stand before the one that is the same as this, from a place on, if one is.
 fn steps_to(
     places: &BTreeMap<u32, usize>,
     layers: &[Drawn],
@@ -36,8 +38,8 @@ fn steps_to(
     }
 }
 
-// Whether a layer that came is nearer than one that went: the old layer is found again behind fewer new
-// ones than the new layer behind old ones.
+/// Whether a layer that came is nearer than one that went: the old layer is found again behind fewer new
+/// ones than the new layer behind old ones.
 fn came(old_steps: Option<usize>, new_steps: Option<usize>) -> bool {
     match (old_steps, new_steps) {
         (Some(old), Some(new)) => old <= new,
@@ -46,7 +48,7 @@ fn came(old_steps: Option<usize>, new_steps: Option<usize>) -> bool {
     }
 }
 
-// Appends the clips of these layers.
+/// Appends the clips of these layers.
 fn push_clips(clips: &mut Vec<Rect>, layers: &[Drawn]) -> Result<(), NoMemory>
     ensures { OnOk result (clips.new.items ≡ clips.old.items ++ map clip_of layers.now) }
 {
@@ -56,9 +58,9 @@ fn push_clips(clips: &mut Vec<Rect>, layers: &[Drawn]) -> Result<(), NoMemory>
     Ok(())
 }
 
-// The clips of the layers that are left over where two lists are gone through together. A layer that
-// came, went, changed or stands at another place in the order is left over; the others are found again,
-// in their order.
+/// The clips of the layers that are left over where two lists are gone through together. A layer that
+/// came, went, changed or stands at another place in the order is left over; the others are found again,
+/// in their order.
 fn left_over(alloc: Global, olds: &[Drawn], news: &[Drawn]) -> Result<Vec<Rect>, NoMemory>
     requires olds { AreNear olds.now }
     requires news { AreNear news.now }
@@ -92,8 +94,8 @@ fn left_over(alloc: Global, olds: &[Drawn], news: &[Drawn]) -> Result<Vec<Rect>,
     Ok(clips)
 }
 
-// A region beside which two lists of drawn layers have the same stacks. Where one layer stands for one,
-// no layer is looked for.
+/// A region beside which two lists of drawn layers have the same stacks. Where one layer stands for one,
+/// no layer is looked for.
 pub fn changes(alloc: Global, olds: &[Drawn], news: &[Drawn]) -> Result<Region, NoMemory>
     requires olds { AreNear olds.now }
     requires news { AreNear news.now }

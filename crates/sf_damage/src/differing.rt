@@ -1,8 +1,9 @@
+//! The points at which two lists of drawn layers have different stacks, layer by layer.
 ghost use Rattle.std.specs.Prelude.{◌≡◌, ℤ, ◌∷◌, [], Bool, List, true, ◌||◌, IfOk, OnOk};
 ghost use Rattle.sf_region.specs.Points.{IsInBounds, has};
 ghost use Rattle.sf_view.specs.Views.{is_in_clip};
 ghost use Rattle.sf_view.specs.declared.drawn.Drawn.{Drawn as DrawnValue};
-ghost use Rattle.sf_damage.specs.Comparing.{Comparison, IsOpen, IsTold};
+ghost use Rattle.sf_damage.specs.inner.Comparing.{Comparison, IsOpen, IsTold};
 ghost use Rattle.sf_damage.specs.Damage.{AreNear, DiffersIn};
 
 use crate::parts::{Halves, is_empty, split};
@@ -14,8 +15,8 @@ use sf_view::Drawn;
 use std::alloc::Global;
 use std::mem;
 
-// Compares a piece of an old layer's clip with the new layers from one on: where the first of them that
-// has a point there has the same sheet, the layers above both are still to be compared.
+/// Compares a piece of an old layer's clip with the new layers from one on: where the first of them that
+/// has a point there has the same sheet, the layers above both are still to be compared.
 fn compare_clip(
     alloc: Global,
     old: &Drawn,
@@ -48,7 +49,7 @@ fn compare_clip(
     push_part(found, rest)
 }
 
-// Compares a piece with an old layer and those above it, as far as that layer decides.
+/// Compares a piece with an old layer and those above it, as far as that layer decides.
 fn compare_layer(
     alloc: Global,
     old: &Drawn,
@@ -74,7 +75,7 @@ fn compare_layer(
     compare_clip(alloc, old, news, piece, above, found)
 }
 
-// Compares a piece behind the last old layer: it differs where a new layer is drawn.
+/// Compares a piece behind the last old layer: it differs where a new layer is drawn.
 fn compare_rest(
     alloc: Global,
     news: &[Drawn],
@@ -100,10 +101,10 @@ fn compare_rest(
     Ok(())
 }
 
-// The points of a part at which two lists of drawn layers, from the back, have different stacks. Old
-// layer after old layer each piece of the part is split at the clips that decide there. Layers that are
-// the same in both cost a comparison while no other lies below them, and those that a piece does not
-// meet cost no operation on regions.
+/// The points of a part at which two lists of drawn layers, from the back, have different stacks. Old
+/// layer after old layer each piece of the part is split at the clips that decide there. Layers that are
+/// the same in both cost a comparison while no other lies below them, and those that a piece does not
+/// meet cost no operation on regions.
 pub fn differing(
     alloc: Global,
     olds: &[Drawn],

@@ -1,3 +1,4 @@
+//! Laws about damage and what is hidden, called for their clauses alone.
 ghost use Rattle.sf_damage.specs.Damage.{StacksDecide};
 ghost use Rattle.sf_damage.specs.Visible.{HiddenIsNothing, ShowsEverywhere};
 

@@ -7,16 +7,18 @@
 
 mod bounds;
 mod changes;
+mod constant;
+mod cuts;
 mod damaged;
 mod differing;
 mod gathered;
-mod halving;
 mod laws;
 mod parts;
 mod pieces;
 mod same;
 mod shared;
 mod shown;
+mod windows;
 
 pub use damaged::dirty;
 pub use laws::{equal_stacks_have_equal_images, what_is_hidden_is_nothing, what_shows_everywhere};

@@ -1,11 +1,12 @@
+//! Whether two drawn layers are the same, with or without their clips.
 ghost use Rattle.std.specs.Prelude.{◌≡◌, ◌↔◌, IsTrue};
 ghost use Rattle.sf_view.specs.Stacks.{sheet_of};
-ghost use Rattle.sf_damage.specs.Manners.{manner_of};
+ghost use Rattle.sf_damage.specs.inner.Manners.{manner_of};
 
 use sf_base::LayerId;
 use sf_view::{Content, Drawn};
 
-// Whether two contents are the same.
+/// Whether two contents are the same.
 fn is_same_content(one: &Content, other: &Content) -> bool
     ensures { IsTrue result ↔ (one.now ≡ other.now) }
 {
@@ -16,7 +17,7 @@ fn is_same_content(one: &Content, other: &Content) -> bool
     }
 }
 
-// What of a drawn layer is neither its clip nor its content.
+/// What of a drawn layer is neither its clip nor its content.
 fn manner(drawn: &Drawn) -> (LayerId, (i32, i32), u8, bool, u8)
     ensures { result ≡ manner_of drawn.now }
 {
@@ -29,14 +30,14 @@ fn manner(drawn: &Drawn) -> (LayerId, (i32, i32), u8, bool, u8)
     )
 }
 
-// Whether two drawn layers are the same but for their clips.
+/// Whether two drawn layers are the same but for their clips.
 pub fn has_same_sheet(one: &Drawn, other: &Drawn) -> bool
     ensures { IsTrue result ↔ (sheet_of one.now ≡ sheet_of other.now) }
 {
     manner(one) == manner(other) && is_same_content(&one.content, &other.content)
 }
 
-// Whether two drawn layers are the same, with their clips.
+/// Whether two drawn layers are the same, with their clips.
 pub fn is_same(one: &Drawn, other: &Drawn) -> bool
     ensures { IsTrue result ↔ (one.now ≡ other.now) }
 {

@@ -1,9 +1,10 @@
+//! How many layers two lists begin and end with alike: those need no look.
 ghost use Rattle.std.specs.Prelude.{◌≡◌, ◌≤◌, ◌-◌, drop, length, take};
 
 use crate::same::is_same;
 use sf_view::Drawn;
 
-// How many layers both lists begin with.
+/// How many layers both lists begin with.
 pub fn shared_front(olds: &[Drawn], news: &[Drawn]) -> usize
     ensures olds { result ≤ length olds.now }
     ensures news { result ≤ length news.now }
@@ -20,7 +21,7 @@ pub fn shared_front(olds: &[Drawn], news: &[Drawn]) -> usize
     count
 }
 
-// How many layers both lists end with.
+/// How many layers both lists end with.
 pub fn shared_back(olds: &[Drawn], news: &[Drawn]) -> usize
     ensures olds { result ≤ length olds.now }
     ensures news { result ≤ length news.now }

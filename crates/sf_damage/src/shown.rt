@@ -1,10 +1,12 @@
+//! Where each drawn layer shows, below the opaque ones in front of it: of each layer composing
+//! paints only that.
 ghost use Rattle.std.specs.Prelude.{◌≡◌, ℤ, ◌&&◌, not, true, IfOk, OnOk, List, ◌∷◌, reverse};
 ghost use Rattle.std.specs.List.{All, filter, list_any};
 ghost use Rattle.sf_base.specs.Geometry.{covers};
 ghost use Rattle.sf_region.specs.Points.{IsInBounds, has};
 ghost use Rattle.sf_damage.specs.Damage.{AreNear};
-ghost use Rattle.sf_damage.specs.Meeting.{meets, rect_has};
-ghost use Rattle.sf_damage.specs.Showing.{IsShown};
+ghost use Rattle.sf_damage.specs.inner.Meeting.{meets, rect_has};
+ghost use Rattle.sf_damage.specs.inner.Showing.{IsShown};
 ghost use Rattle.sf_damage.specs.Visible.{AreVisibleAt, AreVisibleIn, AreWithin, hides_all};
 ghost use Rattle.sf_view.specs.declared.drawn.Drawn.{Drawn as DrawnValue};
 
@@ -16,14 +18,14 @@ use sf_region::Region;
 use sf_view::{Drawn, View};
 use std::alloc::Global;
 
-// Whether a drawn layer hides what lies below its clip.
+/// Whether a drawn layer hides what lies below its clip.
 fn hides_all(drawn: &Drawn) -> bool
     ensures { result ≡ hides_all drawn.now }
 {
     drawn.opaque && drawn.alpha == 255
 }
 
-// Those of these rectangles that may share a point with this one.
+/// Those of these rectangles that may share a point with this one.
 fn those_met(alloc: Global, rects: &[Rect], rect: &Rect) -> Result<Vec<Rect>, NoMemory>
     ensures { IfOk result (λ met. met.items ≡ filter (λ other. meets other rect.now) rects.now) }
 {
@@ -36,14 +38,14 @@ fn those_met(alloc: Global, rects: &[Rect], rect: &Rect) -> Result<Vec<Rect>, No
     Ok(met)
 }
 
-// Whether one of these rectangles has all points of this one.
+/// Whether one of these rectangles has all points of this one.
 fn one_has(rects: &[Rect], rect: &Rect) -> bool
     ensures { result ≡ list_any (λ other. rect_has other rect.now) rects.now }
 {
     rects.iter().any(|other| rect_has(other, rect))
 }
 
-// Of the points of a window, those of a rectangle that none of these others has.
+/// Of the points of a window, those of a rectangle that none of these others has.
 fn rest_of(alloc: Global, rect: Rect, window: &Rect, hidden: &[Rect]) -> Result<Region, NoMemory>
     requires near { IsInBounds rect }
     requires hidden { All IsInBounds hidden.now }
@@ -62,8 +64,8 @@ fn rest_of(alloc: Global, rect: Rect, window: &Rect, hidden: &[Rect]) -> Result<
     Ok(cover.subtract(&over)?)
 }
 
-// The same, and only those of the others that the rectangle meets are gone over, and none of them where
-// it doesn't meet the window.
+/// The same, and only those of the others that the rectangle meets are gone over, and none of them where
+/// it doesn't meet the window.
 fn left(alloc: Global, rect: Rect, window: &Rect, hidden: &[Rect]) -> Result<Region, NoMemory>
     requires near { IsInBounds rect }
     requires hidden { All IsInBounds hidden.now }
@@ -81,7 +83,7 @@ fn left(alloc: Global, rect: Rect, window: &Rect, hidden: &[Rect]) -> Result<Reg
     rest_of(alloc, rect, window, &met)
 }
 
-// Appends what shows in a window of a layer, and its clip where that hides what is below it there.
+/// Appends what shows in a window of a layer, and its clip where that hides what is below it there.
 fn show_one(
     alloc: Global,
     drawn: &Drawn,
@@ -104,7 +106,7 @@ fn show_one(
     }
 }
 
-// What shows in a window of each of the layers, the last one first.
+/// What shows in a window of each of the layers, the last one first.
 fn show(alloc: Global, layers: &[Drawn], window: &Rect) -> Result<Vec<Region>, NoMemory>
     requires { AreNear layers.now }
     ensures visible { IfOk result (λ shown. AreVisibleAt (covers window.now) layers.now (reverse shown.items)) }

@@ -11,7 +11,7 @@ use Rattle.sf_region.specs.Edges.{place, left, right, top, bottom, first_place, 
 use Rattle.sf_region.specs.Points.{IsInBounds}
 use Rattle.sf_region.specs.Spans.{on, keeps, row, rect_of, rects_of, IsProper, AllAfter, IsSpread, AllEndBy}
 use Rattle.sf_region.specs.Canonical.{IsFull, AllFollow, IsBanded, Changes, IsCanonical}
-use Rattle.sf_region.specs.Bands.{IsAheadRows, FromFirst, Differ, IsBuilt, Turned, IsCombined}
+use Rattle.sf_region.specs.inner.Bands.{IsAheadRows, FromFirst, Differ, IsBuilt, Turned, IsCombined}
 use Rattle.sf_region.specs.declared.spans.Span.{Span}
 use Rattle.sf_region.specs.declared.combine.Combine.{Combine}
 use Rattle.sf_region.proofs.SpanLemmas.{keeps_none}

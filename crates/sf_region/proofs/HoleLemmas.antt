@@ -7,7 +7,7 @@ use Rattle.sf_base.specs.declared.geometry.Rect.{Rect}
 use Rattle.sf_region.specs.Edges.{left, right, top, bottom, first_place, past_all}
 use Rattle.sf_region.specs.Spans.{on, row, rect_of, rects_of, span_between, IsSpread}
 use Rattle.sf_region.specs.Canonical.{IsCanonical, IsFull}
-use Rattle.sf_region.specs.Bands.{AreMet, IsBuilt, band_between}
+use Rattle.sf_region.specs.inner.Bands.{AreMet, IsBuilt, band_between}
 use Rattle.sf_region.specs.declared.spans.Span.{Span}
 use Rattle.sf_region.proofs.SpanLemmas.{span_before, span_after, span_in, or_false, on-append}
 use Rattle.sf_region.proofs.RowLemmas.{full_left, full_right, full_top, full_bottom, row-append, row_done}

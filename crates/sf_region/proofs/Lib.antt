@@ -1,5 +1,6 @@
 pub mod BandLemmas
 pub mod HoleLemmas
+pub mod MeetingLemmas
 pub mod MovedLemmas
 pub mod PointLemmas
 pub mod RowLemmas

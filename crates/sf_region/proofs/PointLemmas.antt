@@ -69,7 +69,7 @@ more_far z n h = omega (arith, ints, h)
 within_place : (z x : ℤ) (n : ℕ) → neg_far ≤ℤ z → (int_le z x && int_lt x (z +ℤ pos n)) ≡ (nat_le (place z) (place x) && nat_lt (place x) (place z + n))
 within_place z x n h = rw (le_place z x h, lt_place x (z +ℤ pos n) (more_far z n h), place_plus z n h) refl
 
-covers_is : (r : Rect) (x y : ℤ) → IsInBounds r → covers r x y ≡ ((nat_le (left r) (place x) && nat_lt (place x) (right r)) && (nat_le (top r) (place y) && nat_lt (place y) (bottom r)))
+pub covers_is : (r : Rect) (x y : ℤ) → IsInBounds r → covers r x y ≡ ((nat_le (left r) (place x) && nat_lt (place x) (right r)) && (nat_le (top r) (place y) && nat_lt (place y) (bottom r)))
 unfolding covers left right top bottom
 covers_is r x y near = rw (within_place r.x x r.width near.left, within_place r.y y r.height near.top) refl
 

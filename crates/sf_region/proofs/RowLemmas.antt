@@ -8,7 +8,7 @@ use Rattle.sf_region.specs.Edges.{place, left, right, top, bottom, first_place, 
 use Rattle.sf_region.specs.Points.{far, neg_far}
 use Rattle.sf_region.specs.Spans.{row, AllAfter, IsSpread, AllEndBelow, AllEndBy}
 use Rattle.sf_region.specs.Canonical.{IsFull, AllFollow, IsBanded}
-use Rattle.sf_region.specs.Bands.{IsAheadRows}
+use Rattle.sf_region.specs.inner.Bands.{IsAheadRows}
 use Rattle.sf_region.proofs.SpanLemmas.{span_before, span_after, span_in}
 
 -- a rectangle that has a row, and one that has not

@@ -8,7 +8,7 @@ use Rattle.std.specs.Cmp.Lexicographic.{pointwise}
 use Rattle.std.proofs.lemmas.Bool.{cases_lt, false≢true, or_left, or_from}
 use Rattle.std.proofs.lemmas.Slice.Eq.{slice_eq-Decides}
 use Rattle.std.proofs.lemmas.Int.{ints}
-use Rattle.sf_base.proofs.Deciding.{rect_decides}
+use Rattle.sf_base.proofs.Decisions.{rect_decides}
 use Rattle.sf_base.specs.declared.geometry.Rect.{Rect}
 use Rattle.sf_region.specs.Edges.{place, left, right, top, bottom}
 use Rattle.sf_region.specs.Points.{has, IsInBounds, neg_far}

@@ -1,5 +1,5 @@
-pub mod Bands
 pub mod Canonical
 pub mod Edges
 pub mod Points
 pub mod Spans
+pub mod inner

@@ -1,5 +1,7 @@
+//! Combines two regions band by band, in one pass from top to bottom: what union, difference and
+//! intersection are made of.
 ghost use Rattle.std.specs.Prelude.{◌≡◌, ◌++◌, ℕ, ◌<◌, ◌≤◌, OnOk, IfOk, []};
-ghost use Rattle.sf_region.specs.Bands.{Turned};
+ghost use Rattle.sf_region.specs.inner.Bands.{Turned};
 ghost use Rattle.sf_region.specs.Canonical.{IsBanded, IsCanonical};
 ghost use Rattle.sf_region.specs.Edges.{past_all};
 ghost use Rattle.sf_region.specs.Spans.{on, keeps, row, rects_of, IsSpread};

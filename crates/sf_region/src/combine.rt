@@ -1,3 +1,4 @@
+//! The ways to combine two sets of pixels.
 ghost use Rattle.std.specs.Prelude.{◌≡◌};
 ghost use Rattle.sf_region.specs.Spans.{keeps};
 

@@ -1,3 +1,4 @@
+//! From rectangles to the edges and spans that regions are combined by, and back.
 ghost use Rattle.std.specs.Prelude.{◌≡◌, ◌<◌, ◌≤◌};
 ghost use Rattle.sf_region.specs.Edges.{left, right, top, bottom, past_all};
 ghost use Rattle.sf_region.specs.Points.{IsInBounds};

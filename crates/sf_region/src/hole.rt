@@ -1,5 +1,6 @@
+//! A faster way to take one rectangle away from another: at most four are left.
 ghost use Rattle.std.specs.Prelude.{◌≡◌, ◌++◌, ◌∷◌, [], ℕ, ◌≤◌, OnOk, IfOk, IsTrue};
-ghost use Rattle.sf_region.specs.Bands.{AreMet, band_between};
+ghost use Rattle.sf_region.specs.inner.Bands.{AreMet, band_between};
 ghost use Rattle.sf_region.specs.Canonical.{IsBanded, IsCanonical, IsFull};
 ghost use Rattle.sf_region.specs.Edges.{past_all};
 ghost use Rattle.sf_region.specs.Points.{IsInBounds};
@@ -13,7 +14,7 @@ use crate::spans::Span;
 use sf_base::{NoMemory, Rect};
 use std::alloc::Global;
 
-// Whether two rectangles share a point.
+/// Whether two rectangles share a point.
 fn are_met(rect: &Rect, hole: &Rect) -> bool
     requires rect { IsInBounds rect.now }
     requires hole { IsInBounds hole.now }
@@ -27,7 +28,7 @@ fn are_met(rect: &Rect, hole: &Rect) -> bool
         && top_of(hole) < bottom_of(rect)
 }
 
-// Appends the rectangle between these edges, if it has a point.
+/// Appends the rectangle between these edges, if it has a point.
 fn push_between(
     rects: &mut Vec<Rect>,
     start: u32,
@@ -45,8 +46,8 @@ fn push_between(
     Ok(())
 }
 
-// What is left of a rectangle where another that shares a point with it is taken away: at most four
-// rectangles, in bands.
+/// What is left of a rectangle where another that shares a point with it is taken away: at most four
+/// rectangles, in bands.
 fn less_hole(alloc: Global, rect: &Rect, hole: &Rect) -> Result<Vec<Rect>, NoMemory>
     requires rect { IsFull rect.now }
     requires hole { IsFull hole.now }

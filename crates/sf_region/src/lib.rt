@@ -11,6 +11,7 @@ mod bands;
 mod combine;
 mod edges;
 mod hole;
+mod meeting;
 mod region;
 mod rows;
 mod spans;

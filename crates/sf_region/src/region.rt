@@ -1,5 +1,7 @@
+//! The public type: a set of pixels in canonical bands, with its operations. Damage and composing
+//! speak of these.
 ghost use Rattle.std.specs.Prelude.{◌≡◌, ℤ, ◌+ℤ◌, ◌&&◌, ◌||◌};
-ghost use Rattle.std.specs.Prelude.{not, ◌↔◌, IsTrue, List, [], map, All, IfOk};
+ghost use Rattle.std.specs.Prelude.{not, true, ◌↔◌, ◌≤◌, IsTrue, List, [], map, All, IfOk, length, take};
 ghost use Rattle.sf_region.specs.Canonical.{IsCanonical, IsDisjoint};
 ghost use Rattle.sf_base.specs.Geometry.{covers};
 ghost use Rattle.sf_region.specs.Points.{has, moved, IsInBounds, StaysInBounds};
@@ -8,6 +10,7 @@ ghost use Rattle.sf_base.specs.declared.geometry.Rect.{Rect};
 
 use crate::combine::Combine;
 use crate::hole::combine_bands;
+use crate::meeting::next_meeting;
 use sf_base::{NoMemory, Rect};
 use std::alloc::Global;
 use std::marker::Model;
@@ -79,6 +82,7 @@ impl Region {
         self.combine(other, Combine::Intersect)
     }
 
+    /// The union, the intersection or the difference of two regions.
     fn combine(&self, other: &Region, how: Combine) -> Result<Region, NoMemory>
         ensures { IfOk result (λ region. (x y : ℤ)
             → has region x y ≡ keeps how (has self.now x y) (has other.now x y)) }
@@ -121,6 +125,19 @@ impl Region {
         ensures canonical { ((x y : ℤ) → has self.now x y ≡ has other.now x y) → self.now ≡ other.now }
     {
         self.rects.as_slice() == other.rects.as_slice()
+    }
+
+    /// The place of the first rectangle, from one on, that shares a point with another one, or how many
+    /// there are. It takes steps as often as the rectangles can be halved, for each band that the other
+    /// one meets. Takes no memory.
+    pub fn next_meeting(&self, from: usize, rect: &Rect) -> usize
+        requires near { IsInBounds rect.now }
+        requires within { from ≤ length self.now }
+        ensures from { from ≤ result }
+        ensures within { result ≤ length self.now }
+        ensures same { (x y : ℤ) → covers rect.now x y ≡ true → has (take result self.now) x y ≡ has (take from self.now) x y }
+    {
+        next_meeting(&self.rects, from, rect)
     }
 
     /// The rectangles, in their order. Takes no memory.

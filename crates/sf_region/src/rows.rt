@@ -1,5 +1,6 @@
+//! The bands of a region that meet one row.
 ghost use Rattle.std.specs.Prelude.{◌≡◌, ℕ, ◌<◌, ◌≤◌, OnOk};
-ghost use Rattle.sf_region.specs.Bands.{IsAheadRows};
+ghost use Rattle.sf_region.specs.inner.Bands.{IsAheadRows};
 ghost use Rattle.sf_region.specs.Canonical.{IsBanded};
 ghost use Rattle.sf_region.specs.Edges.{past_all};
 ghost use Rattle.sf_region.specs.Spans.{row};

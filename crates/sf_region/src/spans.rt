@@ -1,3 +1,4 @@
+//! Combines the spans of two rows, from left to right in one pass.
 ghost use Rattle.std.specs.Prelude.{◌≡◌, ℕ, ◌<◌, ◌≤◌, OnOk, IfOk};
 ghost use Rattle.sf_region.specs.Edges.{past_all};
 ghost use Rattle.sf_region.specs.Spans.{on, keeps, IsSpread, IsAhead, next_done, next_open};

@@ -1,6 +1,6 @@
 use Rattle.std.proofs.Common.{◌≤◌, length}
-use Rattle.sf_compose.specs.Begun.{Spares}
-use Rattle.sf_compose.specs.Painting.{is_in_area}
+use Rattle.sf_compose.specs.inner.Begun.{Spares}
+use Rattle.sf_compose.specs.inner.Painting.{is_in_area}
 use Rattle.sf_compose.proofs.begin.begin.Given as goal
 
 abbrev pub invariant-loop-at : goal.invariant-loop-at

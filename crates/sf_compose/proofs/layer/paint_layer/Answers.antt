@@ -2,7 +2,7 @@ use Rattle.std.proofs.Common.{◌∙◌, map, pos, sym, ap}
 use Rattle.sf_base.specs.Geometry.{covers}
 use Rattle.sf_base.specs.Paint.{painted}
 use Rattle.sf_base.specs.declared.pixel.Rgba.{Rgba}
-use Rattle.sf_compose.specs.Painting.{is_in_area}
+use Rattle.sf_compose.specs.inner.Painting.{is_in_area}
 use Rattle.sf_damage.specs.sf_view.Views.{is_in_clip}
 use Rattle.sf_compose.proofs.CropLemmas.{both_right}
 use Rattle.sf_compose.proofs.LayerLemmas.{colour_pixel, in_shown_box, Paints-one, shown_pixel}

@@ -10,7 +10,7 @@ use Rattle.sf_damage.specs.sf_picture.Solid.{IsSolid}
 use Rattle.sf_damage.specs.sf_picture.declared.picture.Picture.{Picture}
 use Rattle.sf_damage.specs.sf_view.Contents.{source_of, unsigned}
 use Rattle.sf_compose.specs.Frames.{is_in_box}
-use Rattle.sf_compose.specs.Painting.{PaintsSpan}
+use Rattle.sf_compose.specs.inner.Painting.{PaintsSpan}
 use Rattle.sf_compose.proofs.CropLemmas.{both_left, both_right, crop_pixel, crop_room, crop_small, crop_solid, next_row}
 use Rattle.sf_compose.proofs.FrameLemmas.{box_higher, box_without_height}
 use Rattle.sf_compose.proofs.PaintLemmas.{its_point, Paints-ended, Paints-none, Paints-row, Paints-then, rows_apart}

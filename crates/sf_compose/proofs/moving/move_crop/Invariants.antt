@@ -4,7 +4,7 @@ use Rattle.sf_base.specs.declared.pixel.Rgba.{Rgba}
 use Rattle.sf_damage.specs.sf_picture.Pixels.{pixel_at}
 use Rattle.sf_damage.specs.sf_view.Contents.{source_of, unsigned}
 use Rattle.sf_compose.specs.Frames.{is_in_box}
-use Rattle.sf_compose.specs.Painting.{Paints}
+use Rattle.sf_compose.specs.inner.Painting.{Paints}
 use Rattle.sf_compose.proofs.moving.move_crop.Given as goal
 
 abbrev pub invariant-loop : goal.invariant-loop

@@ -1,7 +1,7 @@
 use Rattle.std.proofs.Common.{◌≤◌, ◌-◌, map, pos}
 use Rattle.sf_damage.specs.sf_view.Image.{opaque_black}
 use Rattle.sf_compose.specs.Frames.{is_in_box}
-use Rattle.sf_compose.specs.Painting.{Paints}
+use Rattle.sf_compose.specs.inner.Painting.{Paints}
 use Rattle.sf_compose.specs.Readings.{under_drawn}
 use Rattle.sf_compose.proofs.one.compose_area.Given as goal
 

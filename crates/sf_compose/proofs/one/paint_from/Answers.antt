@@ -1,5 +1,5 @@
 use Rattle.std.proofs.Common.{◌-◌, length, map, take, drop, pos, refl}
-use Rattle.sf_compose.specs.Painting.{is_in_area}
+use Rattle.sf_compose.specs.inner.Painting.{is_in_area}
 use Rattle.sf_compose.specs.Readings.{under_drawn}
 use Rattle.sf_compose.proofs.BegunLemmas.{AreReadable-drop, rest_of}
 use Rattle.sf_compose.proofs.PaintLemmas.{Paints-same}

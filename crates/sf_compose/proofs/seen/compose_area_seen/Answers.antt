@@ -1,5 +1,5 @@
 use Rattle.std.proofs.Common.{arith}
-use Rattle.sf_compose.specs.Painting.{is_in_area}
+use Rattle.sf_compose.specs.inner.Painting.{is_in_area}
 use Rattle.sf_compose.proofs.BegunLemmas.{AreSeenAt-within, Paints-slice, slice_within}
 use Rattle.sf_compose.proofs.FrameLemmas.{box_without_height}
 use Rattle.sf_compose.proofs.PaintLemmas.{Paints-ended, Paints-none}

@@ -4,7 +4,7 @@ use Rattle.sf_base.specs.Geometry.{covers}
 use Rattle.sf_damage.specs.sf_view.Image.{opaque_black}
 use Rattle.sf_damage.specs.sf_view.Views.{ViewOf}
 use Rattle.sf_damage.specs.sf_view.declared.drawn.Drawn.{Drawn}
-use Rattle.sf_compose.specs.Painting.{is_in_area, Paints}
+use Rattle.sf_compose.specs.inner.Painting.{is_in_area, Paints}
 use Rattle.sf_compose.specs.Readings.{read_image, under_drawn}
 use Rattle.sf_compose.proofs.BegunLemmas.{AreSeenAt-visible, Repaints-area}
 use Rattle.sf_compose.proofs.seen.compose_rect_seen.Goals as goal

@@ -2,7 +2,7 @@ use Rattle.std.proofs.Common.{◌≡◌, ◌∙◌, ◌&&◌, ◌⊎◌, ◌<◌
 use Rattle.std.proofs.lemmas.Slice.Zip.{AllZip-long}
 use Rattle.sf_base.specs.declared.geometry.Rect.{Rect}
 use Rattle.sf_damage.specs.sf_region.Points.{has}
-use Rattle.sf_compose.specs.Painting.{is_in_area, Paints}
+use Rattle.sf_compose.specs.inner.Painting.{is_in_area, Paints}
 use Rattle.sf_compose.specs.Readings.{IsReadable, under_one}
 use Rattle.sf_compose.proofs.BegunLemmas.{AreSeenAt-long}
 use Rattle.sf_compose.proofs.ReadingLemmas.{readable_at}

@@ -1,6 +1,6 @@
 use Rattle.std.proofs.Common.{◌≤◌, ◌-◌, length, map}
-use Rattle.sf_compose.specs.Begun.{IsBegun, Spares}
-use Rattle.sf_compose.specs.Painting.{is_in_area}
+use Rattle.sf_compose.specs.inner.Begun.{IsBegun, Spares}
+use Rattle.sf_compose.specs.inner.Painting.{is_in_area}
 use Rattle.sf_compose.proofs.seen.compose_slice_seen.Given as goal
 
 abbrev pub invariant-loop-at : goal.invariant-loop-at

@@ -1,6 +1,6 @@
 use Rattle.std.proofs.Common.{map, take, pos, ◌&&◌}
 use Rattle.sf_damage.specs.sf_region.Points.{has}
-use Rattle.sf_compose.specs.Painting.{is_in_area, Paints}
+use Rattle.sf_compose.specs.inner.Painting.{is_in_area, Paints}
 use Rattle.sf_compose.specs.Readings.{under_one}
 use Rattle.sf_compose.proofs.seen.paint_parts.Given as goal
 

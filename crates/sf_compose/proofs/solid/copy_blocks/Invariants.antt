@@ -1,5 +1,5 @@
 use Rattle.std.proofs.Common.{length, ◌-◌}
-use Rattle.sf_compose.specs.Solid.{CopiesTo}
+use Rattle.sf_compose.specs.inner.Solid.{CopiesTo}
 use Rattle.sf_compose.proofs.solid.copy_blocks.Given as goal
 
 abbrev pub invariant-loop-dst : goal.invariant-loop-dst

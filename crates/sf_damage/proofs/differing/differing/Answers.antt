@@ -1,7 +1,7 @@
 use Rattle.std.proofs.Common.{◌≡◌, ◌+◌, ◌∷◌, ◌++◌, List, [], add-one, drop, get_or, subst}
 use Rattle.std.proofs.Math.Seq.{drop-cons}
 use Rattle.sf_view.specs.declared.drawn.Drawn.{Drawn}
-use Rattle.sf_damage.specs.Comparing.{Comparison, IsOpen, has_piece}
+use Rattle.sf_damage.specs.inner.Comparing.{Comparison, IsOpen, has_piece}
 use Rattle.sf_damage.proofs.ComparingLemmas.{all_before, told_taken}
 use Rattle.sf_damage.proofs.ListLemmas.{no_layer}
 use Rattle.sf_damage.proofs.differing.differing.Goals as goal

@@ -1,7 +1,7 @@
 use Rattle.std.proofs.Common.{◌≡◌, ◌+◌, ◌-◌, ◌<◌, ◌≤◌, [], drop, false, length}
 use Rattle.std.specs.List.{All}
 use Rattle.std.specs.Vec.{vec_len}
-use Rattle.sf_damage.specs.Comparing.{IsOpen, IsTold, has_piece}
+use Rattle.sf_damage.specs.inner.Comparing.{IsOpen, IsTold, has_piece}
 use Rattle.sf_damage.proofs.differing.differing.Given as goal
 
 abbrev pub invariant-loop-at : goal.invariant-loop-at

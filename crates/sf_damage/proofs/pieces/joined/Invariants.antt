@@ -1,6 +1,6 @@
 use Rattle.std.proofs.Common.{◌≡◌, ℤ}
 use Rattle.std.specs.Vec.{vec_len}
-use Rattle.sf_damage.specs.Comparing.{has_part}
+use Rattle.sf_damage.specs.inner.Comparing.{has_part}
 use Rattle.sf_damage.proofs.pieces.joined.Given as goal
 
 abbrev pub invariant-loop-parts : goal.invariant-loop-parts

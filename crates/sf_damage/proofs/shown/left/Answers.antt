@@ -5,7 +5,7 @@ use Rattle.std.proofs.lemmas.Result.{IfOk-weaker}
 use Rattle.sf_base.specs.Geometry.{covers}
 use Rattle.sf_base.specs.declared.geometry.Rect.{Rect}
 use Rattle.sf_region.specs.Points.{IsInBounds, has}
-use Rattle.sf_damage.specs.Meeting.{meets}
+use Rattle.sf_damage.specs.inner.Meeting.{meets}
 use Rattle.sf_damage.proofs.MeetingLemmas.{left_points, rects_point}
 use Rattle.sf_damage.proofs.shown.left.Goals as goal
 

@@ -4,7 +4,7 @@ use Rattle.std.proofs.lemmas.Bool.{false≢true}
 use Rattle.sf_base.specs.Geometry.{covers}
 use Rattle.sf_base.specs.declared.geometry.Rect.{Rect}
 use Rattle.sf_region.specs.Points.{has}
-use Rattle.sf_damage.specs.Meeting.{rect_has}
+use Rattle.sf_damage.specs.inner.Meeting.{rect_has}
 use Rattle.sf_damage.proofs.MeetingLemmas.{one_more}
 use Rattle.sf_damage.proofs.shown.rest_of.Goals as goal
 

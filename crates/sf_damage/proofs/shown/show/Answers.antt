@@ -2,7 +2,7 @@ use Rattle.std.proofs.Common.{◌≡◌, ◌∷◌, ◌-◌, List, drop, get_or,
 use Rattle.std.proofs.Math.Seq.{drop-cons, drop-length}
 use Rattle.sf_base.specs.Geometry.{covers}
 use Rattle.sf_view.specs.declared.drawn.Drawn.{Drawn}
-use Rattle.sf_damage.specs.Showing.{IsShown}
+use Rattle.sf_damage.specs.inner.Showing.{IsShown}
 use Rattle.sf_damage.specs.Visible.{AreVisibleAt, AreWithin}
 use Rattle.sf_damage.proofs.ListLemmas.{no_layer}
 use Rattle.sf_damage.proofs.ShowingLemmas.{shown_none}

@@ -1,6 +1,6 @@
 use Rattle.std.proofs.Common.{◌≤◌, drop, length}
 use Rattle.sf_base.specs.Geometry.{covers}
-use Rattle.sf_damage.specs.Showing.{IsShown}
+use Rattle.sf_damage.specs.inner.Showing.{IsShown}
 use Rattle.sf_damage.proofs.shown.show.Given as goal
 
 abbrev pub invariant-loop-at : goal.invariant-loop-at

@@ -1,6 +1,6 @@
 use Rattle.std.proofs.Common.{◌≡◌, take}
 use Rattle.std.specs.List.{filter}
-use Rattle.sf_damage.specs.Meeting.{meets}
+use Rattle.sf_damage.specs.inner.Meeting.{meets}
 use Rattle.sf_damage.proofs.shown.those_met.Given as goal
 
 abbrev pub invariant-loop-other : goal.invariant-loop-other

@@ -10,7 +10,7 @@ use Rattle.sf_damage.proofs.shown.visible.Goals as goal
 pub returns-clause-visible : goal.returns-clause-visible
 returns-clause-visible c =
     let layers : c.as_slice.result.now ≡ c.args.view.now.drawn = c.as_slice.ensures ∙ ap (λ (v : ViewOf). v.drawn) c.view.view_is in
-    rw c.reverse.ensures.items (AreVisibleAt-within (covers c.bounds-window.result) (has c.args.part.now) c.args.view.now.drawn (reverse c.in_ok-shown.shown.items) c.bounds-window.ensures
+    rw c.reverse.ensures.items (AreVisibleAt-within (covers c.bounds-window.result) (has c.args.part.now) c.args.view.now.drawn (reverse c.in_ok-shown.shown.items) c.bounds-window.ensures.points
     (subst (λ (drawn : List Drawn). AreVisibleAt (covers c.bounds-window.result) drawn (reverse c.in_ok-shown.shown.items)) layers c.in_ok-shown.ensures.visible))
 
 pub returns-clause-within : goal.returns-clause-within

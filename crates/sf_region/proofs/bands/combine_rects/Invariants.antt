@@ -1,6 +1,6 @@
 use Rattle.std.proofs.Common.{◌-◌}
 use Rattle.sf_region.specs.Edges.{past_all}
-use Rattle.sf_region.specs.Bands.{IsCombined}
+use Rattle.sf_region.specs.inner.Bands.{IsCombined}
 use Rattle.sf_region.proofs.bands.combine_rects.Given as goal
 
 abbrev pub invariant-loop-y : goal.invariant-loop-y

@@ -1,5 +1,5 @@
 use Rattle.std.proofs.Common.{◌≡◌, ◌++◌, length}
-use Rattle.sf_region.specs.Bands.{IsAheadRows}
+use Rattle.sf_region.specs.inner.Bands.{IsAheadRows}
 use Rattle.sf_region.specs.Spans.{row}
 use Rattle.sf_region.proofs.rows.fill_row.Given as goal
 

@@ -1,0 +1,45 @@
+use Rattle.std.proofs.Common.{◌+◌, ◌-◌, ◌*◌, ℕ, arith, pos, ap}
+use Rattle.sf_base.specs.Bytes.{pixel_in}
+use Rattle.sf_base.specs.Paint.{painted}
+use Rattle.sf_damage.specs.sf_view.Image.{opaque_black}
+use Rattle.sf_compose.specs.Frames.{is_in_box}
+use Rattle.sf_compose.specs.inner.Orientations.{pixel_shown}
+use Rattle.sf_compose.proofs.BegunLemmas.{beside_row, beside_rows, Spares-painted, Spares-then}
+use Rattle.sf_compose.proofs.FrameLemmas.{box_higher, box_without_height}
+use Rattle.sf_compose.proofs.PaintLemmas.{its_point, Paints-ended, Paints-none, Paints-row, Paints-then, rows_apart}
+use Rattle.sf_compose.proofs.SpanLemmas.{moved_back}
+use Rattle.sf_compose.proofs.oriented.copy_oriented_rows.Goals as goal
+
+pub loop-y-init : goal.loop-y-init
+loop-y-init c = λ ground. Paints-none _ _ _ _ _ (λ a b. box_without_height c.args.area.left c.args.area.right c.args.area.top a b)
+
+pub copy_oriented_row-requires-clause-inside : goal.copy_oriented_row-requires-clause-inside
+copy_oriented_row-requires-clause-inside c = λ x from to. c.requires.inside x c.loop-y.y (its_point c.args.area.left c.args.area.right c.args.area.top c.args.area.bottom x c.loop-y.y from to (omega arith) (omega arith))
+
+pub loop-y-preserved : goal.loop-y-preserved
+loop-y-preserved c = λ ground.
+    Paints-then _ _ (is_in_box c.args.area.left c.args.area.right c.args.area.top c.loop-y.y) (is_in_box c.args.area.left c.args.area.right c.loop-y.y (c.loop-y.y + 1)) _ _ _ _ _ (c.loop-y.invariant ground)
+    (Paints-row _ _ c.args.area.left c.args.area.right c.loop-y.y c.row_start-start.result _ _ _ _ c.row_start-start.ensures (omega arith) (omega arith) c.requires.within.wide
+    (c.copy_oriented_row.ensures.copied c.if-not-copy_oriented_row.false (λ i. ground (i - c.row_start-start.result) c.loop-y.y))
+    (λ x under from to. ap (λ (column : ℕ). painted (ground column c.loop-y.y) (pixel_shown c.args.picture.now c.args.oriented.crop c.args.oriented.orient c.args.oriented.place (pos column) (pos c.loop-y.y)) 255) (moved_back c.row_start-start.result x)))
+    (λ a b. box_higher c.args.area.left c.args.area.right c.args.area.top c.loop-y.y a b (omega arith))
+    (λ a b t. rows_apart c.args.area.left c.args.area.right c.args.area.top c.loop-y.y a b t)
+
+pub returns-clause-copied : goal.returns-clause-copied
+returns-clause-copied c = λ yes ground. Paints-ended _ _ c.args.area.left c.args.area.right c.args.area.top c.loop-y.y c.args.area.bottom _ _ _ (c.loop-y.invariant ground) (omega arith)
+
+pub returns-then-not-copy_oriented_row-clause-spared : goal.returns-then-not-copy_oriented_row-clause-spared
+returns-then-not-copy_oriented_row-clause-spared c =
+    Spares-then _ _ _ _ _ _
+    (Spares-painted _ _ (is_in_box c.args.area.left c.args.area.right c.args.area.top c.loop-y.y) _ _ _ _ (c.loop-y.invariant (λ x y. opaque_black))
+    (λ a b t. beside_rows c.args.area.left c.args.area.right c.args.area.top c.args.area.bottom c.loop-y.y a b (omega arith) t))
+    (Spares-painted _ _ (is_in_box c.args.area.left c.args.area.right c.loop-y.y (c.loop-y.y + 1)) _ _ _ _
+    (Paints-row _ _ c.args.area.left c.args.area.right c.loop-y.y c.row_start-start.result
+    (λ x y under. pixel_in c.copy_oriented_row.new.frame ((y - c.args.band.top) * c.args.band.width + x)) (λ i under. pixel_in c.copy_oriented_row.new.frame i) _ _ c.row_start-start.ensures (omega arith) (omega arith) c.requires.within.wide
+    c.copy_oriented_row.ensures.touched (λ x under from to. ap (λ (start : ℕ). pixel_in c.copy_oriented_row.new.frame (start + x)) c.row_start-start.ensures))
+    (λ a b t. beside_row c.args.area.left c.args.area.right c.args.area.top c.args.area.bottom c.loop-y.y a b (omega arith) (omega arith) t))
+
+pub returns-clause-spared : goal.returns-clause-spared
+returns-clause-spared c =
+    Spares-painted _ _ (is_in_box c.args.area.left c.args.area.right c.args.area.top c.loop-y.y) _ _ _ _ (c.loop-y.invariant (λ x y. opaque_black))
+    (λ a b t. beside_rows c.args.area.left c.args.area.right c.args.area.top c.args.area.bottom c.loop-y.y a b (omega arith) t)

@@ -1,0 +1,7 @@
+pub mod Bands
+pub mod Begun
+pub mod Ground
+pub mod Orientations
+pub mod Painting
+pub mod Seen
+pub mod Solid

@@ -1,0 +1,4 @@
+pub mod Comparing
+pub mod Manners
+pub mod Meeting
+pub mod Showing
