@@ -21,7 +21,7 @@ use Rattle.sf_slots.specs.Effects.{dropping_if, dropped_first, nobody}
 use Rattle.sf_slots.specs.Queue.{IsOut, Queue, IsSound, told_of, plain_item, slot_in, returned, cleared, taken, seated, next_held, handed_over}
 use Rattle.sf_slots.specs.Replies.{Refusal, first_met, refusal_of, is_taken, is_buffer}
 use Rattle.sf_slots.specs.Tells.{Continues}
-use Rattle.sf_slots.proofs.Going.{Continues-refused, unmet, own_unmet, taken_there, taken_is_out}
+use Rattle.sf_slots.proofs.HistoryGoesOn.{Continues-refused, unmet, own_unmet, taken_there, taken_is_out}
 use Rattle.sf_base.specs.declared.ids.SlotId.{SlotId}
 use Rattle.sf_consume.specs.declared.acquiring.Acquired.{Acquired as Taken}
 use Rattle.sf_consume.specs.Acquiring.{IsAcquired}

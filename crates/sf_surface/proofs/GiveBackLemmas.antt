@@ -13,7 +13,7 @@ use Rattle.sf_slots.specs.Told.{slot_at}
 use Rattle.sf_slots.specs.Queue.{Queue, IsSound, told_of, slot_in, returned, cleared}
 use Rattle.sf_slots.specs.Replies.{refusal_of, is_producer, is_lent, is_buffer}
 use Rattle.sf_slots.specs.Tells.{Continues}
-use Rattle.sf_slots.proofs.Going.{Continues-refused, lent_is_out, lent_there, own_unmet}
+use Rattle.sf_slots.proofs.HistoryGoesOn.{Continues-refused, lent_is_out, lent_there, own_unmet}
 use Rattle.sf_queue.specs.Leases as write
 use Rattle.sf_surface.specs.declared.call.Gives.TheVariants as gives
 use Rattle.sf_surface.specs.declared.call.QCall.TheVariants as call
@@ -23,7 +23,7 @@ use Rattle.sf_surface.specs.Hands.{done_reply, refused_reply}
 use Rattle.sf_surface.specs.Inside.{unlent_refusal}
 use Rattle.sf_surface.specs.Histories.{Left, left_by}
 use Rattle.sf_surface.specs.Objects.{Does, IsFitItem}
-use Rattle.sf_surface.specs.Tokens.{IsRightOf, IsWriteLease, Right, WriteLeaseOf, ending_drawn, turn_after}
+use Rattle.sf_surface.specs.Tokens.{IsRightOf, Right, WriteLeaseOf, ending_drawn, turn_after}
 use Rattle.sf_surface.proofs.DoesLemmas.{moves, moves_only, refuses}
 use Rattle.sf_surface.proofs.FitLemmas.{IsFit-returned, cleared_keeps, sound_queued}
 use Rattle.sf_surface.proofs.StoredLemmas.{named_itself, puts_back}
@@ -31,7 +31,7 @@ use Rattle.sf_base.specs.declared.ids.SlotId.{SlotId}
 use Rattle.sf_calls.specs.Histories.{entry}
 use Rattle.std.specs.Prelude.{not}
 use Rattle.sf_slots.specs.declared.slot.SlotState.TheVariants.{Dequeued}
-use Rattle.sf_surface.proofs.LeaseLemmas.{after_right, first_unlent, meant_is, unlent}
+use Rattle.sf_surface.proofs.LeaseLemmas.{first_unlent, meant_is, unlent}
 
 module _ {B : Type 0} (table : TableId) where
   pub cancel_unlent : (q : Queue Right) (by : ActorId) (lease : WriteLeaseOf) (fence : Fence) (said : WriteToken) (cause : QStatus) (answer : QReply B) → said ≡ write_token q.number lease → IsSound q → (said.slot.0 < 64 → is_buffer (slot_in q said.slot.0).held said.held ≡ false) → cause ≡ unlent_refusal q.settings by → answer ≡ refused_reply cause (call.Cancel lease fence) → Does table q q by (call.Cancel lease fence) answer
@@ -41,13 +41,13 @@ module _ {B : Type 0} (table : TableId) where
       (subst (λ (t : WriteToken). Continues q q by (plain.Cancel t fence) (reply.Refused cause)) same (Continues-refused q by (plain.Cancel said fence) cause met)) is
 
   -- a lease goes back
-  pub cancels : (q after : Queue Right) (by : ActorId) (lease : WriteLeaseOf) (fence : Fence) (said : WriteToken) (answer : QReply B) → said ≡ write_token q.number lease → IsSound q → (slot_in q said.slot.0).held ≡ Some said.held → IsWriteLease table lease → refusal_of (told_of q) by (write.lent_call false (write.lease_of (told_of q) said.slot said.held.number)) ≡ None → after ≡ returned q said.slot.0 (turn_after lease.work) fence → Continues q after by (plain.Cancel said fence) reply.Done → answer ≡ done_reply [] gives.Nothing (ending_drawn lease.work) None → Does table q after by (call.Cancel lease fence) answer
-  cancels q after by lease fence said answer same sound there keeps none left goes is =
+  pub cancels : (q after : Queue Right) (by : ActorId) (lease : WriteLeaseOf) (fence : Fence) (said : WriteToken) (answer : QReply B) → said ≡ write_token q.number lease → IsSound q → (slot_in q said.slot.0).held ≡ Some said.held → IsRightOf table lease.held (turn_after lease.work) → refusal_of (told_of q) by (write.lent_call false (write.lease_of (told_of q) said.slot said.held.number)) ≡ None → after ≡ returned q said.slot.0 (turn_after lease.work) fence → Continues q after by (plain.Cancel said fence) reply.Done → answer ≡ done_reply [] gives.Nothing (ending_drawn lease.work) None → Does table q after by (call.Cancel lease fence) answer
+  cancels q after by lease fence said answer same sound there right none left goes is =
       let turn : Right = turn_after lease.work in
       let held_from : said.held ≡ lease.held = ap (λ (t : WriteToken). t.held) same in
       let fits : (buffer : Held) → (slot_in q said.slot.0).held ≡ Some buffer → IsRightOf table buffer turn = λ buffer here.
       let both : Some said.held ≡ Some buffer = sym there ∙ here in
-      subst (λ (h : Held). IsRightOf table h turn) (sym held_from ∙ cc (both)) (after_right table lease.held lease.work keeps.right keeps.drawn) in
+      subst (λ (h : Held). IsRightOf table h turn) (sym held_from ∙ cc (both)) right in
       let meant : WriteToken = write.lease_of (told_of q) said.slot said.held.number in
       let lent_out : (slot_in q said.slot.0).state ≡ Dequeued = lent_there (told_of q) said.slot meant.held [] (own_unmet (told_of q) by (plain.Cancel meant no_points) none) in
       let named : said.slot ≡ lease.slot = named_itself q lease.queue lease.slot said.slot said.held sound (ap (λ (t : WriteToken). t.slot) same) there in

@@ -14,7 +14,7 @@ use Rattle.sf_slots.specs.Told.{slot_for}
 use Rattle.sf_slots.specs.Queue.{Queue, IsSound, told_of, slot_in, lent, seated, marked}
 use Rattle.sf_slots.specs.Replies.{refusal_of, is_producer, is_lent, is_buffer, size_asked}
 use Rattle.sf_slots.specs.Tells.{Continues}
-use Rattle.sf_slots.proofs.Going.{Continues-refused}
+use Rattle.sf_slots.proofs.HistoryGoesOn.{Continues-refused}
 use Rattle.sf_queue.specs.declared.lending.Chosen.{Chosen}
 use Rattle.sf_queue.specs.declared.lending.Dequeued.{Dequeued}
 use Rattle.sf_queue.specs.Lending.{IsChosen, IsRenewed, IsReused}

@@ -25,13 +25,13 @@ use Rattle.sf_slots.specs.Told.{Told, slot_at}
 use Rattle.sf_slots.specs.Queue.{IsOut, Queue, IsSound, told_of, slot_in, last_in, replacing, enqueued}
 use Rattle.sf_slots.specs.Replies.{Refusal, refusal_of, is_producer, is_lent, is_buffer, is_crop_of}
 use Rattle.sf_slots.specs.Tells.{Continues}
-use Rattle.sf_slots.proofs.Going.{Continues-refused, lent_is_out, lent_there, own_unmet, unmet}
+use Rattle.sf_slots.proofs.HistoryGoesOn.{Continues-refused, lent_is_out, lent_there, own_unmet, unmet}
 use Rattle.sf_queue.specs.declared.queueing.QueueOrder.{QueueOrder}
 use Rattle.sf_queue.specs.Leases as write
 use Rattle.sf_queue.specs.Orders.{call_of, item_of, order_call, queue_call}
 use Rattle.sf_base.specs.declared.ids.SlotId.{SlotId}
 use Rattle.sf_turns.specs.Views.{heir_expecting, issued_with}
-use Rattle.sf_surface.specs.Rights.{owed_of}
+use Rattle.sf_surface.specs.inner.Rights.{owed_of}
 use Rattle.sf_surface.specs.declared.call.Gives.{Gives}
 use Rattle.sf_surface.specs.declared.call.Gives.TheVariants as gives
 use Rattle.sf_surface.specs.declared.call.QCall.{QCall}

@@ -3,7 +3,7 @@ use Rattle.std.proofs.Common.{◌≡◌, Bool, true, false, not, List, ◌↔◌
 use Rattle.std.specs.Bool.{Decides}
 use Rattle.std.specs.Cmp.Lexicographic.{pointwise}
 use Rattle.std.proofs.lemmas.Slice.Eq.{slice_eq-Decides}
-use Rattle.sf_base.proofs.Deciding.{both_decide, decides_as, nat_decides, rect_decides, rgba_decides}
+use Rattle.sf_base.proofs.Decisions.{both_decide, decides_as, nat_decides, rect_decides, rgba_decides}
 use Rattle.sf_base.specs.declared.format.Format.{Format}
 use Rattle.sf_base.specs.declared.format.Format.TheVariants as format
 use Rattle.sf_turns.specs.sf_picture.declared.fill.Fill.{Fill}

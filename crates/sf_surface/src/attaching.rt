@@ -1,3 +1,4 @@
+//! The call by which a loose buffer comes into the queue, lent to its producer.
 ghost use Rattle.std.specs.Prelude.{◌≡◌, ◌<◌, ◌-◌, ◌^◌};
 ghost use Rattle.sf_slots.specs.Queue.{IsSound};
 ghost use Rattle.sf_surface.specs.declared.call.QCall.TheVariants as call;

@@ -1,3 +1,5 @@
+//! The sixteen calls on a queue with the tokens that they bring, and their replies with the tokens
+//! that these give.
 use crate::token::{Ending, Loose, Owing, ReadLease, WriteLease};
 use sf_base::{Fence, Items, QStatus, Rect};
 use sf_turns::sf_picture::{Painted, Picture};

@@ -1,3 +1,4 @@
+//! The call by which a lent buffer comes back unqueued, drawn or not.
 ghost use Rattle.std.specs.Prelude.{◌≡◌, IfOk, IfErr, OnErr};
 ghost use Rattle.sf_slots.specs.Queue.{IsSound};
 ghost use Rattle.sf_surface.specs.declared.call.QCall.TheVariants as call;
@@ -41,17 +42,14 @@ pub(crate) fn cancel<B: TableName>(
     if let Some(cause) = lent_refusal(slots, by, said.slot, said.held.number, false) {
         return Ok(refused(cause, QCall::Cancel(lease, fence), room));
     }
-    let WriteLease {
-        queue: of_queue,
-        slot,
-        held,
-        requested,
-        fence: own,
-        work,
-        of,
-    } = lease;
-    match finish::<B>(alloc, work) {
-        Ok(Finished { heir, ends }) => {
+    match finish(alloc, lease) {
+        Ok(
+            Finished {
+                held: _,
+                heir,
+                ends,
+            },
+        ) => {
             cancel_allowed(slots, by, said.slot, said.held.number, heir, fence);
             Ok(QReply {
                 status: QStatus::Ok,
@@ -61,17 +59,6 @@ pub(crate) fn cancel<B: TableName>(
                 spare: None,
             })
         }
-        Err((no_memory, work)) => {
-            let lease = WriteLease {
-                queue: of_queue,
-                slot,
-                held,
-                requested,
-                fence: own,
-                work,
-                of,
-            };
-            Err((no_memory, QCall::Cancel(lease, fence)))
-        }
+        Err((no_memory, lease)) => Err((no_memory, QCall::Cancel(lease, fence))),
     }
 }

@@ -1,3 +1,4 @@
+//! The calls by which a producer connects and disconnects.
 ghost use Rattle.sf_slots.specs.Queue.{IsSound};
 ghost use Rattle.sf_surface.specs.declared.call.QCall.TheVariants as call;
 ghost use Rattle.sf_surface.specs.Objects.{Does};

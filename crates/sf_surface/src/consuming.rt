@@ -1,3 +1,5 @@
+//! The calls of the consumer: a frame is acquired as a lease to read, released or detached, and a
+//! loose buffer is attached.
 ghost use Rattle.std.specs.Prelude.{◌≡◌, ◌<◌, ◌-◌, ◌^◌, All, vec_capacity};
 ghost use Rattle.sf_slots.specs.Queue.{plain_item, IsSound};
 ghost use Rattle.sf_surface.specs.declared.call.QCall.TheVariants as call;

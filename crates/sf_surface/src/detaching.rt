@@ -1,3 +1,4 @@
+//! The call by which a lent buffer leaves the queue as a loose one.
 ghost use Rattle.std.specs.Prelude.{◌≡◌, IfOk, IfErr, OnErr};
 ghost use Rattle.sf_slots.specs.Queue.{IsSound};
 ghost use Rattle.sf_surface.specs.declared.call.QCall.TheVariants as call;
@@ -16,6 +17,7 @@ use sf_slots::Slots;
 use sf_turns::sf_picture::Painted;
 use sf_turns::{TableName, Turn};
 use std::alloc::Global;
+use std::marker::PhantomData;
 
 /// Takes a lent buffer out of the queue.
 pub(crate) fn detach<B: TableName>(
@@ -40,17 +42,8 @@ pub(crate) fn detach<B: TableName>(
     if let Some(cause) = lent_refusal(slots, by, said.slot, said.held.number, true) {
         return Ok(refused(cause, QCall::Detach(lease), room));
     }
-    let WriteLease {
-        queue: of_queue,
-        slot,
-        held,
-        requested,
-        fence: own,
-        work,
-        of,
-    } = lease;
-    match finish::<B>(alloc, work) {
-        Ok(Finished { heir, ends }) => {
+    match finish(alloc, lease) {
+        Ok(Finished { held, heir, ends }) => {
             detach_allowed(slots, by, said.slot, said.held.number);
             Ok(QReply {
                 status: QStatus::Ok,
@@ -58,23 +51,12 @@ pub(crate) fn detach<B: TableName>(
                 gives: Gives::Free(Loose {
                     held,
                     turn: heir,
-                    of,
+                    of: PhantomData,
                 }),
                 ends,
                 spare: None,
             })
         }
-        Err((no_memory, work)) => {
-            let lease = WriteLease {
-                queue: of_queue,
-                slot,
-                held,
-                requested,
-                fence: own,
-                work,
-                of,
-            };
-            Err((no_memory, QCall::Detach(lease)))
-        }
+        Err((no_memory, lease)) => Err((no_memory, QCall::Detach(lease))),
     }
 }

@@ -1,3 +1,5 @@
+//! From a call to the function that makes it on the slots: each call of an actor or of the
+//! compositor comes through here.
 ghost use Rattle.std.specs.Prelude.{◌≡◌, ◌<◌, ◌-◌, ◌^◌, true, Some, vec_capacity};
 ghost use Rattle.sf_base.specs.declared.status.QStatus.TheVariants.{WouldBlock};
 ghost use Rattle.sf_calls.specs.Outcomes.{IfDone, IfNotYet, IfNoMemory};

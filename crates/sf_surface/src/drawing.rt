@@ -1,6 +1,9 @@
+//! What a producer does with the pixels: it draws in a buffer that it was lent, or draws what it
+//! promised, and then leaves them to the next turn.
 ghost use Rattle.std.specs.Prelude.{◌≡◌};
 ghost use Rattle.sf_surface.specs.Tokens.{is_size_of};
 
+use crate::lent::parts_of;
 use crate::plain::is_same;
 use crate::token::{Ending, Owing, WriteLease};
 use crate::work::Work;
@@ -29,8 +32,20 @@ fn fits(picture: &Picture, held: Held) -> bool
 }
 
 impl<B: TableName> WriteLease<B> {
-    ghost use Rattle.std.specs.Prelude.{◌≡◌};
-    ghost use Rattle.sf_surface.specs.Drawing.{DrawsLease};
+    ghost use Rattle.std.specs.Prelude.{◌≡◌, true, false};
+    ghost use Rattle.sf_turns.specs.Views.{SeatView};
+    ghost use Rattle.sf_surface.specs.Drawing.{DrawsLease, MayBegin, Waits};
+
+    /// Whether nothing was drawn yet and a point of the fence is not signalled under what was seen.
+    fn has_to_wait(&self, seen: &Seen) -> bool
+        ensures waits { result ≡ true → (view : SeatView) → Waits self.now.work self.now.fence seen.now view view }
+        ensures begins { result ≡ false → MayBegin self.now.work self.now.fence seen.now }
+    {
+        match &self.work {
+            Work::Fresh(_) => self.fence.first_open(seen).is_some(),
+            Work::Drawn(..) => false,
+        }
+    }
 
     /// Draws a picture of the buffer's size in it, over all that it held.
     ///
@@ -51,50 +66,21 @@ impl<B: TableName> WriteLease<B> {
         if !fits(picture, self.held) {
             return Err(DrawFault::BadPicture(self));
         }
+        if self.has_to_wait(seen) {
+            return Err(DrawFault::NotYet(self));
+        }
         let Ok(copy) = picture.copy(alloc) else {
             return Err(DrawFault::NoMemory(self));
         };
-        let WriteLease {
-            queue,
-            slot,
-            held,
-            requested,
-            fence,
-            work,
-            of,
-        } = self;
-        let work = match work {
-            Work::Drawn(inside, pixels) => Ok(Work::Drawn(inside, pixels.repaint(copy))),
-            Work::Fresh(turn) => {
-                if fence.first_open(seen).is_some() {
-                    Err(turn)
-                } else {
-                    match turn.enter(seat) {
-                        Ok((inside, pixels)) => Ok(Work::Drawn(inside, pixels.repaint(copy))),
-                        Err(turn) => Err(turn),
-                    }
-                }
-            }
-        };
+        let (lent, work) = parts_of(self);
         match work {
-            Ok(work) => Ok(WriteLease {
-                queue,
-                slot,
-                held,
-                requested,
-                fence,
-                work,
-                of,
-            }),
-            Err(turn) => Err(DrawFault::NotYet(WriteLease {
-                queue,
-                slot,
-                held,
-                requested,
-                fence,
-                work: Work::Fresh(turn),
-                of,
-            })),
+            Work::Drawn(inside, pixels) => {
+                Ok(lent.lease(Work::Drawn(inside, pixels.repaint(copy))))
+            }
+            Work::Fresh(turn) => match turn.enter(seat) {
+                Ok((inside, pixels)) => Ok(lent.lease(Work::Drawn(inside, pixels.repaint(copy)))),
+                Err(turn) => Err(DrawFault::NotYet(lent.lease(Work::Fresh(turn)))),
+            },
         }
     }
 }

@@ -1,3 +1,5 @@
+//! The calls that were made on a queue, kept in order: contracts speak of them, and the record HIST
+//! shows them.
 ghost use Rattle.std.specs.Prelude.{◌≡◌, [], ◌∷◌, ◌++◌, ◌<◌, OnOk, vec_capacity, vec_len};
 ghost use Rattle.sf_calls.specs.Histories.{entry};
 ghost use Rattle.sf_surface.specs.Kept.{HasRoom, calls_in};

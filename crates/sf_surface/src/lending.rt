@@ -1,3 +1,5 @@
+//! The call that dequeues: a buffer is lent with the right to its pixels, a new one where there is
+//! none of the size.
 ghost use Rattle.std.specs.Prelude.{◌≡◌, ◌≢◌, ℕ, ◌<◌, ◌≤◌, ◌-◌, ◌^◌, IfOk, IfErr, Some, None, true, false, vec_capacity, if◌then◌else◌};
 ghost use Rattle.sf_base.specs.declared.status.QStatus.TheVariants.{WouldBlock};
 ghost use Rattle.sf_calls.specs.Outcomes.{IfDone, IfNotYet, IfNoMemory};

@@ -1,3 +1,5 @@
+//! The queue as an object: it takes one call after the other and keeps the history of them, under a
+//! lock in a live run and without one in a play.
 ghost use Rattle.std.specs.Prelude.{◌≡◌, ℕ, ◌≤◌, IfOk, OnOk, Some, true, false, vec_capacity};
 ghost use Rattle.sf_base.specs.Fences.{no_points};
 ghost use Rattle.sf_slots.specs.Queue.{slot_in, told_of};
@@ -25,7 +27,8 @@ use std::snapshot::Snapshot;
 pub struct QueueObject<B: TableName> {
     alloc: Global,
     number: QueueId,
-    slots: Slots<Turn<Painted>>,
+    // In a block of its own, so that a queue that is moved under its lock is small.
+    slots: Box<Slots<Turn<Painted>>>,
     history: History<B>,
 }
 
@@ -35,9 +38,9 @@ impl<B: TableName> Model for QueueObject<B> {
 
     ghost Value = { ObjectOf B };
 
-    ghost view = { λ o. record { queue = o.slots; calls = calls_in o.history } };
+    ghost view = { λ o. record { queue = o.slots.value; calls = calls_in o.history } };
 
-    ghost invariant = { λ o. IsKept B.table o.number o.history.shown.items (record { queue = o.slots; calls = calls_in o.history }) };
+    ghost invariant = { λ o. IsKept B.table o.number o.history.shown.items (record { queue = o.slots.value; calls = calls_in o.history }) };
 }
 
 /// Whether the fence of the slot that a dequeue lends may have points.
@@ -96,10 +99,13 @@ impl<B: TableName> QueueObject<B> {
         requires low { height ≤ 512 }
         ensures { IfOk result (λ object. object ≡ record { queue = empty_queue queue width height; calls = [] }) }
     {
+        let Ok(slots) = Box::new(alloc, Slots::new(alloc, queue, width, height)?) else {
+            return Err(NoMemory);
+        };
         Ok(QueueObject {
             alloc,
             number: queue,
-            slots: Slots::new(alloc, queue, width, height)?,
+            slots,
             history: History::new(alloc),
         })
     }

@@ -1,3 +1,4 @@
+//! What calls say of tokens, as plain data, for the history and for the queue's own tests.
 ghost use Rattle.std.specs.Prelude.{◌≡◌};
 ghost use Rattle.sf_surface.specs.Calls.{named_slot, queued_slot, queued_token, read_token, shows_other, write_token};
 ghost use Rattle.sf_surface.specs.Pictures.{same_picture};

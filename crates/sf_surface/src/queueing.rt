@@ -1,3 +1,5 @@
+//! The call that queues a lent buffer as a frame: what was drawn goes to the consumer, or the
+//! drawing is owed from then on.
 ghost use Rattle.std.specs.Prelude.{◌≡◌, ◌<◌, ◌-◌, ◌^◌, IfOk, IfErr, OnErr};
 ghost use Rattle.sf_slots.specs.Queue.{IsSound};
 ghost use Rattle.sf_surface.specs.declared.call.QCall.TheVariants as call;
@@ -73,27 +75,15 @@ pub(crate) fn queue<B: TableName>(
         let call = queue_call(lease, picture, time, crop, fence);
         return Err((NoMemory, call));
     };
-    let WriteLease {
-        queue: of_queue,
+    let Promised {
         slot,
-        held,
-        requested,
         fence: own,
-        work,
-        of,
-    } = lease;
-    let Promised { heir, owed, ends } = match promise::<B>(work, picture) {
+        heir,
+        owed,
+        ends,
+    } = match promise(lease, picture) {
         Ok(promised) => promised,
-        Err((no_memory, work, picture)) => {
-            let lease = WriteLease {
-                queue: of_queue,
-                slot,
-                held,
-                requested,
-                fence: own,
-                work,
-                of,
-            };
+        Err((no_memory, lease, picture)) => {
             let call = queue_call(lease, picture, time, crop, fence);
             return Err((no_memory, call));
         }

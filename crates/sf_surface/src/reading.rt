@@ -1,52 +1,76 @@
+//! How the compositor reads a frame: its lease tells whether the write has ended, gives out the
+//! pixels, and hands the right on before the read ends.
 use crate::token::ReadLease;
 use sf_base::{Fence, NoMemory, QueueId, Rect, SlotId};
 use sf_slots::Held;
 use sf_turns::sf_picture::Painted;
-use sf_turns::{Busy, Inside, TableName, TurnSeat};
+use sf_turns::{Busy, Inside, TableName, Turn, TurnSeat};
 use sf_txn::Lease;
 use std::alloc::Global;
 use std::marker::{Model, PhantomData};
 
-/// A read lease whose pixels are out.
+/// What a read lease says of its frame.
 #[derive(Drop)]
-pub struct Reading<B: TableName> {
+struct Frame {
     queue: QueueId,
     slot: SlotId,
-    frame: u64,
+    number: u64,
     held: Held,
     picture: u32,
     crop: Rect,
     fence: Fence,
+}
+
+impl Frame {
+    ghost use Rattle.std.specs.Prelude.{◌≡◌};
+    ghost use Rattle.sf_surface.specs.Tokens.{IsReadLease};
+    ghost use Rattle.sf_surface.specs.Reading.{lease_of};
+
+    /// The lease of the frame, with the right to read it.
+    fn lease<B: TableName>(self, turn: Turn<Painted>) -> ReadLease<B>
+        requires { IsReadLease B.table (lease_of self turn) }
+        ensures { result ≡ lease_of self turn }
+    {
+        let Frame {
+            queue,
+            slot,
+            number,
+            held,
+            picture,
+            crop,
+            fence,
+        } = self;
+        ReadLease {
+            queue,
+            slot,
+            frame: number,
+            held,
+            picture,
+            crop,
+            fence,
+            turn,
+            of: PhantomData,
+        }
+    }
+}
+
+/// A read lease whose pixels are out.
+#[derive(Drop)]
+pub struct Reading<B: TableName> {
+    frame: Frame,
     turn: Inside<Painted>,
     of: PhantomData<B>,
 }
 
 impl<B: TableName> Model for Reading<B> {
     ghost use Rattle.sf_surface.specs.Tokens.{ReadLeaseOf, IsReadLease};
+    ghost use Rattle.sf_surface.specs.Reading.{lease_of};
 
     ghost Value = { ReadLeaseOf };
 
-    ghost view = { λ l. record {
-      queue = l.queue;
-      slot = l.slot;
-      frame = l.frame;
-      held = l.held;
-      picture = l.picture;
-      crop = l.crop;
-      fence = l.fence;
-      turn = l.turn;
-    } };
+    ghost view = { λ l. lease_of l.frame l.turn };
 
-    ghost invariant = { λ l. IsReadLease B.table (record {
-      queue = l.queue;
-      slot = l.slot;
-      frame = l.frame;
-      held = l.held;
-      picture = l.picture;
-      crop = l.crop;
-      fence = l.fence;
-      turn = l.turn;
-    }) };
+    ghost invariant = { λ l. IsReadLease B.table (lease_of l.frame l.turn) };
 }
 
 /// A reading that was handed on and has yet to end.
@@ -121,7 +145,7 @@ impl<B: TableName> Lease for ReadLease<B> {
         let ReadLease {
             queue,
             slot,
-            frame,
+            frame: number,
             held,
             picture,
             crop,
@@ -132,83 +156,29 @@ impl<B: TableName> Lease for ReadLease<B> {
         let Ok((turn, pixels)) = turn.enter(eye) else {
             unreachable!()
         };
-        let reading = Reading {
+        let frame = Frame {
             queue,
             slot,
-            frame,
+            number,
             held,
             picture,
             crop,
             fence,
-            turn,
-            of,
         };
-        (reading, pixels)
+        (Reading { frame, turn, of }, pixels)
     }
 
     fn hand_on(
         alloc: Global,
         reading: Reading<B>,
     ) -> Result<(Closing<B>, ReadLease<B>), (NoMemory, Reading<B>)> {
-        let Reading {
-            queue,
-            slot,
-            frame,
-            held,
-            picture,
-            crop,
-            fence,
-            turn,
-            of,
-        } = reading;
-        let Ok(copy) = turn.expects().copy(alloc) else {
-            return Err((
-                NoMemory,
-                Reading {
-                    queue,
-                    slot,
-                    frame,
-                    held,
-                    picture,
-                    crop,
-                    fence,
-                    turn,
-                    of,
-                },
-            ));
+        let Ok(copy) = reading.turn.expects().copy(alloc) else {
+            return Err((NoMemory, reading));
         };
+        let Reading { frame, turn, of } = reading;
         match turn.issue(copy) {
-            Ok((busy, turn)) => Ok((
-                Closing {
-                    turn: busy,
-                    of: PhantomData,
-                },
-                ReadLease {
-                    queue,
-                    slot,
-                    frame,
-                    held,
-                    picture,
-                    crop,
-                    fence,
-                    turn,
-                    of,
-                },
-            )),
-            Err((no_memory, turn, _)) => Err((
-                no_memory,
-                Reading {
-                    queue,
-                    slot,
-                    frame,
-                    held,
-                    picture,
-                    crop,
-                    fence,
-                    turn,
-                    of,
-                },
-            )),
+            Ok((turn, next)) => Ok((Closing { turn, of }, frame.lease(next))),
+            Err((no_memory, turn, _)) => Err((no_memory, Reading { frame, turn, of })),
         }
     }
 

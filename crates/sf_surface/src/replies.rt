@@ -1,3 +1,4 @@
+//! Replies to calls, each with the tokens that it gives or gives back.
 ghost use Rattle.std.specs.Prelude.{◌≡◌, [], None};
 ghost use Rattle.sf_surface.specs.declared.call.Gives.TheVariants as gives;
 ghost use Rattle.sf_surface.specs.Hands.{done_reply, plain_reply, refused_reply};

@@ -1,3 +1,4 @@
+//! The call by which a producer asks which buffer is in its slot.
 ghost use Rattle.std.specs.Prelude.{◌≡◌, true};
 ghost use Rattle.sf_slots.specs.Queue.{IsSound};
 ghost use Rattle.sf_surface.specs.declared.call.QCall.TheVariants as call;

@@ -1,27 +1,34 @@
+//! The turn that follows a lease's: what a queued, cancelled or detached buffer is left with for
+//! whoever touches its pixels next.
 ghost use Rattle.std.specs.Prelude.{◌≡◌, false, IfOk, IfErr};
 ghost use Rattle.sf_turns.specs.Views.{heir_expecting};
 ghost use Rattle.sf_surface.specs.Calls.{shows_other};
-ghost use Rattle.sf_surface.specs.Rights.{owed_of};
-ghost use Rattle.sf_surface.specs.Tokens.{turn_of, turn_after, ending_of, ending_drawn};
+ghost use Rattle.sf_surface.specs.inner.Rights.{owed_of};
+ghost use Rattle.sf_surface.specs.Tokens.{IsRightOf, turn_of, turn_after, ending_of, ending_drawn};
 
-use crate::token::Ending;
+use crate::lent::parts_of;
+use crate::token::{Ending, WriteLease};
 use crate::work::Work;
-use sf_base::NoMemory;
+use sf_base::{Fence, NoMemory, SlotId};
+use sf_slots::Held;
 use sf_turns::sf_picture::{Painted, Picture};
 use sf_turns::{Owed, TableName, Turn};
 use std::alloc::Global;
 use std::marker::PhantomData;
 
-/// The right that follows a lease's and expects a picture, and what is left of the lease: a drawing
-/// that is owed or one that ends.
+/// The right that follows a lease's and expects a picture, and what is left of the lease: its slot
+/// and its fence, and a drawing that is owed or one that ends.
 pub(crate) struct Promised<B: TableName> {
+    pub(crate) slot: SlotId,
+    pub(crate) fence: Fence,
     pub(crate) heir: Turn<Painted>,
     pub(crate) owed: Option<Owed<Painted>>,
     pub(crate) ends: Option<Ending<B>>,
 }
 
-/// The right that follows a lease's, and the drawing that ends.
+/// The right that follows a lease's, its buffer, and the drawing that ends.
 pub(crate) struct Finished<B: TableName> {
+    pub(crate) held: Held,
     pub(crate) heir: Turn<Painted>,
     pub(crate) ends: Option<Ending<B>>,
 }
@@ -29,27 +36,36 @@ pub(crate) struct Finished<B: TableName> {
 /// Issues the right to read a buffer, which expects the picture that was drawn in it or is promised.
 /// Want of memory hands all back.
 pub(crate) fn promise<B: TableName>(
-    work: Work,
+    lease: WriteLease<B>,
     picture: Picture,
-) -> Result<Promised<B>, (NoMemory, Work, Picture)>
-    requires table { (turn_of work).table ≡ B.table }
-    requires same { shows_other work picture ≡ false }
-    ensures heir { IfOk result (λ promised. promised.heir ≡ heir_expecting (turn_of work) picture) }
-    ensures owed { IfOk result (λ promised. promised.owed ≡ owed_of work picture) }
-    ensures ends { IfOk result (λ promised. promised.ends ≡ ending_of work picture) }
-    ensures back { IfErr result (λ back. (back.1 ≡ work) × (back.2 ≡ picture)) }
+) -> Result<Promised<B>, (NoMemory, WriteLease<B>, Picture)>
+    requires { shows_other lease.work picture ≡ false }
+    ensures slot { IfOk result (λ promised. promised.slot ≡ lease.slot) }
+    ensures fence { IfOk result (λ promised. promised.fence ≡ lease.fence) }
+    ensures right { IfOk result (λ _. IsRightOf B.table lease.held (turn_of lease.work)) }
+    ensures heir { IfOk result (λ promised. promised.heir ≡ heir_expecting (turn_of lease.work) picture) }
+    ensures owed { IfOk result (λ promised. promised.owed ≡ owed_of lease.work picture) }
+    ensures ends { IfOk result (λ promised. promised.ends ≡ ending_of lease.work picture) }
+    ensures back { IfErr result (λ back. (back.1 ≡ lease) × (back.2 ≡ picture)) }
 {
+    let (lent, work) = parts_of(lease);
     match work {
         Work::Fresh(turn) => match turn.issue(picture) {
             Ok((owed, heir)) => Ok(Promised {
+                slot: lent.slot,
+                fence: lent.fence,
                 heir,
                 owed: Some(owed),
                 ends: None,
             }),
-            Err((no_memory, turn, picture)) => Err((no_memory, Work::Fresh(turn), picture)),
+            Err((no_memory, turn, picture)) => {
+                Err((no_memory, lent.lease(Work::Fresh(turn)), picture))
+            }
         },
         Work::Drawn(inside, pixels) => match inside.issue(picture) {
             Ok((turn, heir)) => Ok(Promised {
+                slot: lent.slot,
+                fence: lent.fence,
                 heir,
                 owed: None,
                 ends: Some(Ending {
@@ -59,7 +75,7 @@ pub(crate) fn promise<B: TableName>(
                 }),
             }),
             Err((no_memory, inside, picture)) => {
-                Err((no_memory, Work::Drawn(inside, pixels), picture))
+                Err((no_memory, lent.lease(Work::Drawn(inside, pixels)), picture))
             }
         },
     }
@@ -69,24 +85,28 @@ pub(crate) fn promise<B: TableName>(
 /// which expects what was drawn. Want of memory hands it back.
 pub(crate) fn finish<B: TableName>(
     alloc: Global,
-    work: Work,
-) -> Result<Finished<B>, (NoMemory, Work)>
-    requires { (turn_of work).table ≡ B.table }
-    ensures heir { IfOk result (λ finished. finished.heir ≡ turn_after work) }
-    ensures ends { IfOk result (λ finished. finished.ends ≡ ending_drawn work) }
-    ensures back { IfErr result (λ back. back.1 ≡ work) }
+    lease: WriteLease<B>,
+) -> Result<Finished<B>, (NoMemory, WriteLease<B>)>
+    ensures held { IfOk result (λ finished. finished.held ≡ lease.held) }
+    ensures right { IfOk result (λ finished. IsRightOf B.table lease.held finished.heir) }
+    ensures heir { IfOk result (λ finished. finished.heir ≡ turn_after lease.work) }
+    ensures ends { IfOk result (λ finished. finished.ends ≡ ending_drawn lease.work) }
+    ensures back { IfErr result (λ back. back.1 ≡ lease) }
 {
+    let (lent, work) = parts_of(lease);
     match work {
         Work::Fresh(turn) => Ok(Finished {
+            held: lent.held,
             heir: turn,
             ends: None,
         }),
         Work::Drawn(inside, pixels) => {
             let Ok(picture) = pixels.picture().copy(alloc) else {
-                return Err((NoMemory, Work::Drawn(inside, pixels)));
+                return Err((NoMemory, lent.lease(Work::Drawn(inside, pixels))));
             };
             match inside.issue(picture) {
                 Ok((turn, heir)) => Ok(Finished {
+                    held: lent.held,
                     heir,
                     ends: Some(Ending {
                         turn,
@@ -94,7 +114,9 @@ pub(crate) fn finish<B: TableName>(
                         of: PhantomData,
                     }),
                 }),
-                Err((no_memory, inside, _)) => Err((no_memory, Work::Drawn(inside, pixels))),
+                Err((no_memory, inside, _)) => {
+                    Err((no_memory, lent.lease(Work::Drawn(inside, pixels))))
+                }
             }
         }
     }

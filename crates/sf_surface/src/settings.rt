@@ -1,3 +1,4 @@
+//! The calls that set a queue's limits and its mode, or give it up.
 ghost use Rattle.sf_slots.specs.Queue.{IsSound};
 ghost use Rattle.sf_surface.specs.declared.call.QCall.TheVariants as call;
 ghost use Rattle.sf_surface.specs.Objects.{Does};

@@ -1,3 +1,4 @@
+//! What the record HIST shows of a call and of its reply, from the tokens that they have.
 ghost use Rattle.std.specs.Prelude.{◌≡◌, Some, None, false};
 ghost use Rattle.sf_surface.specs.Named.{got_slot, named_of, second_or, shown_with};
 

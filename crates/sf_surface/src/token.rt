@@ -1,3 +1,5 @@
+//! The tokens that carry the right to a buffer's pixels: to write a lent buffer, to draw what was
+//! promised, to read a frame, a buffer in no queue, and a drawing that is about to leave.
 use crate::work::Work;
 use sf_base::{Fence, QueueId, Rect, SlotId};
 use sf_slots::Held;

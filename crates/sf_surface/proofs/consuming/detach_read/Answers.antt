@@ -1,4 +1,4 @@
-use Rattle.std.proofs.Common.{◌∙◌, ap, refl, subst, None}
+use Rattle.std.proofs.Common.{◌∙◌, refl, subst, None}
 use Rattle.sf_slots.specs.declared.calls.PlainCall.TheVariants as plain
 use Rattle.sf_slots.specs.declared.calls.PlainReply.TheVariants as reply
 use Rattle.sf_slots.specs.declared.calls.ReadToken.{ReadToken}

@@ -1,10 +1,10 @@
-use Rattle.std.proofs.Common.{◌∙◌, ap, refl, subst, sym, None}
+use Rattle.std.proofs.Common.{refl, subst, sym, None}
+use Rattle.sf_slots.specs.declared.slot.Held.{Held}
 use Rattle.sf_surface.specs.declared.call.Gives.TheVariants as gives
-use Rattle.sf_surface.specs.declared.work.Work.{Work}
 use Rattle.sf_surface.specs.Hands.{done_reply}
-use Rattle.sf_surface.specs.Tokens.{IsRightOf, IsWorkOf, WriteLeaseOf, ending_drawn, turn_after, turn_of}
+use Rattle.sf_surface.specs.Tokens.{IsRightOf}
 use Rattle.sf_surface.proofs.SaidLemmas.{write_said, write_same}
-use Rattle.sf_surface.proofs.LeaseLemmas.{after_right, says}
+use Rattle.sf_surface.proofs.LeaseLemmas.{says}
 use Rattle.sf_surface.proofs.GiveBackLemmas.{detach_refused, detach_unlent, detaches}
 use Rattle.sf_surface.proofs.detaching.detach.Goals as goal
 
@@ -27,21 +27,8 @@ returns-in-Ok-clause-done g c =
     let said = write_said c.args.lease c.said_of-said.result.slot c.said_of-said.result.held in
     let same = write_same c.args.queue c.args.slots.now.number c.args.lease c.said_of-said.result.slot c.said_of-said.result.held c.said_of-said.ensures.slot c.said_of-said.ensures.held c.requires.number in
     let there = c.if-not-has_buffer.ensures.there refl in
-    let held = ap (λ (l : WriteLeaseOf). l.held) c.lease.view_is in
-    let heir = c.in-Ok.ensures.heir ∙ ap (λ (l : WriteLeaseOf). turn_after l.work) c.lease.view_is in
-    let ends = c.in-Ok.ensures.ends ∙ ap (λ (l : WriteLeaseOf). ending_drawn l.work) c.lease.view_is in
     detaches g.B.TableName.table q c.detach_allowed.new.q c.args.by c.args.lease said _ same c.requires.sound (sym c.in_default.ensures) c.detach_allowed.ensures.done (c.detach_allowed.ensures.history said (says q said there))
-    (λ i. done_reply {B = g.row.B.Denot} (c.none.ensures i) (gives.Free (record { held = held i; turn = heir i })) (ends i) None)
+    (λ i. done_reply {B = g.row.B.Denot} (c.none.ensures i) (gives.Free (record { held = c.in-Ok.ensures.held i; turn = c.in-Ok.ensures.heir i })) (c.in-Ok.ensures.ends i) None)
 
 pub invariant_of-result : goal.invariant_of-result
-invariant_of-result g c =
-    let lease = c.lease.inside in
-    subst (IsRightOf g.B.TableName.table lease.held) (sym c.in-Ok.ensures.heir) (after_right g.B.TableName.table lease.held lease.work c.lease.invariant.right c.lease.invariant.drawn)
-
-pub invariant_of-lease : goal.invariant_of-lease
-invariant_of-lease g c =
-    let held = c.lease.inside.held in
-    record {
-      right = subst (λ (w : Work). IsRightOf g.B.TableName.table held (turn_of w)) (sym c.in-Err.ensures.back) c.lease.invariant.right;
-      drawn = subst (IsWorkOf held) (sym c.in-Err.ensures.back) c.lease.invariant.drawn;
-    }
+invariant_of-result g c = subst (λ (h : Held). IsRightOf g.B.TableName.table h c.in-Ok.field-0.heir) (sym c.in-Ok.ensures.held) c.in-Ok.ensures.right
