@@ -2,8 +2,11 @@
 use Rattle.std.proofs.Common.{◌≡◌, ℕ, ◌<◌, Bool, true, false, not, ◌&&◌, ◌||◌, List, [], ◌∷◌, ◌++◌, length, map, Option, Some, None, refl, ap, sym, ◌∙◌, subst, true≢false, arith}
 use Rattle.std.specs.Prelude.{◌==◌, if◌then◌else◌, is_none}
 use Rattle.std.specs.List.{All, find, list_any}
+use Rattle.std.specs.List.Sorted.{IsStrictlySortedBy}
+use Rattle.std.specs.Ordering.{nat_cmp}
 use Rattle.std.specs.Option.{IsSome, is_some, option_map, option_or, unwrap_or}
 use Rattle.std.proofs.lemmas.Bool.{eqb-true}
+use Rattle.std.proofs.lemmas.List.{append-nil, append_assoc, map-append}
 use Rattle.std.proofs.lemmas.List.Elements.{All-append, All-cons, All-head, All-nil, All-tail}
 use Rattle.std.proofs.lemmas.List.Folds.{list_any-append}
 use Rattle.std.proofs.lemmas.Option.{none-some}
@@ -13,15 +16,56 @@ use Rattle.sf_base.specs.declared.ids.TokenId.{TokenId}
 use Rattle.sf_commit_next.specs.sf_ready.Facts.{FactsOf, HasSame, TellsSame, has_layer, is_met, meets}
 use Rattle.sf_commit_next.specs.sf_ready.Holds.{barrier_hold, fence_hold, hold_of, pressure_hold, time_hold, undrawn_hold}
 use Rattle.sf_commit_next.specs.sf_ready.declared.hold.Hold.TheVariants as hold
-use Rattle.sf_commit_next.specs.sf_token.Pending.{Arrival, head_of, is_of}
+use Rattle.sf_commit_next.specs.sf_token.Pending.{AreTokens, Arrival, head_of, is_of}
 use Rattle.sf_commit_next.specs.sf_token.declared.looks.Looks.{Looks}
 use Rattle.sf_view.specs.sf_tree.Changes.{after}
 use Rattle.sf_commit_next.specs.sf_txn.Buffers.{Buffer}
 use Rattle.sf_commit_next.specs.sf_txn.Transactions.{Contents, without_first}
-use Rattle.sf_commit.specs.Deciding.{Comes, CommitsOne, DecidesSame, Goes, IsState, ShowsIts, round_of}
+use Rattle.sf_commit.specs.inner.Deciding.{Comes, CommitsOne, DecidesSame, Goes, IsState, ShowsIts, round_of}
+use Rattle.sf_commit_next.proofs.AskingLemmas.{asks_all, rises_right}
+use Rattle.sf_commit_next.specs.Asking.{has_token}
 use Rattle.sf_commit_next.specs.Next.{IsLookedAt, IsNextToken}
 use Rattle.sf_commit.specs.Rounds.{IsNext, Leads, Round, StageOf, committed, facts_of, frames_in, layers_in, pressed_in, shown_if, stage_after}
 use Rattle.sf_commit_next.specs.Heads.{head_hold, ready_if, ready_of}
+
+-- the numbers of tokens
+abbrev numbers_of : List TokenId → List ℕ
+numbers_of tokens = map (λ (token : TokenId). token.0) tokens
+
+module _ {L : Type 0} (pending : List (Arrival L)) where
+  -- the tokens with something pending are those that are left, and behind them those to be asked
+  pub record AsksTokens (left : List TokenId) (asking : List ℕ) : Type 0 where
+    pub all : List TokenId
+    pub tokens : AreTokens pending all
+    pub same : (numbers_of left ++ asking) ≡ numbers_of all
+
+  pub asks_begun : (all : List TokenId) (asking : List ℕ) → AreTokens pending all → asking ≡ [] → AsksTokens all asking
+  asks_begun all asking tokens none =
+      record { all = all; tokens = tokens; same = ap (λ (ks : List ℕ). numbers_of all ++ ks) none ∙ append-nil (numbers_of all) }
+
+  goes_over : (before left : List TokenId) (asking : List ℕ) (token : TokenId) → before ≡ left ++ token ∷ []
+      → (numbers_of before ++ asking) ≡ (numbers_of left ++ token.0 ∷ asking)
+  goes_over before left asking token pops =
+      ap (λ (ts : List TokenId). numbers_of ts ++ asking) pops
+      ∙ (ap (λ (ks : List ℕ). ks ++ asking) (map-append (λ (t : TokenId). t.0) left (token ∷ [])) ∙ append_assoc (numbers_of left) (token.0 ∷ []) asking)
+
+  pub asks_rising : (before left : List TokenId) (asking : List ℕ) (token : TokenId) → AsksTokens before asking → before ≡ left ++ token ∷ []
+      → IsStrictlySortedBy nat_cmp (token.0 ∷ asking)
+  asks_rising before left asking token asks pops =
+      rises_right (numbers_of left) (token.0 ∷ asking)
+      (subst (IsStrictlySortedBy nat_cmp) (sym asks.same ∙ goes_over before left asking token pops) asks.tokens.rising)
+
+  pub asks_more : (before left : List TokenId) (asking again : List ℕ) (token : TokenId) → AsksTokens before asking → before ≡ left ++ token ∷ [] → again ≡ token.0 ∷ asking
+      → AsksTokens left again
+  asks_more before left asking again token asks pops adds = record {
+    all = asks.all;
+    tokens = asks.tokens;
+    same = ap (λ (ks : List ℕ). numbers_of left ++ ks) adds ∙ (sym (goes_over before left asking token pops) ∙ asks.same);
+  }
+
+  pub asked_all : (left : List TokenId) (asking : List ℕ) → AsksTokens left asking → left ≡ [] → (token : TokenId) → has_token asking token ≡ false → head_of token pending ≡ None
+  asked_all left asking asks none =
+      asks_all pending asks.all asking (sym (ap (λ (ts : List TokenId). numbers_of ts ++ asking) none) ∙ asks.same) asks.tokens.those
 
 barriers_same : (barriers : List (LayerId × ℕ)) (fs gs : List (ℕ × ℕ)) → TellsSame fs gs → barrier_hold barriers fs ≡ barrier_hold barriers gs
 barriers_same barriers fs gs same =

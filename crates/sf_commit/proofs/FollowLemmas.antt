@@ -6,7 +6,7 @@ use Rattle.std.specs.Option.{unwrap_or}
 use Rattle.std.proofs.lemmas.Bool.{eqb-true, eq-eqb}
 use Rattle.std.proofs.lemmas.List.{length-map}
 use Rattle.std.proofs.lemmas.List.Elements.{All-cons, All-nil}
-use Rattle.sf_commit_next.specs.sf_token.Looking.{IsLookedArrival, looks_at, looks_of}
+use Rattle.sf_commit_next.specs.sf_token.Loads.{IsLookedArrival, looks_at, looks_of}
 use Rattle.sf_commit_next.specs.sf_token.Pending.{Arrival, IsRisingFrom}
 use Rattle.sf_commit_next.specs.sf_token.declared.looks.Looks.{Looks}
 use Rattle.sf_commit_next.specs.sf_txn.declared.lease.Lease.{Ghosts}

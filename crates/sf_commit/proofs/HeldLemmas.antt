@@ -13,12 +13,12 @@ use Rattle.sf_commit_next.specs.sf_ready.declared.hold.Hold.TheVariants as hold
 use Rattle.sf_commit_next.specs.sf_txn.Buffers.{Buffer}
 use Rattle.sf_commit_next.specs.sf_txn.Transactions.{without_first}
 use Rattle.sf_commit_next.specs.sf_txn.declared.lease.Lease.{Ghosts}
-use Rattle.sf_commit_next.specs.sf_token.Looking.{IsLookedArrival, looks_at, looks_of}
+use Rattle.sf_commit_next.specs.sf_token.Loads.{IsLookedArrival, looks_at, looks_of}
 use Rattle.sf_commit_next.specs.sf_token.Pending.{Arrival, IsRisingFrom, has_number, is_of}
 use Rattle.sf_commit_next.specs.sf_token.declared.looks.Looks.{Looks}
 use Rattle.sf_commit.proofs.DecideLemmas.{hold_same}
-use Rattle.sf_commit.specs.Deciding.{Comes, IsState}
-use Rattle.sf_commit.specs.Holding.{AreLooks, IsPart, held_of, is_first, told_in}
+use Rattle.sf_commit.specs.inner.Deciding.{Comes, IsState}
+use Rattle.sf_commit.specs.inner.Holding.{AreLooks, IsPart, held_of, is_first, told_in}
 use Rattle.sf_commit_next.specs.Next.{IsLookedAt}
 use Rattle.sf_commit.specs.Rounds.{Leads, Round, StageOf, committed, facts_of, held}
 

@@ -16,7 +16,7 @@ use Rattle.sf_commit.specs.Inside.{HasRoom}
 use Rattle.sf_commit.specs.Leases.{ShowsLease, pictures, pictures_here}
 use Rattle.sf_commit.specs.Lending.{AreThere, KeptRead, read_of}
 use Rattle.sf_commit.specs.OnLayers.{OnLayer, at_hand, is_on, lent_from}
-use Rattle.sf_commit.specs.Standing.{IsOnce, Stands, shown_at, shown_for}
+use Rattle.sf_commit.specs.Standing.{IsOnce, Stands, shown_for}
 
 module _ {L : Type 0} where
   -- two buffers on layers that differ in no more than where their pixels are

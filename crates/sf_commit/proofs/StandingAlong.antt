@@ -23,7 +23,7 @@ use Rattle.sf_view.proofs.sf_tree_lemmas.TreeKept.{found_itself}
 use Rattle.sf_commit_next.specs.sf_txn.Buffers.{Buffer}
 use Rattle.sf_commit_next.specs.sf_txn.Transactions.{shown_by, shows}
 use Rattle.sf_commit.proofs.StandingLemmas.{stands_edited, stands_last, stands_read, stands_shown, stands_without}
-use Rattle.sf_commit.specs.Deciding.{ShowsIts}
+use Rattle.sf_commit.specs.inner.Deciding.{ShowsIts}
 use Rattle.sf_commit.specs.Standing.{Stands, shown_at}
 use Rattle.sf_commit.specs.Handlers.{IsOnLayer}
 use Rattle.sf_commit.specs.OnLayers.{OnLayer, brought, on_after, shown_on, without}

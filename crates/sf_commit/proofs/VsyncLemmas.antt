@@ -8,7 +8,7 @@ use Rattle.sf_base.specs.declared.fences.Seen.{Seen}
 use Rattle.sf_view.specs.sf_picture.declared.picture.Picture.{Picture}
 use Rattle.sf_commit_next.specs.sf_ready.Facts.{FactsOf}
 use Rattle.sf_commit_next.specs.sf_ready.declared.hold.Hold.{Hold}
-use Rattle.sf_commit_next.specs.sf_token.Looking.{AllLeases, IsLookedArrival}
+use Rattle.sf_commit_next.specs.sf_token.Loads.{AllLeases, IsLookedArrival}
 use Rattle.sf_commit_next.specs.sf_token.Pending.{Arrival, IsRisingFrom, QueuesOf, is_of}
 use Rattle.sf_view.specs.sf_tree.Trees.{TreeOf}
 use Rattle.sf_commit_next.specs.sf_txn.Buffers.{Buffer}
@@ -22,7 +22,7 @@ use Rattle.sf_commit.proofs.KnownLemmas.{Holds, holds_along}
 use Rattle.sf_commit.proofs.LendLemmas.{many_along, placed_on, there_after, there_left, there_right}
 use Rattle.sf_commit.proofs.SettleLemmas.{reads-append, then_after}
 use Rattle.sf_commit.proofs.StandingAlong.{stands_decided}
-use Rattle.sf_commit.specs.Following.{DecidesAll, SettlesAll, begun_with}
+use Rattle.sf_commit.specs.inner.Following.{DecidesAll, SettlesAll, begun_with}
 use Rattle.sf_commit.specs.Handlers.{AreToGo, Decides, FitsHandler, HandlerOf, IsHandler, IsKept, Stops, last_of, lent_pixels, source_of}
 use Rattle.sf_commit.specs.Leases.{AllOn, IsKnownOn, IsReleaseOf, here_if, pictures, pictures_here}
 use Rattle.sf_commit.specs.Lending.{AllKept, AreThere, IsThere, KeepsSome, KeptRead, ends_of, is_at, kept_if, left_if, read_of, reads_of}

@@ -9,7 +9,7 @@ use Rattle.sf_commit_next.specs.sf_txn.Leases.{IsEyeAfter, IsShownTo}
 use Rattle.sf_commit_next.specs.sf_txn.declared.lease.Lease.{Ghosts}
 use Rattle.sf_view.specs.sf_tree.Trees.{TreeOf}
 use Rattle.sf_commit_next.specs.sf_ready.Facts.{TellsSame}
-use Rattle.sf_commit_next.specs.sf_token.Looking.{AllLeases, IsLookedArrival}
+use Rattle.sf_commit_next.specs.sf_token.Loads.{AllLeases, IsLookedArrival}
 use Rattle.sf_commit_next.specs.sf_token.Pending.{Arrival, IsRisingFrom}
 use Rattle.sf_view.specs.Views.{IsDisplay, Views}
 use Rattle.sf_view.specs.declared.drawn.Drawn.{Drawn}

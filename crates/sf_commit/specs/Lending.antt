@@ -1,5 +1,5 @@
 -- Reads that go on while their pixels are lent.
-use Rattle.std.specs.Prelude.{◌≡◌, ℕ, ◌≤◌, ◌==◌, Bool, true, false, List, [], ◌∷◌, ◌++◌, map, get_or, Option, Some, None, filter, IfSome}
+use Rattle.std.specs.Prelude.{◌≡◌, ℕ, ◌≤◌, ◌==◌, Bool, false, List, [], ◌++◌, map, get_or, Option, Some, None, filter, IfSome}
 use Rattle.std.specs.List.{All, count_by}
 use Rattle.std.specs.Option.{option_map_or}
 use Rattle.sf_view.specs.sf_picture.declared.picture.Picture.{Picture}

@@ -1,7 +1,4 @@
-pub mod Deciding
-pub mod Following
 pub mod Handlers
-pub mod Holding
 pub mod Inside
 pub mod Leases
 pub mod Lending
@@ -9,6 +6,7 @@ pub mod OnLayers
 pub mod Releases
 pub mod Rounds
 pub mod Standing
+pub mod inner
 pub use Rattle.sf_commit_next.specs.sf_calls
 pub use Rattle.sf_commit_next.specs as sf_commit_next
 pub use Rattle.sf_view.specs.sf_layer

@@ -39,6 +39,7 @@ module _ {L : Type 0} where
   lent_from place [] = []
   lent_from place (one ∷ on) = record one { place = Some place } ∷ lent_from (place + 1) on
 
+  -- the buffer is on this layer
   abbrev pub is_on : LayerId → OnLayer L → Bool
   is_on layer on = on.layer.0 == layer.0
 

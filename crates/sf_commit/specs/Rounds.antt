@@ -1,6 +1,6 @@
 -- What a vsync decides: which pending transactions it commits, in which order, and why the others wait.
 use Rattle.std.specs.Prelude.{◌≡◌, ℕ, ◌<◌, ◌==◌, Bool, false, if◌then◌else◌, List, [], ◌∷◌}
-use Rattle.std.specs.Prelude.{◌++◌, map, filter, filter_map, Option, Some, None, is_none, Result, Ok, Err}
+use Rattle.std.specs.Prelude.{◌++◌, map, filter, filter_map, Option, Some, None, Result, Ok, Err}
 use Rattle.std.specs.Option.{option_map, option_map_or}
 use Rattle.sf_base.specs.declared.fences.Seen.{Seen}
 use Rattle.sf_base.specs.declared.ids.LayerId.{LayerId}
@@ -13,7 +13,6 @@ use Rattle.sf_view.specs.sf_tree.Trees.{TreeOf}
 use Rattle.sf_commit_next.specs.sf_txn.Buffers.{Buffer}
 use Rattle.sf_commit_next.specs.sf_txn.Transactions.{shown_by, without_first}
 use Rattle.sf_commit_next.specs.sf_ready.Facts.{FactsOf}
-use Rattle.sf_commit_next.specs.sf_ready.Holds.{hold_of}
 use Rattle.sf_commit_next.specs.sf_ready.declared.hold.Hold.{Hold}
 use Rattle.sf_commit_next.specs.sf_ready.declared.hold.Hold.TheVariants as hold
 use Rattle.sf_commit_next.specs.sf_token.Pending.{Arrival, head_of, is_of}
@@ -44,6 +43,7 @@ pressed_in layers = map (λ (layer : Layer). layer.number.0) (filter (λ (layer 
 abbrev pub frames_in : List (LayerId × Shown) → List (ℕ × ℕ)
 frames_in shown = map (λ (one : LayerId × Shown). (one.0.0, one.1.frame)) shown
 
+-- the layers of shown buffers
 abbrev pub layers_in : List (LayerId × Shown) → List ℕ
 layers_in shown = map (λ (one : LayerId × Shown). one.0.0) shown
 
@@ -62,6 +62,7 @@ module _ {L : Type 0} where
   abbrev pub rejected : StageOf L → List (Buffer L) → StageOf L
   rejected stage buffers = record stage { gone = stage.gone ++ map brought buffers }
 
+  -- the stage with one more commit noted
   abbrev pub told_of : StageOf L → Commit → StageOf L
   told_of stage commit = record stage { commits = stage.commits ++ commit ∷ [] }
 
@@ -121,5 +122,6 @@ module _ {L : Type 0} where
         if option_map_or (λ (first : Arrival L). first.number == arrived.number) (head_of arrived.txn.token r.pending) false
         then head_hold drawn seen expected (facts_of r) arrived else Some hold.Behind
 
+    -- what is pending, each with why it waits
     abbrev pub held : Round L → List (ℕ × Hold)
     held r = filter_map (λ (arrived : Arrival L). option_map (λ h. (arrived.number, h)) (hold_at r arrived)) r.pending

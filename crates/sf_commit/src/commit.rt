@@ -1,8 +1,10 @@
+//! One transaction is committed or rejected as a whole: applied to the tree, its buffers on the
+//! layers, and noted for what is decided after it.
 ghost use Rattle.std.specs.Prelude.{◌≡◌, ◌++◌, ◌∷◌, [], ◌≤◌, IfOk, OnOk, length, map};
 ghost use Rattle.sf_commit.specs.OnLayers.{brought};
 ghost use Rattle.std.specs.List.{All};
 ghost use Rattle.sf_view.specs.sf_layer.Ranges.{IsOperation};
-ghost use Rattle.sf_commit.specs.Deciding.{ShowsIts};
+ghost use Rattle.sf_commit.specs.inner.Deciding.{ShowsIts};
 ghost use Rattle.sf_commit.specs.Inside.{Follows, Notes};
 ghost use Rattle.sf_commit.specs.Rounds.{accepted, pressed_in, rejected, shown_if, stage_after, told_of};
 ghost use Rattle.sf_commit_next.specs.sf_ready.Facts.{HasSame};
@@ -12,13 +14,12 @@ ghost use Rattle.sf_commit_next.specs.sf_txn.Transactions.{shown_by};
 use crate::note::note;
 use crate::on::OnLayer;
 use crate::stage::show_all;
+use crate::viewed::ViewedTree;
 use crate::vsync::Commit;
 use sf_base::{Items, LayerId, NoMemory};
-use sf_commit_next::sf_ready::Facts;
-use sf_commit_next::sf_token::Arrived;
-use sf_commit_next::sf_txn::{BufferOp, Lease, Parts};
+use sf_commit_next::{Arrived, BufferOp, Facts, Lease, Parts};
 use sf_view::sf_layer::Shown;
-use sf_view::sf_tree::{ApplyFault, Tree};
+use sf_view::sf_tree::ApplyFault;
 use std::alloc::Global;
 use std::marker::Model;
 
@@ -26,7 +27,7 @@ use std::marker::Model;
 #[derive(Drop)]
 pub(crate) struct Stage<L: Lease> {
     pub alloc: Global,
-    pub tree: Tree,
+    pub tree: ViewedTree,
     pub on: Vec<OnLayer<L>>,
     pub commits: Vec<Commit>,
     /// The buffers that go, in the order in which they left their layers.
@@ -122,6 +123,7 @@ where
         }
     }
 
+    /// Adds a commit to those that the vsync answers.
     fn tell(&mut self, commit: Commit) -> Result<(), NoMemory>
         ensures { OnOk result (self.new ≡ told_of self.old commit) }
     {

@@ -1,8 +1,10 @@
+//! The middle of a vsync: one transaction after another is committed, the next of them each time,
+//! until none is left to commit.
 ghost use Rattle.std.specs.List.{All};
 ghost use Rattle.std.specs.Prelude.{◌≡◌, false, IfOk, OnOk, None, Some};
 ghost use Rattle.sf_base.specs.declared.ids.TokenId.{TokenId};
 ghost use Rattle.sf_commit_next.specs.Asking.{has_token};
-ghost use Rattle.sf_commit.specs.Deciding.{Comes, CommitsOne, round_of};
+ghost use Rattle.sf_commit.specs.inner.Deciding.{Comes, CommitsOne, round_of};
 ghost use Rattle.sf_commit_next.specs.Next.{AreRising, IsLookedAt};
 ghost use Rattle.sf_commit.specs.Rounds.{pressed_in};
 ghost use Rattle.sf_commit_next.specs.sf_ready.Facts.{HasSame};
@@ -11,20 +13,17 @@ ghost use Rattle.sf_commit_next.specs.sf_txn.Transactions.{without_first};
 
 use crate::commit::Stage;
 use sf_base::{NoMemory, Seen, TokenId};
-use sf_commit_next::sf_ready::Facts;
-use sf_commit_next::sf_token::{Looks, TokenQueues};
-use sf_commit_next::sf_txn::Lease;
-use sf_commit_next::{Asking, next_token};
+use sf_commit_next::{Asking, Facts, Lease, Looks, TokenQueues, next_token};
 use std::alloc::Global;
 
 /// The tokens with something pending.
 fn all_tokens<L: Lease + Drop>(alloc: Global, queues: &TokenQueues<L>) -> Result<Asking, NoMemory>
     ensures { IfOk result (λ asking. (token : TokenId) → has_token asking token ≡ false → head_of token queues.now.pending ≡ None) }
 {
-    let tokens = queues.tokens()?;
+    let mut tokens = queues.tokens()?;
     let mut asking = Asking::new(alloc);
-    for token in tokens {
-        asking.add(token)?;
+    while let Some(token) = tokens.pop() {
+        asking.add_lowest(token)?;
     }
     Ok(asking)
 }

@@ -1,7 +1,9 @@
+//! The first half of a vsync: what arrived is received, each pending buffer is looked at once, and
+//! all that is ready is committed.
 ghost use Rattle.std.specs.Prelude.{[], IfOk};
-ghost use Rattle.sf_commit.specs.Following.{DecidesAll};
+ghost use Rattle.sf_commit.specs.inner.Following.{DecidesAll};
 ghost use Rattle.sf_commit.specs.Handlers.{last_of};
-ghost use Rattle.sf_commit_next.specs.sf_token.Looking.{AllLeases};
+ghost use Rattle.sf_commit_next.specs.sf_token.Loads.{AllLeases};
 ghost use Rattle.sf_commit_next.specs.sf_token.Pending.{IsRisingFrom};
 ghost use Rattle.sf_commit_next.specs.sf_txn.Leases.{IsEyeAfter};
 
@@ -11,11 +13,9 @@ use crate::held::held;
 use crate::note::note_pressed;
 use crate::on::OnLayer;
 use crate::receive::receive;
+use crate::viewed::ViewedTree;
 use sf_base::{NoMemory, Seen};
-use sf_commit_next::sf_ready::{Facts, Hold};
-use sf_commit_next::sf_token::{Arrived, TokenQueues};
-use sf_commit_next::sf_txn::Lease;
-use sf_view::sf_tree::Tree;
+use sf_commit_next::{Arrived, Facts, Hold, Lease, TokenQueues};
 use std::alloc::Global;
 
 /// Takes what arrived, looks once at each pending lease, and commits until nothing is left to
@@ -23,7 +23,7 @@ use std::alloc::Global;
 #[tactic(auto, using(crate::proofs::SettleLemmas::eye_same))]
 pub(crate) fn decide_all<L: Lease + Drop>(
     alloc: Global,
-    tree: Tree,
+    tree: ViewedTree,
     on: Vec<OnLayer<L>>,
     queues: &mut TokenQueues<L>,
     facts: &mut Facts,

@@ -1,3 +1,5 @@
+//! The compositor between two vsyncs, as its callers hold it: `vsync` does one, and `lend` and
+//! `give_back` let others read the pixels while the next one is decided.
 ghost use Rattle.std.specs.Prelude.{◌≡◌, ◌≤◌, true, false, [], IfOk, IsErr, None, OnErr, Some, is_some, map};
 ghost use Rattle.sf_commit_next.specs.sf_token.Pending.{IsRisingFrom};
 ghost use Rattle.sf_view.specs.Views.{IsDisplay};
@@ -5,7 +7,7 @@ ghost use Rattle.sf_commit.specs.Handlers.{Decides, FitsHandler, IsHandler, Stop
 ghost use Rattle.sf_commit.specs.Leases.{pictures};
 ghost use Rattle.sf_commit.specs.Lending.{AllKept, ends_of};
 ghost use Rattle.sf_commit.specs.OnLayers.{IsPlaceOf, at_hand, lent_from};
-ghost use Rattle.sf_commit_next.specs.sf_token.Looking.{AllLeases};
+ghost use Rattle.sf_commit_next.specs.sf_token.Loads.{AllLeases};
 ghost use Rattle.sf_commit_next.specs.sf_txn.Leases.{IsEyeAfter};
 
 use crate::commit::Stage;
@@ -15,11 +17,10 @@ use crate::keeping::KeptRead;
 use crate::lending::{Contents, Room, leave_unlent, mark_at_hand, mark_lent, put_back};
 use crate::opening::{Reading, gather};
 use crate::sources::index_of_shown;
+use crate::viewed::ViewedTree;
 use crate::vsync::Vsync;
 use sf_base::{Items, NoMemory, Seen};
-use sf_commit_next::sf_ready::Facts;
-use sf_commit_next::sf_token::{Arrived, TokenQueues};
-use sf_commit_next::sf_txn::Lease;
+use sf_commit_next::{Arrived, Facts, Lease, TokenQueues};
 use sf_view::sf_layer::Shown;
 use sf_view::sf_picture::Painted;
 use sf_view::sf_tree::Tree;
@@ -37,7 +38,7 @@ pub struct Handler<L: Lease> {
     alloc: Global,
     width: u32,
     height: u32,
-    tree: Tree,
+    tree: ViewedTree,
     queues: TokenQueues<L>,
     facts: Facts,
     on: Vec<Reading<L>>,
@@ -117,7 +118,7 @@ where
             alloc,
             width,
             height,
-            tree: Tree::with_limit(alloc, most)?,
+            tree: ViewedTree::with_limit(alloc, most)?,
             queues: TokenQueues::new(alloc)?,
             facts: Facts::new(alloc),
             on: Vec::new(alloc),
@@ -161,7 +162,7 @@ where
         }
         self.is_spent = true;
         let alloc = self.alloc;
-        let tree = mem::replace(&mut self.tree, Tree::new(alloc)?);
+        let tree = mem::replace(&mut self.tree, ViewedTree::with_limit(alloc, MOST_LAYERS)?);
         let is_lent = self.lent.is_some();
         self.has_changed = is_lent;
         let readings = mem::replace(&mut self.on, Vec::new(alloc));
@@ -179,7 +180,7 @@ where
             expected,
         )?;
         let Stage {
-            tree,
+            mut tree,
             on,
             commits,
             gone,
@@ -187,7 +188,8 @@ where
         } = stage;
         let settled = settle_all(
             alloc,
-            &tree,
+            &mut tree,
+            commits.is_empty(),
             on,
             gone,
             self.width,
@@ -300,7 +302,7 @@ where
         ensures tree { result.now ≡ self.now.tree }
         ensures kept { self.now.is_spent ≡ false → IsHandler L.Lease self.now }
     {
-        &self.tree
+        self.tree.tree()
     }
 
     /// The place of just this buffer, with its picture and its crop, in the contents, as they stand

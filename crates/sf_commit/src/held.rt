@@ -1,12 +1,12 @@
+//! Why each transaction that is still pending waits, asked once a vsync has committed all that was
+//! ready.
 ghost use Rattle.std.specs.Option.{IfSome, option_and_then};
 ghost use Rattle.std.specs.Prelude.{◌≡◌, IfOk, find, map};
-ghost use Rattle.sf_commit.specs.Holding.{AreLooks, held_of, hold_in, is_first, told_in};
+ghost use Rattle.sf_commit.specs.inner.Holding.{AreLooks, held_of, hold_in, is_first, told_in};
 ghost use Rattle.sf_commit_next.specs.sf_token.Pending.{Arrival, has_number};
 
 use sf_base::{NoMemory, Seen};
-use sf_commit_next::sf_ready::{Facts, Hold, hold_of};
-use sf_commit_next::sf_token::{Arrived, Looks, TokenQueues};
-use sf_commit_next::sf_txn::Lease;
+use sf_commit_next::{Arrived, Facts, Hold, Lease, Looks, TokenQueues, hold_of};
 use std::alloc::Global;
 
 /// Whether a pending transaction is the first of its token.

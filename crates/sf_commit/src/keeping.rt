@@ -1,3 +1,5 @@
+//! Reads that go on after their buffers were handed back: they are kept until the pixels that they
+//! read are back.
 ghost use Rattle.std.specs.Prelude.{◌≡◌, ◌+◌, ◌≤◌, ◌<◌, ◌++◌, ◌∷◌, [], IfOk, OnErr, OnOk, true};
 ghost use Rattle.std.specs.Vec.{vec_capacity, vec_len};
 ghost use Rattle.sf_commit.specs.Inside.{ShowsHere, place_of};
@@ -5,7 +7,7 @@ ghost use Rattle.sf_commit.specs.Leases.{HandsBack};
 
 use crate::on::Image;
 use sf_base::NoMemory;
-use sf_commit_next::sf_txn::Lease;
+use sf_commit_next::Lease;
 use std::alloc::Global;
 use std::marker::Model;
 use std::snapshot::Snapshot;

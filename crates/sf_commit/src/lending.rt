@@ -1,3 +1,5 @@
+//! The pixels of the buffers on layers, at hand or lent to whoever renders from them, and the reads
+//! that end when they come back.
 ghost use Rattle.std.specs.Prelude.{◌≡◌, ◌+◌, ◌≤◌, ◌++◌, ◌∷◌, [], IsSome, OnOk, if◌then◌else◌};
 ghost use Rattle.std.specs.Prelude.{List, Some, None, false, true, get_or, length, map, slice_set};
 ghost use Rattle.std.specs.Vec.{vec_capacity, vec_len};
@@ -11,7 +13,7 @@ use crate::keeping::KeptRead;
 use crate::on::Image;
 use crate::opening::{Reading, image_at};
 use sf_base::NoMemory;
-use sf_commit_next::sf_txn::Lease;
+use sf_commit_next::Lease;
 use sf_view::sf_picture::Painted;
 use std::alloc::Global;
 use std::marker::Model;

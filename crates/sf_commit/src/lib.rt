@@ -19,10 +19,14 @@ mod receive;
 mod settle;
 mod sources;
 mod stage;
+mod viewed;
 mod vsync;
 
 pub use handler::Handler;
 pub use lending::Contents;
-pub use sf_commit_next::{sf_calls, sf_ready, sf_token, sf_txn};
-pub use sf_view::sf_picture;
+pub use sf_commit_next::{
+    Arrivals, ArriveCall, ArriveReply, Arrived, ArrvEntry, Batch, CallFault, Hold, Lease, Object,
+    Outcome,
+};
+pub use sf_view::sf_picture::{Painted, Picture};
 pub use vsync::{Commit, Release, Vsync};

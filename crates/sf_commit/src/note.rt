@@ -1,3 +1,5 @@
+//! What later decisions rest on: which frames were committed for which layer, and which layers have
+//! backpressure. It is noted at each commit.
 ghost use Rattle.std.specs.Prelude.{◌≡◌, ◌++◌, ◌==◌, ℕ, List, Ok, OnOk, if◌then◌else◌};
 ghost use Rattle.sf_base.specs.declared.ids.LayerId.{LayerId as LayerIdValue};
 ghost use Rattle.sf_commit.specs.Inside.{Notes};
@@ -8,7 +10,7 @@ ghost use Rattle.sf_view.specs.sf_tree.Changes.{after, changed};
 ghost use Rattle.sf_view.specs.sf_tree.Trees.{TreeOf};
 
 use sf_base::{LayerId, NoMemory};
-use sf_commit_next::sf_ready::Facts;
+use sf_commit_next::Facts;
 use sf_view::sf_layer::{Layer, Op, Shown};
 
 /// Buffers were committed for their layers.

@@ -1,5 +1,7 @@
+//! A buffer on a layer: its lease, as a transaction brought it or as it is read, and where its
+//! pixels are.
 use sf_base::{Fence, LayerId};
-use sf_commit_next::sf_txn::{BufferOp, Lease};
+use sf_commit_next::{BufferOp, Lease};
 use sf_view::sf_layer::Shown;
 use sf_view::sf_picture::Painted;
 use std::marker::Model;

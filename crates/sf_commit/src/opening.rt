@@ -1,3 +1,5 @@
+//! Takes the pixels of the buffers that are newly on layers out, once what goes has been handed
+//! back.
 ghost use Rattle.std.specs.List.{All};
 ghost use Rattle.std.specs.Option.{option_to_list};
 ghost use Rattle.std.specs.Prelude.{◌≡◌, ◌<◌, ◌++◌, false, [], IfOk, None, OnOk, length, map};
@@ -8,7 +10,7 @@ ghost use Rattle.sf_commit_next.specs.sf_txn.Leases.{IsEyeAfter};
 
 use crate::on::{Image, OnLayer, Pixels};
 use sf_base::{LayerId, NoMemory};
-use sf_commit_next::sf_txn::Lease;
+use sf_commit_next::Lease;
 use sf_view::sf_layer::Shown;
 use sf_view::sf_picture::Painted;
 use std::alloc::Global;

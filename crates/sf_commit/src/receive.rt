@@ -1,10 +1,11 @@
+//! The begin of a vsync: what arrived since the last one waits behind the earlier transactions of
+//! its tokens.
 ghost use Rattle.std.specs.Prelude.{◌≡◌, ◌++◌, OnOk};
 ghost use Rattle.sf_commit.specs.Handlers.{last_of};
 ghost use Rattle.sf_commit_next.specs.sf_token.Pending.{IsRisingFrom};
 
 use sf_base::NoMemory;
-use sf_commit_next::sf_token::{Arrived, TokenQueues};
-use sf_commit_next::sf_txn::Lease;
+use sf_commit_next::{Arrived, Lease, TokenQueues};
 
 /// What arrived waits behind the earlier ones of its tokens.
 pub(crate) fn receive<L: Lease + Drop>(

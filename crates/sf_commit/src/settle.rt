@@ -1,3 +1,5 @@
+//! Frames that no layer shows any more are handed back to whoever called the vsync, and their reads
+//! are kept.
 ghost use Rattle.std.specs.List.{AllZip};
 ghost use Rattle.std.specs.Prelude.{◌≡◌, ◌+◌, ◌≤◌, ◌<◌, ◌++◌, ◌∷◌, [], IfOk, OnErr, OnOk};
 ghost use Rattle.std.specs.Vec.{vec_capacity, vec_len};
@@ -8,7 +10,7 @@ use crate::keeping::{KeptRead, keep};
 use crate::on::{OnLayer, Pixels};
 use crate::vsync::Release;
 use sf_base::{Fence, NoMemory};
-use sf_commit_next::sf_txn::Lease;
+use sf_commit_next::Lease;
 use std::alloc::Global;
 
 /// A buffer that goes is handed back: an unread one as it came, one that was read by the lease that

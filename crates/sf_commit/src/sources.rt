@@ -1,3 +1,5 @@
+//! For each drawn layer of a view, which of the buffers on layers has its pixels: composing finds
+//! them by this.
 ghost use Rattle.std.specs.BTreeMap.{get};
 ghost use Rattle.std.specs.List.{position};
 ghost use Rattle.std.specs.Option.{IfSome, unwrap_or};
@@ -8,13 +10,13 @@ ghost use Rattle.sf_commit.specs.OnLayers.{IsPlaceOf, is_on};
 
 use crate::opening::Reading;
 use sf_base::{LayerId, NoMemory};
-use sf_commit_next::sf_txn::Lease;
+use sf_commit_next::Lease;
 use sf_view::Drawn;
 use sf_view::sf_layer::Shown;
 use std::alloc::Global;
 use std::collections::BTreeMap;
 
-// Up to so many drawn layers are few: to look for their buffers costs less than a map of all places.
+// Up to so many drawn layers or buffers are few: to look for them costs less than a map of all places.
 const FEW: usize = 16;
 
 /// The place of a layer's buffer, if it shows one.
@@ -24,6 +26,7 @@ fn index_of<L: Lease>(on: &[Reading<L>], layer: LayerId) -> Option<usize>
     on.iter().position(|one| one.layer.0 == layer.0)
 }
 
+/// Whether this is the buffer that a layer shows, with the same picture and crop.
 fn is_shown<L: Lease>(one: &Reading<L>, shown: &Shown) -> bool
     ensures { IsTrue result ↔ (one.now.shown ≡ shown.now) }
 {
@@ -70,7 +73,7 @@ fn places_of<L: Lease>(alloc: Global, on: &[Reading<L>]) -> Result<BTreeMap<u32,
     Ok(places)
 }
 
-/// The places by layer, where there are many drawn layers to look for.
+/// The places by layer, where there are many drawn layers to look for, among many.
 fn places_for<L: Lease>(
     alloc: Global,
     drawn: &[Drawn],
@@ -78,7 +81,7 @@ fn places_for<L: Lease>(
 ) -> Result<Option<BTreeMap<u32, usize>>, NoMemory>
     ensures { IfOk result (λ made. IfSome made (λ places. (number : ℕ) → get nat_cmp places number ≡ position (is_on (record { 0 = number })) on.now)) }
 {
-    if drawn.len() <= FEW {
+    if drawn.len() <= FEW || on.len() <= FEW {
         return Ok(None);
     }
     Ok(Some(places_of(alloc, on)?))

@@ -1,3 +1,4 @@
+//! What applied operations make of the buffers on layers: a layer gets one, keeps it or loses it.
 ghost use Rattle.std.specs.List.{find, position};
 ghost use Rattle.std.specs.Option.{option_to_list};
 ghost use Rattle.std.specs.Prelude.{◌≡◌, ◌++◌, ◌∷◌, [], OnOk};
@@ -5,7 +6,7 @@ ghost use Rattle.sf_commit.specs.OnLayers.{brought, gone_with, is_on, on_after, 
 
 use crate::on::OnLayer;
 use sf_base::{LayerId, NoMemory};
-use sf_commit_next::sf_txn::{BufferOp, Lease};
+use sf_commit_next::{BufferOp, Lease};
 use sf_view::sf_layer::Op;
 
 /// The place of a layer's buffer, if it shows one.

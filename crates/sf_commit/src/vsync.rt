@@ -1,6 +1,7 @@
+//! What a vsync answers: its commits, the frames to release, what is held, and the view with the
+//! places of its pixels.
 use sf_base::{Fence, Items, LayerId, QueueId, TokenId};
-use sf_commit_next::sf_ready::Hold;
-use sf_commit_next::sf_txn::Lease;
+use sf_commit_next::{Hold, Lease};
 use sf_view::View;
 use sf_view::sf_layer::Shown;
 use std::marker::Model;

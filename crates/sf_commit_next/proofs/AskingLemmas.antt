@@ -1,18 +1,18 @@
 -- Which tokens a vsync has to ask yet.
-use Rattle.std.proofs.Common.{◌≡◌, ℕ, ◌<◌, Bool, true, false, cond, ◌||◌, List, [], ◌∷◌, length, map, Option, Some, None, refl, ap, sym, ◌∙◌, subst, true≢false, arith}
+use Rattle.std.proofs.Common.{◌≡◌, ℕ, ◌<◌, Bool, true, false, ◌||◌, List, [], ◌∷◌, ◌++◌, length, map, reverse, Option, Some, None, refl, ap, sym, ◌∙◌, subst, true≢false, arith}
 use Rattle.std.specs.Prelude.{◌==◌, if◌then◌else◌, is_none}
-use Rattle.std.specs.BTreeMap.{is_at}
-use Rattle.std.specs.Cmp.{ranks, unsigned_tied}
-use Rattle.std.specs.List.{All, find, list_any}
+use Rattle.std.specs.Cmp.{ranks}
+use Rattle.std.specs.List.{All, AllByRecursion, find, list_any}
+use Rattle.std.specs.List.Sorted.{IsStrictlySortedBy}
 use Rattle.std.specs.Option.{IfSome, IsSome, is_some, option_map, option_map_or, option_or}
 use Rattle.std.specs.Ordering.{MatchOrdering, nat_cmp}
 use Rattle.std.specs.declared.cmp.Ordering.TheVariants.{Less}
 use Rattle.std.proofs.lemmas.Bool.{eqb-true}
-use Rattle.std.proofs.lemmas.List.Elements.{All-head, All-tail}
+use Rattle.std.proofs.lemmas.List.{append_assoc, reverse-append}
+use Rattle.std.proofs.lemmas.List.Elements.{All-from_recursion, All-head, All-tail}
 use Rattle.sf_base.specs.declared.fences.Seen.{Seen}
 use Rattle.sf_base.specs.declared.ids.LayerId.{LayerId}
 use Rattle.sf_base.specs.declared.ids.TokenId.{TokenId}
-use Rattle.sf_ready.proofs.FactLemmas.{has_key}
 use Rattle.sf_ready.specs.Facts.{FactsOf}
 use Rattle.sf_ready.specs.Holds.{barrier_hold, fence_hold, hold_of, pressure_hold, time_hold, undrawn_hold}
 use Rattle.sf_ready.specs.declared.hold.Hold.{Hold}
@@ -45,15 +45,30 @@ or_moves false a s = refl
 same_token : (k t : TokenId) → (k.0 == t.0) ≡ true → k ≡ t
 same_token k t e = λ i. record { 0 = eqb-true k.0 t.0 e i }
 
-or_cond : (a b : Bool) → cond a true b ≡ (a || b)
-or_cond true b = refl
-or_cond false b = refl
+or_swaps : (k a s : Bool) → (k || (a || s)) ≡ (a || (k || s))
+or_swaps true true s = refl
+or_swaps true false s = refl
+or_swaps false a s = refl
 
--- a set with one token more
-pub also : (q : ℕ) (ks ls : List ℕ) → ((k : ℕ) → list_any (is_at (nat_cmp k)) ls ≡ cond (is_at (nat_cmp q) k) true (list_any (is_at (nat_cmp k)) ks)) → HasAlso ks ls (record { 0 = q })
-also q ks ls updates token =
-    sym (has_key token.0 ls) ∙ (updates token.0 ∙ (or_cond (is_at (nat_cmp q) token.0) (list_any (is_at (nat_cmp token.0)) ks)
-    ∙ (ap (λ b. b || list_any (is_at (nat_cmp token.0)) ks) (unsigned_tied q token.0) ∙ ap (λ b. (q == token.0) || b) (has_key token.0 ks))))
+-- who is in two lists is in one of them
+pub has_both : (xs ys : List ℕ) (token : TokenId) → has_token (xs ++ ys) token ≡ (has_token ys token || has_token xs token)
+has_both [] ys token = sym (or_none (has_token ys token))
+has_both (x ∷ xs) ys token = ap (λ b. (x == token.0) || b) (has_both xs ys token) ∙ or_swaps (x == token.0) (has_token ys token) (has_token xs token)
+
+-- with one more at its end a list has one token more
+pub pushed_also : (old new : List ℕ) (token : TokenId) → new ≡ old ++ token.0 ∷ [] → HasAlso old new token
+pushed_also old new token pushed other =
+    ap (λ (ks : List ℕ). has_token ks other) pushed
+    ∙ (has_both old (token.0 ∷ []) other ∙ ap (λ b. b || has_token old other) (or_none (token.0 == other.0)))
+
+-- the last number is the first from behind
+pub turned : (old new : List ℕ) (number : ℕ) → old ≡ new ++ number ∷ [] → reverse old ≡ number ∷ reverse new
+turned old new number e = ap (λ (ks : List ℕ). reverse ks) e ∙ reverse-append new (number ∷ [])
+
+-- a number moves from the begin of one list to the end of the one before it, and nothing changes in both together
+pub moved : (before after asking left : List ℕ) (number : ℕ) → after ≡ before ++ number ∷ [] → asking ≡ number ∷ left → after ++ left ≡ before ++ asking
+moved before after asking left number pushed taken =
+    ap (λ (ks : List ℕ). ks ++ left) pushed ∙ (append_assoc before (number ∷ []) left ∙ ap (λ (ks : List ℕ). before ++ ks) (sym taken))
 
 -- with the lowest taken out, they are fewer
 pub shorter : (old new : List ℕ) (token : TokenId) → TakesLowest old new (Some token) → length new < length old
@@ -76,34 +91,43 @@ none_below number (x ∷ xs) all other h =
     by_test rest less true e = absurd (omega (arith, h, less, eqb-true x other.0 e))
     by_test rest less false e = rw e rest
 
--- where a token is asked, too, the tokens that are neither asked nor to come are as before
-pub asked_more : (P : TokenId → Type 0) (old new : List ℕ) (token : TokenId) (coming after : List TokenId) → HasAlso old new token → coming ≡ token ∷ after
-    → ((t : TokenId) → has_token old t ≡ false → list_any (λ (o : TokenId). o.0 == t.0) coming ≡ false → P t)
-    → (t : TokenId) → has_token new t ≡ false → list_any (λ (o : TokenId). o.0 == t.0) after ≡ false → P t
-asked_more P old new token coming after has comes before t e none =
-    let parts = both_false (token.0 == t.0) (has_token old t) (sym (has t) ∙ e) in
-    before t parts.1
-    (ap (λ (ts : List TokenId). list_any (λ (o : TokenId). o.0 == t.0) ts) comes ∙ (ap (λ b. b || list_any (λ (o : TokenId). o.0 == t.0) after) parts.0 ∙ none))
+-- numbers that rise
+pub first_lowest : (number : ℕ) (numbers : List ℕ) → IsStrictlySortedBy nat_cmp (number ∷ numbers) → (other : TokenId) → other.0 < number → has_token numbers other ≡ false
+unfolding IsStrictlySortedBy
+first_lowest number numbers rising = none_below number numbers (All-from_recursion (λ n. nat_cmp number n ≡ Less) numbers rising.0)
+
+pub rises_none : (numbers : List ℕ) → numbers ≡ [] → IsStrictlySortedBy nat_cmp numbers
+unfolding IsStrictlySortedBy
+rises_none numbers none = subst (IsStrictlySortedBy nat_cmp) (sym none) tt
+
+pub rises_right : (xs ys : List ℕ) → IsStrictlySortedBy nat_cmp (xs ++ ys) → IsStrictlySortedBy nat_cmp ys
+unfolding IsStrictlySortedBy
+rises_right [] ys rising = rising
+rises_right (x ∷ xs) ys rising = rises_right xs ys rising.1
+
+all_without : (z : ℕ) (xs : List ℕ) (x : ℕ) (ys : List ℕ) → AllByRecursion (λ n. nat_cmp z n ≡ Less) (xs ++ x ∷ ys) → AllByRecursion (λ n. nat_cmp z n ≡ Less) (xs ++ ys)
+all_without z [] x ys all = all.1
+all_without z (w ∷ ws) x ys all = (all.0, all_without z ws x ys all.1)
+
+pub rises_without : (xs : List ℕ) (x : ℕ) (ys : List ℕ) → IsStrictlySortedBy nat_cmp (xs ++ x ∷ ys) → IsStrictlySortedBy nat_cmp (xs ++ ys)
+unfolding IsStrictlySortedBy
+rises_without [] x ys rising = rising.1
+rises_without (z ∷ zs) x ys rising = (all_without z zs x ys rising.0, rises_without zs x ys rising.1)
 
 pub nothing_left : {A : Type 0} (xs : List A) → length xs ≡ 0 → xs ≡ []
 nothing_left [] h = refl
 nothing_left (x ∷ xs) h = absurd (omega (arith, h))
 
--- where none comes any more, nothing is pending for a token that is not asked
-pub asks_all : {L : Type 0} (pending : List (Arrival L)) (numbers : List ℕ) (coming : List TokenId) → coming ≡ []
-    → ((t : TokenId) → has_token numbers t ≡ false → list_any (λ (o : TokenId). o.0 == t.0) coming ≡ false → list_any (is_of t) pending ≡ false)
+-- where the tokens to be asked are those with something pending, nothing is pending for another
+pub asks_all : {L : Type 0} (pending : List (Arrival L)) (tokens : List TokenId) (numbers : List ℕ) → numbers ≡ map (λ (t : TokenId). t.0) tokens
+    → ((t : TokenId) → list_any (λ (o : TokenId). o.0 == t.0) tokens ≡ list_any (is_of t) pending)
     → (t : TokenId) → has_token numbers t ≡ false → head_of t pending ≡ None
-asks_all pending numbers coming none asked t e =
-    not_found (is_of t) pending (asked t e (ap (λ (ts : List TokenId). list_any (λ (o : TokenId). o.0 == t.0) ts) none))
-
--- the same tokens are among both, wherever one of them is
-pub moves : (asking again stopped others : List ℕ) (token : TokenId) → HasAlso asking again token → stopped ≡ token.0 ∷ others
-    → (t : TokenId) → (has_token again t || has_token others t) ≡ (has_token asking t || has_token stopped t)
-moves asking again stopped others token also taken t =
-    ap (λ b. b || has_token others t) (also t) ∙ (or_moves (token.0 == t.0) (has_token asking t) (has_token others t) ∙ ap (λ (s : List ℕ). has_token asking t || has_token s t) (sym taken))
-
-pub moves_none : (asking stopped : List ℕ) (t : TokenId) → stopped ≡ [] → (has_token asking t || has_token stopped t) ≡ has_token asking t
-moves_none asking stopped t none = ap (λ (s : List ℕ). has_token asking t || has_token s t) none ∙ or_none (has_token asking t)
+asks_all pending tokens numbers same those t none =
+    not_found (is_of t) pending (sym (those t) ∙ (sym (listed tokens) ∙ (ap (λ (ks : List ℕ). has_token ks t) (sym same) ∙ none)))
+  where
+    listed : (ts : List TokenId) → has_token (map (λ (o : TokenId). o.0) ts) t ≡ list_any (λ (o : TokenId). o.0 == t.0) ts
+    listed [] = refl
+    listed (o ∷ os) = ap (λ b. (o.0 == t.0) || b) (listed os)
 
 -- what lasts is no barrier, and no backpressure
 or_lasting : (t f u x y : Option Hold) (h : Hold) → option_or t (option_or f (option_or u x)) ≡ Some h → (x ≡ Some h → ⊥) → option_or t (option_or f (option_or u y)) ≡ Some h

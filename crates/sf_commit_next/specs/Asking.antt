@@ -18,7 +18,7 @@ has_token numbers token = list_any (λ number. number == token.0) numbers
 
 -- the lowest of them was taken out, if there is one
 abbrev pub TakesLowest : List ℕ → List ℕ → Option TokenId → Type 0
-TakesLowest old new None = old ≡ []
+TakesLowest old new None = (old ≡ []) × (new ≡ [])
 TakesLowest old new (Some token) = (old ≡ token.0 ∷ new) × ((other : TokenId) → other.0 < token.0 → has_token new other ≡ false)
 
 -- one token more is among them

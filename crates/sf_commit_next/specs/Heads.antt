@@ -13,6 +13,7 @@ module _ {L : Type 0} (drawn : L → Bool) (seen : Seen) (expected : ℕ) where
   abbrev pub head_hold : FactsOf → Arrival L → Option Hold
   head_hold facts arrived = hold_of arrived.txn (map (λ (buffer : Buffer L). drawn buffer.lease) arrived.txn.buffers) facts seen expected
 
+  -- a transaction, where nothing holds it
   abbrev pub ready_if : FactsOf → Option (Arrival L) → Option (Arrival L)
   ready_if facts None = None
   ready_if facts (Some arrived) = if is_none (head_hold facts arrived) then Some arrived else None

@@ -1,23 +1,30 @@
-ghost use Rattle.std.specs.Prelude.{◌≡◌, [], OnOk};
-ghost use Rattle.sf_commit_next.specs.Asking.{HasAlso, TakesLowest};
+//! The tokens that may have something to commit yet in a vsync, the lowest first.
+ghost use Rattle.std.specs.List.Sorted.{IsStrictlySortedBy};
+ghost use Rattle.std.specs.Ordering.{nat_cmp};
+ghost use Rattle.std.specs.Prelude.{◌≡◌, [], ◌∷◌, OnOk};
+ghost use Rattle.sf_commit_next.specs.Asking.{TakesLowest};
 
 use sf_base::{NoMemory, TokenId};
 use std::alloc::Global;
-use std::collections::BTreeSet;
 use std::marker::Model;
 
-/// The tokens whose first transactions may commit yet in a vsync, by their numbers.
+/// The tokens whose first transactions may commit yet in a vsync, by their numbers, which rise.
 #[derive(Drop)]
 pub struct Asking {
-    tokens: BTreeSet<u32>,
+    // From the highest.
+    tokens: Vec<u32>,
 }
 
 impl Model for Asking {
-    ghost use Rattle.std.specs.Prelude.{ℕ, List};
+    ghost use Rattle.std.specs.List.Sorted.{IsStrictlySortedBy};
+    ghost use Rattle.std.specs.Ordering.{nat_cmp};
+    ghost use Rattle.std.specs.Prelude.{ℕ, List, reverse};
 
     ghost Value = { List ℕ };
 
-    ghost view = { λ a. a.tokens.keys };
+    ghost view = { λ a. reverse a.tokens.items };
+
+    ghost invariant = { λ a. IsStrictlySortedBy nat_cmp (reverse a.tokens.items) };
 }
 
 impl Asking {
@@ -26,15 +33,23 @@ impl Asking {
         ensures { result ≡ [] }
     {
         Asking {
-            tokens: BTreeSet::new(alloc),
+            tokens: Vec::new(alloc),
         }
     }
 
-    /// A token has to be asked, too.
-    pub fn add(&mut self, token: TokenId) -> Result<(), NoMemory>
-        ensures { OnOk result (HasAlso self.old self.new token) }
+    /// The numbers of the tokens rise. It tells so, and does nothing.
+    pub fn rises(&self)
+        ensures { IsStrictlySortedBy nat_cmp self.now }
     {
-        self.tokens.insert(token.0)?;
+        let _tokens = &self.tokens;
+    }
+
+    /// A token has to be asked, too, which is lower than all others.
+    pub fn add_lowest(&mut self, token: TokenId) -> Result<(), NoMemory>
+        requires { IsStrictlySortedBy nat_cmp (token.0 ∷ self.old) }
+        ensures { OnOk result (self.new ≡ token.0 ∷ self.old) }
+    {
+        self.tokens.push(token.0)?;
         Ok(())
     }
 
@@ -42,7 +57,7 @@ impl Asking {
     pub fn take_lowest(&mut self) -> Option<TokenId>
         ensures { TakesLowest self.old self.new result }
     {
-        let number = self.tokens.pop_first()?;
+        let number = self.tokens.pop()?;
         Some(TokenId(number))
     }
 }

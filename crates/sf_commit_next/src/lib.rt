@@ -8,6 +8,8 @@ mod next;
 
 pub use asking::Asking;
 pub use next::next_token;
-pub use sf_ready;
-pub use sf_token;
-pub use sf_token::{sf_calls, sf_txn};
+pub use sf_ready::{Facts, Hold, hold_of};
+pub use sf_token::{
+    Arrivals, ArriveCall, ArriveReply, Arrived, ArrvEntry, Batch, BufferOp, CallFault, Lease,
+    Looks, Object, Outcome, Parts, TokenQueues,
+};

@@ -1,6 +1,9 @@
+//! Which pending transaction commits next, asked after each commit of a vsync until there is none.
 ghost use Rattle.std.specs.List.{All};
 ghost use Rattle.std.specs.Option.{IfSome};
-ghost use Rattle.std.specs.Prelude.{◌≡◌, ◌||◌, IfOk, OnOk, true};
+ghost use Rattle.std.specs.List.Sorted.{IsStrictlySortedBy};
+ghost use Rattle.std.specs.Ordering.{nat_cmp};
+ghost use Rattle.std.specs.Prelude.{◌≡◌, ◌||◌, ◌++◌, IfOk, OnOk, true};
 ghost use Rattle.sf_base.specs.declared.ids.TokenId.{TokenId};
 ghost use Rattle.sf_commit_next.specs.Asking.{AsksEnough, FindsNext, IsAnswer, answer_of, has_token};
 ghost use Rattle.sf_commit_next.specs.Next.{AreRising, IsLookedAt, IsNextToken, drawn_for};
@@ -9,8 +12,7 @@ ghost use Rattle.sf_commit_next.specs.Heads.{head_hold, ready_of};
 use crate::asking::Asking;
 use sf_base::{NoMemory, Seen, TokenId};
 use sf_ready::{Facts, Hold, hold_of};
-use sf_token::sf_txn::Lease;
-use sf_token::{Arrived, Looks, TokenQueues};
+use sf_token::{Arrived, Lease, Looks, TokenQueues};
 use std::alloc::Global;
 
 /// What is learned of a token by asking what holds its first transaction.
@@ -83,10 +85,10 @@ fn ask<L: Lease + Drop>(
 }
 
 /// Asks the tokens from the lowest on, up to the first that is ready. It goes to those that were
-/// stopped, so that it is asked again.
+/// stopped, so that it is asked again. All that were stopped are lower than those that are left.
 fn first_ready<L: Lease + Drop>(
     asking: &mut Asking,
-    stopped: &mut Asking,
+    stopped: &mut Vec<u32>,
     queues: &TokenQueues<L>,
     looks: &[Looks],
     facts: &Facts,
@@ -95,29 +97,32 @@ fn first_ready<L: Lease + Drop>(
 ) -> Result<Option<TokenId>, NoMemory>
     requires looked { All (IsLookedAt L.shown looks.now) queues.now.pending }
     requires rising { AreRising 0 looks.now }
+    requires sorted { IsStrictlySortedBy nat_cmp (stopped.old.items ++ asking.old) }
     requires asks { AsksEnough L.shown seen.now expected asking.old queues.now.pending }
-    ensures { IfOk result (FindsNext L.shown seen.now expected facts.now queues.now.pending asking.new stopped.new) }
+    ensures next { IfOk result (FindsNext L.shown seen.now expected facts.now queues.now.pending asking.new stopped.new.items) }
+    ensures sorted { OnOk result (IsStrictlySortedBy nat_cmp (stopped.new.items ++ asking.new)) }
 {
     while let Some(token) = asking.take_lowest() {
         match ask(queues, token, looks, facts, seen, expected) {
             Answer::Ready => {
-                stopped.add(token)?;
+                stopped.push(token.0)?;
                 return Ok(Some(token));
             }
-            Answer::Stopped => stopped.add(token)?,
+            Answer::Stopped => stopped.push(token.0)?,
             Answer::Out => (),
         }
     }
     Ok(None)
 }
 
-/// Tokens that were stopped have to be asked again.
-fn ask_again(asking: &mut Asking, stopped: Asking) -> Result<(), NoMemory>
-    ensures { OnOk result ((token : TokenId) → has_token asking.new token ≡ (has_token asking.old token || has_token stopped token)) }
+/// Tokens that were stopped, which are lower than those that are left, have to be asked again.
+fn ask_again(asking: &mut Asking, stopped: Vec<u32>) -> Result<(), NoMemory>
+    requires { IsStrictlySortedBy nat_cmp (stopped.items ++ asking.old) }
+    ensures { OnOk result ((token : TokenId) → has_token asking.new token ≡ (has_token asking.old token || has_token stopped.items token)) }
 {
     let mut left = stopped;
-    while let Some(token) = left.take_lowest() {
-        asking.add(token)?;
+    while let Some(number) = left.pop() {
+        asking.add_lowest(TokenId(number))?;
     }
     Ok(())
 }
@@ -140,7 +145,8 @@ pub fn next_token<L: Lease + Drop>(
     ensures asks { OnOk result (AsksEnough L.shown seen.now expected asking.new queues.now.pending) }
     ensures among { IfOk result (λ next. IfSome next (λ token. has_token asking.new token ≡ true)) }
 {
-    let mut stopped = Asking::new(alloc);
+    asking.rises();
+    let mut stopped = Vec::new(alloc);
     let next = first_ready(asking, &mut stopped, queues, looks, facts, seen, expected)?;
     ask_again(asking, stopped)?;
     Ok(next)

@@ -4,7 +4,7 @@ use Rattle.sf_commit_next.specs.sf_token.Pending.{QueuesOf}
 use Rattle.sf_commit_next.proofs.AskingLemmas.{enough_after, out_none}
 use Rattle.sf_commit.proofs.DecideLemmas.{begins, ends, goes_on, shrinks}
 use Rattle.sf_commit_next.specs.Asking.{has_token}
-use Rattle.sf_commit.specs.Deciding.{round_of}
+use Rattle.sf_commit.specs.inner.Deciding.{round_of}
 use Rattle.sf_commit_next.specs.Next.{IsNextToken}
 use Rattle.sf_commit_next.specs.Heads.{ready_of}
 use Rattle.sf_commit.proofs.decide.decide.Goals as goal

@@ -1,6 +1,6 @@
 use Rattle.std.proofs.Common.{◌≡◌, length}
 use Rattle.sf_commit_next.specs.Asking.{AsksEnough}
-use Rattle.sf_commit.specs.Deciding.{Goes, round_of}
+use Rattle.sf_commit.specs.inner.Deciding.{Goes, round_of}
 use Rattle.sf_commit.proofs.decide.decide.Given as goal
 
 abbrev pub invariant-loop-asking : goal.invariant-loop-asking

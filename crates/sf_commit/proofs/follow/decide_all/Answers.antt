@@ -2,13 +2,13 @@ use Rattle.std.proofs.Common.{◌∙◌, ap, subst, sym}
 use Rattle.std.specs.List.{All, AllZip}
 use Rattle.sf_commit_next.specs.sf_ready.Facts.{FactsOf, HasSame}
 use Rattle.std.proofs.lemmas.List.Elements.{All-append}
-use Rattle.sf_commit_next.specs.sf_token.Looking.{AllLeases, IsLookedArrival}
+use Rattle.sf_commit_next.specs.sf_token.Loads.{AllLeases, IsLookedArrival}
 use Rattle.sf_commit_next.specs.sf_token.Pending.{Arrival, IsRisingFrom, QueuesOf}
 use Rattle.sf_commit_next.specs.sf_txn.Buffers.{Buffer}
 use Rattle.sf_commit.proofs.FollowLemmas.{looked_all, looks_rise, rising_append, rising_looked}
 use Rattle.sf_commit.proofs.HeldLemmas.{held_is, looks_begin, looks_stay}
 use Rattle.sf_commit.specs.Handlers.{last_of}
-use Rattle.sf_commit.specs.Holding.{AreLooks}
+use Rattle.sf_commit.specs.inner.Holding.{AreLooks}
 use Rattle.sf_commit_next.specs.Next.{AreRising, IsLookedAt}
 use Rattle.sf_commit.specs.Rounds.{Leads, pressed_in}
 use Rattle.sf_commit.proofs.follow.decide_all.Goals as goal

@@ -1,10 +1,9 @@
-use Rattle.std.proofs.Common.{◌≡◌, ◌||◌, length}
-use Rattle.sf_base.specs.declared.ids.TokenId.{TokenId}
-use Rattle.sf_commit_next.specs.Asking.{has_token}
+use Rattle.std.proofs.Common.{◌≡◌, ◌++◌, length}
 use Rattle.sf_commit_next.proofs.next.ask_again.Given as goal
 
-abbrev pub invariant-loop-token : goal.invariant-loop-token
-invariant-loop-token l = (token : TokenId) → (has_token l.asking token || has_token l.left token) ≡ (has_token l.fn.asking token || has_token l.fn.stopped token)
+-- what is left and what is asked again are, one behind the other, what they were
+abbrev pub invariant-loop-number : goal.invariant-loop-number
+invariant-loop-number l = (l.left.items ++ l.asking) ≡ (l.fn.stopped.items ++ l.fn.asking)
 
-abbrev pub decreases-loop-token : goal.decreases-loop-token
-decreases-loop-token l = length l.left
+abbrev pub decreases-loop-number : goal.decreases-loop-number
+decreases-loop-number l = length l.left.items

@@ -1,6 +1,5 @@
-use Rattle.std.proofs.Common.{◌≡◌, ◌∙◌, ◌≤◌, List, Some, None, ap, length, sym, subst, arith}
+use Rattle.std.proofs.Common.{◌≡◌, ◌∙◌, List, Some, None, ap, length, sym, subst, arith}
 use Rattle.std.specs.Option.{option_map}
-use Rattle.sf_view.specs.sf_picture.declared.picture.Picture.{Picture}
 use Rattle.sf_commit.proofs.LendLemmas.{length_lent}
 use Rattle.sf_commit.proofs.MarkLemmas.{lent_length, lent_made, pictures_kept, room_lent}
 use Rattle.sf_commit.specs.Handlers.{HandlerOf}

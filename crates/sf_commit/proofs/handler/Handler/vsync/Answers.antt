@@ -1,7 +1,8 @@
-use Rattle.std.proofs.Common.{◌≡◌, ◌≤◌, ◌∙◌, Bool, true, false, List, [], length, map, refl, ap, sym, subst, arith}
+use Rattle.std.proofs.Common.{◌≡◌, ◌∙◌, Bool, false, [], length, refl, ap, sym, subst, arith}
 use Rattle.std.specs.Prelude.{if◌then◌else◌}
 use Rattle.std.specs.List.{All}
 use Rattle.std.specs.Option.{option_map}
+use Rattle.std.proofs.lemmas.Result.{IfOk-from_err}
 use Rattle.sf_commit_next.specs.sf_token.Pending.{IsRisingFrom}
 use Rattle.sf_view.specs.sf_tree.Trees.{TreeOf}
 use Rattle.sf_commit_next.specs.sf_txn.Leases.{IsEyeAfter}
@@ -9,10 +10,9 @@ use Rattle.sf_commit.proofs.MarkLemmas.{room_failed, room_made, some_map}
 use Rattle.sf_commit.proofs.SettleLemmas.{eye_same}
 use Rattle.sf_commit.proofs.VsyncLemmas.{IsReadable, Makes, Tried, begins_with, decides_same, decides_vsync, fits_of, kept_as, kept_at_once, kept_early, kept_vsync, known_of, stage_on}
 use Rattle.sf_commit.proofs.VsyncLemmas.{stops_early, stops_same, tried_fit, tried_kept, tried_stops, tried_unlent}
-use Rattle.sf_commit.specs.Following.{DecidesAll}
+use Rattle.sf_commit.specs.inner.Following.{DecidesAll, SettlesAll}
 use Rattle.sf_commit.specs.Handlers.{FitsHandler, HandlerOf, last_of}
 use Rattle.sf_commit.specs.Lending.{ends_of}
-use Rattle.sf_commit.specs.OnLayers.{OnLayer}
 use Rattle.sf_commit.specs.Rounds.{StageOf}
 use Rattle.sf_commit.proofs.handler.Handler.vsync.Goals as goal
 
@@ -188,8 +188,8 @@ invariant_of-self-in_err-on g c =
       kept = inside.kept.items;
     } in
     let is_lent = c.is_some-is_lent.ensures ∙ sym (some_map (λ lent. lent.value) inside.lent) in
-    let none = ap (λ v. v.items) c.replace-readings.ensures.after ∙ c.new-2.ensures.items in
-    let empty = ap (λ v. v.items) c.replace-contents.ensures.after ∙ c.new-3.ensures.items in (
+    let none = ap (λ v. v.items) c.replace-readings.ensures.after ∙ c.new.ensures.items in
+    let empty = ap (λ v. v.items) c.replace-contents.ensures.after ∙ c.new-2.ensures.items in (
       kept_early g.L.Lease h _ inside.contents.items _ inside.has_changed _ c.self.invariant.0 none empty refl refl is_lent refl,
       room_failed _ _ (length inside.on.items) inside.has_changed _ _ _ _ _ none c.self.invariant.1 refl refl (omega arith),
     )
@@ -210,8 +210,8 @@ invariant_of-self-in_err-stage g c =
       kept = inside.kept.items;
     } in
     let is_lent = c.is_some-is_lent.ensures ∙ sym (some_map (λ lent. lent.value) inside.lent) in
-    let none = ap (λ v. v.items) c.replace-readings.ensures.after ∙ c.new-2.ensures.items in
-    let empty = ap (λ v. v.items) c.replace-contents.ensures.after ∙ c.new-3.ensures.items in (
+    let none = ap (λ v. v.items) c.replace-readings.ensures.after ∙ c.new.ensures.items in
+    let empty = ap (λ v. v.items) c.replace-contents.ensures.after ∙ c.new-2.ensures.items in (
       kept_early g.L.Lease h _ inside.contents.items _ inside.has_changed _ c.self.invariant.0 none empty refl refl is_lent refl,
       room_failed _ _ (length inside.on.items) inside.has_changed _ _ _ _ _ none c.self.invariant.1 refl refl (omega arith),
     )
@@ -255,8 +255,8 @@ invariant_of-self-in_err-on-2 g c =
     let is_lent = c.is_some-is_lent.ensures ∙ sym (some_map (λ lent. lent.value) inside.lent) in
     let kept = c.leave_unlent.ensures.kept ∙ ap (λ (b : Bool). if b then c.settle_all-settled.new.kept.items else []) is_lent in
     let left = subst (λ (b : Bool). IsEyeAfter g.L.Lease c.settle_all-settled.new.eye c.leave_unlent.new.eye (if b then [] else ends_of g.L.Lease c.settle_all-settled.new.kept.items)) is_lent c.leave_unlent.ensures.reads in
-    let none = ap (λ v. v.items) c.replace-readings.ensures.after ∙ c.new-2.ensures.items in
-    let empty = ap (λ v. v.items) c.replace-contents.ensures.after ∙ c.new-3.ensures.items in (
+    let none = ap (λ v. v.items) c.replace-readings.ensures.after ∙ c.new.ensures.items in
+    let empty = ap (λ v. v.items) c.replace-contents.ensures.after ∙ c.new-2.ensures.items in (
       tried_kept g.L.Lease h inside.facts inside.queues c.in_ok-on.on.items c.args.eye.now c.decide_all.new.eye c.settle_all-settled.new.eye c.args.arrived.items c.args.seen.now c.args.expected
           c.in_ok-stage.stage made c.in_ok-stage.held.items c.decide_all.new.queues c.decide_all.new.facts c.settle_all-settled.new.kept.items t _ _ _ none empty refl refl is_lent kept,
       room_failed _ _ (length inside.on.items) inside.has_changed _ _ _ _ _ none c.self.invariant.1 refl refl (omega arith),
@@ -301,8 +301,8 @@ invariant_of-self-in_err-make g c =
     let is_lent = c.is_some-is_lent.ensures ∙ sym (some_map (λ lent. lent.value) inside.lent) in
     let kept = c.leave_unlent.ensures.kept ∙ ap (λ (b : Bool). if b then c.settle_all-settled.new.kept.items else []) is_lent in
     let left = subst (λ (b : Bool). IsEyeAfter g.L.Lease c.settle_all-settled.new.eye c.leave_unlent.new.eye (if b then [] else ends_of g.L.Lease c.settle_all-settled.new.kept.items)) is_lent c.leave_unlent.ensures.reads in
-    let none = ap (λ v. v.items) c.replace-readings.ensures.after ∙ c.new-2.ensures.items in
-    let empty = ap (λ v. v.items) c.replace-contents.ensures.after ∙ c.new-3.ensures.items in (
+    let none = ap (λ v. v.items) c.replace-readings.ensures.after ∙ c.new.ensures.items in
+    let empty = ap (λ v. v.items) c.replace-contents.ensures.after ∙ c.new-2.ensures.items in (
       tried_kept g.L.Lease h inside.facts inside.queues c.in_ok-on.on.items c.args.eye.now c.decide_all.new.eye c.settle_all-settled.new.eye c.args.arrived.items c.args.seen.now c.args.expected
           c.in_ok-stage.stage made c.in_ok-stage.held.items c.decide_all.new.queues c.decide_all.new.facts c.settle_all-settled.new.kept.items t _ _ _ none empty refl refl is_lent kept,
       room_failed _ _ (length inside.on.items) inside.has_changed _ _ _ _ _ none c.self.invariant.1 c.make.ensures.no_slots c.make.ensures.no_contents c.make.ensures.kept,
@@ -326,7 +326,8 @@ invariant_of-self-2 g c =
     let fits = subst (λ (x : HandlerOf g.row.L.Denot). x.is_spent ≡ false → FitsHandler g.L.Lease c.args.eye.now x) (sym c.self.view_is) c.requires.fits c.if-self.false in
     let on = c.in_ok-on.ensures ∙ ap (λ v. v.items) c.replace-readings.ensures.value in
     let stage = c.stage.inside in
-    let made : StageOf g.row.L.Denot = record { tree = stage.tree; on = stage.on.items; commits = stage.commits.items; gone = stage.gone.items } in
+    let same = c.settle_all-settled.ensures.same in
+    let made : StageOf g.row.L.Denot = record { tree = c.settle_all-settled.new.tree; on = stage.on.items; commits = stage.commits.items; gone = stage.gone.items } in
     let decides = subst (λ (t : TreeOf). DecidesAll g.L.Lease t c.in_ok-on.on.items inside.facts inside.queues c.args.eye.now c.args.arrived.items c.args.seen.now c.args.expected
     c.in_ok-stage.stage c.in_ok-stage.held.items c.decide_all.new.queues c.decide_all.new.facts c.decide_all.new.eye) c.replace-tree.ensures.value c.in_ok-stage.ensures.decides in
     let is_lent = c.is_some-is_lent.ensures ∙ sym (some_map (λ lent. lent.value) inside.lent) in
@@ -341,8 +342,9 @@ invariant_of-self-2 g c =
       queues = refl;
       on_is = on;
       decides = decides;
-      stage_is = sym c.stage.view_is;
-      settles = c.in_ok-on-2.ensures.settles;
+      stage_is = sym c.stage.view_is ∙ (λ i. record { tree = sym same i; on = stage.on.items; commits = stage.commits.items; gone = stage.gone.items });
+      settles = subst (λ (t : TreeOf). SettlesAll g.L.Lease (record { tree = t; on = stage.on.items; commits = []; gone = stage.gone.items }) inside.width inside.height inside.kept.items s.on.items s.contents.items s.view
+          s.sources.items s.releases.items c.settle_all-settled.new.kept.items) (sym same) c.in_ok-on-2.ensures.settles;
       settled_eye = c.settle_all-settled.ensures.eye;
       left = left;
       kept_is = kept;
@@ -380,7 +382,8 @@ returns-clause-decides g c =
     let fits = subst (λ (x : HandlerOf g.row.L.Denot). x.is_spent ≡ false → FitsHandler g.L.Lease c.args.eye.now x) (sym c.self.view_is) c.requires.fits c.if-self.false in
     let on = c.in_ok-on.ensures ∙ ap (λ v. v.items) c.replace-readings.ensures.value in
     let stage = c.stage.inside in
-    let made : StageOf g.row.L.Denot = record { tree = stage.tree; on = stage.on.items; commits = stage.commits.items; gone = stage.gone.items } in
+    let same = c.settle_all-settled.ensures.same in
+    let made : StageOf g.row.L.Denot = record { tree = c.settle_all-settled.new.tree; on = stage.on.items; commits = stage.commits.items; gone = stage.gone.items } in
     let decides = subst (λ (t : TreeOf). DecidesAll g.L.Lease t c.in_ok-on.on.items inside.facts inside.queues c.args.eye.now c.args.arrived.items c.args.seen.now c.args.expected
     c.in_ok-stage.stage c.in_ok-stage.held.items c.decide_all.new.queues c.decide_all.new.facts c.decide_all.new.eye) c.replace-tree.ensures.value c.in_ok-stage.ensures.decides in
     let is_lent = c.is_some-is_lent.ensures ∙ sym (some_map (λ lent. lent.value) inside.lent) in
@@ -395,8 +398,9 @@ returns-clause-decides g c =
       queues = refl;
       on_is = on;
       decides = decides;
-      stage_is = sym c.stage.view_is;
-      settles = c.in_ok-on-2.ensures.settles;
+      stage_is = sym c.stage.view_is ∙ (λ i. record { tree = sym same i; on = stage.on.items; commits = stage.commits.items; gone = stage.gone.items });
+      settles = subst (λ (t : TreeOf). SettlesAll g.L.Lease (record { tree = t; on = stage.on.items; commits = []; gone = stage.gone.items }) inside.width inside.height inside.kept.items s.on.items s.contents.items s.view
+          s.sources.items s.releases.items c.settle_all-settled.new.kept.items) (sym same) c.in_ok-on-2.ensures.settles;
       settled_eye = c.settle_all-settled.ensures.eye;
       left = left;
       kept_is = kept;
@@ -411,15 +415,15 @@ returns-clause-decides g c =
     c.in_ok-stage.stage made c.in_ok-stage.held.items c.decide_all.new.queues c.decide_all.new.facts s.on.items s.contents.items s.view s.sources.items s.releases.items
     c.settle_all-settled.new.kept.items c.leave_unlent.new.kept.items m in
     decides_same g.L.Lease _ _ c.args.eye.now c.leave_unlent.new.eye c.args.arrived.items c.args.seen.now c.args.expected _ _ _ c.self.view_is
-    (λ i. record { commits = sym c.new-4.ensures i; view = s.view; sources = sym c.new-5.ensures i; releases = sym c.new-6.ensures i; held = sym c.new-7.ensures i })
+    (λ i. record { commits = sym c.new-3.ensures i; view = s.view; sources = sym c.new-4.ensures i; releases = sym c.new-5.ensures i; held = sym c.new-6.ensures i })
     told
 
 pub returns-then-self-clause-stops : goal.returns-then-self-clause-stops
 returns-then-self-clause-stops g c =
     stops_early g.L.Lease c.args.self.now _ c.args.eye.now _ c.args.arrived.items c.args.seen.now c.args.expected (ap (λ (x : HandlerOf g.row.L.Denot). x.is_spent) (sym c.self.view_is) ∙ c.if-self.true) refl refl (eye_same g.L.Lease c.args.eye.now)
 
-pub returns-in_err-new-clause-stops : goal.returns-in_err-new-clause-stops
-returns-in_err-new-clause-stops g c =
+pub returns-in_err-with_limit-clause-stops : goal.returns-in_err-with_limit-clause-stops
+returns-in_err-with_limit-clause-stops g c =
     let inside = c.self.inside in
     let h : HandlerOf g.row.L.Denot = record {
       width = inside.width;
@@ -578,3 +582,9 @@ returns-in_err-stage-clause-mark g c = c.decide_all.ensures.eye.mark
 
 pub returns-in_err-stage-clause-keeps : goal.returns-in_err-stage-clause-keeps
 returns-in_err-stage-clause-keeps g c = c.decide_all.ensures.eye.keeps
+
+pub returns-in_err-on-2-clause-decides : goal.returns-in_err-on-2-clause-decides
+returns-in_err-on-2-clause-decides g c = IfOk-from_err _ _ c.from_residual-in_err-on-2.ensures.0
+
+pub returns-in_err-make-clause-decides : goal.returns-in_err-make-clause-decides
+returns-in_err-make-clause-decides g c = IfOk-from_err _ _ c.from_residual-in_err-make.ensures.0

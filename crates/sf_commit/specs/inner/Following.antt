@@ -4,14 +4,14 @@ use Rattle.std.specs.List.{All, AllZip}
 use Rattle.sf_base.specs.declared.fences.Seen.{Seen}
 use Rattle.sf_commit_next.specs.sf_ready.Facts.{FactsOf, TellsSame}
 use Rattle.sf_commit_next.specs.sf_ready.declared.hold.Hold.{Hold}
-use Rattle.sf_commit_next.specs.sf_token.Looking.{AllLeases, IsLookedArrival}
+use Rattle.sf_commit_next.specs.sf_token.Loads.{AllLeases, IsLookedArrival}
 use Rattle.sf_commit_next.specs.sf_token.Pending.{Arrival, QueuesOf}
 use Rattle.sf_view.specs.sf_tree.Trees.{TreeOf}
 use Rattle.sf_commit_next.specs.sf_txn.Leases.{IsEyeAfter, IsShownTo}
 use Rattle.sf_commit_next.specs.sf_txn.declared.lease.Lease.{Ghosts}
 use Rattle.sf_view.specs.sf_picture.declared.picture.Picture.{Picture}
 use Rattle.sf_view.specs.Views.{ViewOf, Views}
-use Rattle.sf_commit.specs.Deciding.{ShowsIts}
+use Rattle.sf_commit.specs.inner.Deciding.{ShowsIts}
 use Rattle.sf_commit.specs.Handlers.{last_of, source_of}
 use Rattle.sf_commit.specs.Leases.{IsReleaseOf, ShowsLease, pictures_here}
 use Rattle.sf_commit.specs.Lending.{KeptRead, reads_of}

@@ -6,7 +6,7 @@ use Rattle.sf_commit_next.specs.sf_ready.Facts.{FactsOf}
 use Rattle.sf_commit_next.specs.sf_ready.declared.hold.Hold.{Hold}
 use Rattle.sf_commit_next.specs.sf_ready.declared.hold.Hold.TheVariants as hold
 use Rattle.sf_commit_next.specs.sf_txn.declared.lease.Lease.{Ghosts}
-use Rattle.sf_commit_next.specs.sf_token.Looking.{looks_of}
+use Rattle.sf_commit_next.specs.sf_token.Loads.{looks_of}
 use Rattle.sf_commit_next.specs.sf_token.Pending.{Arrival, IsRisingFrom, head_of}
 use Rattle.sf_commit_next.specs.sf_token.declared.looks.Looks.{Looks}
 use Rattle.sf_commit_next.specs.Heads.{head_hold}
