@@ -21,13 +21,13 @@ use Rattle.sf_live_threads.specs.sf_actor.Tries.{Sees}
 use Rattle.sf_play_write.specs.law_rights.Standing.{GiveAll}
 use Rattle.sf_live_threads.specs.sf_live_seats.declared.locks.Locks.{Locks}
 use Rattle.sf_live_threads.specs.sf_live_seats.declared.seats.Seats.{Seats}
-use Rattle.sf_live_threads.specs.sf_live_seats.Eyes.{SeatGoesOn}
+use Rattle.sf_live_threads.specs.sf_live_seats.Observers.{SeatGoesOn}
 use Rattle.sf_live_threads.specs.sf_live_seats.Moves.{ChangesArrivals, MadeLater, Stays, Takes}
 use Rattle.sf_live_threads.specs.sf_live_seats.Seats.{AreSeats, home_of, moments_of, view_of}
 use Rattle.sf_live_threads.proofs.sf_live_seats_lemmas.FirstSeatsKept.{stays_looked}
 use Rattle.sf_live_compositor.specs.Sitting.{HasAll, HasLent, MakesLent, MakesVsync}
 use Rattle.sf_live_compositor.specs.Vsyncs.{Sitting}
-use Rattle.sf_live_compositor.specs.declared.vsync.Made.{Made}
+use Rattle.sf_live_compositor.specs.declared.vsync.MadeVsync.{MadeVsync}
 use Rattle.sf_live_compositor.proofs.SeatGrowth.{stays_on}
 use Rattle.sf_live_compositor.proofs.Lent.{decides_behind, hand_twice}
 
@@ -133,9 +133,9 @@ module _ {B : Type 0} (lease : Ghosts ReadLeaseOf SeatView ReadLeaseOf Issued) (
   }
 
   -- and it is, once they were given back
-  pub all_given : {E : Type 0} (result : Result Made E) (old mid : Sitting B) (handler : HandlerOf ReadLeaseOf) (later : Seats B) → IfOk result (λ (made : Made). MakesLent lease table locks period old mid made.report)
+  pub all_given : {E : Type 0} (result : Result MadeVsync E) (old mid : Sitting B) (handler : HandlerOf ReadLeaseOf) (later : Seats B) → IfOk result (λ (made : MadeVsync). MakesLent lease table locks period old mid made.report)
       → SeatGoesOn mid.seats.turns later.turns → IsEyeAfter lease mid.seats.turns later.turns (ends_of lease mid.handler.kept) → handler ≡ record mid.handler { on = map at_hand mid.handler.on; lent = None; kept = [] }
-      → later ≡ record mid.seats { turns = later.turns } → IfOk result (λ (made : Made). MakesVsync lease table locks period old (record { handler = handler; seats = later; number = mid.number }) made.report)
+      → later ≡ record mid.seats { turns = later.turns } → IfOk result (λ (made : MadeVsync). MakesVsync lease table locks period old (record { handler = handler; seats = later; number = mid.number }) made.report)
   all_given (Ok made) old mid handler later makes goes back is_handler is_later =
       subst (λ (s : Sitting B). MakesVsync lease table locks period old s made.report) (λ i. record { handler = sym is_handler i; seats = sym is_later i; number = mid.number }) (makes later.turns goes back)
   all_given (Err e) old mid handler later makes goes back is_handler is_later = tt

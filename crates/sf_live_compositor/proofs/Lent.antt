@@ -10,7 +10,7 @@ use Rattle.sf_base.specs.declared.ids.LayerId.{LayerId}
 use Rattle.sf_live_threads.specs.sf_layer.declared.op.Op.{Op}
 use Rattle.sf_live_threads.specs.sf_layer.declared.op.Op.TheVariants as op
 use Rattle.sf_live_threads.specs.sf_picture.declared.picture.Picture.{Picture}
-use Rattle.sf_live_threads.specs.sf_token.Looking.{AllLeases}
+use Rattle.sf_live_threads.specs.sf_token.Loads.{AllLeases}
 use Rattle.sf_live_threads.specs.sf_token.Pending.{Arrival}
 use Rattle.sf_live_threads.specs.sf_tree.Changes.{Rejection, after}
 use Rattle.sf_live_threads.specs.sf_tree.Trees.{TreeOf}

@@ -34,7 +34,7 @@ module _ {K B : Type 0} {naming : Naming B} where
         (first : FirstSeats B) : Type 0 where
       pub same : IsSame start c
       pub few : c.vsyncs ≤ 2147483648
-      pub log : KeepsLog lease table locks c.period c.workers c.due c.plan start.decider.handler.tree.most c.timelines.items (taken start.sink.now)
+      pub log : KeepsLog lease table locks c.period c.due c.plan start.decider.handler.tree.most c.timelines.items (taken start.sink.now)
           (taken c.sink.now) c.screens (sitting_of first c)
       pub some : WritesSome (taken start.sink.now) (taken c.sink.now)
       pub faults_rise : faults start.sink.now ≤ faults c.sink.now

@@ -23,13 +23,13 @@ use Rattle.sf_play_write.specs.sf_play_report.declared.report.VsyncReport.{Vsync
 use Rattle.sf_play_write.specs.sf_output_screen.ScreenLists.{AreShown}
 use Rattle.sf_play_write.specs.sf_output_screen.declared.screens.OutputScreen.{OutputScreen}
 use Rattle.sf_live_threads.specs.sf_live_seats.declared.locks.Locks.{Locks}
-use Rattle.sf_live_threads.specs.sf_live_seats.Eyes.{SeatGoesOn}
+use Rattle.sf_live_threads.specs.sf_live_seats.Observers.{SeatGoesOn}
 use Rattle.sf_live_threads.specs.sf_live_seats.First.{KnowsNothing}
 use Rattle.sf_live_threads.specs.sf_live_seats.Seats.{AreSeats}
 use Rattle.sf_play_write.specs.sf_play.Playing.{expected_by}
 use Rattle.sf_play_write.specs.Vsyncs.{KeepsShown, vsync_shown}
 use Rattle.sf_play_write.specs.Writing.{Writes}
-use Rattle.sf_live_compositor.specs.declared.vsync.Made.{Made}
+use Rattle.sf_live_compositor.specs.declared.vsync.MadeVsync.{MadeVsync}
 use Rattle.sf_live_compositor.specs.Vsyncs.{Begin, IsVsync, More, Sitting, Vsyncs}
 
 -- a vsync's report, with the handler that it left
@@ -137,11 +137,11 @@ module _ {B : Type 0} (lease : Ghosts ReadLeaseOf SeatView ReadLeaseOf Issued) (
       → MakesVsync lease table locks period before (given_back after turns) report
 
   -- what came of making a vsync while a handler had lent its pixels: if one was made, it is such a one
-  pub record MadeLent (before after : Sitting B) (result : Result Made NoMemory) : Type 0 where
+  pub record MadeLent (before after : Sitting B) (result : Result MadeVsync NoMemory) : Type 0 where
     pub makes : (was : HandlerOf ReadLeaseOf) → HasLent was before.handler → IfOk result (λ made. MakesLent (record before { handler = was }) after made.report)
 
   -- what came of the next vsync, which is made while a handler has lent its pixels
-  pub record MakesNext (before after : Sitting B) (result : Result Made NoMemory) : Type 0 where
+  pub record MakesNext (before after : Sitting B) (result : Result MadeVsync NoMemory) : Type 0 where
     pub makes : MadeLent before after result
     pub known : OnOk result (after.handler.last ≤ taken_in (unstamped after.seats.arrivals.seen))
     pub early : OnOk result (after.seats.last.step ≤ after.number)
@@ -188,17 +188,15 @@ pub record MaySit {B : Type 0} (plan : Plan) (sitting : Sitting B) : Type 0 wher
   pub early : sitting.seats.last.step ≤ sitting.number
 
 -- a compositor's own settings
-pub record IsSet (workers period : ℕ) (plan : Plan) (timelines : List ℕ) : Type 0 where
-  pub some : 1 ≤ workers
-  pub few : workers ≤ 16
+pub record IsSet (period : ℕ) (plan : Plan) (timelines : List ℕ) : Type 0 where
   pub short : period ≤ 1000000000
   pub planned : IsPlan plan
   pub ranges : All (λ timeline. (1 ≤ timeline) × (timeline ≤ 64)) timelines
 
-module _ {B : Type 0} (lease : Ghosts ReadLeaseOf SeatView ReadLeaseOf Issued) (table : TableId) (locks : Locks B) (period workers : ℕ) where
+module _ {B : Type 0} (lease : Ghosts ReadLeaseOf SeatView ReadLeaseOf Issued) (table : TableId) (locks : Locks B) (period : ℕ) where
   -- what a compositor keeps of its vsyncs
   pub record KeepsLog (due : Option VsyncReport) (plan : Plan) (most : ℕ) (timelines : List ℕ) (before now : Option (List ℕ))
       (screens : List OutputScreen) (sitting : Sitting B) : Type 0 where
-    pub set : IsSet workers period plan timelines
+    pub set : IsSet period plan timelines
     pub sits : SitsWith lease table locks period due plan most timelines before now screens sitting
     pub may : MaySit plan sitting

@@ -21,6 +21,10 @@ pub record Sitting (B : Type 0) : Type 0 where
   pub seats : Seats B
   pub number : ℕ
 
+-- the same from its parts
+abbrev pub sitting_at : {B : Type 0} → HandlerOf ReadLeaseOf → Seats B → ℕ → Sitting B
+sitting_at handler seats number = record { handler = handler; seats = seats; number = number }
+
 module _ {B : Type 0} (lease : Ghosts ReadLeaseOf SeatView ReadLeaseOf Issued) (table : TableId) (locks : Locks B) (period : ℕ) where
   -- A vsync: a look at the timelines; what was sent is taken; the compositor decides, through its seat at the turns, for so many periods as
   -- there were vsyncs; and what goes is given back in calls, each with the number of the vsync, after all that was done before. No call that it

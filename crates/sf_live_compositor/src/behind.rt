@@ -1,32 +1,25 @@
+//! One vsync behind: the images of the last vsync are composed from pixels that are lent, while the
+//! next vsync is made; then the pixels come back.
 ghost use Rattle.std.specs.Prelude.{◌≡◌, ◌+◌, ◌<◌, ◌≤◌, false, IfOk, OnOk, length, map};
 ghost use Rattle.sf_live_threads.specs.sf_actor.Plain.{taken_in};
 ghost use Rattle.sf_play_write.specs.sf_play.Playing.{expected_by};
 ghost use Rattle.sf_live_threads.specs.sf_live_seats.Seats.{AreSeats};
 ghost use Rattle.sf_play_write.specs.Vsyncs.{AreImagesOf, AreReadableViews, KeepsShown};
 ghost use Rattle.sf_live_threads.specs.sf_calls_stamped.Stamps.{unstamped};
+ghost use Rattle.sf_live_compositor.specs.Vsyncs.{sitting_at};
 ghost use Rattle.sf_live_compositor.specs.Sitting.{HasAll, MadeLent, MakesNext, MakesVsync, MayMake, ShowsBuffers};
 
-use crate::vsync::{Made, make_and_tell};
+use crate::vsync::{MadeVsync, make_and_tell};
 use sf_base::NoMemory;
-use sf_live_threads::Look;
-use sf_live_threads::sf_commit::Handler;
-use sf_live_threads::sf_live_seats::{Locks, Seats};
-use sf_live_threads::sf_picture::Painted;
-use sf_live_threads::sf_surface::ReadLease;
-use sf_live_threads::sf_turns::TableName;
-use sf_live_threads::sf_txn::Lease;
-use sf_play_write::sf_output::Output;
-use sf_play_write::sf_output_screen::{Screen, Screens};
-use sf_play_write::sf_play_report::SourcedView;
-use sf_play_write::{Beside, compose_beside};
-use std::alloc::Global;
+use sf_live_threads::{Handler, Lease, Locks, Look, Painted, ReadLease, Seats, TableName};
+use sf_play_write::{Beside, Engine, Output, Screen, Screens, SourcedView, compose_beside};
 use std::sync::Wait;
 use std::thread::Threads;
 
 /// What comes of composing images, and of the vsync that is made beside it.
 pub(crate) type Both = (
     Result<Vec<Output<Screen>>, NoMemory>,
-    Result<Made, NoMemory>,
+    Result<MadeVsync, NoMemory>,
 );
 
 /// Tells of a compositor's layers that they are no more than they may be, and that each shows the one
@@ -52,15 +45,15 @@ struct NextVsync<'a, R, B: TableName> {
 }
 
 impl<'a, R: Wait, B: TableName> Beside for NextVsync<'a, R, B> {
-    type Done = Result<Made, NoMemory>;
+    type Done = Result<MadeVsync, NoMemory>;
 
-    ghost may = { λ next. MayMake B.table next.locks.now next.period (record { handler = next.handler.now; seats = next.seats.now; number = next.before }) };
+    ghost may = { λ next. MayMake B.table next.locks.now next.period (sitting_at next.handler.now next.seats.now next.before) };
 
     ghost does = { λ next result done. (done.seats.ghost_name ≡ next.seats.ghost_name) × (done.handler.ghost_name ≡ next.handler.ghost_name)
-        × MakesNext ⟦<ReadLease<B> as Lease>⟧ B.table next.locks.now next.period (record { handler = next.handler.now; seats = next.seats.now; number = next.before })
-        (record { handler = done.handler.now; seats = done.seats.now; number = next.before + 1 }) result };
+        × MakesNext ⟦<ReadLease<B> as Lease>⟧ B.table next.locks.now next.period (sitting_at next.handler.now next.seats.now next.before)
+        (sitting_at done.handler.now done.seats.now (next.before + 1)) result };
 
-    fn run(&mut self) -> Result<Made, NoMemory> {
+    fn run(&mut self) -> Result<MadeVsync, NoMemory> {
         make_and_tell(
             self.rt,
             &self.look,
@@ -75,9 +68,7 @@ impl<'a, R: Wait, B: TableName> Beside for NextVsync<'a, R, B> {
 
 /// Composes the images of views from pixels that are lent, and makes the next vsync beside it.
 fn compose_and_make<R: Threads + Wait + Sync, B: TableName>(
-    rt: &R,
-    alloc: Global,
-    workers: u32,
+    engine: &Engine<R>,
     screens: &mut Screens,
     contents: &[Painted],
     views: Vec<Output<SourcedView>>,
@@ -88,8 +79,6 @@ fn compose_and_make<R: Threads + Wait + Sync, B: TableName>(
     period: u64,
     before: u32,
 ) -> Both
-    requires some { 1 ≤ workers }
-    requires few { workers ≤ 16 }
     requires readable { AreReadableViews (map (λ p. p) contents.now) views.items }
     requires own { AreSeats B.table locks.now seats.old }
     requires first { seats.old.by ≡ 0 }
@@ -100,14 +89,14 @@ fn compose_and_make<R: Threads + Wait + Sync, B: TableName>(
     ensures images { IfOk result.0 (λ images. AreImagesOf (map (λ p. p) contents.now) views.items screens.old images.items) }
     ensures shown { KeepsShown screens.old screens.new }
     ensures makes { MadeLent ⟦<ReadLease<B> as Lease>⟧ B.table locks.now period
-        (record { handler = handler.old; seats = seats.old; number = before }) (record { handler = handler.new; seats = seats.new; number = before + 1 }) result.1 }
+        (sitting_at handler.old seats.old before) (sitting_at handler.new seats.new (before + 1)) result.1 }
     ensures known { OnOk result.1 (handler.new.last ≤ taken_in (unstamped seats.new.arrivals.seen)) }
     ensures early { OnOk result.1 (seats.new.last.step ≤ before + 1) }
     ensures lent { handler.new.lent ≡ handler.old.lent }
     ensures table { seats.new.turns.table ≡ seats.old.turns.table }
 {
     let mut next = NextVsync {
-        rt,
+        rt: engine.rt,
         look: *look,
         locks,
         seats,
@@ -115,16 +104,14 @@ fn compose_and_make<R: Threads + Wait + Sync, B: TableName>(
         period,
         before,
     };
-    compose_beside(rt, alloc, workers, screens, contents, views, &mut next)
+    compose_beside(engine, screens, contents, views, &mut next)
 }
 
 /// Composes the images of views from the pixels of what the handler shows, which are lent meanwhile,
 /// and makes the next vsync beside it. Frames that go are given back at once; reads of them end when
 /// the pixels come back.
 pub(crate) fn make_behind<R: Threads + Wait + Sync, B: TableName>(
-    rt: &R,
-    alloc: Global,
-    workers: u32,
+    engine: &Engine<R>,
     screens: &mut Screens,
     views: Vec<Output<SourcedView>>,
     look: &Look,
@@ -134,8 +121,6 @@ pub(crate) fn make_behind<R: Threads + Wait + Sync, B: TableName>(
     period: u64,
     before: u32,
 ) -> Both
-    requires some { 1 ≤ workers }
-    requires few { workers ≤ 16 }
     requires readable { AreReadableViews (map expected_by handler.old.on) views.items }
     requires own { AreSeats B.table locks.now seats.old }
     requires first { seats.old.by ≡ 0 }
@@ -147,7 +132,7 @@ pub(crate) fn make_behind<R: Threads + Wait + Sync, B: TableName>(
     ensures images { IfOk result.0 (λ images. AreImagesOf (map expected_by handler.old.on) views.items screens.old images.items) }
     ensures shown { KeepsShown screens.old screens.new }
     ensures makes { IfOk result.1 (λ made. MakesVsync ⟦<ReadLease<B> as Lease>⟧ B.table locks.now period
-        (record { handler = handler.old; seats = seats.old; number = before }) (record { handler = handler.new; seats = seats.new; number = before + 1 }) made.report) }
+        (sitting_at handler.old seats.old before) (sitting_at handler.new seats.new (before + 1)) made.report) }
     ensures known { OnOk result.1 (handler.new.last ≤ taken_in (unstamped seats.new.arrivals.seen)) }
     ensures early { OnOk result.1 (seats.new.last.step ≤ before + 1) }
     ensures all { HasAll handler.new }
@@ -156,9 +141,7 @@ pub(crate) fn make_behind<R: Threads + Wait + Sync, B: TableName>(
 {
     let contents = handler.lend();
     let both = compose_and_make(
-        rt,
-        alloc,
-        workers,
+        engine,
         screens,
         contents.list.as_slice(),
         views,

@@ -1,3 +1,5 @@
+//! The compositor of a live run, which the actors' threads visit: it makes a vsync at each visit,
+//! and keeps the one whose records are still to be written.
 ghost use denote.Param.Send.{IsSync};
 ghost use Rattle.std.specs.Prelude.{OnErr, OnOk};
 ghost use Rattle.sf_live_threads.specs.sf_live_seats.First.{IsFirst};
@@ -6,18 +8,9 @@ ghost use Rattle.sf_live_compositor.specs.Keeping.{HasEnded, Keeps};
 
 use crate::decider::Decider;
 use crate::showing::show_next;
-use crate::vsync::Made;
-use sf_live_threads::sf_io::Sink;
-use sf_live_threads::sf_live_seats::{FirstSeats, Locks};
-use sf_live_threads::sf_surface::ReadLease;
-use sf_live_threads::sf_turns::TableName;
-use sf_live_threads::sf_txn::Lease;
-use sf_live_threads::{Ended, Look, Visit};
-use sf_play_write::sf_output_plan::Plan;
-use sf_play_write::sf_output_screen::Screens;
-use sf_play_write::sf_play_report::VsyncReport;
-use sf_play_write::sf_record::RunFault;
-use sf_play_write::show_vsync;
+use crate::vsync::MadeVsync;
+use sf_live_threads::{Ended, FirstSeats, Lease, Locks, Look, ReadLease, Sink, TableName, Visit};
+use sf_play_write::{Engine, Plan, RunFault, Screens, VsyncReport, Workers, show_vsync};
 use std::alloc::Global;
 use std::sync::Wait;
 use std::thread::Threads;
@@ -31,7 +24,7 @@ const MOST_VSYNCS: u32 = 1 << 31;
 pub struct Compositor<'a, K, B: TableName> {
     pub alloc: Global,
     /// How many compose a frame, 1 to 16.
-    pub workers: u32,
+    pub workers: Workers,
     /// Between two vsyncs, in nanoseconds, at most a second.
     pub period: u64,
     /// The declared timelines by rising number.
@@ -73,10 +66,13 @@ impl<'a, R: Threads + Wait + Sync, K: Sink, B: TableName> Visit<R, B> for Compos
         if self.vsyncs >= MOST_VSYNCS {
             return Ok(false);
         }
-        match show_next(
+        let engine = Engine {
             rt,
-            self.alloc,
-            self.workers,
+            alloc: self.alloc,
+            workers: self.workers,
+        };
+        match show_next(
+            &engine,
             self.sink,
             &self.timelines,
             &self.plan,
@@ -90,7 +86,7 @@ impl<'a, R: Threads + Wait + Sync, K: Sink, B: TableName> Visit<R, B> for Compos
             self.vsyncs,
         ) {
             Ok(made) => {
-                let Made {
+                let MadeVsync {
                     report,
                     goes_on: _,
                     releases,
@@ -124,10 +120,13 @@ impl<'a, K: Sink, B: TableName> Compositor<'a, K, B> {
         let Some(report) = self.due.take() else {
             return Ok(());
         };
-        match show_vsync(
+        let engine = Engine {
             rt,
-            self.alloc,
-            self.workers,
+            alloc: self.alloc,
+            workers: self.workers,
+        };
+        match show_vsync(
+            &engine,
             self.sink,
             &self.timelines,
             &self.plan,

@@ -1,8 +1,7 @@
+//! The handler that decides in the vsyncs of a live run, while it lends nothing.
 ghost use Rattle.std.specs.Prelude.{◌≡◌, None};
 
-use sf_live_threads::sf_commit::Handler;
-use sf_live_threads::sf_surface::ReadLease;
-use sf_live_threads::sf_turns::TableName;
+use sf_live_threads::{Handler, ReadLease, TableName};
 
 /// What decides in the vsyncs of a compositor. It lends nothing, so that it may end at any time.
 pub struct Decider<B: TableName> {

@@ -1,54 +1,13 @@
-ghost use Rattle.std.specs.Prelude.{◌≡◌, ◌≤◌, None, OnOk, IfOk, is_ok};
-ghost use Rattle.sf_live_threads.specs.sf_calls.Calling.{IfFaultNotYet};
+//! After a vsync has decided: the frames that go are given back to their queues through the
+//! compositor's seats.
+ghost use Rattle.std.specs.Prelude.{◌≡◌, ◌≤◌, OnOk};
 ghost use Rattle.sf_play_write.specs.law_rights.Standing.{GiveAll, GivesOne};
 ghost use Rattle.sf_live_threads.specs.sf_live_seats.Moves.{ChangesPasses, MadeLater, Stays};
 ghost use Rattle.sf_live_threads.specs.sf_live_seats.Seats.{AreSeats, home_of, view_of};
 
 use sf_base::NoMemory;
-use sf_live_threads::sf_calls::CallFault;
-use sf_live_threads::sf_commit::Release;
-use sf_live_threads::sf_live_seats::{Locks, Seats};
-use sf_live_threads::sf_surface::{QCall, QReply, ReadLease};
-use sf_live_threads::sf_turns::TableName;
+use sf_live_threads::{Locks, QCall, ReadLease, Release, Seats, TableName, settle};
 use std::sync::Wait;
-
-/// Lets a reply go that ends no drawing, with what it gives.
-fn let_go<B: TableName>(reply: QReply<B>)
-    requires { reply.ends ≡ None }
-{
-    let QReply {
-        status: _status,
-        values: _values,
-        gives,
-        ends,
-        spare: _spare,
-    } = reply;
-    drop(gives);
-    match ends {
-        None => {}
-        Some(_ending) => unreachable!(),
-    }
-}
-
-/// Whether a call that gives nothing and never waits was made. Its reply is let go, and so is what
-/// comes back for want of memory.
-fn settle<B: TableName>(outcome: Result<QReply<B>, CallFault<QCall<B>>>) -> Result<(), NoMemory>
-    requires ends { IfOk outcome (λ reply. reply.ends ≡ None) }
-    requires never { IfFaultNotYet outcome (λ _. ⊥) }
-    ensures { is_ok result ≡ is_ok outcome }
-{
-    match outcome {
-        Ok(reply) => {
-            let_go(reply);
-            Ok(())
-        }
-        Err(CallFault::NotYet(_)) => unreachable!(),
-        Err(CallFault::NoMemory(call)) => {
-            drop(call);
-            Err(NoMemory)
-        }
-    }
-}
 
 /// Gives a frame back to its queue, as the compositor and for a vsync. A frame that the queue refuses
 /// is dropped. Only want of memory stops it, or a frame of no queue that is shared, which none of

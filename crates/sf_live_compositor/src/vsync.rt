@@ -1,20 +1,16 @@
+//! A vsync of a live run: it looks at the timelines, takes what arrived through the compositor's
+//! seats, decides, and gives back the frames that go; then it tells threads of its look.
 ghost use Rattle.std.specs.Prelude.{◌≡◌, ◌+◌, ◌≤◌, OnOk};
 ghost use Rattle.sf_live_threads.specs.sf_actor.Plain.{taken_in};
-ghost use Rattle.sf_play_write.specs.law_played.Progress.{is_time};
 ghost use Rattle.sf_live_threads.specs.sf_live_seats.Seats.{AreSeats};
 ghost use Rattle.sf_live_threads.specs.sf_calls_stamped.Stamps.{unstamped};
+ghost use Rattle.sf_live_compositor.specs.Vsyncs.{sitting_at};
 ghost use Rattle.sf_live_compositor.specs.Sitting.{MadeLent};
 
 use crate::release::release_all;
 use sf_base::{Items, NoMemory};
-use sf_live_threads::Look;
-use sf_live_threads::sf_commit::{Handler, Vsync};
-use sf_live_threads::sf_live_seats::{Locks, Seats};
-use sf_live_threads::sf_ready::Hold;
-use sf_live_threads::sf_surface::ReadLease;
-use sf_live_threads::sf_turns::TableName;
-use sf_live_threads::sf_txn::Lease;
-use sf_play_write::sf_play_report::VsyncReport;
+use sf_live_threads::{Handler, Lease, Locks, Look, ReadLease, Seats, TableName, Vsync};
+use sf_play_write::{VsyncReport, is_time};
 use std::sync::Wait;
 
 /// How many transactions a take gives at most where they arrive through a queue.
@@ -22,7 +18,7 @@ const MOST_TAKEN: usize = 4_096;
 
 /// What came of a vsync.
 #[derive(Drop)]
-pub(crate) struct Made {
+pub(crate) struct MadeVsync {
     /// What it did.
     pub(crate) report: VsyncReport,
     /// Whether another one may do more with nothing else done: it committed something, something waits
@@ -30,16 +26,6 @@ pub(crate) struct Made {
     pub(crate) goes_on: bool,
     /// Whether frames went, so that reads of them may end once the pixels are given back.
     pub(crate) releases: bool,
-}
-
-/// Whether it is held until its time.
-fn is_time(entry: &(u32, Hold)) -> bool
-    ensures { result ≡ is_time entry.now.1 }
-{
-    match entry.1 {
-        Hold::Time(_) => true,
-        _ => false,
-    }
 }
 
 /// Makes the next vsync, where so many were made before: it looks at the timelines, takes what arrived,
@@ -52,7 +38,7 @@ fn make_vsync<R: Wait, B: TableName>(
     handler: &mut Handler<ReadLease<B>>,
     period: u64,
     before: u32,
-) -> Result<Made, NoMemory>
+) -> Result<MadeVsync, NoMemory>
     requires own { AreSeats B.table locks.now seats.old }
     requires first { seats.old.by ≡ 0 }
     requires known { handler.old.last ≤ taken_in (unstamped seats.old.arrivals.seen) }
@@ -60,7 +46,7 @@ fn make_vsync<R: Wait, B: TableName>(
     requires few { before ≤ 2147483648 }
     requires early { seats.old.last.step ≤ before }
     ensures makes { MadeLent ⟦<ReadLease<B> as Lease>⟧ B.table locks.now period
-        (record { handler = handler.old; seats = seats.old; number = before }) (record { handler = handler.new; seats = seats.new; number = before + 1 }) result }
+        (sitting_at handler.old seats.old before) (sitting_at handler.new seats.new (before + 1)) result }
     ensures known { OnOk result (handler.new.last ≤ taken_in (unstamped seats.new.arrivals.seen)) }
     ensures early { OnOk result (seats.new.last.step ≤ before + 1) }
     ensures lent { handler.new.lent ≡ handler.old.lent }
@@ -78,7 +64,9 @@ fn make_vsync<R: Wait, B: TableName>(
         releases,
         held,
     } = seats.vsync(handler, arrived, &seen, expected)?;
-    let goes_on = is_full || !commits.as_slice().is_empty() || held.as_slice().iter().any(is_time);
+    let goes_on = is_full
+        || !commits.as_slice().is_empty()
+        || held.as_slice().iter().any(|entry| is_time(entry));
     let has_released = !releases.as_slice().is_empty();
     release_all(rt, locks, seats, number, releases.into_vec())?;
     let report = VsyncReport {
@@ -89,7 +77,7 @@ fn make_vsync<R: Wait, B: TableName>(
         view,
         sources,
     };
-    Ok(Made {
+    Ok(MadeVsync {
         report,
         goes_on,
         releases: has_released,
@@ -105,7 +93,7 @@ pub(crate) fn make_and_tell<R: Wait, B: TableName>(
     handler: &mut Handler<ReadLease<B>>,
     period: u64,
     before: u32,
-) -> Result<Made, NoMemory>
+) -> Result<MadeVsync, NoMemory>
     requires own { AreSeats B.table locks.now seats.old }
     requires first { seats.old.by ≡ 0 }
     requires known { handler.old.last ≤ taken_in (unstamped seats.old.arrivals.seen) }
@@ -113,7 +101,7 @@ pub(crate) fn make_and_tell<R: Wait, B: TableName>(
     requires few { before ≤ 2147483648 }
     requires early { seats.old.last.step ≤ before }
     ensures makes { MadeLent ⟦<ReadLease<B> as Lease>⟧ B.table locks.now period
-        (record { handler = handler.old; seats = seats.old; number = before }) (record { handler = handler.new; seats = seats.new; number = before + 1 }) result }
+        (sitting_at handler.old seats.old before) (sitting_at handler.new seats.new (before + 1)) result }
     ensures known { OnOk result (handler.new.last ≤ taken_in (unstamped seats.new.arrivals.seen)) }
     ensures early { OnOk result (seats.new.last.step ≤ before + 1) }
     ensures lent { handler.new.lent ≡ handler.old.lent }

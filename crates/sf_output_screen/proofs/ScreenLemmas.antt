@@ -90,14 +90,14 @@ composed_behind xs ys old len long room part =
     ap (λ (l : List ℕ). drop 8 l) (take_at (put_mid 8 (length xs - 8) xs ys) _ len put)
     ∙ behind xs ys (omega (arith, long, room)) (omega (arith, long, part))
 
--- the screen of an output by its place among all, or the bare one where it has none
-pub own_at : (screens : List OutputScreen) (of : Output (Unit {0})) (place : ℕ) (one : OutputScreen) → Some place ≡ position (is_of of) screens → one ≡ get_or screens place one → one.screen ≡ screen_of screens of
-own_at screens of place one e is = elim (cases_Bool (nat_lt (position_or_len (is_of of) screens) (length screens))) [
+-- the screen of an output by its index among all, or the bare one where it has none
+pub own_at : (screens : List OutputScreen) (of : Output (Unit {0})) (index : ℕ) (one : OutputScreen) → Some index ≡ position (is_of of) screens → one ≡ get_or screens index one → one.screen ≡ screen_of screens of
+own_at screens of index one e is = elim (cases_Bool (nat_lt (position_or_len (is_of of) screens) (length screens))) [
   | inl below ↦
-      let same : place ≡ position_or_len (is_of of) screens = same_Some place (position_or_len (is_of of) screens) (rw below at e) in
-      let there : slice_get screens place ≡ Some one = slice_get_read screens (length screens) place one refl (subst (λ (n : ℕ). n < length screens) (sym same) (ltb-true (position_or_len (is_of of) screens) (length screens) below)) is in
+      let same : index ≡ position_or_len (is_of of) screens = same_Some index (position_or_len (is_of of) screens) (rw below at e) in
+      let there : slice_get screens index ≡ Some one = slice_get_read screens (length screens) index one refl (subst (λ (n : ℕ). n < length screens) (sym same) (ltb-true (position_or_len (is_of of) screens) (length screens) below)) is in
       sym (ap (λ (o : Option OutputScreen). option_map_or (λ (one : OutputScreen). one.screen) o bare_screen) (find_at (is_of of) screens ∙ (ap (slice_get screens) (sym same) ∙ there)))
-  | inr none ↦ absurd (none-some place (sym (rw none at e)))
+  | inr none ↦ absurd (none-some index (sym (rw none at e)))
 ]
 
 pub bare_at : (screens : List OutputScreen) (of : Output (Unit {0})) → None ≡ position (is_of of) screens → bare_screen ≡ screen_of screens of

@@ -15,9 +15,9 @@ AreShown pictures screens = All (λ (one : OutputScreen). IsShown pictures one.s
 -- the same output
 abbrev pub is_same : Output (Unit {0}) → Output (Unit {0}) → Bool
 is_same (out.Frame u) (out.Frame v) = true
-is_same (out.Display place u) (out.Display other v) = place == other
-is_same (out.Capture place u) (out.Capture other v) = place == other
-is_same (out.Hit place layer) (out.Hit other there) = place == other
+is_same (out.Display output u) (out.Display other v) = output == other
+is_same (out.Capture output u) (out.Capture other v) = output == other
+is_same (out.Hit output layer) (out.Hit other there) = output == other
 is_same _ _ = false
 
 -- a screen is of this output

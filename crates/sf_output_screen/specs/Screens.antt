@@ -40,27 +40,27 @@ pub record IsSameSize (frame : List ℕ) (new old : ViewOf) : Type 0 where
 -- the output has an image
 abbrev pub is_image : Output (Unit {0}) → Bool
 is_image (out.Frame u) = true
-is_image (out.Display place u) = true
-is_image (out.Capture place u) = true
-is_image (out.Hit place layer) = false
+is_image (out.Display output u) = true
+is_image (out.Capture output u) = true
+is_image (out.Hit output layer) = false
 
 -- the number of a further display or of a capture, 0 for the frame of the scene's own display
-abbrev pub place_of : Output (Unit {0}) → ℕ
-place_of (out.Frame u) = 0
-place_of (out.Display place u) = place
-place_of (out.Capture place u) = place
-place_of (out.Hit place layer) = place
+abbrev pub output_of : Output (Unit {0}) → ℕ
+output_of (out.Frame u) = 0
+output_of (out.Display output u) = output
+output_of (out.Capture output u) = output
+output_of (out.Hit output layer) = output
 
 -- the record's body begins at the last of the numbers for the frame of the scene's own display, and else at the first
 abbrev pub begin_of : Output (Unit {0}) → ℕ
 begin_of (out.Frame u) = 4
-begin_of (out.Display place u) = 0
-begin_of (out.Capture place u) = 0
-begin_of (out.Hit place layer) = 0
+begin_of (out.Display output u) = 0
+begin_of (out.Capture output u) = 0
+begin_of (out.Hit output layer) = 0
 
 -- the numbers in front of an image: of its display or capture, and of its vsync
 abbrev pub numbers_of : Output (Unit {0}) → ℕ → List ℕ
-numbers_of of number = big_bytes 4 (place_of of) ++ big_bytes 4 number
+numbers_of of number = big_bytes 4 (output_of of) ++ big_bytes 4 number
 
 -- the numbers with which the body of an image's record begins
 abbrev pub head_of : Output (Unit {0}) → ℕ → List ℕ

@@ -2,10 +2,13 @@
 //! from the last one is anything painted, and of each layer only what shows of it.
 #![tactic(auto)]
 
+mod engine;
 mod screen;
 mod screens;
+mod workers;
 
+pub use engine::Engine;
 pub use screen::Screen;
 pub use screens::Screens;
-pub use sf_compose;
-pub use sf_compose::{sf_picture, sf_view};
+pub use sf_compose::{Painted, Pixels, View};
+pub use workers::Workers;

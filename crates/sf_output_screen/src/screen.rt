@@ -1,3 +1,5 @@
+//! One output's last view with its frame: the next view is composed over it, only where the two
+//! differ, with room in front for the numbers of its record.
 ghost use Rattle.std.specs.Prelude.{◌≡◌, ◌≤◌, ◌+◌, ◌*◌, ◌++◌, ℕ, ℤ, pos, true, OnErr, OnOk, IfOk, drop, length, map, take};
 ghost use Rattle.byteorder.specs.Endian.{big_bytes};
 ghost use Rattle.sf_base.specs.Geometry.{covers};
@@ -6,14 +8,12 @@ ghost use Rattle.sf_compose.specs.Readings.{AreReadable};
 ghost use Rattle.sf_compose.specs.Sources.{HasSources};
 ghost use Rattle.sf_compose.specs.sf_picture.declared.picture.Picture.{Picture};
 ghost use Rattle.sf_compose.specs.sf_region.Points.{has};
-ghost use Rattle.sf_output_screen.specs.Screens.{IsSameSize, begin_of, place_of};
+ghost use Rattle.sf_output_screen.specs.Screens.{IsSameSize, begin_of, output_of};
 
+use crate::engine::Engine;
 use byteorder::{BigEndian, ByteOrder};
 use sf_base::{NoMemory, Rect};
-use sf_compose::sf_damage::{dirty, visible};
-use sf_compose::sf_region::Region;
-use sf_compose::sf_view::View;
-use sf_compose::{Pixels, compose, compose_seen_by};
+use sf_compose::{Pixels, Region, View, compose, compose_seen_by, dirty, visible};
 use sf_output::Output;
 use std::alloc::Global;
 use std::marker::Model;
@@ -64,28 +64,24 @@ fn display(alloc: Global, view: &View) -> Result<Region, NoMemory>
     Region::rect(alloc, rect)
 }
 
-/// Composes a view by so many workers, behind room for the numbers of its frame.
+/// Composes a view, behind room for the numbers of its frame.
 fn compose_first<R: Threads + Sync, C: Pixels + Sync>(
-    rt: &R,
-    alloc: Global,
-    workers: u32,
+    engine: &Engine<R>,
     view: &View,
     contents: &[C],
     sources: &[u32],
 ) -> Result<Vec<u8>, NoMemory>
-    requires some { 1 ≤ workers }
-    requires few { workers ≤ 16 }
     requires readable { AreReadable (map C.picture contents.now) view.now.drawn sources.now }
     ensures room { IfOk result (λ body. length body.items ≡ 8 + 4 * (view.now.width * view.now.height)) }
     ensures shows { IfOk result (λ body. (picture : ℕ → Picture) → HasSources picture view.now (map C.picture contents.now) sources.now
         → ShowsView picture view.now (drop 8 body.items)) }
 {
     let size = 4 * (view.width as usize * view.height as usize);
-    let mut body = vec![in alloc; 0u8; ROOM + size]?;
-    let part = display(alloc, view)?;
+    let mut body = vec![in engine.alloc; 0u8; ROOM + size]?;
+    let part = display(engine.alloc, view)?;
     compose(
-        rt,
-        workers,
+        engine.rt,
+        engine.workers.count,
         view,
         contents,
         sources,
@@ -95,19 +91,15 @@ fn compose_first<R: Threads + Sync, C: Pixels + Sync>(
     Ok(body)
 }
 
-/// Composes a view by so many workers over the frame of an older one, where they differ.
+/// Composes a view over the frame of an older one, where they differ.
 fn compose_again<R: Threads + Sync, C: Pixels + Sync>(
-    rt: &R,
-    alloc: Global,
-    workers: u32,
+    engine: &Engine<R>,
     old: &View,
     view: &View,
     contents: &[C],
     sources: &[u32],
     frame: &mut [u8],
 ) -> Result<(), NoMemory>
-    requires some { 1 ≤ workers }
-    requires few { workers ≤ 16 }
     requires same { IsSameSize frame.old view.now old.now }
     requires readable { AreReadable (map C.picture contents.now) view.now.drawn sources.now }
     ensures size { length frame.new ≡ length frame.old }
@@ -115,24 +107,29 @@ fn compose_again<R: Threads + Sync, C: Pixels + Sync>(
         → ShowsView picture old.now frame.old → ShowsView picture view.now frame.new) }
     ensures err { OnErr result (frame.new ≡ frame.old) }
 {
-    let part = dirty(alloc, old, view)?;
-    let shows = visible(alloc, view, &part)?;
-    compose_seen_by(rt, workers, view, contents, sources, &shows, &part, frame)
+    let part = dirty(engine.alloc, old, view)?;
+    let shows = visible(engine.alloc, view, &part)?;
+    compose_seen_by(
+        engine.rt,
+        engine.workers.count,
+        view,
+        contents,
+        sources,
+        &shows,
+        &part,
+        frame,
+    )
 }
 
 /// The same behind room for the numbers of the frame.
 fn compose_behind<R: Threads + Sync, C: Pixels + Sync>(
-    rt: &R,
-    alloc: Global,
-    workers: u32,
+    engine: &Engine<R>,
     old: &View,
     view: &View,
     contents: &[C],
     sources: &[u32],
     body: &mut [u8],
 ) -> Result<(), NoMemory>
-    requires some { 1 ≤ workers }
-    requires few { workers ≤ 16 }
     requires room { ROOM ≤ length body.old }
     requires same { IsSameSize (drop 8 body.old) view.now old.now }
     requires readable { AreReadable (map C.picture contents.now) view.now.drawn sources.now }
@@ -142,27 +139,27 @@ fn compose_behind<R: Threads + Sync, C: Pixels + Sync>(
     ensures err { OnErr result (body.new ≡ body.old) }
 {
     let frame = &mut body[ROOM..];
-    compose_again(rt, alloc, workers, old, view, contents, sources, frame)
+    compose_again(engine, old, view, contents, sources, frame)
 }
 
 /// Puts two numbers in front of a frame.
-fn put_numbers(body: &mut [u8], place: u32, number: u32)
+fn put_numbers(body: &mut [u8], output: u32, number: u32)
     requires room { ROOM ≤ length body.old }
-    ensures numbers { take 8 body.new ≡ big_bytes 4 place ++ big_bytes 4 number }
+    ensures numbers { take 8 body.new ≡ big_bytes 4 output ++ big_bytes 4 number }
     ensures rest { drop 8 body.new ≡ drop 8 body.old }
     ensures long { length body.new ≡ length body.old }
 {
-    BigEndian::write_u32(&mut body[..NUMBER], place);
+    BigEndian::write_u32(&mut body[..NUMBER], output);
     BigEndian::write_u32(&mut body[NUMBER..ROOM], number);
 }
 
 /// The number of a further display or of a capture, 0 for the frame of the scene's own display.
-fn place_of(of: &Output<()>) -> u32
-    ensures { result ≡ place_of of.now }
+fn output_of(of: &Output<()>) -> u32
+    ensures { result ≡ output_of of.now }
 {
     match of {
         Output::Frame(_) => 0,
-        Output::Display(place, _) | Output::Capture(place, _) | Output::Hit(place, _) => *place,
+        Output::Display(output, _) | Output::Capture(output, _) | Output::Hit(output, _) => *output,
     }
 }
 
@@ -224,19 +221,16 @@ impl Screen {
     }
 
     /// Shows a view, over the frame of the last one where that has its size and neither draws more
-    /// than 2,048 layers; so many workers, 1 to 16, compose its frame, each some of its rows. A layer
-    /// that shows a buffer finds its pixels among the contents, at the place that stands for the layer
+    /// than 2,048 layers; the workers of the engine compose its frame, each some of its rows. A layer
+    /// that shows a buffer finds its pixels among the contents, at the index that stands for the layer
     /// in `sources`. After want of memory the screen is as it was.
     pub fn show<R: Threads + Sync, C: Pixels + Sync>(
         &mut self,
-        rt: &R,
-        workers: u32,
+        engine: &Engine<R>,
         view: View,
         contents: &[C],
         sources: &[u32],
     ) -> Result<(), NoMemory>
-        requires some { 1 ≤ workers }
-        requires few { workers ≤ 16 }
         requires readable { AreReadable (map C.picture contents.now) view.drawn sources.now }
         ensures shown { OnOk result ((picture : ℕ → Picture) → HasSources picture view (map C.picture contents.now) sources.now
             → IsShown picture self.old → IsShown picture self.new) }
@@ -247,9 +241,9 @@ impl Screen {
         match &self.view {
             Some(old) if is_composed_over(old, &view) => {
                 let body = &mut self.body;
-                compose_behind(rt, self.alloc, workers, old, &view, contents, sources, body)?;
+                compose_behind(engine, old, &view, contents, sources, body)?;
             }
-            _ => self.body = compose_first(rt, self.alloc, workers, &view, contents, sources)?,
+            _ => self.body = compose_first(engine, &view, contents, sources)?,
         }
         self.view = Some(view);
         Ok(())
@@ -274,7 +268,7 @@ impl Screen {
         requires shows { is_some self.old.view ≡ true }
         ensures { self.new ≡ record self.old { numbers = numbers_of of.now number } }
     {
-        put_numbers(&mut self.body, place_of(of), number);
+        put_numbers(&mut self.body, output_of(of), number);
     }
 
     /// The body of the record of this output, of which the view that was shown last is: the numbers

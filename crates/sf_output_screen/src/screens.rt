@@ -1,10 +1,12 @@
+//! The screens of all outputs of a run: one is taken out for each image of a vsync and put back
+//! once that is written.
 ghost use Rattle.std.specs.List.{position};
 ghost use Rattle.std.specs.Prelude.{◌≡◌};
 ghost use Rattle.sf_output_screen.specs.ScreenLists.{is_of, is_same};
 
 use crate::screen::Screen;
 use sf_base::NoMemory;
-use sf_compose::sf_view::View;
+use sf_compose::View;
 use sf_output::Output;
 use std::alloc::Global;
 use std::marker::Model;
@@ -29,8 +31,8 @@ fn is_same(one: &Output<()>, other: &Output<()>) -> bool
     }
 }
 
-/// The place of the screen of an output, if it has one.
-fn place_of(screens: &[OutputScreen], of: &Output<()>) -> Option<usize>
+/// The index of the screen of an output, if it has one.
+fn index_of(screens: &[OutputScreen], of: &Output<()>) -> Option<usize>
     ensures { result ≡ position (is_of of.now) screens.now }
 {
     screens.iter().position(|one| is_same(&one.of, of))
@@ -83,9 +85,9 @@ impl Screens {
         ensures shown { (pictures : ℕ → Picture) → AreShown pictures self.old → IsShown pictures result }
         ensures others { (pictures : ℕ → Picture) → AreShown pictures self.old → AreShown pictures self.new }
     {
-        match place_of(&self.list, of) {
-            Some(place) => {
-                let OutputScreen { of: _, screen } = self.list.remove(place);
+        match index_of(&self.list, of) {
+            Some(index) => {
+                let OutputScreen { of: _, screen } = self.list.remove(index);
                 screen
             }
             None => Screen::new(self.alloc),

@@ -1,7 +1,7 @@
 pub mod WritingLemmas
 pub mod VsyncLemmas
 pub mod ClosingLemmas
-pub mod TurnLemmas
+pub mod ActionLemmas
 pub mod RunLemmas
 pub use Rattle.sf_play.proofs.law_played_lemmas
 pub use Rattle.sf_play.proofs.sf_actor_set_lemmas

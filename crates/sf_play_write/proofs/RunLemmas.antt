@@ -22,10 +22,10 @@ use Rattle.sf_play.specs.Players.{PlayerOf}
 use Rattle.sf_play.specs.Standing.{Begins}
 use Rattle.sf_play_write.specs.Closings.{closing_of}
 use Rattle.sf_play_write.specs.Runs.{CutRun, WroteRun}
-use Rattle.sf_play_write.specs.Turns.{HasWritten, IsReady, IsWriting}
+use Rattle.sf_play_write.specs.inner.Rows.{HasWritten, IsReady, IsWriting}
 use Rattle.sf_play_write.specs.Writing.{Writes, WritesPart}
 use Rattle.sf_play_write.proofs.ClosingLemmas.{closing_is}
-use Rattle.sf_play_write.proofs.TurnLemmas.{cut_so_far, timelines_are}
+use Rattle.sf_play_write.proofs.ActionLemmas.{cut_so_far, timelines_are}
 use Rattle.sf_play_write.proofs.WritingLemmas.{part_more, part_none, writes_more}
 
 -- nothing was shown: only the first record is there

@@ -6,7 +6,7 @@ use Rattle.std.proofs.lemmas.List.Elements.{All-cons, All-nil}
 use Rattle.byteorder.specs.Endian.{big_bytes}
 use Rattle.std.proofs.lemmas.Bool.{false≢true}
 use Rattle.std.proofs.lemmas.List.{drop_at, take_at}
-use Rattle.sf_play.specs.sf_commit.declared.vsync.Commit.{Commit as Decided}
+use Rattle.sf_play.specs.sf_commit.declared.vsync.Commit.{Commit}
 use Rattle.sf_output_screen.proofs.sf_compose_lemmas.RowLemmas.{frame_bytes-same}
 use Rattle.sf_output_screen.specs.sf_compose.Again.{ShowsView}
 use Rattle.sf_output_screen.specs.sf_compose.Frames.{frame_bytes}
@@ -21,7 +21,7 @@ use Rattle.sf_play.specs.sf_record.Events.{output_record, vsync_records}
 use Rattle.sf_play.specs.sf_record.Records.{BeginsImage, u32_bytes}
 use Rattle.sf_play.specs.sf_record.Records.{image_in as record_in}
 use Rattle.sf_play.specs.sf_record.declared.encode.RunFault.{RunFault}
-use Rattle.sf_play.specs.sf_record.declared.event.VsyncReport.{VsyncReport as Told}
+use Rattle.sf_play.specs.sf_record.declared.event.VsyncRecords.{VsyncRecords}
 use Rattle.sf_play.specs.sf_record.declared.record.Record.{Record}
 use Rattle.sf_play.specs.sf_record.declared.record.Record.TheVariants as rec
 use Rattle.sf_play.specs.sf_play_report.Reports.{has_commits}
@@ -65,27 +65,27 @@ pub image_begins : (of : Output (Unit {0})) (number : ℕ) (body frame : List �
 unfolding u32_bytes
 image_begins (out.Frame u) number body frame image is =
     ap (take 4) (is ∙ ap (λ (head : List ℕ). head ++ frame) (frame_head number)) ∙ take_at (big_bytes 4 number) frame 4 refl
-image_begins (out.Display place u) number body frame image is = ap (take 8) is ∙ take_at (big_bytes 4 place ++ big_bytes 4 number) frame 8 refl
-image_begins (out.Capture place u) number body frame image is = ap (take 8) is ∙ take_at (big_bytes 4 place ++ big_bytes 4 number) frame 8 refl
-image_begins (out.Hit place layer) number body frame image is = absurd (false≢true image)
+image_begins (out.Display output u) number body frame image is = ap (take 8) is ∙ take_at (big_bytes 4 output ++ big_bytes 4 number) frame 8 refl
+image_begins (out.Capture output u) number body frame image is = ap (take 8) is ∙ take_at (big_bytes 4 output ++ big_bytes 4 number) frame 8 refl
+image_begins (out.Hit output layer) number body frame image is = absurd (false≢true image)
 
 -- the record of an image by its body
 pub image_is : (of : Output (Unit {0})) (number : ℕ) (body frame : List ℕ) → is_image of ≡ true → body ≡ head_of of number ++ frame → record_in of number body ≡ image_record of number frame
 image_is (out.Frame u) number body frame image is =
     ap (λ (pixels : List ℕ). rec.Fram (record { number = number; pixels = pixels }))
     (ap (drop 4) (is ∙ ap (λ (head : List ℕ). head ++ frame) (frame_head number)) ∙ drop_at (big_bytes 4 number) frame 4 refl)
-image_is (out.Display place u) number body frame image is =
-    ap (λ (pixels : List ℕ). rec.Frad (record { place = place; number = number; pixels = pixels })) (ap (drop 8) is ∙ drop_at (big_bytes 4 place ++ big_bytes 4 number) frame 8 refl)
-image_is (out.Capture place u) number body frame image is =
-    ap (λ (pixels : List ℕ). rec.Capt (record { place = place; number = number; pixels = pixels })) (ap (drop 8) is ∙ drop_at (big_bytes 4 place ++ big_bytes 4 number) frame 8 refl)
-image_is (out.Hit place layer) number body frame image is = absurd (false≢true image)
+image_is (out.Display output u) number body frame image is =
+    ap (λ (pixels : List ℕ). rec.Frad (record { output = output; number = number; pixels = pixels })) (ap (drop 8) is ∙ drop_at (big_bytes 4 output ++ big_bytes 4 number) frame 8 refl)
+image_is (out.Capture output u) number body frame image is =
+    ap (λ (pixels : List ℕ). rec.Capt (record { output = output; number = number; pixels = pixels })) (ap (drop 8) is ∙ drop_at (big_bytes 4 output ++ big_bytes 4 number) frame 8 refl)
+image_is (out.Hit output layer) number body frame image is = absurd (false≢true image)
 
 -- one that commits something has its records, and one that commits nothing has none
-pub its_records : (commits : List Decided) (told : Told) → has_commits commits ≡ true → vsync_records told ≡ records_if commits told
+pub its_records : (commits : List Commit) (told : VsyncRecords) → has_commits commits ≡ true → vsync_records told ≡ records_if commits told
 its_records [] told is = absurd (false≢true is)
 its_records (commit ∷ commits) told is = refl
 
-pub no_records : (commits : List Decided) (told : Told) → has_commits commits ≡ false → [] ≡ records_if commits told
+pub no_records : (commits : List Commit) (told : VsyncRecords) → has_commits commits ≡ false → [] ≡ records_if commits told
 no_records [] told is = refl
 no_records (commit ∷ commits) told is = absurd (false≢true (sym is))
 

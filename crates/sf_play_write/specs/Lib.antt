@@ -1,8 +1,8 @@
 pub mod Closings
 pub mod Runs
-pub mod Turns
 pub mod Vsyncs
 pub mod Writing
+pub mod inner
 pub use Rattle.sf_play.specs.law_played
 pub use Rattle.sf_play.specs.law_rights
 pub use Rattle.sf_play.specs.sf_actor_set

@@ -2,14 +2,14 @@
 use Rattle.std.specs.Prelude.{◌≡◌, ℕ, true, if◌then◌else◌, is_some, List, [], map}
 use Rattle.std.specs.List.{All, AllZip}
 use Rattle.sf_output_screen.specs.sf_picture.declared.picture.Picture.{Picture}
-use Rattle.sf_play.specs.sf_commit.declared.vsync.Commit.{Commit as Decided}
+use Rattle.sf_play.specs.sf_commit.declared.vsync.Commit.{Commit}
 use Rattle.sf_output_screen.specs.sf_layer.declared.layer.Layer.{Layer}
 use Rattle.sf_output.specs.Outputs.{IsOutput, OfImage, map_output}
 use Rattle.sf_output.specs.declared.output.Output.{Output}
 use Rattle.sf_play.specs.sf_output_plan.Due.{ImageDue, ShowsDue, outputs_due}
 use Rattle.sf_play.specs.sf_output_plan.declared.plan.Plan.{Plan}
 use Rattle.sf_play.specs.sf_record.Events.{output_record, vsync_records}
-use Rattle.sf_play.specs.sf_record.declared.event.VsyncReport.{VsyncReport as Told}
+use Rattle.sf_play.specs.sf_record.declared.event.VsyncRecords.{VsyncRecords}
 use Rattle.sf_play.specs.sf_record.declared.record.Record.{Record}
 use Rattle.sf_play.specs.sf_play_report.Stages.{FindsPictures, IsReadableView, shows_frame}
 use Rattle.sf_play.specs.sf_play_report.declared.report.VsyncReport.{VsyncReport}
@@ -23,7 +23,7 @@ use Rattle.sf_output_screen.specs.declared.screens.OutputScreen.{OutputScreen}
 use Rattle.sf_play_write.specs.declared.vsync.VsyncFacts.{VsyncFacts}
 
 -- what the records of a vsync show, which leaves these layers
-abbrev pub told_with : (ℕ → Picture) → Plan → List ℕ → VsyncReport → List Layer → Told
+abbrev pub told_with : (ℕ → Picture) → Plan → List ℕ → VsyncReport → List Layer → VsyncRecords
 told_with pictures plan timelines report layers = record {
   number = report.number;
   expected = report.expected;
@@ -33,7 +33,7 @@ told_with pictures plan timelines report layers = record {
 }
 
 -- the records of a vsync; one that commits nothing has none
-abbrev pub records_if : List Decided → Told → List Record
+abbrev pub records_if : List Commit → VsyncRecords → List Record
 records_if [] told = []
 records_if commits told = vsync_records told
 
@@ -56,7 +56,7 @@ FindPictures pictures contents views = All (OfImage (FindsPictures pictures cont
 abbrev pub IsViewDue : ImageDue → SourcedView → Type 0
 IsViewDue due sourced = ShowsDue due sourced.view
 
-abbrev pub AreViewsDue : Plan → List Layer → List Decided → List (Output SourcedView) → Type 0
+abbrev pub AreViewsDue : Plan → List Layer → List Commit → List (Output SourcedView) → Type 0
 AreViewsDue plan layers commits views =
     AllZip (IsOutput IsViewDue) (if shows_frame commits then outputs_due plan layers else []) views
 
@@ -95,7 +95,7 @@ abbrev pub pixels_in : List (Output ScreenOf) → List (Output (List ℕ))
 pixels_in images = map (map_output (λ (screen : ScreenOf). screen.frame)) images
 
 -- what the records of a vsync show, of which these are the pixels
-abbrev pub told_by : List ℕ → VsyncFacts → List (Output (List ℕ)) → Told
+abbrev pub told_by : List ℕ → VsyncFacts → List (Output (List ℕ)) → VsyncRecords
 told_by timelines facts shown = record {
   number = facts.number;
   expected = facts.expected;

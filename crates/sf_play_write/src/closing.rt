@@ -1,3 +1,5 @@
+//! What ends the records of a run, behind its last vsync: what arrived, the history of each queue,
+//! what is held, who is stuck, and that nothing more comes. Plays and live runs write it alike.
 ghost use Rattle.std.specs.Prelude.{◌≡◌, ◌≤◌, ◌∷◌, ◌++◌, [], All, IfOk, IsErrOf, OnErr, OnOk, length, map, option_to_list};
 ghost use Rattle.sf_io.specs.Causes.{Rose};
 ghost use Rattle.sf_play.specs.sf_record.declared.record.Record.TheVariants as rec;
@@ -9,13 +11,10 @@ ghost use Rattle.sf_play.specs.sf_actor_steps.declared.actor.Actor.{Actor as Act
 use crate::writing::write_made;
 use sf_base::{Items, NoMemory};
 use sf_io::Sink;
-use sf_play::Player;
-use sf_play::sf_actor_steps::Actor;
-use sf_play::sf_play_report::{arrivals_record, held_record, history_record};
-use sf_play::sf_ready::Hold;
-use sf_play::sf_record::{Record, RunFault, StuckEntry};
-use sf_play::sf_surface::QueueObject;
-use sf_play::sf_turns::TableName;
+use sf_play::{
+    Actor, Hold, Player, QueueObject, Record, RunFault, StuckEntry, TableName, arrivals_record,
+    held_record, history_record,
+};
 use std::alloc::Global;
 
 /// An actor that has not done all its steps, with its next one.

@@ -1,5 +1,7 @@
+//! From the views of a vsync to its images: each is composed on the screen of its own output. A
+//! live run composes beside the next vsync, in a thread of its own where that is worth its start.
 ghost use denote.Param.Send.{IsSync};
-ghost use Rattle.std.specs.Prelude.{◌≡◌, ◌≤◌, ℕ, IfOk, IfSome, is_some, map, true};
+ghost use Rattle.std.specs.Prelude.{◌≡◌, ℕ, IfOk, IfSome, is_some, map, true};
 ghost use Rattle.sf_output.specs.Outputs.{IsOutput, OfImage};
 ghost use Rattle.sf_output_screen.specs.sf_picture.declared.picture.Picture.{Picture};
 ghost use Rattle.sf_play.specs.sf_play_report.Stages.{FindsPictures, IsReadableView};
@@ -8,11 +10,8 @@ ghost use Rattle.sf_play_write.specs.Vsyncs.{AreImagesOf, AreReadableViews, HasV
 
 use sf_base::NoMemory;
 use sf_output::Output;
-use sf_output_screen::sf_compose::Pixels;
-use sf_output_screen::sf_view::View;
-use sf_output_screen::{Screen, Screens};
-use sf_play::sf_play_report::SourcedView;
-use std::alloc::Global;
+use sf_output_screen::{Engine, Pixels, Screen, Screens, View};
+use sf_play::SourcedView;
 use std::thread;
 use std::thread::Threads;
 
@@ -21,18 +20,15 @@ use std::thread::Threads;
 /// mostly takes less than a thread takes to begin.
 const WORTH_A_THREAD: u64 = 4_194_304;
 
-/// Shows a view on the screen that is the output's, which at most so many workers compose. The screen
+/// Shows a view on the screen that is the output's. The screen
 /// is taken out.
 fn compose_on<R: Threads + Sync, C: Pixels + Sync>(
-    rt: &R,
-    workers: u32,
+    engine: &Engine<R>,
     screens: &mut Screens,
     contents: &[C],
     of: &Output<()>,
     sourced: SourcedView,
 ) -> Result<Screen, NoMemory>
-    requires some { 1 ≤ workers }
-    requires few { workers ≤ 16 }
     requires readable { IsReadableView (map C.picture contents.now) sourced }
     ensures view { IfOk result HasView }
     ensures image { (pictures : ℕ → Picture) → FindsPictures pictures (map C.picture contents.now) sourced → AreShown pictures screens.old
@@ -41,20 +37,17 @@ fn compose_on<R: Threads + Sync, C: Pixels + Sync>(
 {
     let SourcedView { view, sources } = sourced;
     let mut screen = screens.take(of);
-    screen.show(rt, workers, view, contents, sources.as_slice())?;
+    screen.show(engine, view, contents, sources.as_slice())?;
     Ok(screen)
 }
 
 /// Composes the image of one of the things that a vsync shows, if it has one.
 fn compose_output<R: Threads + Sync, C: Pixels + Sync>(
-    rt: &R,
-    workers: u32,
+    engine: &Engine<R>,
     screens: &mut Screens,
     contents: &[C],
     output: Output<SourcedView>,
 ) -> Result<Output<Screen>, NoMemory>
-    requires some { 1 ≤ workers }
-    requires few { workers ≤ 16 }
     requires readable { OfImage (IsReadableView (map C.picture contents.now)) output }
     ensures view { IfOk result (OfImage HasView) }
     ensures image { (pictures : ℕ → Picture) → OfImage (FindsPictures pictures (map C.picture contents.now)) output → AreShown pictures screens.old
@@ -64,42 +57,38 @@ fn compose_output<R: Threads + Sync, C: Pixels + Sync>(
     match output {
         Output::Frame(sourced) => {
             let of = Output::Frame(());
-            let screen = compose_on(rt, workers, screens, contents, &of, sourced)?;
+            let screen = compose_on(engine, screens, contents, &of, sourced)?;
             Ok(Output::Frame(screen))
         }
-        Output::Display(place, sourced) => {
-            let of = Output::Display(place, ());
-            let screen = compose_on(rt, workers, screens, contents, &of, sourced)?;
-            Ok(Output::Display(place, screen))
+        Output::Display(number, sourced) => {
+            let of = Output::Display(number, ());
+            let screen = compose_on(engine, screens, contents, &of, sourced)?;
+            Ok(Output::Display(number, screen))
         }
-        Output::Capture(place, sourced) => {
-            let of = Output::Capture(place, ());
-            let screen = compose_on(rt, workers, screens, contents, &of, sourced)?;
-            Ok(Output::Capture(place, screen))
+        Output::Capture(number, sourced) => {
+            let of = Output::Capture(number, ());
+            let screen = compose_on(engine, screens, contents, &of, sourced)?;
+            Ok(Output::Capture(number, screen))
         }
-        Output::Hit(place, layer) => Ok(Output::Hit(place, layer)),
+        Output::Hit(number, layer) => Ok(Output::Hit(number, layer)),
     }
 }
 
 /// Composes the images of views, one after another, each on the screen of its output, which is taken
-/// out; at most so many workers compose each.
+/// out.
 pub fn compose_views<R: Threads + Sync, C: Pixels + Sync>(
-    rt: &R,
-    alloc: Global,
-    workers: u32,
+    engine: &Engine<R>,
     screens: &mut Screens,
     contents: &[C],
     views: Vec<Output<SourcedView>>,
 ) -> Result<Vec<Output<Screen>>, NoMemory>
-    requires some { 1 ≤ workers }
-    requires few { workers ≤ 16 }
     requires readable { AreReadableViews (map C.picture contents.now) views.items }
     ensures images { IfOk result (λ images. AreImagesOf (map C.picture contents.now) views.items screens.old images.items) }
     ensures shown { KeepsShown screens.old screens.new }
 {
-    let mut images = Vec::new(alloc);
+    let mut images = Vec::new(engine.alloc);
     for output in views {
-        let image = compose_output(rt, workers, screens, contents, output)?;
+        let image = compose_output(engine, screens, contents, output)?;
         images.push(image)?;
     }
     Ok(images)
@@ -122,11 +111,11 @@ fn is_worth(screens: &Screens, views: &[Output<SourcedView>]) -> bool {
     for output in views {
         work = work.saturating_add(match output {
             Output::Frame(sourced) => work_of(screens, &Output::Frame(()), &sourced.view),
-            Output::Display(place, sourced) => {
-                work_of(screens, &Output::Display(*place, ()), &sourced.view)
+            Output::Display(number, sourced) => {
+                work_of(screens, &Output::Display(*number, ()), &sourced.view)
             }
-            Output::Capture(place, sourced) => {
-                work_of(screens, &Output::Capture(*place, ()), &sourced.view)
+            Output::Capture(number, sourced) => {
+                work_of(screens, &Output::Capture(*number, ()), &sourced.view)
             }
             Output::Hit(_, _) => 0,
         });
@@ -136,22 +125,18 @@ fn is_worth(screens: &Screens, views: &[Output<SourcedView>]) -> bool {
 
 /// Composes the images of the views that are there, and leaves none.
 fn compose_next<R: Threads + Sync, C: Pixels + Sync>(
-    rt: &R,
-    alloc: Global,
-    workers: u32,
+    engine: &Engine<R>,
     screens: &mut Screens,
     contents: &[C],
     next: &mut Option<Vec<Output<SourcedView>>>,
 ) -> Result<Vec<Output<Screen>>, NoMemory>
-    requires some { 1 ≤ workers }
-    requires few { workers ≤ 16 }
     requires there { is_some next.old ≡ true }
     requires readable { IfSome next.old (λ views. AreReadableViews (map C.picture contents.now) views.items) }
     ensures images { IfSome next.old (λ views. IfOk result (λ images. AreImagesOf (map C.picture contents.now) views.items screens.old images.items)) }
     ensures shown { KeepsShown screens.old screens.new }
 {
     match next.take() {
-        Some(views) => compose_views(rt, alloc, workers, screens, contents, views),
+        Some(views) => compose_views(engine, screens, contents, views),
         None => unreachable!(),
     }
 }
@@ -177,16 +162,12 @@ pub trait Beside {
 /// the contents are lent to that thread, and are back once both are done. Where no thread can be
 /// started, the caller composes.
 fn compose_apart<R: Threads + Sync, C: Pixels + Sync, M: Beside>(
-    rt: &R,
-    alloc: Global,
-    workers: u32,
+    engine: &Engine<R>,
     screens: &mut Screens,
     contents: &[C],
     views: Vec<Output<SourcedView>>,
     other: &mut M,
 ) -> (Result<Vec<Output<Screen>>, NoMemory>, M::Done)
-    requires some { 1 ≤ workers }
-    requires few { workers ≤ 16 }
     requires readable { AreReadableViews (map C.picture contents.now) views.items }
     requires may { M.may other.old }
     ensures images { IfOk result.0 (λ images. AreImagesOf (map C.picture contents.now) views.items screens.old images.items) }
@@ -196,32 +177,27 @@ fn compose_apart<R: Threads + Sync, C: Pixels + Sync, M: Beside>(
     let mut next = Some(views);
     let mut composing = || -> Result<Vec<Output<Screen>>, NoMemory>
         requires sync { IsSync R.row × IsSync C.row }
-        requires workers { (1 ≤ workers) × (workers ≤ 16) }
         requires there { is_some next ≡ true }
         requires readable { IfSome next (λ views. AreReadableViews (map C.picture contents.now) views.items) }
         ensures images { IfSome next.entry (λ views. IfOk result (λ images. AreImagesOf (map C.picture contents.entry.now) views.items screens.entry.now images.items)) }
         ensures shown { KeepsShown screens.entry.now screens.exit.now }
-    { compose_next(rt, alloc, workers, screens, contents, &mut next) };
+    { compose_next(engine, screens, contents, &mut next) };
     let mut running = || -> M::Done
         requires may { M.may other.now }
         ensures does { M.does other.entry.now result other.exit.now }
     { other.run() };
-    thread::join_mut(rt, &mut composing, &mut running)
+    thread::join_mut(engine.rt, &mut composing, &mut running)
 }
 
 /// Runs `other`, and composes the images of views as [`compose_views`] does: beside it, in a thread of
 /// its own, where that is worth its start, and else behind it.
 pub fn compose_beside<R: Threads + Sync, C: Pixels + Sync, M: Beside>(
-    rt: &R,
-    alloc: Global,
-    workers: u32,
+    engine: &Engine<R>,
     screens: &mut Screens,
     contents: &[C],
     views: Vec<Output<SourcedView>>,
     other: &mut M,
 ) -> (Result<Vec<Output<Screen>>, NoMemory>, M::Done)
-    requires some { 1 ≤ workers }
-    requires few { workers ≤ 16 }
     requires readable { AreReadableViews (map C.picture contents.now) views.items }
     requires may { M.may other.old }
     ensures images { IfOk result.0 (λ images. AreImagesOf (map C.picture contents.now) views.items screens.old images.items) }
@@ -229,11 +205,8 @@ pub fn compose_beside<R: Threads + Sync, C: Pixels + Sync, M: Beside>(
     ensures does { M.does other.old result.1 other.new }
 {
     if is_worth(screens, &views) {
-        return compose_apart(rt, alloc, workers, screens, contents, views, other);
+        return compose_apart(engine, screens, contents, views, other);
     }
     let done = other.run();
-    (
-        compose_views(rt, alloc, workers, screens, contents, views),
-        done,
-    )
+    (compose_views(engine, screens, contents, views), done)
 }

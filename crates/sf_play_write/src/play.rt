@@ -1,3 +1,6 @@
+//! A whole play: the record that it begins with, one action of the player after another with the
+//! records of what it did, and the records that end it. It is what `sf_app` calls for a scene that
+//! is played on one thread.
 ghost use Rattle.std.specs.Prelude.{◌≡◌, ◌∷◌, ◌+◌, ◌<◌, ◌≤◌, [], ℕ, All, IfErr, IfOk, IsErrOf, List, OnErr, OnOk, Option, true};
 ghost use Rattle.sf_play.specs.sf_actor.Scripts.{picture_at};
 ghost use Rattle.sf_play.specs.sf_actor_set.Opening.{IsSortedFrom};
@@ -9,7 +12,7 @@ ghost use Rattle.sf_play.specs.law_played.Played.{opening};
 ghost use Rattle.sf_play.specs.sf_script_scene.Scene.{SceneValue};
 ghost use Rattle.sf_output_screen.specs.ScreenLists.{AreShown};
 ghost use Rattle.sf_play_write.specs.Runs.{CutRun, WroteRun};
-ghost use Rattle.sf_play_write.specs.Turns.{HasWritten, IsReady, IsWriting, MayShowTurn, TurnsOn, is_end, newest_shown, turn_shown};
+ghost use Rattle.sf_play_write.specs.inner.Rows.{HasWritten, IsReady, IsWriting, MayShowAction, GoesOnWriting, is_end, newest_shown, action_shown};
 ghost use Rattle.sf_play_write.specs.Writing.{Writes, WritesPart};
 ghost use Rattle.sf_play.specs.sf_turns.Counts.{range};
 
@@ -18,15 +21,11 @@ use crate::vsync::show_vsync;
 use crate::writing::write_made;
 use sf_base::NoMemory;
 use sf_io::Sink;
-use sf_output_screen::Screens;
-use sf_output_screen::sf_picture::Painted;
-use sf_play::sf_actor::Reply;
-use sf_play::sf_output_plan::Plan;
-use sf_play::sf_play_report::{plan_of, reply_record};
-use sf_play::sf_record::{Record, RunFault, SceneHeader};
-use sf_play::sf_script_scene::Scene;
-use sf_play::sf_turns::{Stock, TableName, TurnSeat};
-use sf_play::{Player, Turn};
+use sf_output_screen::{Engine, Painted, Screens};
+use sf_play::{
+    Action, Plan, Player, Record, Reply, RunFault, Scene, SceneHeader, Stock, TableName, TurnSeat,
+    plan_of, reply_record,
+};
 use std::alloc::Global;
 use std::thread::Threads;
 
@@ -65,49 +64,44 @@ fn write_newest<K: Sink>(alloc: Global, sink: &mut K, replies: &[Reply]) -> Resu
     }
 }
 
-fn is_end(turn: &Turn) -> bool
-    ensures { result ≡ is_end turn.now }
+/// Whether nothing will be done any more.
+fn is_end(action: &Action) -> bool
+    ensures { result ≡ is_end action.now }
 {
-    match turn {
-        Turn::End => true,
+    match action {
+        Action::End => true,
         _ => false,
     }
 }
 
-/// Writes what a turn shows: the reply to a step, or what a vsync committed, with what it shows.
-fn write_turn<R: Threads + Sync, K: Sink, B: TableName>(
-    rt: &R,
-    alloc: Global,
-    workers: u32,
+/// Writes what an action shows: the reply to a step, or what a vsync committed, with what it shows.
+fn write_action<R: Threads + Sync, K: Sink, B: TableName>(
+    engine: &Engine<R>,
     sink: &mut K,
     timelines: &[u32],
     plan: &Plan,
     screens: &mut Screens,
     player: &Player<B>,
-    turn: Turn,
+    action: Action,
 ) -> Result<(), RunFault>
-    requires some { 1 ≤ workers }
-    requires few { workers ≤ 16 }
     requires timelines { All (λ timeline. (1 ≤ timeline) × (timeline ≤ 64)) timelines.now }
-    requires may { (scene : SceneValue) × (plan.now ≡ plan_of scene) × MayShowTurn scene turn player.now }
-    ensures ok { (scene : SceneValue) → MayShowTurn scene turn player.now → AreShown (picture_at scene.pictures) screens.old → OnOk result
-        (Writes (K.taken sink.old) (K.taken sink.new) (turn_shown (picture_at scene.pictures) plan.now timelines.now player.now.play turn)
+    requires may { (scene : SceneValue) × (plan.now ≡ plan_of scene) × MayShowAction scene action player.now }
+    ensures ok { (scene : SceneValue) → MayShowAction scene action player.now → AreShown (picture_at scene.pictures) screens.old → OnOk result
+        (Writes (K.taken sink.old) (K.taken sink.new) (action_shown (picture_at scene.pictures) plan.now timelines.now player.now.play action)
         × AreShown (picture_at scene.pictures) screens.new) }
-    ensures err { (scene : SceneValue) → MayShowTurn scene turn player.now → AreShown (picture_at scene.pictures) screens.old → OnErr result
-        (WritesPart (K.taken sink.old) (K.taken sink.new) (turn_shown (picture_at scene.pictures) plan.now timelines.now player.now.play turn)) }
+    ensures err { (scene : SceneValue) → MayShowAction scene action player.now → AreShown (picture_at scene.pictures) screens.old → OnErr result
+        (WritesPart (K.taken sink.old) (K.taken sink.new) (action_shown (picture_at scene.pictures) plan.now timelines.now player.now.play action)) }
     ensures later { K.faults sink.old ≤ K.faults sink.new }
     ensures failed { IsErrOf result RunFault.WriteFault → Rose (K.faults sink.old) (K.faults sink.new) }
 {
-    match turn {
-        Turn::Step(place) => write_newest(
-            alloc,
+    match action {
+        Action::Step(place) => write_newest(
+            engine.alloc,
             sink,
             player.actor_set().actors()[place].replies(),
         ),
-        Turn::Vsync(report) => show_vsync(
-            rt,
-            alloc,
-            workers,
+        Action::Vsync(report) => show_vsync(
+            engine,
             sink,
             timelines,
             plan,
@@ -115,58 +109,48 @@ fn write_turn<R: Threads + Sync, K: Sink, B: TableName>(
             player.handler(),
             report.into_report(),
         ),
-        Turn::Idle => Ok(()),
-        Turn::End => Ok(()),
+        Action::Idle => Ok(()),
+        Action::End => Ok(()),
     }
 }
 
-/// Does the next turn of a play and writes what it shows; whether it was not the end.
-fn show_turn<R: Threads + Sync, K: Sink, B: TableName>(
-    rt: &R,
-    alloc: Global,
-    workers: u32,
+/// Does the next action of a play and writes what it shows; whether it was not the end.
+fn show_action<R: Threads + Sync, K: Sink, B: TableName>(
+    engine: &Engine<R>,
     sink: &mut K,
     timelines: &[u32],
     plan: &Plan,
     screens: &mut Screens,
     player: &mut Player<B>,
 ) -> Result<bool, RunFault>
-    requires some { 1 ≤ workers }
-    requires few { workers ≤ 16 }
     requires writing { (scene : SceneValue) × (start : Option (List ℕ)) × IsWriting B.table scene plan.now timelines.now start (K.taken sink.old) screens.old player.old }
     ensures on { (scene : SceneValue) (start : Option (List ℕ)) → IsWriting B.table scene plan.now timelines.now start (K.taken sink.old) screens.old player.old
-        → IfOk result (λ goes_on. TurnsOn goes_on B.table scene plan.now timelines.now start (K.taken sink.new) screens.new player.new) }
+        → IfOk result (λ goes_on. GoesOnWriting goes_on B.table scene plan.now timelines.now start (K.taken sink.new) screens.new player.new) }
     ensures err { (scene : SceneValue) (start : Option (List ℕ)) → IsWriting B.table scene plan.now timelines.now start (K.taken sink.old) screens.old player.old
         → OnErr result (CutRun scene start (K.taken sink.new)) }
     ensures less { IfOk result (λ goes_on. goes_on ≡ true → fuel_of player.new < fuel_of player.old) }
     ensures later { K.faults sink.old ≤ K.faults sink.new }
     ensures failed { IsErrOf result RunFault.WriteFault → Rose (K.faults sink.old) (K.faults sink.new) }
 {
-    let turn = match player.next() {
-        Ok(turn) => turn,
+    let action = match player.next() {
+        Ok(action) => action,
         Err(_) => return Err(RunFault::NoMemory),
     };
-    let goes_on = !is_end(&turn);
-    match write_turn(
-        rt, alloc, workers, sink, timelines, plan, screens, player, turn,
-    ) {
+    let goes_on = !is_end(&action);
+    match write_action(engine, sink, timelines, plan, screens, player, action) {
         Ok(()) => Ok(goes_on),
         Err(fault) => Err(fault),
     }
 }
 
-/// Does the turns of a play up to its end, and writes what they show.
-fn show_turns<R: Threads + Sync, K: Sink, B: TableName>(
-    rt: &R,
-    alloc: Global,
-    workers: u32,
+/// Does the actions of a play up to its end, and writes what they show.
+fn show_actions<R: Threads + Sync, K: Sink, B: TableName>(
+    engine: &Engine<R>,
     sink: &mut K,
     timelines: &[u32],
     plan: &Plan,
     player: &mut Player<B>,
 ) -> Result<(), RunFault>
-    requires some { 1 ≤ workers }
-    requires few { workers ≤ 16 }
     requires writing { (scene : SceneValue) × (start : Option (List ℕ)) × IsWriting B.table scene plan.now timelines.now start (K.taken sink.old) [] player.old }
     ensures ok { (scene : SceneValue) (start : Option (List ℕ)) → IsWriting B.table scene plan.now timelines.now start (K.taken sink.old) [] player.old
         → OnOk result (HasWritten B.table scene start (K.taken sink.new) player.new) }
@@ -175,18 +159,9 @@ fn show_turns<R: Threads + Sync, K: Sink, B: TableName>(
     ensures later { K.faults sink.old ≤ K.faults sink.new }
     ensures failed { IsErrOf result RunFault.WriteFault → Rose (K.faults sink.old) (K.faults sink.new) }
 {
-    let mut screens = Screens::new(alloc);
-    'turns: loop {
-        match show_turn(
-            rt,
-            alloc,
-            workers,
-            sink,
-            timelines,
-            plan,
-            &mut screens,
-            player,
-        ) {
+    let mut screens = Screens::new(engine.alloc);
+    'actions: loop {
+        match show_action(engine, sink, timelines, plan, &mut screens, player) {
             Ok(true) => {}
             Ok(false) => return Ok(()),
             Err(fault) => return Err(fault),
@@ -194,51 +169,42 @@ fn show_turns<R: Threads + Sync, K: Sink, B: TableName>(
     }
 }
 
-/// Writes the record that a play begins with, does its turns, and writes its closing records.
+/// Writes the record that a play begins with, does its actions, and writes its closing records.
 fn write_play<R: Threads + Sync, K: Sink, B: TableName>(
-    rt: &R,
-    alloc: Global,
-    workers: u32,
+    engine: &Engine<R>,
     sink: &mut K,
     first: Record,
     timelines: &[u32],
     plan: &Plan,
     player: &mut Player<B>,
 ) -> Result<(), RunFault>
-    requires some { 1 ≤ workers }
-    requires few { workers ≤ 16 }
     requires ready { (scene : SceneValue) × IsReady B.table scene plan.now first timelines.now player.old }
     ensures ok { (scene : SceneValue) → IsReady B.table scene plan.now first timelines.now player.old → OnOk result (WroteRun scene (K.taken sink.old) (K.taken sink.new)) }
     ensures err { (scene : SceneValue) → IsReady B.table scene plan.now first timelines.now player.old → OnErr result (CutRun scene (K.taken sink.old) (K.taken sink.new)) }
     ensures later { K.faults sink.old ≤ K.faults sink.new }
     ensures failed { IsErrOf result RunFault.WriteFault → Rose (K.faults sink.old) (K.faults sink.new) }
 {
-    match write_made(alloc, sink, Ok(first)) {
+    match write_made(engine.alloc, sink, Ok(first)) {
         Ok(()) => {}
         Err(fault) => return Err(fault),
     }
-    match show_turns(rt, alloc, workers, sink, timelines, plan, player) {
+    match show_actions(engine, sink, timelines, plan, player) {
         Ok(()) => {}
         Err(fault) => return Err(fault),
     }
-    write_closing(alloc, sink, player)
+    write_closing(engine.alloc, sink, player)
 }
 
-/// Plays a scene over buffers of the table that B names, and writes the records of its play. So many
-/// workers, 1 to 16, compose each frame; the records are those of the scene, whatever the number of
-/// workers is. It takes the seat and the whole stock of the turns, with a permit for
-/// each dequeue. After a fault of the sink, or want of memory, the sink has a prefix of these records.
+/// Plays a scene over buffers of the table that B names, and writes the records of its play. The
+/// workers of the engine compose each frame; the records are those of the scene, whatever their number
+/// is. It takes the seat and the whole stock of the turns, with a permit for each dequeue. After a fault of the sink, or want of memory, the sink has a prefix of these records.
 pub fn show_play<R: Threads + Sync, K: Sink, B: TableName>(
-    rt: &R,
-    alloc: Global,
-    workers: u32,
+    engine: &Engine<R>,
     sink: &mut K,
     scene: Scene,
     seat: TurnSeat<Painted>,
     stock: Stock<Painted>,
 ) -> Result<(), RunFault>
-    requires some { 1 ≤ workers }
-    requires few { workers ≤ 16 }
     requires own { (seat.table ≡ B.table) × (stock.table ≡ B.table) }
     requires first { (seat.is_first ≡ true) × (seat.out ≡ 0) }
     requires fresh { seat.leaves ≡ [] }
@@ -249,27 +215,18 @@ pub fn show_play<R: Threads + Sync, K: Sink, B: TableName>(
     ensures later { K.faults sink.old ≤ K.faults sink.new }
     ensures failed { IsErrOf result RunFault.WriteFault → Rose (K.faults sink.old) (K.faults sink.new) }
 {
-    let timelines = match rising_timelines(alloc, scene.timelines.as_slice()) {
+    let timelines = match rising_timelines(engine.alloc, scene.timelines.as_slice()) {
         Ok(timelines) => timelines,
         Err(_) => return Err(RunFault::NoMemory),
     };
-    let plan = match plan_of(alloc, &scene) {
+    let plan = match plan_of(engine.alloc, &scene) {
         Ok(plan) => plan,
         Err(_) => return Err(RunFault::NoMemory),
     };
     let first = opening(&scene);
-    match Player::<B>::new(alloc, scene, seat, stock) {
+    match Player::<B>::new(engine.alloc, scene, seat, stock) {
         Ok(mut player) => {
-            let written = write_play(
-                rt,
-                alloc,
-                workers,
-                sink,
-                first,
-                &timelines,
-                &plan,
-                &mut player,
-            );
+            let written = write_play(engine, sink, first, &timelines, &plan, &mut player);
             player.finish();
             written
         }

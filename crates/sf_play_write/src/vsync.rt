@@ -1,3 +1,6 @@
+//! From a vsync that was decided to its records: which views are due, and, once these are composed,
+//! the records of the vsync, of its commits and of each image. A play does both at once; a live run
+//! composes between the two.
 ghost use Rattle.std.specs.List.{list_any};
 ghost use Rattle.std.specs.Prelude.{◌≡◌, ◌≤◌, ◌∷◌, [], ℕ, All, IfOk, IsErrOf, None, OnErr, OnOk, is_some, map, true};
 ghost use Rattle.sf_play.specs.sf_commit.Handlers.{HandlerOf};
@@ -19,15 +22,11 @@ use crate::writing::write_made;
 use sf_base::{Items, NoMemory, Seen};
 use sf_io::Sink;
 use sf_output::Output;
-use sf_output_screen::sf_view::View;
-use sf_output_screen::{Screen, Screens};
-use sf_play::sf_commit::{Commit, Handler};
-use sf_play::sf_output_plan::Plan;
-use sf_play::sf_play_report::{
-    SourcedView, VsyncReport, commit_record, sourced_views, vsync_record,
+use sf_output_screen::{Engine, Screen, Screens, View};
+use sf_play::{
+    Commit, Handler, Hit, Lease, Plan, Record, RunFault, SourcedView, VsyncReport, commit_record,
+    sourced_views, vsync_record, write_image,
 };
-use sf_play::sf_record::{Hit, Record, RunFault, write_image};
-use sf_play::sf_txn::Lease;
 use std::alloc::Global;
 use std::thread::Threads;
 
@@ -48,12 +47,14 @@ fn write_commits<K: Sink>(alloc: Global, sink: &mut K, commits: &[Commit]) -> Re
     Ok(())
 }
 
+/// Whether a transaction was not rejected.
 fn is_accepted(commit: &Commit) -> bool
     ensures { result ≡ is_accepted commit.now }
 {
     commit.cause == 0
 }
 
+/// Whether a transaction was committed and not rejected, so that a frame is shown.
 fn shows_frame(commits: &[Commit]) -> bool
     ensures { result ≡ list_any is_accepted commits.now }
 {
@@ -132,17 +133,17 @@ fn write_output<K: Sink>(
 {
     match image {
         Output::Frame(screen) => write_on(sink, screens, number, Output::Frame(()), screen),
-        Output::Display(place, screen) => {
-            let of = Output::Display(place, ());
+        Output::Display(output, screen) => {
+            let of = Output::Display(output, ());
             write_on(sink, screens, number, of, screen)
         }
-        Output::Capture(place, screen) => {
-            let of = Output::Capture(place, ());
+        Output::Capture(output, screen) => {
+            let of = Output::Capture(output, ());
             write_on(sink, screens, number, of, screen)
         }
-        Output::Hit(place, layer) => {
+        Output::Hit(output, layer) => {
             let hit = Hit {
-                place,
+                output,
                 number,
                 layer,
             };
@@ -289,12 +290,10 @@ pub fn write_vsync<K: Sink>(
 }
 
 /// Writes the records of a vsync that left this handler, whose pixels are not lent, and shows what the
-/// plan asks for where a transaction was committed and not rejected; at most so many workers compose
-/// each frame. A vsync that commits nothing has no records.
+/// plan asks for where a transaction was committed and not rejected. A vsync that commits nothing has
+/// no records.
 pub fn show_vsync<R: Threads + Sync, K: Sink, L: Lease + Drop>(
-    rt: &R,
-    alloc: Global,
-    workers: u32,
+    engine: &Engine<R>,
     sink: &mut K,
     timelines: &[u32],
     plan: &Plan,
@@ -304,8 +303,6 @@ pub fn show_vsync<R: Threads + Sync, K: Sink, L: Lease + Drop>(
 ) -> Result<(), RunFault>
 where
     L::Reading: Drop,
-    requires some { 1 ≤ workers }
-    requires few { workers ≤ 16 }
     requires timelines { All (λ timeline. (1 ≤ timeline) × (timeline ≤ 64)) timelines.now }
     requires unlent { handler.now.lent ≡ None }
     requires stage { IsStage (λ one. L.picture one.lease) plan.now handler.now report.view report.sources }
@@ -321,12 +318,12 @@ where
     ensures later { K.faults sink.old ≤ K.faults sink.new }
     ensures failed { IsErrOf result RunFault.WriteFault → Rose (K.faults sink.old) (K.faults sink.new) }
 {
-    let (facts, views) = match vsync_views(alloc, plan, handler, report) {
+    let (facts, views) = match vsync_views(engine.alloc, plan, handler, report) {
         Ok(told) => told,
         Err(_) => return Err(RunFault::NoMemory),
     };
-    match compose_views(rt, alloc, workers, screens, handler.contents(), views) {
-        Ok(images) => write_vsync(alloc, sink, timelines, screens, facts, images),
+    match compose_views(engine, screens, handler.contents(), views) {
+        Ok(images) => write_vsync(engine.alloc, sink, timelines, screens, facts, images),
         Err(_) => Err(RunFault::NoMemory),
     }
 }

@@ -1,3 +1,4 @@
+//! Writes a record that had to be made first, for whatever here makes records in memory.
 ghost use Rattle.std.specs.Prelude.{◌≡◌, ◌≤◌, ◌∷◌, [], IfOk, IsErrOf, OnErr, OnOk};
 ghost use Rattle.sf_io.specs.Causes.{Rose};
 ghost use Rattle.sf_play.specs.sf_record.declared.record.Record.{Record as RecordValue};
@@ -5,7 +6,7 @@ ghost use Rattle.sf_play_write.specs.Writing.{Writes, WritesPart};
 
 use sf_base::NoMemory;
 use sf_io::Sink;
-use sf_play::sf_record::{Record, RunFault, write_record};
+use sf_play::{Record, RunFault, write_record};
 use std::alloc::Global;
 
 /// Writes a record that was made, if memory allowed.

@@ -3,7 +3,7 @@ use Rattle.sf_play.specs.sf_record.declared.record.Record.{Record}
 use Rattle.sf_play.specs.sf_record.declared.record.Record.TheVariants as rec
 use Rattle.sf_play.specs.law_played.Replies.{reply_shown}
 use Rattle.sf_play_write.specs.Writing.{Writes, WritesPart}
-use Rattle.sf_play_write.proofs.TurnLemmas.{newest_at, none_newest}
+use Rattle.sf_play_write.proofs.ActionLemmas.{newest_at, none_newest}
 use Rattle.sf_play_write.proofs.WritingLemmas.{writes_none}
 use Rattle.sf_play_write.proofs.play.write_newest.Goals as goal
 

@@ -1,5 +1,5 @@
 use Rattle.std.proofs.Common.{List, ◌∙◌, ap, map, subst, sym}
-use Rattle.sf_play.specs.sf_commit.declared.vsync.Commit.{Commit as Decided}
+use Rattle.sf_play.specs.sf_commit.declared.vsync.Commit.{Commit}
 use Rattle.sf_play.specs.sf_record.declared.record.Record.TheVariants as rec
 use Rattle.sf_play.specs.sf_play_report.Reports.{has_commits}
 use Rattle.sf_play.specs.law_played.Commits.{commit_shown}
@@ -24,14 +24,14 @@ pub returns-in-Err-write_commits-clause-err : goal.returns-in-Err-write_commits-
 returns-in-Err-write_commits-clause-err g c =
     middle_cut _ _ _ (head_by c.args.timelines.now c.args.facts) _ _ _ (all_records c.args.timelines.now c.args.facts c.args.images.items (sym (c.has_commits.ensures ∙ ap has_commits c.as_slice.ensures) ∙ c.if-not-has_commits.false))
     (c.in-Ok.ensures.ok (head_by c.args.timelines.now c.args.facts) c.vsync_record-head.ensures)
-    (subst (λ (l : List Decided). WritesPart (g.K.Sink.taken c.write_made.new.sink) (g.K.Sink.taken c.write_commits.new.sink) (map rec.Comm (map commit_shown l))) c.as_slice-2.ensures c.in-Err-write_commits.ensures.err)
+    (subst (λ (l : List Commit). WritesPart (g.K.Sink.taken c.write_made.new.sink) (g.K.Sink.taken c.write_commits.new.sink) (map rec.Comm (map commit_shown l))) c.as_slice-2.ensures c.in-Err-write_commits.ensures.err)
 
 pub returns-clause-ok : goal.returns-clause-ok
 returns-clause-ok g c =
     tail_written c.write_outputs.result _ _ _ _ (head_by c.args.timelines.now c.args.facts) _ _ _
     (all_records c.args.timelines.now c.args.facts c.args.images.items (sym (c.has_commits.ensures ∙ ap has_commits c.as_slice.ensures) ∙ c.if-not-has_commits.false))
     (c.in-Ok.ensures.ok (head_by c.args.timelines.now c.args.facts) c.vsync_record-head.ensures)
-    (subst (λ (l : List Decided). Writes (g.K.Sink.taken c.write_made.new.sink) (g.K.Sink.taken c.write_commits.new.sink) (map rec.Comm (map commit_shown l))) c.as_slice-2.ensures c.in-Ok-write_commits.ensures.ok)
+    (subst (λ (l : List Commit). Writes (g.K.Sink.taken c.write_made.new.sink) (g.K.Sink.taken c.write_commits.new.sink) (map rec.Comm (map commit_shown l))) c.as_slice-2.ensures c.in-Ok-write_commits.ensures.ok)
     c.write_outputs.ensures.ok
 
 pub returns-clause-err : goal.returns-clause-err
@@ -39,5 +39,5 @@ returns-clause-err g c =
     tail_part c.write_outputs.result _ _ _ _ (head_by c.args.timelines.now c.args.facts) _ _ _
     (all_records c.args.timelines.now c.args.facts c.args.images.items (sym (c.has_commits.ensures ∙ ap has_commits c.as_slice.ensures) ∙ c.if-not-has_commits.false))
     (c.in-Ok.ensures.ok (head_by c.args.timelines.now c.args.facts) c.vsync_record-head.ensures)
-    (subst (λ (l : List Decided). Writes (g.K.Sink.taken c.write_made.new.sink) (g.K.Sink.taken c.write_commits.new.sink) (map rec.Comm (map commit_shown l))) c.as_slice-2.ensures c.in-Ok-write_commits.ensures.ok)
+    (subst (λ (l : List Commit). Writes (g.K.Sink.taken c.write_made.new.sink) (g.K.Sink.taken c.write_commits.new.sink) (map rec.Comm (map commit_shown l))) c.as_slice-2.ensures c.in-Ok-write_commits.ensures.ok)
     c.write_outputs.ensures.err

@@ -3,7 +3,7 @@ use Rattle.sf_play.specs.sf_actor.Scripts.{picture_at}
 use Rattle.sf_play.specs.sf_record.declared.record.Record.{Record}
 use Rattle.sf_play.specs.sf_actor_steps.declared.actor.Actor.{Actor}
 use Rattle.sf_play.specs.sf_actor_set.ActorSets.{ActorSetOf}
-use Rattle.sf_play.specs.declared.turn.Turn.{Turn}
+use Rattle.sf_play.specs.declared.action.Action.{Action}
 use Rattle.sf_play.specs.sf_commit.Handlers.{HandlerOf}
 use Rattle.sf_play.specs.sf_output_plan.declared.plan.Plan.{Plan}
 use Rattle.sf_play.specs.Playing.{expected_by}
@@ -12,16 +12,16 @@ use Rattle.sf_play.specs.sf_play_report.declared.report.VsyncReport.{VsyncReport
 use Rattle.sf_output_screen.specs.ScreenLists.{AreShown}
 use Rattle.sf_play.specs.sf_surface.Tokens.{ReadLeaseOf}
 use Rattle.sf_play_write.specs.Vsyncs.{vsync_shown}
-use Rattle.sf_play_write.specs.Turns.{MayShowTurn, newest_shown, turn_shown}
+use Rattle.sf_play_write.specs.inner.Rows.{MayShowAction, newest_shown, action_shown}
 use Rattle.sf_play_write.specs.Writing.{Writes, WritesPart}
-use Rattle.sf_play_write.proofs.TurnLemmas.{actor_at}
+use Rattle.sf_play_write.proofs.ActionLemmas.{actor_at}
 use Rattle.sf_play_write.proofs.VsyncLemmas.{with_more}
 use Rattle.sf_play_write.proofs.WritingLemmas.{writes_none}
-use Rattle.sf_play_write.proofs.play.write_turn.Goals as goal
+use Rattle.sf_play_write.proofs.play.write_action.Goals as goal
 
 pub show_vsync-requires-clause-stage : goal.show_vsync-requires-clause-stage
 show_vsync-requires-clause-stage g c = λ lives outlives.
-    let tells = subst (λ (t : Turn). MayShowTurn c.requires.may.0 t c.args.player.now) c.in-Vsync.is c.requires.may.2 in
+    let tells = subst (λ (t : Action). MayShowAction c.requires.may.0 t c.args.player.now) c.in-Vsync.is c.requires.may.2 in
     subst (λ (r : VsyncReport). IsStage expected_by c.args.plan.now c.handler.result.now r.view r.sources) (sym c.into_report.ensures)
     (subst (λ (h : HandlerOf ReadLeaseOf). IsStage expected_by c.args.plan.now h c.in-Vsync.report.view c.in-Vsync.report.sources) (sym c.handler.ensures.handler)
     (subst (λ (p : Plan). IsStage expected_by p c.args.player.now.play.handler c.in-Vsync.report.view c.in-Vsync.report.sources) (sym c.requires.may.1) tells.stage))
@@ -32,9 +32,9 @@ returns-in-Step-clause-ok g c = λ scene may shown.
     let actor = c.index-actors-place.result in
     let newest =
     ap newest_shown c.replies.ensures
-    ∙ actor_at c.args.player.now.play.actor_set.actors c.in-Step.place actor (subst (λ (t : Turn). MayShowTurn scene t c.args.player.now) c.in-Step.is may)
+    ∙ actor_at c.args.player.now.play.actor_set.actors c.in-Step.place actor (subst (λ (t : Action). MayShowAction scene t c.args.player.now) c.in-Step.is may)
     (c.index-actors-place.is ∙ ap (λ (xs : List (Actor g.row.B.Denot)). get_or xs c.in-Step.place actor) actors)
-    ∙ ap (turn_shown (picture_at scene.pictures) c.args.plan.now c.args.timelines.now c.args.player.now.play) (sym c.in-Step.is) in
+    ∙ ap (action_shown (picture_at scene.pictures) c.args.plan.now c.args.timelines.now c.args.player.now.play) (sym c.in-Step.is) in
     with_more _ _ c.write_newest.result
     (subst (λ (rs : List Record). OnOk c.write_newest.result (Writes (g.K.Sink.taken c.args.sink.now) (g.K.Sink.taken c.write_newest.new.sink) rs)) newest c.write_newest.ensures.ok)
     shown
@@ -45,30 +45,30 @@ returns-in-Step-clause-err g c = λ scene may shown.
     let actor = c.index-actors-place.result in
     let newest =
     ap newest_shown c.replies.ensures
-    ∙ actor_at c.args.player.now.play.actor_set.actors c.in-Step.place actor (subst (λ (t : Turn). MayShowTurn scene t c.args.player.now) c.in-Step.is may)
+    ∙ actor_at c.args.player.now.play.actor_set.actors c.in-Step.place actor (subst (λ (t : Action). MayShowAction scene t c.args.player.now) c.in-Step.is may)
     (c.index-actors-place.is ∙ ap (λ (xs : List (Actor g.row.B.Denot)). get_or xs c.in-Step.place actor) actors)
-    ∙ ap (turn_shown (picture_at scene.pictures) c.args.plan.now c.args.timelines.now c.args.player.now.play) (sym c.in-Step.is) in
+    ∙ ap (action_shown (picture_at scene.pictures) c.args.plan.now c.args.timelines.now c.args.player.now.play) (sym c.in-Step.is) in
     subst (λ (rs : List Record). OnErr c.write_newest.result (WritesPart (g.K.Sink.taken c.args.sink.now) (g.K.Sink.taken c.write_newest.new.sink) rs)) newest c.write_newest.ensures.err
 
 pub returns-in-Idle-clause-ok : goal.returns-in-Idle-clause-ok
 returns-in-Idle-clause-ok g c = λ scene may shown. (
-  subst (λ (t : Turn). Writes (g.K.Sink.taken c.args.sink.now) (g.K.Sink.taken c.args.sink.now) (turn_shown (picture_at scene.pictures) c.args.plan.now c.args.timelines.now c.args.player.now.play t))
+  subst (λ (t : Action). Writes (g.K.Sink.taken c.args.sink.now) (g.K.Sink.taken c.args.sink.now) (action_shown (picture_at scene.pictures) c.args.plan.now c.args.timelines.now c.args.player.now.play t))
       (sym c.in-Idle.is) (writes_none (g.K.Sink.taken c.args.sink.now)),
   shown,
 )
 
 pub returns-in-End-clause-ok : goal.returns-in-End-clause-ok
 returns-in-End-clause-ok g c = λ scene may shown. (
-  subst (λ (t : Turn). Writes (g.K.Sink.taken c.args.sink.now) (g.K.Sink.taken c.args.sink.now) (turn_shown (picture_at scene.pictures) c.args.plan.now c.args.timelines.now c.args.player.now.play t))
+  subst (λ (t : Action). Writes (g.K.Sink.taken c.args.sink.now) (g.K.Sink.taken c.args.sink.now) (action_shown (picture_at scene.pictures) c.args.plan.now c.args.timelines.now c.args.player.now.play t))
       (sym c.in-End.is) (writes_none (g.K.Sink.taken c.args.sink.now)),
   shown,
 )
 
 pub returns-in-Vsync-clause-ok : goal.returns-in-Vsync-clause-ok
 returns-in-Vsync-clause-ok g c = λ scene may shown.
-    let tells = subst (λ (t : Turn). MayShowTurn scene t c.args.player.now) c.in-Vsync.is may in
+    let tells = subst (λ (t : Action). MayShowAction scene t c.args.player.now) c.in-Vsync.is may in
     let expected = subst (λ (h : HandlerOf ReadLeaseOf). AreExpected expected_by (picture_at scene.pictures) h) (sym c.handler.ensures.handler) tells.expected in
-    subst (λ (t : Turn). OnOk c.show_vsync.result (Writes (g.K.Sink.taken c.args.sink.now) (g.K.Sink.taken c.show_vsync.new.sink) (turn_shown (picture_at scene.pictures) c.args.plan.now c.args.timelines.now c.args.player.now.play t) × AreShown (picture_at scene.pictures) c.show_vsync.new.screens))
+    subst (λ (t : Action). OnOk c.show_vsync.result (Writes (g.K.Sink.taken c.args.sink.now) (g.K.Sink.taken c.show_vsync.new.sink) (action_shown (picture_at scene.pictures) c.args.plan.now c.args.timelines.now c.args.player.now.play t) × AreShown (picture_at scene.pictures) c.show_vsync.new.screens))
     (sym c.in-Vsync.is)
     (subst (λ (h : HandlerOf ReadLeaseOf). OnOk c.show_vsync.result (Writes (g.K.Sink.taken c.args.sink.now) (g.K.Sink.taken c.show_vsync.new.sink) (vsync_shown (picture_at scene.pictures) c.args.plan.now c.args.timelines.now c.in-Vsync.report h.tree.layers) × AreShown (picture_at scene.pictures) c.show_vsync.new.screens))
     c.handler.ensures.handler
@@ -77,9 +77,9 @@ returns-in-Vsync-clause-ok g c = λ scene may shown.
 
 pub returns-in-Vsync-clause-err : goal.returns-in-Vsync-clause-err
 returns-in-Vsync-clause-err g c = λ scene may shown.
-    let tells = subst (λ (t : Turn). MayShowTurn scene t c.args.player.now) c.in-Vsync.is may in
+    let tells = subst (λ (t : Action). MayShowAction scene t c.args.player.now) c.in-Vsync.is may in
     let expected = subst (λ (h : HandlerOf ReadLeaseOf). AreExpected expected_by (picture_at scene.pictures) h) (sym c.handler.ensures.handler) tells.expected in
-    subst (λ (t : Turn). OnErr c.show_vsync.result (WritesPart (g.K.Sink.taken c.args.sink.now) (g.K.Sink.taken c.show_vsync.new.sink) (turn_shown (picture_at scene.pictures) c.args.plan.now c.args.timelines.now c.args.player.now.play t)))
+    subst (λ (t : Action). OnErr c.show_vsync.result (WritesPart (g.K.Sink.taken c.args.sink.now) (g.K.Sink.taken c.show_vsync.new.sink) (action_shown (picture_at scene.pictures) c.args.plan.now c.args.timelines.now c.args.player.now.play t)))
     (sym c.in-Vsync.is)
     (subst (λ (h : HandlerOf ReadLeaseOf). OnErr c.show_vsync.result (WritesPart (g.K.Sink.taken c.args.sink.now) (g.K.Sink.taken c.show_vsync.new.sink) (vsync_shown (picture_at scene.pictures) c.args.plan.now c.args.timelines.now c.in-Vsync.report h.tree.layers)))
     c.handler.ensures.handler

@@ -1,16 +1,16 @@
 use Rattle.std.proofs.Common.{ℕ, ◌≤◌, [], List, Option}
 use Rattle.sf_play.specs.sf_script_scene.Scene.{SceneValue}
 use Rattle.sf_play.specs.Going.{fuel_of}
-use Rattle.sf_play_write.specs.Turns.{IsWriting}
-use Rattle.sf_play_write.proofs.play.show_turns.Given as goal
+use Rattle.sf_play_write.specs.inner.Rows.{IsWriting}
+use Rattle.sf_play_write.proofs.play.show_actions.Given as goal
 
 -- what was shown is written behind what was there
-abbrev pub invariant-turns : goal.invariant-turns
-invariant-turns g l =
+abbrev pub invariant-actions : goal.invariant-actions
+invariant-actions g l =
     ((scene : SceneValue) (start : Option (List ℕ))
     → IsWriting g.B.TableName.table scene l.plan l.timelines start (g.K.Sink.taken l.initial.sink) [] l.initial.player
     → IsWriting g.B.TableName.table scene l.plan l.timelines start (g.K.Sink.taken l.sink) l.screens l.player)
     × (g.K.Sink.faults l.initial.sink ≤ g.K.Sink.faults l.sink)
 
-abbrev pub decreases-turns : goal.decreases-turns
-decreases-turns g l = fuel_of l.player
+abbrev pub decreases-actions : goal.decreases-actions
+decreases-actions g l = fuel_of l.player

@@ -1,4 +1,4 @@
--- The records of turns, and how far a play has been written.
+-- The records of actions, and how far a play has been written.
 use Rattle.std.proofs.Common.{◌≡◌, ℕ, suc, ◌-◌, ◌<◌, ◌≤◌, Bool, not, ◌||◌, if◌then◌else◌, List, [], ◌∷◌, ◌++◌, length, get_or, map, filter, Option, Some, refl, ap, ◌∙◌, sym, subst, arith}
 use Rattle.std.specs.Prelude.{All, Contains, ◌==◌, slice_get}
 use Rattle.std.specs.List.{flat_map, list_any, range_with_len}
@@ -7,7 +7,7 @@ use Rattle.std.proofs.lemmas.List.Concat.{flat_map-append}
 use Rattle.std.proofs.lemmas.List.Elements.{All-contains, All-weaker}
 use Rattle.std.proofs.lemmas.Option.{slice_get_read, slice_get_within}
 use Rattle.atomic_table.specs.Seated.{TableId}
-use Rattle.sf_play.specs.sf_commit.declared.vsync.Commit.{Commit as Decided}
+use Rattle.sf_play.specs.sf_commit.declared.vsync.Commit.{Commit}
 use Rattle.sf_play.specs.sf_script_scene.Limits.{IsWithinLimits}
 use Rattle.sf_play.specs.sf_script_scene.Ranges.{IsTimeline}
 use Rattle.sf_play.specs.sf_script_scene.Scene.{SceneValue}
@@ -19,7 +19,7 @@ use Rattle.sf_play.proofs.sf_actor_set_lemmas.RisingLemmas.{sorted_rises}
 use Rattle.sf_play.specs.sf_record.Events.{event_records, events_records, vsync_records}
 use Rattle.sf_play.specs.sf_record.declared.event.Event.{Event}
 use Rattle.sf_play.specs.sf_record.declared.event.Event.TheVariants as event
-use Rattle.sf_play.specs.sf_record.declared.event.VsyncReport.{VsyncReport as Told}
+use Rattle.sf_play.specs.sf_record.declared.event.VsyncRecords.{VsyncRecords}
 use Rattle.sf_play.specs.sf_record.declared.record.Record.{Record}
 use Rattle.sf_play.specs.sf_record.declared.record.Record.TheVariants as rec
 use Rattle.sf_play.specs.sf_output_plan.declared.plan.Plan.{Plan}
@@ -43,10 +43,10 @@ use Rattle.sf_play.specs.Happening.{VsyncHappens}
 use Rattle.sf_play.specs.Players.{PlayOf, PlayerOf, SoFar}
 use Rattle.sf_play.specs.Showing.{vsync_shown as play_shown}
 use Rattle.sf_play.specs.Standing.{StandsAlong}
-use Rattle.sf_play.specs.declared.turn.Turn.{Turn}
-use Rattle.sf_play.specs.declared.turn.Turn.TheVariants as turn
+use Rattle.sf_play.specs.declared.action.Action.{Action}
+use Rattle.sf_play.specs.declared.action.Action.TheVariants as action
 use Rattle.sf_play_write.specs.Runs.{CutRun}
-use Rattle.sf_play_write.specs.Turns.{IsWriting, MayShowTurn, TurnsOn, is_end, newest_of, newest_shown, turn_shown}
+use Rattle.sf_play_write.specs.inner.Rows.{IsWriting, MayShowAction, GoesOnWriting, is_end, newest_of, newest_shown, action_shown}
 use Rattle.sf_play_write.specs.Vsyncs.{records_if, told_with}
 use Rattle.sf_play_write.specs.Writing.{Writes, WritesPart}
 use Rattle.sf_play_write.proofs.WritingLemmas.{part_front, part_more, writes_more}
@@ -85,7 +85,7 @@ none_newest [] none = refl
 none_newest (first ∷ later) none = absurd (omega (arith, none))
 
 -- a frame is due where a commit was accepted
-shown_done : (commits : List Decided) → list_any is_done (map commit_shown commits) ≡ list_any is_accepted commits
+shown_done : (commits : List Commit) → list_any is_done (map commit_shown commits) ≡ list_any is_accepted commits
 shown_done [] = refl
 shown_done (commit ∷ commits) = ap (λ (b : Bool). (commit.cause == 0) || b) (shown_done commits)
 
@@ -114,65 +114,65 @@ module _ {B : Type 0} where
   })
 
   vsync_is : (scene : SceneValue) (plan : Plan) (timelines : List ℕ) (report : VsyncReport) (play : PlayOf B) (so later : SoFar B) → plan ≡ plan_of scene → timelines ≡ rising_timelines scene
-      → (commits : List Decided) → report.commits ≡ commits → VsyncHappens scene (has_commits commits) report play so later
+      → (commits : List Commit) → report.commits ≡ commits → VsyncHappens scene (has_commits commits) report play so later
       → events_records so.events ++ records_if commits (told_with (picture_at scene.pictures) plan timelines report play.handler.tree.layers) ≡ events_records later.events
   vsync_is scene plan timelines report play so later planned rising [] is happens = append-nil (events_records so.events) ∙ sym (ap (λ (s : SoFar B). events_records s.events) happens)
   vsync_is scene plan timelines report play so later planned rising (commit ∷ commits) is happens =
       (λ i. events_records so.events ++ vsync_records (told_with (picture_at scene.pictures) (planned i) (rising i) report play.handler.tree.layers))
-      ∙ ap (λ (v : Told). events_records so.events ++ vsync_records v) (sym (told_is scene report play))
+      ∙ ap (λ (v : VsyncRecords). events_records so.events ++ vsync_records v) (sym (told_is scene report play))
       ∙ sym (more_records so.events (event.Vsync (play_shown scene report.number report.expected report.seen report.commits play.handler.tree)))
       ∙ sym (ap (λ (s : SoFar B). events_records s.events) happens)
 
-  -- the records of a turn follow those of what was shown before
-  pub turn_records : (table : TableId) (scene : SceneValue) (plan : Plan) (timelines : List ℕ) (so : SoFar B) (came_to : Turn) (player : PlayerOf B) → plan ≡ plan_of scene → timelines ≡ rising_timelines scene
+  -- the records of an action follow those of what was shown before
+  pub action_records : (table : TableId) (scene : SceneValue) (plan : Plan) (timelines : List ℕ) (so : SoFar B) (came_to : Action) (player : PlayerOf B) → plan ≡ plan_of scene → timelines ≡ rising_timelines scene
       → (goes : GoesAlong table scene so came_to player)
-      → events_records so.events ++ turn_shown (picture_at scene.pictures) plan timelines player.play came_to ≡ events_records goes.later.events
-  turn_records table scene plan timelines so (turn.Step place) player planned rising goes =
+      → events_records so.events ++ action_shown (picture_at scene.pictures) plan timelines player.play came_to ≡ events_records goes.later.events
+  action_records table scene plan timelines so (action.Step place) player planned rising goes =
       let did = goes.happens in
       ap (λ (rs : List Record). events_records so.events ++ rs) (step_shown place player.play.actor_set.actors did.actor did.earlier did.reply did.there did.replies)
       ∙ sym (more_records so.events (event.Reply (reply_shown did.reply)))
       ∙ sym (ap (λ (s : SoFar B). events_records s.events) did.is)
-  turn_records table scene plan timelines so (turn.Vsync report) player planned rising goes =
+  action_records table scene plan timelines so (action.Vsync report) player planned rising goes =
       vsync_is scene plan timelines report player.play so goes.later planned rising report.commits refl goes.happens
-  turn_records table scene plan timelines so turn.Idle player planned rising goes = append-nil (events_records so.events) ∙ sym (ap (λ (s : SoFar B). events_records s.events) goes.happens)
-  turn_records table scene plan timelines so turn.End player planned rising goes = append-nil (events_records so.events) ∙ sym (ap (λ (s : SoFar B). events_records s.events) goes.happens)
+  action_records table scene plan timelines so action.Idle player planned rising goes = append-nil (events_records so.events) ∙ sym (ap (λ (s : SoFar B). events_records s.events) goes.happens)
+  action_records table scene plan timelines so action.End player planned rising goes = append-nil (events_records so.events) ∙ sym (ap (λ (s : SoFar B). events_records s.events) goes.happens)
 
-  pub may_show : (table : TableId) (scene : SceneValue) (so : SoFar B) (came_to : Turn) (player : PlayerOf B) → GoesAlong table scene so came_to player → MayShowTurn scene came_to player
-  may_show table scene so (turn.Step place) player goes = slice_get_within player.play.actor_set.actors place goes.happens.actor goes.happens.there
-  may_show table scene so (turn.Vsync report) player goes = goes.tells
-  may_show table scene so turn.Idle player goes = tt
-  may_show table scene so turn.End player goes = tt
+  pub may_show : (table : TableId) (scene : SceneValue) (so : SoFar B) (came_to : Action) (player : PlayerOf B) → GoesAlong table scene so came_to player → MayShowAction scene came_to player
+  may_show table scene so (action.Step place) player goes = slice_get_within player.play.actor_set.actors place goes.happens.actor goes.happens.there
+  may_show table scene so (action.Vsync report) player goes = goes.tells
+  may_show table scene so action.Idle player goes = tt
+  may_show table scene so action.End player goes = tt
 
-  -- a turn was written behind what was written before
-  pub goes_on : (table : TableId) (scene : SceneValue) (plan : Plan) (timelines : List ℕ) (start a b : Option (List ℕ)) (before screens : List OutputScreen) (old player : PlayerOf B) (came_to : Turn)
+  -- an action was written behind what was written before
+  pub goes_on : (table : TableId) (scene : SceneValue) (plan : Plan) (timelines : List ℕ) (start a b : Option (List ℕ)) (before screens : List OutputScreen) (old player : PlayerOf B) (came_to : Action)
       (w : IsWriting table scene plan timelines start a before old) → GoesAlong table scene w.so came_to player
-      → Writes a b (turn_shown (picture_at scene.pictures) plan timelines player.play came_to) → AreShown (picture_at scene.pictures) screens
+      → Writes a b (action_shown (picture_at scene.pictures) plan timelines player.play came_to) → AreShown (picture_at scene.pictures) screens
       → IsWriting table scene plan timelines start b screens player
   goes_on table scene plan timelines start a b before screens old player came_to w goes now shown =
-      let records = turn_shown (picture_at scene.pictures) plan timelines player.play came_to in
+      let records = action_shown (picture_at scene.pictures) plan timelines player.play came_to in
       record {
         so = goes.later;
         stands = goes.stands;
         planned = w.planned;
         rising = w.rising;
-        written = subst (Writes start b) (ap (λ (rs : List Record). opening scene ∷ rs) (turn_records table scene plan timelines w.so came_to player w.planned w.rising goes))
+        written = subst (Writes start b) (ap (λ (rs : List Record). opening scene ∷ rs) (action_records table scene plan timelines w.so came_to player w.planned w.rising goes))
             (writes_more start a b (opening scene ∷ events_records w.so.events) records w.written now);
         shown = shown;
       }
 
-  pub turns_on : (table : TableId) (scene : SceneValue) (plan : Plan) (timelines : List ℕ) (start a b : Option (List ℕ)) (before screens : List OutputScreen) (old player : PlayerOf B) (came_to : Turn)
+  pub actions_on : (table : TableId) (scene : SceneValue) (plan : Plan) (timelines : List ℕ) (start a b : Option (List ℕ)) (before screens : List OutputScreen) (old player : PlayerOf B) (came_to : Action)
       (w : IsWriting table scene plan timelines start a before old) → GoesAlong table scene w.so came_to player
-      → Writes a b (turn_shown (picture_at scene.pictures) plan timelines player.play came_to) → AreShown (picture_at scene.pictures) screens
-      → TurnsOn (not (is_end came_to)) table scene plan timelines start b screens player
+      → Writes a b (action_shown (picture_at scene.pictures) plan timelines player.play came_to) → AreShown (picture_at scene.pictures) screens
+      → GoesOnWriting (not (is_end came_to)) table scene plan timelines start b screens player
   unfolding goes_on
-  turns_on table scene plan timelines start a b before screens old player turn.End w goes now shown =
-      let on = goes_on table scene plan timelines start a b before screens old player turn.End w goes now shown in
+  actions_on table scene plan timelines start a b before screens old player action.End w goes now shown =
+      let on = goes_on table scene plan timelines start a b before screens old player action.End w goes now shown in
       record { so = goes.later; stands = goes.stands; written = on.written; ends = goes.tells }
-  turns_on table scene plan timelines start a b before screens old player (turn.Step place) w goes now shown = goes_on table scene plan timelines start a b before screens old player (turn.Step place) w goes now shown
-  turns_on table scene plan timelines start a b before screens old player turn.Idle w goes now shown = goes_on table scene plan timelines start a b before screens old player turn.Idle w goes now shown
-  turns_on table scene plan timelines start a b before screens old player (turn.Vsync report) w goes now shown = goes_on table scene plan timelines start a b before screens old player (turn.Vsync report) w goes now shown
+  actions_on table scene plan timelines start a b before screens old player (action.Step place) w goes now shown = goes_on table scene plan timelines start a b before screens old player (action.Step place) w goes now shown
+  actions_on table scene plan timelines start a b before screens old player action.Idle w goes now shown = goes_on table scene plan timelines start a b before screens old player action.Idle w goes now shown
+  actions_on table scene plan timelines start a b before screens old player (action.Vsync report) w goes now shown = goes_on table scene plan timelines start a b before screens old player (action.Vsync report) w goes now shown
 
-  -- what was written of a turn begins the records of the play
+  -- what was written of an action begins the records of the play
   pub cut_so_far : (table : TableId) (scene : SceneValue) (start now : Option (List ℕ)) (so : SoFar B) (player : PlayerOf B) → StandsAlong table scene so player
       → WritesPart start now (opening scene ∷ events_records so.events) → CutRun scene start now
   cut_so_far table scene start now so player stands part =
@@ -185,11 +185,11 @@ module _ {B : Type 0} where
             (part_front start now (opening scene ∷ events_records along.playing.events) begins.2.rest (subst (λ (es : List Event). WritesPart start now (opening scene ∷ events_records es)) (sym along.shows) part));
       }
 
-  pub turn_cut : (table : TableId) (scene : SceneValue) (plan : Plan) (timelines : List ℕ) (start a b : Option (List ℕ)) (before : List OutputScreen) (old player : PlayerOf B) (came_to : Turn)
+  pub action_cut : (table : TableId) (scene : SceneValue) (plan : Plan) (timelines : List ℕ) (start a b : Option (List ℕ)) (before : List OutputScreen) (old player : PlayerOf B) (came_to : Action)
       (w : IsWriting table scene plan timelines start a before old) → GoesAlong table scene w.so came_to player
-      → WritesPart a b (turn_shown (picture_at scene.pictures) plan timelines player.play came_to) → CutRun scene start b
-  turn_cut table scene plan timelines start a b before old player came_to w goes part =
-      let records = turn_shown (picture_at scene.pictures) plan timelines player.play came_to in
+      → WritesPart a b (action_shown (picture_at scene.pictures) plan timelines player.play came_to) → CutRun scene start b
+  action_cut table scene plan timelines start a b before old player came_to w goes part =
+      let records = action_shown (picture_at scene.pictures) plan timelines player.play came_to in
       cut_so_far table scene start b goes.later player goes.stands
-      (subst (WritesPart start b) (ap (λ (rs : List Record). opening scene ∷ rs) (turn_records table scene plan timelines w.so came_to player w.planned w.rising goes))
+      (subst (WritesPart start b) (ap (λ (rs : List Record). opening scene ∷ rs) (action_records table scene plan timelines w.so came_to player w.planned w.rising goes))
       (part_more start a b (opening scene ∷ events_records w.so.events) records w.written part))

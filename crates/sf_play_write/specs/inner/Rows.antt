@@ -1,4 +1,4 @@
--- What is written of the turns of a play.
+-- What is written of the actions of a play.
 use Rattle.std.specs.Prelude.{◌≡◌, ℕ, ◌<◌, Bool, true, false, List, [], ◌∷◌, length, Option, None, Some, slice_get}
 use Rattle.atomic_table.specs.Seated.{TableId}
 use Rattle.sf_output_screen.specs.sf_picture.declared.picture.Picture.{Picture}
@@ -19,8 +19,8 @@ use Rattle.sf_output_screen.specs.declared.screens.OutputScreen.{OutputScreen}
 use Rattle.sf_play.specs.Going.{EndsPlay, TellsStage}
 use Rattle.sf_play.specs.Players.{PlayOf, PlayerOf, SoFar}
 use Rattle.sf_play.specs.Standing.{Begins, StandsAlong}
-use Rattle.sf_play.specs.declared.turn.Turn.{Turn}
-use Rattle.sf_play.specs.declared.turn.Turn.TheVariants as turn
+use Rattle.sf_play.specs.declared.action.Action.{Action}
+use Rattle.sf_play.specs.declared.action.Action.TheVariants as action
 use Rattle.sf_play_write.specs.Vsyncs.{vsync_shown}
 use Rattle.sf_play_write.specs.Writing.{Writes}
 
@@ -30,8 +30,8 @@ newest_shown [] = []
 newest_shown (reply ∷ []) = rec.Repl (reply_shown reply) ∷ []
 newest_shown (reply ∷ later) = newest_shown later
 
-abbrev pub is_end : Turn → Bool
-is_end turn.End = true
+abbrev pub is_end : Action → Bool
+is_end action.End = true
 is_end other = false
 
 module _ {B : Type 0} where
@@ -39,17 +39,17 @@ module _ {B : Type 0} where
   newest_of None = []
   newest_of (Some actor) = newest_shown actor.replies.items
 
-  -- the records of a turn that a play of this plan comes to, after which it stands so
-  abbrev pub turn_shown : (ℕ → Picture) → Plan → List ℕ → PlayOf B → Turn → List Record
-  turn_shown pictures plan timelines play (turn.Step place) = newest_of (slice_get play.actor_set.actors place)
-  turn_shown pictures plan timelines play (turn.Vsync report) = vsync_shown pictures plan timelines report play.handler.tree.layers
-  turn_shown pictures plan timelines play other = []
+  -- the records of an action that a play of this plan comes to, after which it stands so
+  abbrev pub action_shown : (ℕ → Picture) → Plan → List ℕ → PlayOf B → Action → List Record
+  action_shown pictures plan timelines play (action.Step place) = newest_of (slice_get play.actor_set.actors place)
+  action_shown pictures plan timelines play (action.Vsync report) = vsync_shown pictures plan timelines report play.handler.tree.layers
+  action_shown pictures plan timelines play other = []
 
-  -- a turn can be shown: its actor is there, and its vsync left what is to be shown
-  abbrev pub MayShowTurn : SceneValue → Turn → PlayerOf B → Type 0
-  MayShowTurn scene (turn.Step place) player = place < length player.play.actor_set.actors
-  MayShowTurn scene (turn.Vsync report) player = TellsStage scene report player.play
-  MayShowTurn scene other player = Unit {0}
+  -- an action can be shown: its actor is there, and its vsync left what is to be shown
+  abbrev pub MayShowAction : SceneValue → Action → PlayerOf B → Type 0
+  MayShowAction scene (action.Step place) player = place < length player.play.actor_set.actors
+  MayShowAction scene (action.Vsync report) player = TellsStage scene report player.play
+  MayShowAction scene other player = Unit {0}
 
   -- What a play has shown so far is written behind what was there: the player stands along with the play of the scene, and each
   -- screen has its last frame.
@@ -76,7 +76,7 @@ module _ {B : Type 0} where
     pub opens : first ≡ opening scene
     pub rising : timelines ≡ rising_timelines scene
 
-  -- a turn was written: there are more to come, or the play is at its end
-  abbrev pub TurnsOn : Bool → TableId → SceneValue → Plan → List ℕ → Option (List ℕ) → Option (List ℕ) → List OutputScreen → PlayerOf B → Type 0
-  TurnsOn true table scene plan timelines start now screens player = IsWriting table scene plan timelines start now screens player
-  TurnsOn false table scene plan timelines start now screens player = HasWritten table scene start now player
+  -- an action was written: there are more to come, or the play is at its end
+  abbrev pub GoesOnWriting : Bool → TableId → SceneValue → Plan → List ℕ → Option (List ℕ) → Option (List ℕ) → List OutputScreen → PlayerOf B → Type 0
+  GoesOnWriting true table scene plan timelines start now screens player = IsWriting table scene plan timelines start now screens player
+  GoesOnWriting false table scene plan timelines start now screens player = HasWritten table scene start now player
