@@ -29,10 +29,10 @@ use Rattle.sf_actor.specs.Known.{Call, arrivals_told, call_after, frame_of, is_s
 use Rattle.sf_actor.specs.Names.{FrameOf}
 use Rattle.sf_actor.specs.Rights.{HoldsAcquired, SendsAcquired, Takes}
 use Rattle.sf_actor.specs.Scripts.{picture_at}
-use Rattle.sf_actor.specs.Tales.{sent_as}
+use Rattle.sf_actor.specs.ScriptTraces.{sent_as}
 use Rattle.sf_actor.specs.Traces.{SentStep}
 use Rattle.sf_actor.specs.Tries.{ActorOf, Keeps}
-use Rattle.sf_record.specs.declared.record.Commit.{Commit}
+use Rattle.sf_record.specs.declared.record.CommitRecord.{CommitRecord}
 use Rattle.sf_record.specs.declared.record.CommittedBuffer.{CommittedBuffer}
 use Rattle.sf_record.specs.declared.record.HistoryEntry.{HistoryEntry}
 use Rattle.sf_record.specs.declared.record.QueueHistory.{QueueHistory}
@@ -233,13 +233,13 @@ module _ {B : Type 0} where
       (subst (λ (n : ℕ). HasOfStep (picture_at scene.pictures) now (step_of_entry scene (queueing_of histories n frame.1.frame))) on.number
       (subst (λ (e : Option HistoryEntry). HasOfStep (picture_at scene.pictures) now (step_of_entry scene e)) (sym found) so))
 
-  pub show_as_queued : (scene : SceneValue) (ofs : List (ActorOf B)) (home : DeskHome) (view : DeskView B) (histories : List QueueHistory) (commits : List Commit) (tells : Bool) → IsWithinLimits scene
+  pub show_as_queued : (scene : SceneValue) (ofs : List (ActorOf B)) (home : DeskHome) (view : DeskView B) (histories : List QueueHistory) (commits : List CommitRecord) (tells : Bool) → IsWithinLimits scene
       → AreActors scene ofs home view → AreCalls scene ofs home view → AreArrivals ofs view → AreTraced tells scene (run_of ofs home view) (arrivals_of view)
       → histories ≡ map (history_shown (run_of ofs home view)) (rising_queues scene) → ShowBrought (arrivals_of view) commits → ShowAsQueued scene histories commits
   show_as_queued scene ofs home view histories commits tells limits actors calls senders traced told brought =
       subst (λ (hs : List QueueHistory). ShowAsQueued scene hs commits) (sym told)
-      (All-weaker (λ (commit : Commit). All (IsBrought (arrivals_of view)) commit.buffers)
-      (λ (commit : Commit). All (IsAsQueued scene (map (history_shown (run_of ofs home view)) (rising_queues scene))) commit.buffers)
-      (λ (commit : Commit). All-weaker (IsBrought (arrivals_of view)) (IsAsQueued scene (map (history_shown (run_of ofs home view)) (rising_queues scene)))
+      (All-weaker (λ (commit : CommitRecord). All (IsBrought (arrivals_of view)) commit.buffers)
+      (λ (commit : CommitRecord). All (IsAsQueued scene (map (history_shown (run_of ofs home view)) (rising_queues scene))) commit.buffers)
+      (λ (commit : CommitRecord). All-weaker (IsBrought (arrivals_of view)) (IsAsQueued scene (map (history_shown (run_of ofs home view)) (rising_queues scene)))
       (λ (shown : CommittedBuffer). as_queued scene ofs home view shown tells limits actors calls senders traced) commit.buffers)
       commits brought)

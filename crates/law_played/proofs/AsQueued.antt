@@ -22,7 +22,7 @@ use Rattle.sf_script_scene.specs.declared.step.Step.TheVariants as step
 use Rattle.sf_actor.specs.Makers.{Run}
 use Rattle.sf_actor.specs.Names.{FrameOf}
 use Rattle.sf_actor.specs.Scripts.{crop_of, picture_at}
-use Rattle.sf_actor.specs.Tales.{IsMade, made_on}
+use Rattle.sf_actor.specs.ScriptTraces.{IsMade, made_on}
 use Rattle.sf_actor.specs.Traces.{MadeStep, made_by}
 use Rattle.sf_record.specs.declared.record.CommittedBuffer.{CommittedBuffer}
 use Rattle.law_played.specs.Buffers.{HasOfStep, crop_in, crop_shown, step_in, step_of_entry}

@@ -12,10 +12,10 @@ use Rattle.sf_commit.specs.sf_txn.Buffers.{Buffer}
 use Rattle.sf_commit.specs.sf_txn.Transactions.{shown_by}
 use Rattle.sf_commit.specs.sf_token.Pending.{Arrival, has_number}
 use Rattle.sf_commit.specs.Rounds.{Round, StageOf, commit_of, committed, stage_with}
-use Rattle.sf_commit.specs.declared.vsync.Commit.{Commit as Decided}
+use Rattle.sf_commit.specs.declared.vsync.Commit.{Commit}
 use Rattle.sf_actor.specs.Names.{FrameOf}
-use Rattle.sf_record.specs.declared.event.VsyncReport.{VsyncReport}
-use Rattle.sf_record.specs.declared.record.Commit.{Commit}
+use Rattle.sf_record.specs.declared.event.VsyncRecords.{VsyncRecords}
+use Rattle.sf_record.specs.declared.record.CommitRecord.{CommitRecord}
 use Rattle.law_played.specs.Brought.{IsBrought, ShowBrought}
 use Rattle.law_played.specs.Commits.{SaysResults, buffer_shown, commit_shown}
 use Rattle.law_played.specs.Stages.{arrival_at, begun, ended, no_arrival, round_after, told_from}
@@ -36,7 +36,7 @@ module _ (arrivals : List (Arrival FrameOf)) where
   abbrev IsShownOf : LayerId × Shown → Type 0
   IsShownOf one = IsBrought arrivals (buffer_shown one)
 
-  abbrev ShowsOf : Decided → Type 0
+  abbrev ShowsOf : Commit → Type 0
   ShowsOf told = All IsShownOf told.buffers
 
   of_arrival : (arrived : Arrival FrameOf) → Contains arrivals arrived → All IsShownOf (map shown_by arrived.txn.buffers)
@@ -58,7 +58,7 @@ module _ (arrivals : List (Arrival FrameOf)) where
   shows_more stage arrived (Err rejection) own all =
       All-append ShowsOf stage.commits (commit_of arrived rejection.cause rejection.op ∷ []) all (All-cons ShowsOf (commit_of arrived rejection.cause rejection.op) [] own (All-nil ShowsOf))
 
-  shows_after : (round : Round FrameOf) (commits : List Commit) → All ShowsOf round.stage.commits → All ShowsOf (round_after arrivals round commits).stage.commits
+  shows_after : (round : Round FrameOf) (commits : List CommitRecord) → All ShowsOf round.stage.commits → All ShowsOf (round_after arrivals round commits).stage.commits
   unfolding round_after
   shows_after round [] all = all
   shows_after round (commit ∷ later) all =
@@ -66,19 +66,19 @@ module _ (arrivals : List (Arrival FrameOf)) where
       shows_after (committed round arrived) later (shows_more round.stage arrived (after round.stage.tree arrived.txn.ops) (of_number commit.arrival) all)
 
   -- records that say so
-  recorded : (commits : List Commit) (told : List Decided) → commits ≡ map commit_shown told → All ShowsOf told → ShowBrought arrivals commits
+  recorded : (commits : List CommitRecord) (told : List Commit) → commits ≡ map commit_shown told → All ShowsOf told → ShowBrought arrivals commits
   recorded commits told same all =
       subst (ShowBrought arrivals) (sym same)
-      (All-map (λ (commit : Commit). All (IsBrought arrivals) commit.buffers) commit_shown told
-      (All-weaker ShowsOf (λ (one : Decided). All (IsBrought arrivals) (map buffer_shown one.buffers))
-      (λ (one : Decided) shows. All-map (IsBrought arrivals) buffer_shown one.buffers shows) told all))
+      (All-map (λ (commit : CommitRecord). All (IsBrought arrivals) commit.buffers) commit_shown told
+      (All-weaker ShowsOf (λ (one : Commit). All (IsBrought arrivals) (map buffer_shown one.buffers))
+      (λ (one : Commit) shows. All-map (IsBrought arrivals) buffer_shown one.buffers shows) told all))
 
-  pub show_brought : (round : Round FrameOf) (vsyncs : List VsyncReport) → All SaysResults (told_from arrivals round vsyncs) → ShowBrought arrivals (commits_in vsyncs)
+  pub show_brought : (round : Round FrameOf) (vsyncs : List VsyncRecords) → All SaysResults (told_from arrivals round vsyncs) → ShowBrought arrivals (commits_in vsyncs)
   unfolding told_from commits_in
-  show_brought round [] says = All-nil (λ (commit : Commit). All (IsBrought arrivals) commit.buffers)
+  show_brought round [] says = All-nil (λ (commit : CommitRecord). All (IsBrought arrivals) commit.buffers)
   show_brought round (vsync ∷ later) says =
       let end = ended (round_after arrivals (begun round) vsync.commits) in
       let first = All-head SaysResults _ (told_from arrivals end later) says in
-      All-append (λ (commit : Commit). All (IsBrought arrivals) commit.buffers) vsync.commits (flat_map commits_of_vsync later)
+      All-append (λ (commit : CommitRecord). All (IsBrought arrivals) commit.buffers) vsync.commits (flat_map commits_of_vsync later)
       (recorded vsync.commits (round_after arrivals (begun round) vsync.commits).stage.commits first (shows_after (begun round) vsync.commits (All-nil ShowsOf)))
       (show_brought end later (All-tail SaysResults _ (told_from arrivals end later) says))

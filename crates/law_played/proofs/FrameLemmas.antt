@@ -25,7 +25,7 @@ use Rattle.sf_compose.specs.sf_tree.Trees.{TreeOf}
 use Rattle.sf_compose.specs.sf_view.Image.{image, image_in}
 use Rattle.sf_compose.specs.sf_view.Views.{IsDisplay}
 use Rattle.sf_actor.specs.Scripts.{picture_at}
-use Rattle.sf_record.specs.declared.record.Commit.{Commit}
+use Rattle.sf_record.specs.declared.record.CommitRecord.{CommitRecord}
 use Rattle.law_played.specs.Frames.{HasOneOutput, capture_plan, display_plan, frame_after, frame_of, hit_plan, is_done, plan_of, shown_after, shown_due}
 use Rattle.law_played.specs.Runs.{rising}
 
@@ -52,7 +52,7 @@ unfolding shown_due written frame_of image
 shown_alone pictures width height layers =
     ap (λ (order : List LayerId). out.Frame (frame_bytes (λ x y. image_in pictures layers order (pos x) (pos y)) width height) ∷ []) (no_stacks layers)
 
-pub frame_alone : (scene : SceneValue) (commits : List Commit) (tree : TreeOf) → HasOneOutput scene
+pub frame_alone : (scene : SceneValue) (commits : List CommitRecord) (tree : TreeOf) → HasOneOutput scene
     → shown_after scene commits tree ≡ frame_after scene commits tree
 frame_alone scene commits tree one =
     ap (λ (shown : List (Output (List ℕ))). if list_any is_done commits then shown else [])

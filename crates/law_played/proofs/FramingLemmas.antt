@@ -10,7 +10,7 @@ use Rattle.sf_compose.specs.sf_layer.declared.op.Op.{Op}
 use Rattle.sf_compose.specs.sf_layer.declared.op.Op.TheVariants as op
 use Rattle.sf_compose.specs.sf_layer.declared.shown.Shown.{Shown}
 use Rattle.sf_commit.specs.sf_ready.Facts.{is_met, meets}
-use Rattle.sf_commit.specs.sf_token.Looking.{IsLookedArrival}
+use Rattle.sf_commit.specs.sf_token.Loads.{IsLookedArrival}
 use Rattle.sf_commit.specs.sf_token.Pending.{Arrival}
 use Rattle.sf_compose.specs.sf_tree.Changes.{Rejection, after}
 use Rattle.sf_compose.specs.sf_tree.Trees.{TreeOf}

@@ -11,9 +11,9 @@ use Rattle.sf_commit.specs.Rounds.{Decided, IsNext, Round, committed, facts_of}
 use Rattle.sf_commit.specs.sf_commit_next.Heads.{head_hold, ready_if, ready_of}
 use Rattle.sf_script_scene.specs.Scene.{SceneValue}
 use Rattle.law_played.specs.Commits.{is_written}
-use Rattle.law_played.specs.Plays.{GoesOnTo, GoesOnWith, IsOver, Playing, TakesTurn, is_quiet, with_round}
+use Rattle.law_played.specs.Plays.{GoesOnTo, GoesOnWith, IsOver, Playing, TakesTransition, is_quiet, with_round}
 use Rattle.law_played.specs.Runs.{final_values, written_in}
-use Rattle.law_played.specs.Worlds.{Turn, World, actor_turn, after_vsync, round_now}
+use Rattle.law_played.specs.RunStates.{Transition, RunState, actor_transition, after_vsync, round_now}
 
 module _ {L : Type 0} where
   -- a number above all tokens of which something is pending
@@ -111,39 +111,39 @@ module _ {L : Type 0} where
     ]
 
 module _ (scene : SceneValue) where
-  -- each turn can be taken
-  pub turn_taken : (pick : ℕ) (world : World) → (turn : Turn) × TakesTurn scene pick world turn
-  turn_taken zero world =
-      let r = round_now scene world in
-      let end = decides (is_written (written_in scene world.run)) (final_values scene world.run) ((world.vsyncs + 1) * scene.period) (length r.pending) r (omega arith) in
-      (after_vsync scene world end.0, record { end = end.0; decides = end.1; is = refl })
-  turn_taken (suc n) world = (actor_turn scene (suc n) world, refl)
+  -- each transition can be taken
+  pub transition_taken : (pick : ℕ) (state : RunState) → (transition : Transition) × TakesTransition scene pick state transition
+  transition_taken zero state =
+      let r = round_now scene state in
+      let end = decides (is_written (written_in scene state.run)) (final_values scene state.run) ((state.vsyncs + 1) * scene.period) (length r.pending) r (omega arith) in
+      (after_vsync scene state end.0, record { end = end.0; decides = end.1; is = refl })
+  transition_taken (suc n) state = (actor_transition scene (suc n) state, refl)
 
   -- a play is over, or it goes on
   pub plays_on : (playing : Playing) → IsOver scene playing ⊎ ((next : Playing) × GoesOnTo scene playing next)
   plays_on playing = by_left playing.left playing.before refl refl
     where
-      by_left : (left : List ℕ) (before : Option World) → playing.left ≡ left → playing.before ≡ before → IsOver scene playing ⊎ ((next : Playing) × GoesOnWith scene playing playing.left playing.before next)
+      by_left : (left : List ℕ) (before : Option RunState) → playing.left ≡ left → playing.before ≡ before → IsOver scene playing ⊎ ((next : Playing) × GoesOnWith scene playing playing.left playing.before next)
       by_left (pick ∷ left) before e b =
-          let taken = turn_taken pick playing.world in
+          let taken = transition_taken pick playing.state in
           inr (
-            record playing { events = playing.events ++ taken.0.events; world = taken.0.world; left = left },
-            subst (λ (l : List ℕ). GoesOnWith scene playing l playing.before (record playing { events = playing.events ++ taken.0.events; world = taken.0.world; left = left })) (sym e)
-                (record { turn = taken.0; takes = taken.1; is = refl }),
+            record playing { events = playing.events ++ taken.0.events; state = taken.0.state; left = left },
+            subst (λ (l : List ℕ). GoesOnWith scene playing l playing.before (record playing { events = playing.events ++ taken.0.events; state = taken.0.state; left = left })) (sym e)
+                (record { transition = taken.0; takes = taken.1; is = refl }),
           )
       by_left [] None e b =
           inr (
             with_round scene playing,
             subst (λ (l : List ℕ). GoesOnWith scene playing l playing.before (with_round scene playing)) (sym e)
-                (subst (λ (o : Option World). GoesOnWith scene playing [] o (with_round scene playing)) (sym b) refl),
+                (subst (λ (o : Option RunState). GoesOnWith scene playing [] o (with_round scene playing)) (sym b) refl),
           )
-      by_left [] (Some before) e b = by_quiet (is_quiet scene before playing.world) refl
+      by_left [] (Some before) e b = by_quiet (is_quiet scene before playing.state) refl
         where
-          by_quiet : (q : Bool) → is_quiet scene before playing.world ≡ q → IsOver scene playing ⊎ ((next : Playing) × GoesOnWith scene playing playing.left playing.before next)
+          by_quiet : (q : Bool) → is_quiet scene before playing.state ≡ q → IsOver scene playing ⊎ ((next : Playing) × GoesOnWith scene playing playing.left playing.before next)
           by_quiet true quiet = inl (record { none_left = e; before = before; round = b; quiet = quiet })
           by_quiet false busy =
               inr (
                 with_round scene playing,
                 subst (λ (l : List ℕ). GoesOnWith scene playing l playing.before (with_round scene playing)) (sym e)
-                    (subst (λ (o : Option World). GoesOnWith scene playing [] o (with_round scene playing)) (sym b) (busy, refl)),
+                    (subst (λ (o : Option RunState). GoesOnWith scene playing [] o (with_round scene playing)) (sym b) (busy, refl)),
               )

@@ -19,7 +19,7 @@ use Rattle.sf_actor.specs.sf_slots.Replies.{Refusal, is_crop_of, is_lent, refusa
 use Rattle.sf_actor.specs.sf_slots.Shown.{frame_shown, kind_number, status_shown}
 use Rattle.sf_actor.specs.sf_slots.Tells.{AreReplies}
 use Rattle.sf_actor.specs.sf_slots.Told.{slot_at}
-use Rattle.sf_actor.proofs.sf_slots_lemmas.Going.{own_unmet, unmet}
+use Rattle.sf_actor.proofs.sf_slots_lemmas.HistoryGoesOn.{own_unmet, unmet}
 use Rattle.sf_script_scene.specs.Scene.{SceneValue}
 use Rattle.sf_script_scene.specs.declared.declarations.QueueDecl.{QueueDecl}
 use Rattle.sf_actor.specs.Makers.{Run}

@@ -11,7 +11,7 @@ use Rattle.sf_commit.specs.sf_ready.Holds.{barrier_hold, fence_hold, hold_of, po
 use Rattle.sf_commit.specs.sf_ready.declared.hold.Hold.TheVariants as hold
 use Rattle.sf_commit.specs.sf_txn.Buffers.{Buffer}
 use Rattle.sf_commit.specs.sf_txn.Transactions.{Contents}
-use Rattle.sf_commit.specs.Deciding.{DecidesSame}
+use Rattle.sf_commit.specs.inner.Deciding.{DecidesSame}
 use Rattle.sf_commit.specs.Rounds.{Round, facts_of, pressed_in}
 use Rattle.law_played.specs.Framing.{IsRoundOf, framed_buffer, framed_txn}
 

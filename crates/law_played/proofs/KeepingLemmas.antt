@@ -13,7 +13,7 @@ use Rattle.sf_commit.specs.Rounds.{facts_of}
 use Rattle.sf_script_scene.specs.Scene.{SceneValue}
 use Rattle.sf_actor.specs.Names.{FrameOf}
 use Rattle.sf_actor.specs.Written.{FrameNumber}
-use Rattle.sf_record.specs.declared.event.VsyncReport.{VsyncReport}
+use Rattle.sf_record.specs.declared.event.VsyncRecords.{VsyncRecords}
 use Rattle.law_played.proofs.HoldLemmas.{held_too, ready_too}
 use Rattle.law_played.specs.Commits.{CommitInOrder, CommitsReady, OvertakesHeld, SaysResults, WasReady, arrived_of, hold_at, is_written, seen_by}
 use Rattle.law_played.specs.Framing.{framed_on}
@@ -24,7 +24,7 @@ use Rattle.sf_script_scene.specs.Limits.{most_layers}
 use Rattle.law_played.specs.Vsyncs.{AllNext, AllNextTo, commits_in}
 
 -- more is written
-module _ (written others : List FrameNumber) (too : AreWrittenToo written others) (vsync : VsyncReport) where
+module _ (written others : List FrameNumber) (too : AreWrittenToo written others) (vsync : VsyncRecords) where
   all_written : (buffers : List (Buffer FrameOf)) → All (λ (b : Buffer FrameOf). is_written written b.lease ≡ true → is_written others b.lease ≡ true) buffers
   all_written buffers k d in' e = too (get_or buffers k d).lease e
 
@@ -59,7 +59,7 @@ commits_ready_too written others too told is = record {
 }
 
 module _ {L : Type 0} (frame : L → FrameOf) (scene : SceneValue) where
-  pub played_too : (written others : List FrameNumber) (arrivals : List (Arrival FrameOf)) (vsyncs : List VsyncReport) (handler : HandlerOf L) → AreWrittenToo written others
+  pub played_too : (written others : List FrameNumber) (arrivals : List (Arrival FrameOf)) (vsyncs : List VsyncRecords) (handler : HandlerOf L) → AreWrittenToo written others
       → HasPlayed frame scene written arrivals vsyncs handler → HasPlayed frame scene others arrivals vsyncs handler
   played_too written others arrivals vsyncs handler too played = record {
     order = played.order;
@@ -80,7 +80,7 @@ module _ {L : Type 0} (frame : L → FrameOf) (scene : SceneValue) where
     ready = All-nil (CommitsReady written);
   }
 
-  module _ (written : List FrameNumber) (arrivals : List (Arrival FrameOf)) (vsyncs : List VsyncReport) (handler : HandlerOf L) (played : HasPlayed frame scene written arrivals vsyncs handler) where
+  module _ (written : List FrameNumber) (arrivals : List (Arrival FrameOf)) (vsyncs : List VsyncRecords) (handler : HandlerOf L) (played : HasPlayed frame scene written arrivals vsyncs handler) where
     pub in_order : CommitInOrder arrivals written (commits_in vsyncs) (told_of scene arrivals vsyncs)
     in_order = record {
       of_each_token = λ token. record { rest = arrived_of token (uncommitted arrivals (commits_in vsyncs)); joined = played.order.of_each_token token };

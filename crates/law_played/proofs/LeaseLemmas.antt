@@ -7,7 +7,7 @@ use Rattle.std.proofs.lemmas.List.Elements.{All-append, All-cons, All-head, All-
 use Rattle.sf_base.specs.declared.fences.Seen.{Seen}
 use Rattle.sf_actor.specs.sf_surface.Reading.{plain_lease}
 use Rattle.sf_actor.specs.sf_surface.Tokens.{ReadLeaseOf}
-use Rattle.sf_commit.specs.sf_token.Looking.{AllLeases, IsLookedArrival}
+use Rattle.sf_commit.specs.sf_token.Loads.{AllLeases, IsLookedArrival}
 use Rattle.sf_commit.specs.sf_token.Pending.{Arrival, is_of}
 use Rattle.sf_compose.specs.sf_tree.Trees.{TreeOf}
 use Rattle.sf_commit.specs.sf_txn.Buffers.{Buffer}
@@ -24,7 +24,7 @@ use Rattle.sf_script_scene.specs.Scene.{SceneValue}
 use Rattle.sf_actor.specs.Known.{frame_of, plain_arrival}
 use Rattle.sf_actor.specs.Names.{FrameOf}
 use Rattle.sf_actor.specs.Written.{FrameNumber}
-use Rattle.sf_record.specs.declared.event.VsyncReport.{VsyncReport}
+use Rattle.sf_record.specs.declared.event.VsyncRecords.{VsyncRecords}
 use Rattle.law_played.specs.Commits.{is_written}
 use Rattle.law_played.specs.Frames.{ShowImages, ShowsImage, shown_after}
 use Rattle.law_played.specs.Framing.{framed_arrival, framed_on}
@@ -102,7 +102,7 @@ module _ {L E R C : Type 0} (lease : Ghosts L E R C) (frame : L → FrameOf) (pl
   all_back (g ∷ gs) (r ∷ rs) zip = (one_back g r zip.0, all_back gs rs zip.1)
 
 -- one vsync more
-pub releases_go_on : (told later : List VsyncAt) (vsync : VsyncReport) (tree : TreeOf) (gone : List (OnLayer FrameOf)) → GoesOnBy told later vsync tree gone
+pub releases_go_on : (told later : List VsyncAt) (vsync : VsyncRecords) (tree : TreeOf) (gone : List (OnLayer FrameOf)) → GoesOnBy told later vsync tree gone
     → released_in later ≡ released_in told ++ released_by vsync gone
 unfolding released_in
 releases_go_on told later vsync tree gone goes =
@@ -111,14 +111,14 @@ releases_go_on told later vsync tree gone goes =
     ∙ (ap (λ rest. flat_map released_at told ++ rest) (append-nil (released_at goes.at))
     ∙ (λ i. flat_map released_at told ++ released_by (goes.report i) (goes.goes i))))
 
-pub images_go_on : (scene : SceneValue) (told later : List VsyncAt) (vsync : VsyncReport) (tree : TreeOf) (gone : List (OnLayer FrameOf)) → GoesOnBy told later vsync tree gone
+pub images_go_on : (scene : SceneValue) (told later : List VsyncAt) (vsync : VsyncRecords) (tree : TreeOf) (gone : List (OnLayer FrameOf)) → GoesOnBy told later vsync tree gone
     → ShowImages scene told → vsync.shown ≡ shown_after scene vsync.commits tree → ShowImages scene later
 images_go_on scene told later vsync tree gone goes images shows =
     subst (All (ShowsImage scene)) (sym goes.joined) (All-append (ShowsImage scene) told (goes.at ∷ []) images (All-cons (ShowsImage scene) goes.at [] here (All-nil (ShowsImage scene))))
   where
     here : ShowsImage scene goes.at
     here =
-        ap (λ (v : VsyncReport). v.shown) goes.report
+        ap (λ (v : VsyncRecords). v.shown) goes.report
         ∙ (shows ∙ (λ i. shown_after scene (sym goes.report i).commits (sym goes.leaves i)))
 
 pub plain_frame : (a b : ReadLeaseOf) → plain_lease a ≡ plain_lease b → frame_of a ≡ frame_of b

@@ -22,7 +22,7 @@ use Rattle.sf_compose.specs.Frames.{frame_bytes, row_bytes}
 use Rattle.sf_commit.specs.sf_ready.Holds.{hold_of}
 use Rattle.sf_commit.specs.sf_token.Pending.{Arrival}
 use Rattle.sf_commit.specs.Rounds.{Round}
-use Rattle.sf_commit.specs.declared.vsync.Commit.{Commit as Decided}
+use Rattle.sf_commit.specs.declared.vsync.Commit.{Commit}
 use Rattle.sf_script_scene.specs.Scene.{has_actor}
 use Rattle.sf_script_scene.specs.declared.change.Change.TheVariants as change
 use Rattle.sf_script_scene.specs.declared.step.ActorScript.{ActorScript}
@@ -33,18 +33,18 @@ use Rattle.sf_actor.specs.Makers.{Run}
 use Rattle.sf_actor.specs.Names.{FrameOf, Token}
 use Rattle.sf_actor.specs.Scripts.{picture_at}
 use Rattle.sf_actor.specs.Steps.{holdings_next}
-use Rattle.sf_actor.specs.Tales.{IsMade, made_on, sent_as}
+use Rattle.sf_actor.specs.ScriptTraces.{IsMade, made_on, sent_as}
 use Rattle.sf_actor.specs.Tests.{refusal_of}
 use Rattle.sf_actor.specs.Traces.{DoneAt, IsAnswered, AreAnswered, MadeStep, Past, made_by, next, no_past, places_from, places_of, sends_of}
 use Rattle.sf_actor.specs.Values.{replies_of}
 use Rattle.sf_actor.specs.Written.{FrameNumber}
 use Rattle.sf_record.specs.Events.{events_records}
 use Rattle.sf_record.specs.Fitting.{ArrivalFits, BufferFits, FieldsFit, Fits32, Fits64, HeldFits, RecordFits, ReplyFits, StuckFits, TimelineFits}
-use Rattle.sf_record.specs.declared.event.VsyncReport.{VsyncReport}
+use Rattle.sf_record.specs.declared.event.VsyncRecords.{VsyncRecords}
 use Rattle.sf_record.specs.declared.record.ArrivalEntry.{ArrivalEntry}
-use Rattle.sf_record.specs.declared.record.Commit.{Commit}
+use Rattle.sf_record.specs.declared.record.CommitRecord.{CommitRecord}
 use Rattle.sf_record.specs.declared.record.Record.{Record}
-use Rattle.sf_record.specs.declared.record.Reply.{Reply}
+use Rattle.sf_record.specs.declared.record.ReplyRecord.{ReplyRecord}
 use Rattle.sf_record.specs.Records.{body_of, list_bytes, u32_bytes, u64_bytes}
 use Rattle.law_played.specs.Arrivals.{ArriveInOrder, number_of}
 use Rattle.law_played.specs.Buffers.{IsAsQueued}
@@ -108,7 +108,7 @@ red = record {
   orient = 0;
 }
 
-abbrev pub decided : Decided
+abbrev pub decided : Commit
 decided = record { token = record { 0 = 1 }; number = 1; cause = 0; op = 0; buffers = [] }
 
 abbrev pub at_end : Round FrameOf
@@ -211,14 +211,14 @@ replies_shown : replies_to 1 least_events ≡ replies_due run 1
 unfolding replies_in places_from holdings_next
 replies_shown = refl
 
-abbrev reply : ℕ → List ℕ → Reply
+abbrev reply : ℕ → List ℕ → ReplyRecord
 reply place values = record { actor = 1; step = place; status = 0; values = values }
 
 answers : AnswerSteps least_scene run least_events
 unfolding replies_in
 answers = record {
   of_each = one (λ (script : ActorScript). replies_to script.number least_events ≡ replies_due run script.number) least_script replies_shown;
-  of_none_else = All-from_recursion (λ (r : Reply). has_actor least_scene.actors r.actor ≡ true)
+  of_none_else = All-from_recursion (λ (r : ReplyRecord). has_actor least_scene.actors r.actor ≡ true)
       (reply 1 [] ∷ reply 2 [] ∷ reply 3 [] ∷ reply 4 (1 ∷ []) ∷ []) (refl, (refl, (refl, (refl, tt))));
 }
 
@@ -229,19 +229,19 @@ arrive = record {
   of_none_else = one (λ (entry : ArrivalEntry). has_actor least_scene.actors entry.actor ≡ true) (record { actor = 1; step = 4; token = 1 }) refl;
 }
 
-has_one : List Commit → Type 0
+has_one : List CommitRecord → Type 0
 has_one [] = ⊥
 has_one (c ∷ cs) = Unit {0}
 
 vsyncs_are : (signals : List (ℕ × ℕ)) → AreVsyncs least_scene signals (least_vsync ∷ [])
 unfolding rising_timelines has_one
 vsyncs_are signals = record {
-  from_1 = one (λ (v : VsyncReport). 0 < v.number) least_vsync (omega arith);
+  from_1 = one (λ (v : VsyncRecords). 0 < v.number) least_vsync (omega arith);
   go_on = tt;
-  expected = one (λ (v : VsyncReport). v.expected ≡ v.number * least_scene.period) least_vsync refl;
-  commit = one (λ (v : VsyncReport). v.commits ≢ []) least_vsync (λ e. subst has_one e tt);
-  timelines = one (λ (v : VsyncReport). map timeline_of v.timelines ≡ rising_timelines least_scene) least_vsync refl;
-  signalled = one (λ (v : VsyncReport). All (WasSignalled signals) v.timelines) least_vsync (All-nil (WasSignalled signals));
+  expected = one (λ (v : VsyncRecords). v.expected ≡ v.number * least_scene.period) least_vsync refl;
+  commit = one (λ (v : VsyncRecords). v.commits ≢ []) least_vsync (λ e. subst has_one e tt);
+  timelines = one (λ (v : VsyncRecords). map timeline_of v.timelines ≡ rising_timelines least_scene) least_vsync refl;
+  signalled = one (λ (v : VsyncRecords). All (WasSignalled signals) v.timelines) least_vsync (All-nil (WasSignalled signals));
 }
 
 prefix_if : (b : Bool) → map arrival_of (cond b (least_commit ∷ []) []) ++ [] ≡ map number_of (cond b (arrived ∷ []) [])
@@ -292,7 +292,7 @@ fits = record {
   commits = in_order;
   calls = no_histories (released_in (told_of least_scene arrivals (least_vsync ∷ [])));
   frames = subst (ShowImages least_scene) (sym told) (one (ShowsImage least_scene) told_one frame_shown);
-  buffers = one (λ (c : Commit). All (IsAsQueued least_scene []) c.buffers) least_commit (All-nil (IsAsQueued least_scene []));
+  buffers = one (λ (c : CommitRecord). All (IsAsQueued least_scene []) c.buffers) least_commit (All-nil (IsAsQueued least_scene []));
   holds = none_held (end_of least_scene run (told_of least_scene arrivals (least_vsync ∷ [])));
   ends = not_stuck;
 }

@@ -35,14 +35,14 @@ use Rattle.sf_script_scene.specs.declared.step.ActorScript.{ActorScript}
 use Rattle.sf_script_scene.specs.declared.step.Step.{Step}
 use Rattle.sf_script_scene.specs.declared.step.Step.TheVariants as step
 use Rattle.sf_actor.specs.declared.done.Done.{Done}
-use Rattle.sf_actor.specs.declared.tried.Reply.{Reply as Told}
+use Rattle.sf_actor.specs.declared.tried.Reply.{Reply}
 use Rattle.sf_actor.specs.declared.done.Answered.TheVariants as answered
 use Rattle.sf_actor.specs.declared.holding.Holding.{Holding}
 use Rattle.sf_actor.specs.declared.holding.Holding.TheVariants as holding
 use Rattle.sf_actor.specs.Desks.{DeskHome, DeskView, MadeCall, known_of, mark_among}
 use Rattle.sf_actor.specs.Known.{GoesOn, frame_of, is_sent_by, plain_arrival}
 use Rattle.sf_actor.specs.Names.{FrameOf, Holdings, Lent, Token, name_in}
-use Rattle.sf_actor.specs.Parts.{drawn_picture, token_of}
+use Rattle.sf_actor.specs.Holdings.{drawn_picture, token_of}
 use Rattle.sf_actor.specs.Points.{detached_fence, undrawn_fence}
 use Rattle.sf_actor.specs.Rights.{turn_by}
 use Rattle.sf_actor.specs.Scripts.{picture_at}
@@ -51,7 +51,7 @@ use Rattle.sf_actor.specs.Traces.{past_after}
 use Rattle.sf_actor.specs.Tries.{ActorOf, DoesStep, DrawsHeld, DrawsIn, Keeps, SeesSignalled, held_in}
 use Rattle.sf_actor.specs.Values.{reply_at}
 use Rattle.sf_record.specs.declared.event.Event.TheVariants as event
-use Rattle.sf_record.specs.declared.event.VsyncReport.{VsyncReport}
+use Rattle.sf_record.specs.declared.event.VsyncRecords.{VsyncRecords}
 use Rattle.law_played.specs.Actors.{AreActors, AreCalls, arrivals_of, mark_declared, number_of, run_of, script_of, told_on, trace_among}
 use Rattle.law_played.specs.Arrivals.{number_of as number_shown}
 use Rattle.law_played.specs.Histories.{Released}
@@ -60,12 +60,12 @@ use Rattle.law_played.specs.Stepping.{CallsMore, DoesOneMore, DrawsInTime, Knows
 use Rattle.law_played.specs.Telling.{AreNumbered, place_of}
 use Rattle.law_played.specs.Replies.{reply_shown}
 use Rattle.law_played.specs.Stuck.{draw_waits, has_older, has_open_point, holdings_at_end}
-use Rattle.law_played.specs.Worlds.{World, actor_turn, answer_tested, at_now, done_now, release_asked, reply_now, reply_on, with_call, with_list}
+use Rattle.law_played.specs.RunStates.{RunState, actor_transition, answer_tested, at_now, done_now, release_asked, reply_now, reply_on, with_call, with_list}
 use Rattle.law_played.proofs.RunGrowth.{released_token}
 use Rattle.law_played.proofs.AsQueued.{one_passes}
 use Rattle.law_played.proofs.StepKeepsTold.{got_has, set_has}
 use Rattle.law_played.proofs.Members.{has_cases, has_first, has_found, has_map, has_none}
-use Rattle.law_played.proofs.SteppingLemmas.{done_is, in_time, none_open, turn_is}
+use Rattle.law_played.proofs.SteppingLemmas.{done_is, in_time, none_open, transition_is}
 use Rattle.law_played.proofs.StuckActors.{final_is}
 use Rattle.law_played.proofs.RunTraces.{are_traced, head_apart, played_by, rising_later, told_legal, trace_here}
 
@@ -172,11 +172,11 @@ script_of_number {B} scene ofs home view old actors there =
 abbrev token_with : WriteLeaseOf → Work → Token
 token_with lease w = Lent lease.queue (write_token lease.queue lease) (drawn_picture w)
 
-module _ {B : Type 0} (scene : SceneValue) (ofs : List (ActorOf B)) (home : DeskHome) (before after : DeskView B) (place : ℕ) (old new : ActorOf B) (reply : Told) (reports : List VsyncReport) (vsyncs : ℕ)
+module _ {B : Type 0} (scene : SceneValue) (ofs : List (ActorOf B)) (home : DeskHome) (before after : DeskView B) (place : ℕ) (old new : ActorOf B) (reply : Reply) (reports : List VsyncRecords) (vsyncs : ℕ)
     (limits : IsWithinLimits scene) (exact : home.is_exact ≡ true) (tells : home.tells ≡ true) (here : slice_get ofs place ≡ Some old) (does : DoesStep (picture_at scene.pictures) home old before new after reply)
     (was : KnowsRun scene ofs home before) (is : KnowsRun scene (set ofs place new) home after) (calls : AreCalls scene (set ofs place new) home after) (numbered : AreNumbered after.arrivals) where
-  abbrev world : World
-  world = record { run = run_of ofs home before; arrivals = arrivals_of before; reports = reports; vsyncs = vsyncs }
+  abbrev state : RunState
+  state = record { run = run_of ofs home before; arrivals = arrivals_of before; reports = reports; vsyncs = vsyncs }
 
   abbrev number : ℕ
   number = old.script.number
@@ -237,7 +237,7 @@ module _ {B : Type 0} (scene : SceneValue) (ofs : List (ActorOf B)) (home : Desk
       let same = append_cancel_left before.arrivals goes.arrivals.later theirs.later (sym goes.arrivals.joined ∙ theirs.joined) in
       ap (list_any (is_sent_by other)) same ∙ theirs.none
 
-  refuses : RefusesOpen scene world old.script does.done
+  refuses : RefusesOpen scene state old.script does.done
   refuses fence detached unrefused answer signalled =
       let holdings : (past_after (trace_among ofs number)).holdings ≡ (past_after old.trace).holdings = ap (λ (t : List Done). (past_after t).holdings) traced in
       let open' = does.refused fence (ap (λ (h : Holdings). detached_fence h does.done.step) (sym holdings) ∙ detached)
@@ -245,7 +245,7 @@ module _ {B : Type 0} (scene : SceneValue) (ofs : List (ActorOf B)) (home : Desk
       let final = final_is scene ofs home before open'.0 limits was.actors was.signals open'.1.all (open'.1.exact exact) in
       open'.2 (subst (IsSignalled fence) final signalled)
 
-  does_one_more : DoesOneMore scene world old.script does.done (run_of (set ofs place new) home after) since
+  does_one_more : DoesOneMore scene state old.script does.done (run_of (set ofs place new) home after) since
   does_one_more = record {
     before = All-contains (IsTraced true scene (run_of ofs home before) (arrivals_of before)) scene.actors old.script
         (subst (λ (t : Bool). AreTraced t scene (run_of ofs home before) (arrivals_of before)) tells (are_traced scene ofs home before was.actors (record { all = was.knows; made = was.signals }))) in_scene;
@@ -268,36 +268,36 @@ module _ {B : Type 0} (scene : SceneValue) (ofs : List (ActorOf B)) (home : Desk
   script_found : find (λ (s : ActorScript). s.number == number) scene.actors ≡ Some old.script
   script_found = script_of_number scene ofs home before old was.actors there
 
-  reply_is : reply_at number (at_now world old.script does.done) ≡ reply
+  reply_is : reply_at number (at_now state old.script does.done) ≡ reply
   reply_is = ap (λ (t : List Done). reply_at number (record { place = length t + 1; past = past_after t; done = does.done })) traced ∙ sym does.replied
 
   -- a draw that is done: its fence was signalled
-  answered_zero : (name picture : ℕ) → does.done.step ≡ step.Draw name picture → refusal_of (picture_at scene.pictures) (holdings_at_end world.run old.script) (step.Draw name picture) ≡ None
+  answered_zero : (name picture : ℕ) → does.done.step ≡ step.Draw name picture → refusal_of (picture_at scene.pictures) (holdings_at_end state.run old.script) (step.Draw name picture) ≡ None
       → does.done.answered ≡ answered.Own 0
   unfolding done_now
   answered_zero name picture is unrefused =
-      sym (ap (λ (d : Done). d.answered) (done_is scene world old.script does.done (run_of (set ofs place new) home after) since does_one_more))
-      ∙ ((λ i. answer_tested scene world old.script (is i) (refusal_of (picture_at scene.pictures) (holdings_at_end world.run old.script) (is i)))
-      ∙ ap (answer_tested scene world old.script (step.Draw name picture)) unrefused)
+      sym (ap (λ (d : Done). d.answered) (done_is scene state old.script does.done (run_of (set ofs place new) home after) since does_one_more))
+      ∙ ((λ i. answer_tested scene state old.script (is i) (refusal_of (picture_at scene.pictures) (holdings_at_end state.run old.script) (is i)))
+      ∙ ap (answer_tested scene state old.script (step.Draw name picture)) unrefused)
 
-  closed : (fence : Fence) → SeesSignalled home before after fence → has_open_point (final_values scene world.run) fence ≡ false
+  closed : (fence : Fence) → SeesSignalled home before after fence → has_open_point (final_values scene state.run) fence ≡ false
   closed fence sees =
       let final = final_is scene ofs home before sees.0 limits was.actors was.signals sees.1.all (sees.1.exact exact) in
       ap (λ (seen : Seen). has_open_point seen fence) final ∙ none_open fence sees.0 sees.1.all sees.2
 
-  in_turn : (fence : Fence) (token : Token) → SeesSignalled home before after fence → has_older scene world.run token ≡ false
-      → (has_open_point (final_values scene world.run) fence || has_older scene world.run token) ≡ false
+  in_turn : (fence : Fence) (token : Token) → SeesSignalled home before after fence → has_older scene state.run token ≡ false
+      → (has_open_point (final_values scene state.run) fence || has_older scene state.run token) ≡ false
   in_turn fence token sees none = λ i. closed fence sees i || none i
 
   module _ (first : TellsFirst scene (run_of ofs home before) old before) where
     by_held : (name : ℕ) (o : Option (Holding B)) → held_in old.parts name ≡ o → DrawsHeld home before after o
-        → draw_waits scene world.run (option_map token_of o) (undrawn_fence (option_map token_of o)) ≡ false
+        → draw_waits scene state.run (option_map token_of o) (undrawn_fence (option_map token_of o)) ≡ false
     by_held name (Some (holding.Lends lease)) here draws = by_work lease.work refl draws
       where
-        by_work : (w : Work) → lease.work ≡ w → DrawsIn home before after lease.fence w → draw_waits scene world.run (Some (token_with lease w)) (undrawn_fence (Some (token_with lease w))) ≡ false
+        by_work : (w : Work) → lease.work ≡ w → DrawsIn home before after lease.fence w → draw_waits scene state.run (Some (token_with lease w)) (undrawn_fence (Some (token_with lease w))) ≡ false
         by_work (work.Fresh turn) same draws =
             in_turn lease.fence (token_with lease (work.Fresh turn)) draws.0
-            (ap (λ (w : Work). has_older scene world.run (token_with lease w)) (sym same)
+            (ap (λ (w : Work). has_older scene state.run (token_with lease w)) (sym same)
             ∙ first.none name (holding.Lends lease) after.turns here
             (subst (λ (w : Work). MayEnter (turn_by (turn_of w)).0 (turn_by (turn_of w)).1 before.turns after.turns) (sym same) draws.1))
         by_work (work.Drawn inside pixels) same draws = refl
@@ -305,26 +305,26 @@ module _ {B : Type 0} (scene : SceneValue) (ofs : List (ActorOf B)) (home : Desk
         in_turn owing.fence (token_of {B = B} (holding.Owes owing held)) draws.0 (first.none name (holding.Owes owing held) draws.1.0 here draws.1.1)
     by_held name other here draws = absurd draws
 
-    pub draws_now : DrawsInTime scene world old.script does.done.step
+    pub draws_now : DrawsInTime scene state old.script does.done.step
     draws_now = by_step does.done.step refl
       where
-        by_step : (s : Step) → does.done.step ≡ s → DrawsInTime scene world old.script s
+        by_step : (s : Step) → does.done.step ≡ s → DrawsInTime scene state old.script s
         by_step (step.Draw name picture) is = λ unrefused.
             let keeps = All-contains (λ (of : ActorOf B). Keeps (picture_at scene.pictures) home of before) ofs old was.actors.keep there in
-            let named : name_in (holdings_at_end world.run old.script) name ≡ option_map token_of (held_in old.parts name) =
+            let named : name_in (holdings_at_end state.run old.script) name ≡ option_map token_of (held_in old.parts name) =
             ap (λ (t : List Done). name_in (past_after t).holdings name) traced
             ∙ (ap (λ (h : Holdings). name_in h name) (sym keeps.kept.has) ∙ get_or-map (option_map token_of) old.parts.names name None) in
-            subst (λ (o : Option Token). draw_waits scene world.run o (undrawn_fence o) ≡ false) (sym named)
+            subst (λ (o : Option Token). draw_waits scene state.run o (undrawn_fence o) ≡ false) (sym named)
             (by_held name (held_in old.parts name) refl (does.entered name picture is (answered_zero name picture is unrefused)))
         by_step s is = tt
 
-  -- so it is the actor's next turn of the play
-  pub desk_turn : TellsFirst scene (run_of ofs home before) old before
-      → actor_turn scene number world ≡ record { events = event.Reply (reply_shown reply) ∷ []; world = record world { run = run_of (set ofs place new) home after; arrivals = arrivals_of after } }
-  desk_turn first =
-      turn_is scene world old.script does.done (run_of (set ofs place new) home after) since does_one_more script_found
-      (in_time scene world old.script does.done (run_of (set ofs place new) home after) since does_one_more (draws_now first))
-      ∙ (λ i. record { events = event.Reply (reply_shown (reply_is i)) ∷ []; world = record world { run = run_of (set ofs place new) home after; arrivals = arrivals_are i } })
+  -- so it is the actor's next transition of the play
+  pub desk_transition : TellsFirst scene (run_of ofs home before) old before
+      → actor_transition scene number state ≡ record { events = event.Reply (reply_shown reply) ∷ []; state = record state { run = run_of (set ofs place new) home after; arrivals = arrivals_of after } }
+  desk_transition first =
+      transition_is scene state old.script does.done (run_of (set ofs place new) home after) since does_one_more script_found
+      (in_time scene state old.script does.done (run_of (set ofs place new) home after) since does_one_more (draws_now first))
+      ∙ (λ i. record { events = event.Reply (reply_shown (reply_is i)) ∷ []; state = record state { run = run_of (set ofs place new) home after; arrivals = arrivals_are i } })
 
 -- a release by the compositor is a call that is made now
 module _ {B : Type 0} (scene : SceneValue) (ofs : List (ActorOf B)) (home : DeskHome) (before after : DeskView B)

@@ -14,7 +14,7 @@ use Rattle.sf_commit.specs.sf_txn.Transactions.{without_first}
 use Rattle.sf_commit.proofs.FollowLemmas.{lower, rising_append}
 use Rattle.sf_commit.specs.Handlers.{last_of}
 use Rattle.sf_actor.specs.Names.{FrameOf}
-use Rattle.sf_record.specs.declared.record.Commit.{Commit}
+use Rattle.sf_record.specs.declared.record.CommitRecord.{CommitRecord}
 use Rattle.law_played.specs.Arrivals.{number_of}
 use Rattle.law_played.specs.Commits.{arrival_of, arrived_of, committed_of}
 use Rattle.law_played.specs.Framing.{framed_arrival}
@@ -200,18 +200,18 @@ any_more p xs x = rw (list_any-append p xs (x ∷ [])) (by_tests (list_any p xs)
     by_tests false true = refl
     by_tests false false = refl
 
-left_more : (arrivals : List (Arrival FrameOf)) (commits : List Commit) (c : Commit)
+left_more : (arrivals : List (Arrival FrameOf)) (commits : List CommitRecord) (c : CommitRecord)
     → uncommitted arrivals (commits ++ c ∷ []) ≡ filter (λ (x : Arrival FrameOf). not (c.arrival == x.number)) (uncommitted arrivals commits)
 left_more arrivals commits c =
     filter_agree (is_uncommitted (commits ++ c ∷ [])) (λ x. is_uncommitted commits x && not (c.arrival == x.number))
-    (λ x. any_more (λ (k : Commit). k.arrival == x.number) commits c) arrivals
+    (λ x. any_more (λ (k : CommitRecord). k.arrival == x.number) commits c) arrivals
     ∙ kept_twice (is_uncommitted commits) (λ (x : Arrival FrameOf). not (c.arrival == x.number)) arrivals
 
-committed_more : (token : ℕ) (commits : List Commit) (c : Commit)
+committed_more : (token : ℕ) (commits : List CommitRecord) (c : CommitRecord)
     → committed_of token (commits ++ c ∷ []) ≡ committed_of token commits ++ cond (c.token == token) (c.arrival ∷ []) []
 committed_more token commits c =
-    ap (map arrival_of) (filter-append (λ (k : Commit). k.token == token) commits (c ∷ []))
-    ∙ (map-append arrival_of (filter (λ (k : Commit). k.token == token) commits) (cond (c.token == token) (c ∷ []) [])
+    ap (map arrival_of) (filter-append (λ (k : CommitRecord). k.token == token) commits (c ∷ []))
+    ∙ (map-append arrival_of (filter (λ (k : CommitRecord). k.token == token) commits) (cond (c.token == token) (c ∷ []) [])
     ∙ ap (λ r. committed_of token commits ++ r) (by_test (c.token == token)))
   where
     by_test : (b : Bool) → map arrival_of (cond b (c ∷ []) []) ≡ cond b (c.arrival ∷ []) []
@@ -219,13 +219,13 @@ committed_more token commits c =
     by_test false = refl
 
 -- a commit is one of this arrival
-pub record IsCommitOf {L : Type 0} (c : Commit) (a : Arrival L) : Type 0 where
+pub record IsCommitOf {L : Type 0} (c : CommitRecord) (a : Arrival L) : Type 0 where
   pub number : c.arrival ≡ a.number
   pub token : c.token ≡ a.txn.token.0
 
 module _ {L : Type 0} (frame : L → FrameOf) where
   -- what waits after a commit of the first of its token
-  pub waits_after : (arrivals : List (Arrival FrameOf)) (last : ℕ) (commits : List Commit) (pending : List (Arrival L)) (a : Arrival L) (c : Commit)
+  pub waits_after : (arrivals : List (Arrival FrameOf)) (last : ℕ) (commits : List CommitRecord) (pending : List (Arrival L)) (a : Arrival L) (c : CommitRecord)
       → IsRisingFrom 0 arrivals last → map (framed_arrival frame) pending ≡ uncommitted arrivals commits → head_of a.txn.token pending ≡ Some a → IsCommitOf c a
       → map (framed_arrival frame) (without_first (is_of a.txn.token) pending) ≡ uncommitted arrivals (commits ++ c ∷ [])
   waits_after arrivals last commits pending a c rising waits head of =
@@ -236,7 +236,7 @@ module _ {L : Type 0} (frame : L → FrameOf) where
       ∙ sym (left_more arrivals commits c)))
 
   -- what is pending is found among the arrivals
-  pub waiting_found : (arrivals : List (Arrival FrameOf)) (last : ℕ) (commits : List Commit) (pending : List (Arrival L))
+  pub waiting_found : (arrivals : List (Arrival FrameOf)) (last : ℕ) (commits : List CommitRecord) (pending : List (Arrival L))
       → IsRisingFrom 0 arrivals last → map (framed_arrival frame) pending ≡ uncommitted arrivals commits
       → All (λ (a : Arrival L). find (has_number a.number) arrivals ≡ Some (framed_arrival frame a)) pending
   waiting_found arrivals last commits pending rising waits =
@@ -252,7 +252,7 @@ module _ {L : Type 0} (frame : L → FrameOf) where
           (unmapped xs (All-tail (λ (x : Arrival FrameOf). find (has_number x.number) arrivals ≡ Some x) (framed_arrival frame x) (map (framed_arrival frame) xs) all))
 
   -- each token's commits are still its first arrivals
-  pub order_after : (arrivals : List (Arrival FrameOf)) (last : ℕ) (commits : List Commit) (pending : List (Arrival L)) (a : Arrival L) (c : Commit)
+  pub order_after : (arrivals : List (Arrival FrameOf)) (last : ℕ) (commits : List CommitRecord) (pending : List (Arrival L)) (a : Arrival L) (c : CommitRecord)
       → AreInOrder arrivals last commits → map (framed_arrival frame) pending ≡ uncommitted arrivals commits → head_of a.txn.token pending ≡ Some a → IsCommitOf c a
       → AreInOrder arrivals last (commits ++ c ∷ [])
   order_after arrivals last commits pending a c order waits head of = record {
@@ -280,18 +280,18 @@ module _ {L : Type 0} (frame : L → FrameOf) where
           ∙ order.of_each_token token))
 
 -- more arrives
-module _ (arrivals more : List (Arrival FrameOf)) (last end : ℕ) (commits : List Commit) where
+module _ (arrivals more : List (Arrival FrameOf)) (last end : ℕ) (commits : List CommitRecord) where
   -- nothing of it is committed
   pub all_left : AreInOrder arrivals last commits → IsRisingFrom last more end → uncommitted (arrivals ++ more) commits ≡ uncommitted arrivals commits ++ more
   all_left order rises =
       filter-append (is_uncommitted commits) arrivals more
       ∙ ap (λ r. uncommitted arrivals commits ++ r) (kept_whole (is_uncommitted commits) more
       (All-weaker (λ (x : Arrival FrameOf). last < x.number) (λ (x : Arrival FrameOf). is_uncommitted commits x ≡ true)
-      (λ x less. ap not (list_any_none (λ (k : Commit). k.arrival == x.number) commits
-      (All-weaker (IsOfArrival arrivals) (λ (k : Commit). (k.arrival == x.number) ≡ false) (λ k found. apart x k less found (find (has_number k.arrival) arrivals) refl) commits order.of_arrivals)))
+      (λ x less. ap not (list_any_none (λ (k : CommitRecord). k.arrival == x.number) commits
+      (All-weaker (IsOfArrival arrivals) (λ (k : CommitRecord). (k.arrival == x.number) ≡ false) (λ k found. apart x k less found (find (has_number k.arrival) arrivals) refl) commits order.of_arrivals)))
       more (above last more end rises)))
     where
-      apart : (x : Arrival FrameOf) (k : Commit) → last < x.number → IsOfArrival arrivals k → (o : Option (Arrival FrameOf)) → find (has_number k.arrival) arrivals ≡ o
+      apart : (x : Arrival FrameOf) (k : CommitRecord) → last < x.number → IsOfArrival arrivals k → (o : Option (Arrival FrameOf)) → find (has_number k.arrival) arrivals ≡ o
           → (k.arrival == x.number) ≡ false
       apart x k less found None e = absurd (true≢false (sym found ∙ ap (λ o. is_some o) e))
       apart x k less found (Some y) e =
@@ -315,7 +315,7 @@ module _ (arrivals more : List (Arrival FrameOf)) (last end : ℕ) (commits : Li
       split token xs =
           ap (map number_of) (filter-append (is_of (record { 0 = token })) xs more) ∙ map-append number_of (filter (is_of (record { 0 = token })) xs) (filter (is_of (record { 0 = token })) more)
 
-      found_still : (k : Commit) → IsOfArrival arrivals k → IsOfArrival (arrivals ++ more) k
+      found_still : (k : CommitRecord) → IsOfArrival arrivals k → IsOfArrival (arrivals ++ more) k
       found_still k found = ap (λ o. is_some o) (find-append (has_number k.arrival) arrivals more) ∙ by_found (find (has_number k.arrival) arrivals) found
         where
           by_found : (o : Option (Arrival FrameOf)) → is_some o ≡ true → is_some (option_or o (find (has_number k.arrival) more)) ≡ true

@@ -17,7 +17,7 @@ use Rattle.sf_script_scene.specs.Scene.{SceneValue, has_actor}
 use Rattle.sf_script_scene.specs.declared.declarations.QueueDecl.{QueueDecl}
 use Rattle.sf_script_scene.specs.declared.step.ActorScript.{ActorScript}
 use Rattle.sf_actor.specs.declared.done.Done.{Done}
-use Rattle.sf_actor.specs.declared.tried.Reply.{Reply as Told}
+use Rattle.sf_actor.specs.declared.tried.Reply.{Reply}
 use Rattle.sf_actor.specs.Desks.{DeskHome, DeskView, mark_among}
 use Rattle.sf_actor.specs.Known.{plain_arrival}
 use Rattle.sf_actor.specs.Names.{FrameOf}
@@ -26,7 +26,7 @@ use Rattle.sf_actor.specs.Values.{replies_of}
 use Rattle.sf_record.specs.declared.event.Event.{Event}
 use Rattle.sf_record.specs.declared.record.ArrivalEntry.{ArrivalEntry}
 use Rattle.sf_record.specs.declared.record.QueueHistory.{QueueHistory}
-use Rattle.sf_record.specs.declared.record.Reply.{Reply}
+use Rattle.sf_record.specs.declared.record.ReplyRecord.{ReplyRecord}
 use Rattle.law_played.specs.Actors.{AreActors, AreArrivals, AreCalls, IsCallBy, arrivals_of, mark_declared, number_of, run_of, told_on}
 use Rattle.law_played.specs.Arrivals.{ArriveInOrder, entry_of, number_of as place_in}
 use Rattle.law_played.specs.Histories.{AreHistories, IsCaller, IsHistory, IsReleased, Released, entry_shown, history_shown, released_on, rising_queues}
@@ -59,7 +59,7 @@ module _ {B : Type 0} where
       let by = played_by scene ofs home view script actors there in
       let number = by.of.script.number in
       let told = All-contains (λ (of : ActorOf B). replies_to of.script.number events ≡ map reply_shown of.replies) ofs by.of tell.of_each by.there in
-      let replied = ap (λ (rs : List Told). map reply_shown rs) by.keeps.kept.kept.is.replied in
+      let replied = ap (λ (rs : List Reply). map reply_shown rs) by.keeps.kept.kept.is.replied in
       let traced = ap (λ (trace : List Done). map reply_shown (replies_of number trace)) (sym (trace_here ofs by.of actors.apart by.there)) in
       subst (λ (s : ActorScript). replies_to s.number events ≡ replies_due (run_of ofs home view) s.number) by.is (told ∙ replied ∙ traced)
 
@@ -67,8 +67,8 @@ module _ {B : Type 0} where
       → AnswerSteps scene (run_of ofs home view) events
   answer_steps scene ofs home view events actors tell = record {
     of_each = λ k d low. due scene ofs home view events (get_or scene.actors k d) actors tell (Contains-get_or scene.actors k d low);
-    of_none_else = All-weaker (λ (reply : Reply). Contains (map number_of ofs) reply.actor) (λ (reply : Reply). has_actor scene.actors reply.actor ≡ true)
-        (λ (reply : Reply). is_actor scene ofs home view reply.actor actors) (replies_in events) tell.of_none_else;
+    of_none_else = All-weaker (λ (reply : ReplyRecord). Contains (map number_of ofs) reply.actor) (λ (reply : ReplyRecord). has_actor scene.actors reply.actor ≡ true)
+        (λ (reply : ReplyRecord). is_actor scene ofs home view reply.actor actors) (replies_in events) tell.of_none_else;
   }
 
   -- arrivals

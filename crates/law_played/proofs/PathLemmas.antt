@@ -17,11 +17,11 @@ use Rattle.sf_commit.specs.sf_txn.Buffers.{Buffer}
 use Rattle.sf_commit.proofs.DecideLemmas.{all_left, hold_same}
 use Rattle.sf_commit.specs.Rounds.{IsNext, Leads, Round, StageOf, commit_of, committed, facts_of, stage_with}
 use Rattle.sf_commit.specs.sf_commit_next.Heads.{head_hold, ready_if, ready_of}
-use Rattle.sf_commit.specs.declared.vsync.Commit.{Commit as Decided}
+use Rattle.sf_commit.specs.declared.vsync.Commit.{Commit}
 use Rattle.sf_actor.specs.Names.{FrameOf}
 use Rattle.sf_actor.specs.Written.{FrameNumber}
-use Rattle.sf_record.specs.declared.event.VsyncReport.{VsyncReport}
-use Rattle.sf_record.specs.declared.record.Commit.{Commit}
+use Rattle.sf_record.specs.declared.event.VsyncRecords.{VsyncRecords}
+use Rattle.sf_record.specs.declared.record.CommitRecord.{CommitRecord}
 use Rattle.law_played.proofs.FramingLemmas.{round_committed}
 use Rattle.law_played.proofs.HoldLemmas.{decides_same, held_too, hold_framed, ready_too}
 use Rattle.law_played.proofs.OrderLemmas.{IsCommitOf, found_has, head_before, order_after, waits_after}
@@ -42,10 +42,10 @@ op_of (Err rejection) = rejection.op
 
 module _ {L : Type 0} where
   -- what is told of a transaction at its place
-  abbrev pub told_at : Round L → Arrival L → Decided
+  abbrev pub told_at : Round L → Arrival L → Commit
   told_at r a = commit_of a (cause_of (after r.stage.tree a.txn.ops)) (op_of (after r.stage.tree a.txn.ops))
 
-  abbrev pub told_along : Round L → List (Arrival L) → List Decided
+  abbrev pub told_along : Round L → List (Arrival L) → List Commit
   told_along r [] = []
   told_along r (a ∷ later) = told_at r a ∷ told_along (committed r a) later
 
@@ -115,7 +115,7 @@ module _ {L : Type 0} (frame : L → FrameOf) (arrivals : List (Arrival FrameOf)
         (subst (λ x. IsRoundOf frame (committed round x) (committed r a)) (sym at) (round_committed frame round r a is))
         (all_left IsFound (is_of a.txn.token) r.pending found) leads.1
 
-  module _ (drawn : L → Bool) (vsync : VsyncReport) (written : List FrameNumber) where
+  module _ (drawn : L → Bool) (vsync : VsyncRecords) (written : List FrameNumber) where
     pub flags_framed : (buffers : List (Buffer L)) → map (λ (b : Buffer FrameOf). is_written written b.lease) (map (framed_buffer frame) buffers) ≡ map (λ (b : Buffer L). is_written written (frame b.lease)) buffers
     flags_framed [] = refl
     flags_framed (b ∷ bs) = ap (λ rest. is_written written (frame b.lease) ∷ rest) (flags_framed bs)
@@ -198,7 +198,7 @@ module _ {L : Type 0} (frame : L → FrameOf) (arrivals : List (Arrival FrameOf)
     lowest_along round r end (a ∷ later) at leads = lowest_next round r end a later at leads.0 leads.1
 
     -- all commits of a vsync were ready
-    pub ready_told : (round : Round FrameOf) (r end : Round L) (taken : List (Arrival L)) (commits : List Commit) → IsAt round r → Leads drawn (seen_by vsync) vsync.expected r taken end
+    pub ready_told : (round : Round FrameOf) (r end : Round L) (taken : List (Arrival L)) (commits : List CommitRecord) → IsAt round r → Leads drawn (seen_by vsync) vsync.expected r taken end
         → commits ≡ map commit_shown (told_along r taken)
         → (last : Round FrameOf) → CommitsReady written (record { vsync = vsync; commits = commits_from arrivals round commits; round = last })
     ready_told round r end taken commits at leads same last = record {
@@ -208,11 +208,11 @@ module _ {L : Type 0} (frame : L → FrameOf) (arrivals : List (Arrival FrameOf)
 
 module _ {L : Type 0} (frame : L → FrameOf) (drawn : L → Bool) (seen : Seen) (expected : ℕ) (arrivals : List (Arrival FrameOf)) (last : ℕ) where
   -- what waits, and the order of each token, after these commits
-  pub record WaitsAfter (commits : List Commit) (pending : List (Arrival L)) : Type 0 where
+  pub record WaitsAfter (commits : List CommitRecord) (pending : List (Arrival L)) : Type 0 where
     pub order : AreInOrder arrivals last commits
     pub waits : map (framed_arrival frame) pending ≡ uncommitted arrivals commits
 
-  pub waits_along : (r end : Round L) (taken : List (Arrival L)) (commits : List Commit) → Leads drawn seen expected r taken end → WaitsAfter commits r.pending
+  pub waits_along : (r end : Round L) (taken : List (Arrival L)) (commits : List CommitRecord) → Leads drawn seen expected r taken end → WaitsAfter commits r.pending
       → WaitsAfter (commits ++ map commit_shown (told_along r taken)) end.pending
   waits_along r end [] commits leads w =
       subst (λ (x : Round L). WaitsAfter (commits ++ []) x.pending) (sym leads) (subst (λ cs. WaitsAfter cs r.pending) (sym (append-nil commits)) w)

@@ -1,4 +1,4 @@
--- A scene has one play: each turn is determined by what happened before it.
+-- A scene has one play: each transition is determined by what happened before it.
 use Rattle.std.proofs.Common.{◌≡◌, ℕ, zero, suc, ◌<◌, Bool, List, [], ◌∷◌, ◌++◌, Option, Some, None, refl, ap, sym, ◌∙◌, subst, true≢false, inl, inr}
 use Rattle.std.specs.Prelude.{◌⊎◌}
 use Rattle.std.proofs.lemmas.Bool.{cases_order}
@@ -9,8 +9,8 @@ use Rattle.sf_commit.specs.Rounds.{Decided, IsNext, Leads, Round, committed, fac
 use Rattle.sf_commit.specs.sf_commit_next.Heads.{ready_of}
 use Rattle.sf_script_scene.specs.Scene.{SceneValue}
 use Rattle.sf_record.specs.declared.event.Event.{Event}
-use Rattle.law_played.specs.Plays.{Comes, GoesOnTo, GoesOnWith, IsOver, IsPlay, Playing, TakesTurn, first_playing, goes, stays}
-use Rattle.law_played.specs.Worlds.{Turn, World, after_vsync}
+use Rattle.law_played.specs.Plays.{Comes, GoesOnTo, GoesOnWith, IsOver, IsPlay, Playing, TakesTransition, first_playing, goes, stays}
+use Rattle.law_played.specs.RunStates.{Transition, RunState, after_vsync}
 
 module _ {L : Type 0} (drawn : L → Bool) (seen : Seen) (expected : ℕ) where
   -- there is one next transaction
@@ -39,15 +39,15 @@ module _ {L : Type 0} (drawn : L → Bool) (seen : Seen) (expected : ℕ) where
   decided_same r end other d e = leads_same r end other d.taken e.taken d.leads e.leads d.rests e.rests
 
 module _ (scene : SceneValue) where
-  turn_same : (pick : ℕ) (world : World) (turn other : Turn) → TakesTurn scene pick world turn → TakesTurn scene pick world other → turn ≡ other
-  turn_same zero world turn other takes also =
+  transition_same : (pick : ℕ) (state : RunState) (transition other : Transition) → TakesTransition scene pick state transition → TakesTransition scene pick state other → transition ≡ other
+  transition_same zero state transition other takes also =
       let end = decided_same _ _ _ _ takes.end also.end takes.decides also.decides in
-      takes.is ∙ (ap (after_vsync scene world) end ∙ sym also.is)
-  turn_same (suc n) world turn other takes also = takes ∙ sym also
+      takes.is ∙ (ap (after_vsync scene state) end ∙ sym also.is)
+  transition_same (suc n) state transition other takes also = takes ∙ sym also
 
-  on_same : (playing : Playing) (left : List ℕ) (before : Option World) (next other : Playing) → GoesOnWith scene playing left before next → GoesOnWith scene playing left before other → next ≡ other
+  on_same : (playing : Playing) (left : List ℕ) (before : Option RunState) (next other : Playing) → GoesOnWith scene playing left before next → GoesOnWith scene playing left before other → next ≡ other
   on_same playing (pick ∷ left) before next other on also =
-      on.is ∙ (ap (λ (t : Turn). record playing { events = playing.events ++ t.events; world = t.world; left = left }) (turn_same pick playing.world on.turn also.turn on.takes also.takes) ∙ sym also.is)
+      on.is ∙ (ap (λ (t : Transition). record playing { events = playing.events ++ t.events; state = t.state; left = left }) (transition_same pick playing.state on.transition also.transition on.takes also.takes) ∙ sym also.is)
   on_same playing [] None next other on also = on ∙ sym also
   on_same playing [] (Some before) next other on also = on.1 ∙ sym also.1
 
@@ -76,7 +76,7 @@ module _ (scene : SceneValue) where
   comes_on playing _ end stays on = goes on stays
   comes_on playing next end (goes {next = n} first later) on = goes first (comes_on n next end later on)
 
-  pub one_play : (events others : List Event) (world end : World) → IsPlay scene events world → IsPlay scene others end → (events ≡ others) × (world ≡ end)
-  one_play events others world end play other =
+  pub one_play : (events others : List Event) (state end : RunState) → IsPlay scene events state → IsPlay scene others end → (events ≡ others) × (state ≡ end)
+  one_play events others state end play other =
       let same = one_end (first_playing scene) play.playing other.playing play.begun other.begun play.over other.over in
-      (sym play.shows ∙ (ap (λ (p : Playing). p.events) same ∙ other.shows), sym play.ends ∙ (ap (λ (p : Playing). p.world) same ∙ other.ends))
+      (sym play.shows ∙ (ap (λ (p : Playing). p.events) same ∙ other.shows), sym play.ends ∙ (ap (λ (p : Playing). p.state) same ∙ other.ends))

@@ -17,8 +17,8 @@ use Rattle.sf_script_scene.specs.Scene.{SceneValue}
 use Rattle.sf_actor.specs.Makers.{Run}
 use Rattle.sf_actor.specs.Names.{FrameOf}
 use Rattle.sf_actor.specs.Written.{FrameNumber}
-use Rattle.sf_record.specs.declared.event.VsyncReport.{VsyncReport}
-use Rattle.sf_record.specs.declared.record.Commit.{Commit}
+use Rattle.sf_record.specs.declared.event.VsyncRecords.{VsyncRecords}
+use Rattle.sf_record.specs.declared.record.CommitRecord.{CommitRecord}
 use Rattle.law_played.proofs.DecidingLemmas.{IsWhole, LeadsTo, held_whole, leads_whole}
 use Rattle.law_played.proofs.EndLemmas.{end_held}
 use Rattle.law_played.proofs.FramingLemmas.{arrivals_looked, read_framed, read_twice}
@@ -32,10 +32,10 @@ use Rattle.law_played.specs.Progress.{AreInOrder, GoesOnBy, HasPlayed, SaysVsync
 use Rattle.law_played.specs.Stages.{VsyncAt, bare_round, begun, ended, round_after, round_at_end, told_of}
 use Rattle.law_played.specs.Runs.{final_values, written_in}
 use Rattle.law_played.specs.Vsyncs.{commits_in}
-use Rattle.law_played.specs.Worlds.{IsPlaysVsync, round_now}
+use Rattle.law_played.specs.RunStates.{IsPlaysVsync, round_now}
 
 module _ {L E R C : Type 0} (lease : Ghosts L E R C) (frame : L → FrameOf) (plain : (a b : L) → lease.plain a ≡ lease.plain b → frame a ≡ frame b)
-    (scene : SceneValue) (written : List FrameNumber) (arrivals : List (Arrival FrameOf)) (vsyncs : List VsyncReport) (old new : HandlerOf L) (eye later : E)
+    (scene : SceneValue) (written : List FrameNumber) (arrivals : List (Arrival FrameOf)) (vsyncs : List VsyncRecords) (old new : HandlerOf L) (eye later : E)
     (arrived : List (Arrival L)) (seen : Seen) (expected : ℕ) (told : VsyncOf L)
     (played : HasPlayed frame scene written arrivals vsyncs old) (d : Decides lease old eye arrived seen expected told new later)
     (rises : IsRisingFrom old.last arrived (last_of old.last arrived)) where
@@ -46,7 +46,7 @@ module _ {L E R C : Type 0} (lease : Ghosts L E R C) (frame : L → FrameOf) (pl
   abbrev last : ℕ
   last = last_of old.last arrived
 
-  abbrev commits : List Commit
+  abbrev commits : List CommitRecord
   commits = commits_in vsyncs
 
   -- the round before, of the records and of the handler, and what this vsync committed
@@ -56,7 +56,7 @@ module _ {L E R C : Type 0} (lease : Ghosts L E R C) (frame : L → FrameOf) (pl
   abbrev start : Round L
   start = begun_by old d.looked
 
-  abbrev made : List Commit
+  abbrev made : List CommitRecord
   made = map commit_shown (told_along start d.decided.taken)
 
   order : AreInOrder all last commits
@@ -135,7 +135,7 @@ module _ {L E R C : Type 0} (lease : Ghosts L E R C) (frame : L → FrameOf) (pl
     holds_play = held_whole frame lease.shown written seen expected leads_play.to d.end leads_play.whole leads_play.shows ∙ sym d.settled.held
 
   -- a vsync whose record is told
-  module _ (report : VsyncReport) (says : SaysVsync report told seen expected) where
+  module _ (report : VsyncRecords) (says : SaysVsync report told seen expected) where
     abbrev at : VsyncAt
     at = vsync_at all before report
 
@@ -249,13 +249,13 @@ module _ {L E R C : Type 0} (lease : Ghosts L E R C) (frame : L → FrameOf) (pl
         last rises_on shows (subst (All (λ (h : ℕ × Hold). is_time h.1 ≡ false)) told_is no_time)))
 
 -- what is told stays where more arrives
-pub still_told : {L : Type 0} (frame : L → FrameOf) (scene : SceneValue) (written : List FrameNumber) (arrivals : List (Arrival FrameOf)) (vsyncs : List VsyncReport) (handler : HandlerOf L)
+pub still_told : {L : Type 0} (frame : L → FrameOf) (scene : SceneValue) (written : List FrameNumber) (arrivals : List (Arrival FrameOf)) (vsyncs : List VsyncRecords) (handler : HandlerOf L)
     → HasPlayed frame scene written arrivals vsyncs handler → (more : List (Arrival FrameOf)) → told_of scene (arrivals ++ more) vsyncs ≡ told_of scene arrivals vsyncs
 still_told frame scene written arrivals vsyncs handler played more = told_stays arrivals more (bare_round scene) vsyncs played.order.of_arrivals
 
 -- the next vsync of a play
 module _ {L E R C : Type 0} (lease : Ghosts L E R C) (frame : L → FrameOf) (plain : (a b : L) → lease.plain a ≡ lease.plain b → frame a ≡ frame b) where
-  pub vsync_of_play : (scene : SceneValue) (run : Run) (number : ℕ) (arrivals : List (Arrival FrameOf)) (vsyncs : List VsyncReport) (old new : HandlerOf L) (eye later : E)
+  pub vsync_of_play : (scene : SceneValue) (run : Run) (number : ℕ) (arrivals : List (Arrival FrameOf)) (vsyncs : List VsyncRecords) (old new : HandlerOf L) (eye later : E)
       (arrived : List (Arrival L)) (told : VsyncOf L) → HasPlayed frame scene (written_in scene run) arrivals vsyncs old
       → (d : Decides lease old eye arrived (final_values scene run) ((number + 1) * scene.period) told new later) → IsRisingFrom old.last arrived (last_of old.last arrived)
       → ShowsWhatIsWritten frame lease.shown (written_in scene run) d.looked

@@ -20,7 +20,7 @@ use Rattle.sf_actor.specs.declared.done.Done.{Done}
 use Rattle.sf_actor.specs.Asking.{Asked, attach_of, attach_read_of, call_of, cancel_of, detach_of, detach_read_of, overtaken_by, queueing_of, releasing_of, request_of}
 use Rattle.sf_actor.specs.Names.{Apart, Frame, FrameOf, Holdings, Lent, Token, name_in}
 use Rattle.sf_actor.specs.Scripts.{crop_of, fence_of}
-use Rattle.sf_actor.specs.Tales.{step_done}
+use Rattle.sf_actor.specs.ScriptTraces.{step_done}
 use Rattle.sf_actor.specs.Traces.{DoneAt, MadeStep, Past, Source, made_at, made_by, next, no_past, overtaken, own_call, places_from, places_of, release_at, source_in}
 use Rattle.sf_actor.specs.Steps.{used_by, was_done}
 use Rattle.law_played.proofs.Members.{has_cases, has_none, joined_has, map_has}

@@ -25,7 +25,7 @@ use Rattle.sf_script_scene.specs.Scene.{SceneValue}
 use Rattle.sf_script_scene.specs.declared.declarations.QueueDecl.{QueueDecl}
 use Rattle.sf_script_scene.specs.declared.step.ActorScript.{ActorScript}
 use Rattle.sf_actor.specs.declared.done.Done.{Done}
-use Rattle.sf_actor.specs.declared.tried.Reply.{Reply as Told}
+use Rattle.sf_actor.specs.declared.tried.Reply.{Reply}
 use Rattle.sf_actor.specs.Desks.{DeskHome, DeskView, MadeCall, known_of, mark_among}
 use Rattle.sf_actor.specs.Known.{Call, GoesOn, frame_of, told_by}
 use Rattle.sf_actor.specs.Names.{FrameOf}
@@ -36,8 +36,8 @@ use Rattle.sf_actor.proofs.GoingOn.{keeps_on, own_same}
 use Rattle.sf_actor.proofs.CallGrowth.{call_alone}
 use Rattle.sf_record.specs.declared.event.Event.{Event}
 use Rattle.sf_record.specs.declared.event.Event.TheVariants as event
-use Rattle.sf_record.specs.declared.event.VsyncReport.{VsyncReport}
-use Rattle.sf_record.specs.declared.record.Reply.{Reply}
+use Rattle.sf_record.specs.declared.event.VsyncRecords.{VsyncRecords}
+use Rattle.sf_record.specs.declared.record.ReplyRecord.{ReplyRecord}
 use Rattle.law_played.specs.Actors.{AreActors, AreArrivals, IsCallBy, IsRelease, mark_declared, number_of, told_on}
 use Rattle.law_played.specs.Histories.{IsReleased, Released, released_on}
 use Rattle.law_played.specs.Replies.{replies_in, replies_to, reply_in, reply_shown}
@@ -49,23 +49,23 @@ use Rattle.law_played.proofs.Members.{has_map}
 use Rattle.law_played.proofs.RunTraces.{head_apart, own_told, rising_later}
 
 -- replies among more events
-pub replies_more : (events : List Event) (reply : Reply) → replies_in (events ++ event.Reply reply ∷ []) ≡ replies_in events ++ reply ∷ []
+pub replies_more : (events : List Event) (reply : ReplyRecord) → replies_in (events ++ event.Reply reply ∷ []) ≡ replies_in events ++ reply ∷ []
 unfolding replies_in
 replies_more events reply = flat_map-append reply_in events (event.Reply reply ∷ [])
 
-pub replies_same : (events : List Event) (report : VsyncReport) → replies_in (events ++ event.Vsync report ∷ []) ≡ replies_in events
+pub replies_same : (events : List Event) (report : VsyncRecords) → replies_in (events ++ event.Vsync report ∷ []) ≡ replies_in events
 unfolding replies_in
 replies_same events report = flat_map-append reply_in events (event.Vsync report ∷ []) ∙ append-nil (flat_map reply_in events)
 
-abbrev is_to : ℕ → Reply → Bool
+abbrev is_to : ℕ → ReplyRecord → Bool
 is_to actor reply = reply.actor == actor
 
-replies_own : (actor : ℕ) (events : List Event) (reply : Reply) → reply.actor ≡ actor → replies_to actor (events ++ event.Reply reply ∷ []) ≡ replies_to actor events ++ reply ∷ []
+replies_own : (actor : ℕ) (events : List Event) (reply : ReplyRecord) → reply.actor ≡ actor → replies_to actor (events ++ event.Reply reply ∷ []) ≡ replies_to actor events ++ reply ∷ []
 replies_own actor events reply same =
     let met : (reply.actor == actor) ≡ true = eq-eqb reply.actor actor same in
     ap (filter (is_to actor)) (replies_more events reply) ∙ filter-append (is_to actor) (replies_in events) (reply ∷ []) ∙ rw met refl
 
-replies_other : (actor : ℕ) (events : List Event) (reply : Reply) → reply.actor ≢ actor → replies_to actor (events ++ event.Reply reply ∷ []) ≡ replies_to actor events
+replies_other : (actor : ℕ) (events : List Event) (reply : ReplyRecord) → reply.actor ≢ actor → replies_to actor (events ++ event.Reply reply ∷ []) ≡ replies_to actor events
 replies_other actor events reply apart =
     let unmet : (reply.actor == actor) ≡ false = ne_eqb reply.actor actor apart in
     ap (filter (is_to actor)) (replies_more events reply) ∙ filter-append (is_to actor) (replies_in events) (reply ∷ []) ∙ rw unmet (append-nil (replies_to actor events))
@@ -106,7 +106,7 @@ module _ {B : Type 0} where
       (each_set P Q ofs place old new (rising_later of ofs rising) here (All-tail P of ofs all) is others)
 
   -- the replies of a step that is done
-  pub replies_kept : (ofs : List (ActorOf B)) (place : ℕ) (old new : ActorOf B) (reply : Told) (events : List Event) → IsStrictlyIncreasing (map number_of ofs) → Replaces ofs place old new
+  pub replies_kept : (ofs : List (ActorOf B)) (place : ℕ) (old new : ActorOf B) (reply : Reply) (events : List Event) → IsStrictlyIncreasing (map number_of ofs) → Replaces ofs place old new
       → new.replies ≡ old.replies ++ reply ∷ [] → reply.actor ≡ old.script.number → TellReplies ofs events → TellReplies (set ofs place new) (events ++ event.Reply (reply_shown reply) ∷ [])
   replies_kept ofs place old new reply events rising by more actor tell =
       let later : List Event = events ++ event.Reply (reply_shown reply) ∷ [] in
@@ -120,26 +120,26 @@ module _ {B : Type 0} where
             (
             ap (λ (n : ℕ). replies_to n later) number
             ∙ replies_own old.script.number events (reply_shown reply) actor
-            ∙ ap (λ (rs : List Reply). rs ++ reply_shown reply ∷ []) told
+            ∙ ap (λ (rs : List ReplyRecord). rs ++ reply_shown reply ∷ []) told
             ∙ sym (map-append reply_shown old.replies (reply ∷ []))
             ∙ ap (map reply_shown) (sym more)
             )
             (λ of apart is. replies_other of.script.number events (reply_shown reply) (λ e. apart (sym actor ∙ e)) ∙ is);
         of_none_else =
-            subst (λ (rs : List Reply). All (λ (r : Reply). Contains (map number_of (set ofs place new)) r.actor) rs) (sym (replies_more events (reply_shown reply)))
-            (subst (λ (ns : List ℕ). All (λ (r : Reply). Contains ns r.actor) (replies_in events ++ reply_shown reply ∷ [])) (sym numbers)
-            (All-append (λ (r : Reply). Contains (map number_of ofs) r.actor) (replies_in events) (reply_shown reply ∷ []) tell.of_none_else
-            (All-cons (λ (r : Reply). Contains (map number_of ofs) r.actor) (reply_shown reply) [] (subst (λ (n : ℕ). Contains (map number_of ofs) n) (sym actor) there)
-            (All-nil (λ (r : Reply). Contains (map number_of ofs) r.actor)))));
+            subst (λ (rs : List ReplyRecord). All (λ (r : ReplyRecord). Contains (map number_of (set ofs place new)) r.actor) rs) (sym (replies_more events (reply_shown reply)))
+            (subst (λ (ns : List ℕ). All (λ (r : ReplyRecord). Contains ns r.actor) (replies_in events ++ reply_shown reply ∷ [])) (sym numbers)
+            (All-append (λ (r : ReplyRecord). Contains (map number_of ofs) r.actor) (replies_in events) (reply_shown reply ∷ []) tell.of_none_else
+            (All-cons (λ (r : ReplyRecord). Contains (map number_of ofs) r.actor) (reply_shown reply) [] (subst (λ (n : ℕ). Contains (map number_of ofs) n) (sym actor) there)
+            (All-nil (λ (r : ReplyRecord). Contains (map number_of ofs) r.actor)))));
       }
 
   -- a vsync adds no reply
-  pub replies_stay : (ofs : List (ActorOf B)) (report : VsyncReport) (events : List Event) → TellReplies ofs events → TellReplies ofs (events ++ event.Vsync report ∷ [])
+  pub replies_stay : (ofs : List (ActorOf B)) (report : VsyncRecords) (events : List Event) → TellReplies ofs events → TellReplies ofs (events ++ event.Vsync report ∷ [])
   replies_stay ofs report events tell = record {
     of_each = All-weaker (λ (of : ActorOf B). replies_to of.script.number events ≡ map reply_shown of.replies)
         (λ (of : ActorOf B). replies_to of.script.number (events ++ event.Vsync report ∷ []) ≡ map reply_shown of.replies)
         (λ (of : ActorOf B) is. ap (filter (is_to of.script.number)) (replies_same events report) ∙ is) ofs tell.of_each;
-    of_none_else = subst (λ (rs : List Reply). All (λ (r : Reply). Contains (map number_of ofs) r.actor) rs) (sym (replies_same events report)) tell.of_none_else;
+    of_none_else = subst (λ (rs : List ReplyRecord). All (λ (r : ReplyRecord). Contains (map number_of ofs) r.actor) rs) (sym (replies_same events report)) tell.of_none_else;
   }
 
   -- the compositor's calls, where it made none
@@ -178,7 +178,7 @@ module _ {B : Type 0} where
       subst (λ (ns : List ℕ). All (λ (arrived : Arrival ReadLeaseOf). Contains ns arrived.actor.0) view.arrivals) (sym same) senders
 
   -- an actor does a step
-  pub does_step : (scene : SceneValue) (ofs : List (ActorOf B)) (home : DeskHome) (before after : DeskView B) (events : List Event) (released : List Released) (place : ℕ) (old new : ActorOf B) (reply : Told)
+  pub does_step : (scene : SceneValue) (ofs : List (ActorOf B)) (home : DeskHome) (before after : DeskView B) (events : List Event) (released : List Released) (place : ℕ) (old new : ActorOf B) (reply : Reply)
       → IsWithinLimits scene → home.is_exact ≡ true → slice_get ofs place ≡ Some old → DoesStep (picture_at scene.pictures) home old before new after reply
       → All (λ (of : ActorOf B). Keeps (picture_at scene.pictures) home of after) (set ofs place new) → TellRun scene ofs home before events released
       → TellRun scene (set ofs place new) home after (events ++ event.Reply (reply_shown reply) ∷ []) released
@@ -198,7 +198,7 @@ module _ {B : Type 0} where
         callers = λ queue. callers_of ofs (set ofs place new) (after.calls queue) numbers
             (callers_kept ofs old.script.number (before.calls queue) (after.calls queue) own (λ other apart. (alone other apart).calls queue) (tell.callers queue));
         senders = senders_of ofs (set ofs place new) after numbers (senders_kept ofs old.script.number home before after own alone tell.senders);
-        replies = replies_kept ofs place old new reply events tell.actors.apart by does.replies (ap (λ (r : Told). r.actor) does.replied) tell.replies;
+        replies = replies_kept ofs place old new reply events tell.actors.apart by does.replies (ap (λ (r : Reply). r.actor) does.replied) tell.replies;
         releases = releases_stay scene ofs (set ofs place new) home before after released (alone 0 (not_none scene ofs home before old.script.number limits tell.actors own)).calls tell.releases;
       }
 
@@ -244,7 +244,7 @@ module _ {B : Type 0} where
       })
 
   -- a vsync is told
-  pub tells_vsync : (scene : SceneValue) (ofs : List (ActorOf B)) (home : DeskHome) (view : DeskView B) (events : List Event) (released : List Released) (report : VsyncReport)
+  pub tells_vsync : (scene : SceneValue) (ofs : List (ActorOf B)) (home : DeskHome) (view : DeskView B) (events : List Event) (released : List Released) (report : VsyncRecords)
       → TellRun scene ofs home view events released → TellRun scene ofs home view (events ++ event.Vsync report ∷ []) released
   tells_vsync scene ofs home view events released report tell = record {
     actors = tell.actors;

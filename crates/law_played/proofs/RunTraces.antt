@@ -24,7 +24,7 @@ use Rattle.sf_actor.specs.declared.done.Done.{Done}
 use Rattle.sf_actor.specs.Desks.{DeskHome, DeskView, mark_among, values_of}
 use Rattle.sf_actor.specs.Known.{AreAmong, Rise, arrivals_told, call_after, is_sent_by as sends, own_calls, plain_arrival, told_by}
 use Rattle.sf_actor.specs.Scripts.{picture_at, with_points}
-use Rattle.sf_actor.specs.Tales.{IsMade, IsTraceOf, made_on, sent_as}
+use Rattle.sf_actor.specs.ScriptTraces.{IsMade, IsTraceOf, made_on, sent_as}
 use Rattle.sf_actor.specs.Traces.{made_by}
 use Rattle.sf_actor.specs.Tries.{ActorOf, Keeps}
 use Rattle.sf_actor.specs.Values.{replies_of}

@@ -13,7 +13,7 @@ use Rattle.sf_base.proofs.PointLemmas.{value_else, value_here}
 use Rattle.sf_script_scene.specs.Scene.{SceneValue}
 use Rattle.sf_actor.specs.Points.{reached_by}
 use Rattle.sf_actor.specs.Scripts.{with_points}
-use Rattle.sf_record.specs.declared.event.VsyncReport.{VsyncReport}
+use Rattle.sf_record.specs.declared.event.VsyncRecords.{VsyncRecords}
 use Rattle.law_played.specs.Commits.{point_of, seen_by}
 use Rattle.law_played.specs.Seeing.{value_shown}
 use Rattle.law_played.specs.Runs.{rising}
@@ -180,7 +180,7 @@ points_shown : (seen : Seen) (timelines : List ℕ) → map point_of (map (value
 points_shown seen [] = refl
 points_shown seen (n ∷ ns) = ap (λ rest. (n, value_of seen.values n) ∷ rest) (points_shown seen ns)
 
-pub seen_is : (scene : SceneValue) (seen : Seen) (vsync : VsyncReport) → length seen.values ≡ 64 → vsync.timelines ≡ map (value_shown seen) (rising_timelines scene)
+pub seen_is : (scene : SceneValue) (seen : Seen) (vsync : VsyncRecords) → length seen.values ≡ 64 → vsync.timelines ≡ map (value_shown seen) (rising_timelines scene)
     → ((t : ℕ) → 1 ≤ t → t ≤ 64 → list_any (λ k. k == t) scene.timelines ≡ false → value_of seen.values t ≡ 0) → seen_by vsync ≡ seen
 unfolding rising_timelines
 seen_is scene seen vsync long shown undeclared =

@@ -1,4 +1,4 @@
--- A step of an actor is the next one of a play: its answer, its calls and its arrivals are those that the world gives.
+-- A step of an actor is the next one of a play: its answer, its calls and its arrivals are those that the state gives.
 use Rattle.std.proofs.Common.{◌≡◌, ℕ, ◌+◌, cond, List, [], ◌∷◌, ◌++◌, length, map, take, Some, refl, ap, sym, ◌∙◌, inl, inr, arith}
 use Rattle.std.specs.Prelude.{◌==◌, ◌⊎◌, slice_get}
 use Rattle.std.specs.List.{All, AllZip, find, flat_map}
@@ -17,9 +17,9 @@ use Rattle.sf_script_scene.specs.declared.step.Step.{Step}
 use Rattle.sf_actor.specs.declared.done.Done.{Done}
 use Rattle.sf_actor.specs.Asking.{Asked}
 use Rattle.sf_actor.specs.Makers.{Run}
-use Rattle.sf_actor.specs.Tales.{IsMade, made_on, step_done}
+use Rattle.sf_actor.specs.ScriptTraces.{IsMade, made_on, step_done}
 use Rattle.sf_actor.specs.Traces.{DoneAt, MadeStep, Past, next, no_past, past_after, past_from, places_from, places_of}
-use Rattle.law_played.specs.Worlds.{asked_by, reply_now, reply_on, with_call, with_calls}
+use Rattle.law_played.specs.RunStates.{asked_by, reply_now, reply_on, with_call, with_calls}
 
 -- the places of a trace with one more step
 places-append : (place n : ℕ) (past : Past) (trace : List Done) (done : Done) → n ≡ place + length trace

@@ -1,4 +1,4 @@
--- An actor's step, put together: a run in which it did one step more is the world after its next turn.
+-- An actor's step, put together: a run in which it did one step more is the state after its next transition.
 use Rattle.std.proofs.Common.{◌≡◌, ℕ, zero, suc, ◌+◌, ◌-◌, ◌<◌, ◌≤◌, Bool, true, false, List, [], ◌∷◌, ◌++◌, length, map, filter, get_or, max, replicate, take, Option, Some, None, refl, ap, sym, ◌∙◌, subst, true≢false, inl, inr, arith}
 use Rattle.std.specs.Prelude.{◌==◌, ◌⊎◌, ◌&&◌, Contains, is_none, is_some, if◌then◌else◌, reverse}
 use Rattle.std.specs.List.{All, AllZip, find, flat_map, list_any, range_with_len}
@@ -33,7 +33,7 @@ use Rattle.sf_actor.specs.Names.{FrameOf, Holdings}
 use Rattle.sf_actor.specs.Points.{detached_fence, reached_by, waited_fence}
 use Rattle.sf_actor.specs.Scripts.{picture_at, with_points}
 use Rattle.sf_actor.specs.Steps.{sent_by, used_by, was_done}
-use Rattle.sf_actor.specs.Tales.{IsMade, made_on, sent_as, step_done}
+use Rattle.sf_actor.specs.ScriptTraces.{IsMade, made_on, sent_as, step_done}
 use Rattle.sf_actor.specs.Tests.{bad_value, refusal_of}
 use Rattle.sf_actor.specs.Traces.{AnswersCall, AnswersTests, DoneAt, IsAnswered, IsPassed, is_blocked, MadeStep, PassesFence, SentStep, Source, made_at, made_by, overtaken, own_call, places_of, release_at, sends_of, sent_at, sent_with, source_in}
 use Rattle.sf_actor.specs.Values.{reply_at}
@@ -46,7 +46,7 @@ use Rattle.law_played.specs.Replies.{reply_shown}
 use Rattle.law_played.specs.Runs.{calls_of, final_values, is_sent_by, rising_actors}
 use Rattle.law_played.specs.Stepping.{DoesOneMore, DrawsInTime}
 use Rattle.law_played.specs.Stuck.{IsNotReady, call_blocks, has_open_point, holdings_at_end, is_blocked_on, next_step, step_waits}
-use Rattle.law_played.specs.Worlds.{World, actor_turn, after_step, answer_by, answer_tested, arrival_by, asked_by, at_now, done_now, idle, is_open, is_open_at, reply_now, reply_on, script_turn, step_turn, waits_now, with_call, with_calls, with_list}
+use Rattle.law_played.specs.RunStates.{RunState, actor_transition, after_step, answer_by, answer_tested, arrival_by, asked_by, at_now, done_now, idle, is_open, is_open_at, reply_now, reply_on, script_transition, step_transition, waits_now, with_call, with_calls, with_list}
 
 all_reverse : {X : Type 0} (P : X → Type 0) (xs : List X) → All P xs → All P (reverse xs)
 all_reverse P xs all k d in' =
@@ -178,15 +178,15 @@ sent_back actor (a ∷ later) all =
     let own = All-head (λ (a : Arrival FrameOf). a.actor.0 ≡ actor) a later all in
     λ i. record { number = a.number; actor = record { 0 = sym own i }; step = a.step; txn = a.txn } ∷ sent_back actor later (All-tail (λ (a : Arrival FrameOf). a.actor.0 ≡ actor) a later all) i
 
-module _ (scene : SceneValue) (world : World) (script : ActorScript) (done : Done) (later : Run) (arrived : List (Arrival FrameOf)) (d : DoesOneMore scene world script done later arrived) where
+module _ (scene : SceneValue) (state : RunState) (script : ActorScript) (done : Done) (later : Run) (arrived : List (Arrival FrameOf)) (d : DoesOneMore scene state script done later arrived) where
   abbrev by : ℕ
   by = script.number
 
   abbrev trace : List Done
-  trace = world.run.trace script.number
+  trace = state.run.trace script.number
 
   abbrev at : DoneAt
-  at = at_now world script done
+  at = at_now state script done
 
   abbrev pictures : ℕ → Picture
   pictures = picture_at scene.pictures
@@ -195,12 +195,12 @@ module _ (scene : SceneValue) (world : World) (script : ActorScript) (done : Don
   made = made_at pictures at
 
   abbrev own_run : Run
-  own_run = record world.run { trace = with_list world.run.trace script.number (trace ++ done ∷ []) }
+  own_run = record state.run { trace = with_list state.run.trace script.number (trace ++ done ∷ []) }
 
   traced : later.trace script.number ≡ trace ++ done ∷ []
   traced = d.traces script.number ∙ rw (eq-eqb script.number script.number refl) refl
 
-  pub next_is : next_step world.run script ≡ Some done.step
+  pub next_is : next_step state.run script ≡ Some done.step
   next_is = step_is_next trace done script.steps (subst (λ t. map step_done t ≡ take (length t) script.steps) traced d.after.first)
 
   -- what was called since on a queue, the oldest call first
@@ -210,35 +210,35 @@ module _ (scene : SceneValue) (world : World) (script : ActorScript) (done : Don
   newer_own : (queue : ℕ) → All (λ (e : Entry). e.caller.0 ≡ by) (newer queue)
   newer_own queue = all_reverse (λ (e : Entry). e.caller.0 ≡ by) (d.calls queue).more (d.calls queue).own
 
-  own_calls : (queue : ℕ) → calls_of by (later.calls queue) ≡ calls_of by (world.run.calls queue) ++ newer queue
+  own_calls : (queue : ℕ) → calls_of by (later.calls queue) ≡ calls_of by (state.run.calls queue) ++ newer queue
   own_calls queue =
       ap (λ (es : List Entry). calls_of by es) (d.calls queue).joined
-      ∙ (ap (filter (λ (e : Entry). e.caller.0 == by)) (reverse-append (d.calls queue).more (world.run.calls queue))
-      ∙ (filter-append (λ (e : Entry). e.caller.0 == by) (reverse (world.run.calls queue)) (newer queue)
-      ∙ ap (λ (es : List Entry). calls_of by (world.run.calls queue) ++ es) (kept_whole (λ (e : Entry). e.caller.0 == by) (newer queue)
+      ∙ (ap (filter (λ (e : Entry). e.caller.0 == by)) (reverse-append (d.calls queue).more (state.run.calls queue))
+      ∙ (filter-append (λ (e : Entry). e.caller.0 == by) (reverse (state.run.calls queue)) (newer queue)
+      ∙ ap (λ (es : List Entry). calls_of by (state.run.calls queue) ++ es) (kept_whole (λ (e : Entry). e.caller.0 == by) (newer queue)
       (All-weaker (λ (e : Entry). e.caller.0 ≡ by) (λ (e : Entry). (e.caller.0 == by) ≡ true) (λ e own. eq-eqb e.caller.0 by own) (newer queue) (newer_own queue)))))
 
   -- they are what the step made
   made_newer : (queue : ℕ) → AllZip IsMade (made_on queue made) (newer queue)
   made_newer queue =
-      zip_later IsMade (made_on queue (made_by pictures trace)) (made_on queue made) (calls_of by (world.run.calls queue)) (newer queue) (d.before.made queue)
-      (subst (λ ms. AllZip IsMade ms (calls_of by (world.run.calls queue) ++ newer queue))
+      zip_later IsMade (made_on queue (made_by pictures trace)) (made_on queue made) (calls_of by (state.run.calls queue)) (newer queue) (d.before.made queue)
+      (subst (λ ms. AllZip IsMade ms (calls_of by (state.run.calls queue) ++ newer queue))
       (ap (made_on queue) (ap (made_by pictures) traced ∙ each_with (made_at pictures) trace done) ∙ filter-append (λ (m : MadeStep). m.asked.0.0 == queue) (made_by pictures trace) made)
       (subst (λ es. AllZip IsMade (made_on queue (made_by pictures (later.trace script.number))) es) (own_calls queue) (d.after.made queue)))
 
-  put_newer : (queue : ℕ) → put_on (world.run.calls queue) (newer queue) ≡ later.calls queue
+  put_newer : (queue : ℕ) → put_on (state.run.calls queue) (newer queue) ≡ later.calls queue
   put_newer queue =
-      put-on-reverse (world.run.calls queue) (newer queue)
-      ∙ (ap (λ (es : List Entry). es ++ world.run.calls queue) (reverse-reverse (d.calls queue).more) ∙ sym (d.calls queue).joined)
+      put-on-reverse (state.run.calls queue) (newer queue)
+      ∙ (ap (λ (es : List Entry). es ++ state.run.calls queue) (reverse-reverse (d.calls queue).more) ∙ sym (d.calls queue).joined)
 
   -- nothing was called on a queue that is not declared
-  undeclared : (queue : ℕ) → find (λ (q : QueueDecl). q.number == queue) scene.queues ≡ None → (later.calls queue ≡ []) × (world.run.calls queue ≡ []) × (made_on queue made ≡ [])
+  undeclared : (queue : ℕ) → find (λ (q : QueueDecl). q.number == queue) scene.queues ≡ None → (later.calls queue ≡ []) × (state.run.calls queue ≡ []) × (made_on queue made ≡ [])
   undeclared queue none =
       let empty = no_calls (later.calls queue) refl in
-      let both : (d.calls queue).more ++ world.run.calls queue ≡ [] = sym (d.calls queue).joined ∙ empty in
-      let no_more = first_empty (d.calls queue).more (world.run.calls queue) both in (
+      let both : (d.calls queue).more ++ state.run.calls queue ≡ [] = sym (d.calls queue).joined ∙ empty in
+      let no_more = first_empty (d.calls queue).more (state.run.calls queue) both in (
         empty,
-        ap (λ (xs : List Entry). xs ++ world.run.calls queue) (sym no_more) ∙ both,
+        ap (λ (xs : List Entry). xs ++ state.run.calls queue) (sym no_more) ∙ both,
         zip_none IsMade (made_on queue made) (subst (λ (es : List Entry). AllZip IsMade (made_on queue made) es) (ap reverse no_more) (made_newer queue)),
       )
     where
@@ -261,7 +261,7 @@ module _ (scene : SceneValue) (world : World) (script : ActorScript) (done : Don
       on_declared : (q : QueueDecl) → find (λ (o : QueueDecl). o.number == q.number) scene.queues ≡ Some q → later.calls q.number ≡ (with_calls scene by at.place own_run (map asked_by made)).calls q.number
       on_declared q found =
           sym (put_newer q.number)
-          ∙ (made_so q.width q.height by at.place (world.run.calls q.number) (made_on q.number made) (newer q.number) (made_newer q.number)
+          ∙ (made_so q.width q.height by at.place (state.run.calls q.number) (made_on q.number made) (newer q.number) (made_newer q.number)
           (All-filter (λ (m : MadeStep). m.asked.0.0 == q.number) (λ (m : MadeStep). m.step ≡ at.place) made (made_there pictures at)) (newer_own q.number)
           (subst (AreReplies q.width q.height) (sym (put_newer q.number)) (declared_replies q q.number found))
           ∙ sym (queue_calls scene by at.place q made own_run found))
@@ -286,9 +286,9 @@ module _ (scene : SceneValue) (world : World) (script : ActorScript) (done : Don
   sent_is =
       append_cancel_left (sends_of trace) (map sent_as arrived) (sent_at at)
       (ap (λ (xs : List SentStep). xs ++ map sent_as arrived) (sym d.before.sent)
-      ∙ (sym (map-append sent_as (filter (is_sent_by by) world.arrivals) arrived)
-      ∙ (ap (λ xs. map sent_as (filter (is_sent_by by) world.arrivals ++ xs)) (sym own_arrived)
-      ∙ (ap (map sent_as) (sym (filter-append (is_sent_by by) world.arrivals arrived))
+      ∙ (sym (map-append sent_as (filter (is_sent_by by) state.arrivals) arrived)
+      ∙ (ap (λ xs. map sent_as (filter (is_sent_by by) state.arrivals ++ xs)) (sym own_arrived)
+      ∙ (ap (map sent_as) (sym (filter-append (is_sent_by by) state.arrivals arrived))
       ∙ (d.after.sent ∙ (ap sends_of traced ∙ each_with sent_at trace done))))))
     where
       own_arrived : filter (is_sent_by by) arrived ≡ arrived
@@ -299,23 +299,23 @@ module _ (scene : SceneValue) (world : World) (script : ActorScript) (done : Don
   arrived_is = sym (sent_back by arrived d.sent) ∙ ap (map (arrival_by by)) sent_is
 
   -- a step that signals nothing leaves the values as they are
-  values_stay : signal_of done.step ≡ [] → final_values scene later ≡ final_values scene world.run
+  values_stay : signal_of done.step ≡ [] → final_values scene later ≡ final_values scene state.run
   values_stay none = ap (λ points. reached_by (with_points no_points points)) (λ i. flat_map (λ (s : ActorScript). each s.number i) (rising_actors scene))
     where
-      each : (actor : ℕ) → signals_of (later.trace actor) ≡ signals_of (world.run.trace actor)
+      each : (actor : ℕ) → signals_of (later.trace actor) ≡ signals_of (state.run.trace actor)
       each actor = ap signals_of (d.traces actor) ∙ by_actor (cases_eq actor by)
         where
-          by_actor : (actor ≡ by) ⊎ (actor ≡ by → ⊥) → signals_of (with_list world.run.trace by (trace ++ done ∷ []) actor) ≡ signals_of (world.run.trace actor)
+          by_actor : (actor ≡ by) ⊎ (actor ≡ by → ⊥) → signals_of (with_list state.run.trace by (trace ++ done ∷ []) actor) ≡ signals_of (state.run.trace actor)
           by_actor (inl same) =
               rw (eq-eqb actor by same) (flat_map-append (λ (x : Done). signal_of x.step) trace (done ∷ [])
-              ∙ (ap (λ (rest : List (ℕ × ℕ)). signals_of trace ++ (rest ++ [])) none ∙ (append-nil (signals_of trace) ∙ ap (λ n. signals_of (world.run.trace n)) (sym same))))
+              ∙ (ap (λ (rest : List (ℕ × ℕ)). signals_of trace ++ (rest ++ [])) none ∙ (append-nil (signals_of trace) ∙ ap (λ n. signals_of (state.run.trace n)) (sym same))))
           by_actor (inr apart) = rw (ne_eqb actor by apart) refl
 
   abbrev holdings : Holdings
-  holdings = holdings_at_end world.run script
+  holdings = holdings_at_end state.run script
 
   -- the reply of its own call is what the calls before it say
-  replied_is : (asked : Asked) (replied : PlainReply) → call_of pictures holdings done.step ≡ Some asked → done.answered ≡ answered.Called replied → replied ≡ reply_now scene world.run by asked
+  replied_is : (asked : Asked) (replied : PlainReply) → call_of pictures holdings done.step ≡ Some asked → done.answered ≡ answered.Called replied → replied ≡ reply_now scene state.run by asked
   replied_is asked replied call answer =
       by_found (find (λ (q : QueueDecl). q.number == asked.0.0) scene.queues) refl
     where
@@ -332,18 +332,18 @@ module _ (scene : SceneValue) (world : World) (script : ActorScript) (done : Don
       on_queue = ap (made_on asked.0.0) made_is ∙ rw (eq-eqb asked.0.0 asked.0.0 refl) refl
 
       by_entries : (q : QueueDecl) → q.number ≡ asked.0.0 → AreReplies q.width q.height (later.calls q.number) → (es : List Entry) → newer asked.0.0 ≡ es
-          → replied ≡ reply_after q.width q.height (world.run.calls q.number) (record { 0 = by }) asked.1
+          → replied ≡ reply_after q.width q.height (state.run.calls q.number) (record { 0 = by }) asked.1
       by_entries q same replies [] e =
           absurd (subst (λ (es : List Entry). AllZip IsMade (first ∷ made_on asked.0.0 rest) es) e (subst (λ ms. AllZip IsMade ms (newer asked.0.0)) on_queue (made_newer asked.0.0)))
       by_entries q same replies (x ∷ es) e =
           let zip = subst (λ (zs : List Entry). AllZip IsMade (first ∷ made_on asked.0.0 rest) zs) e (subst (λ ms. AllZip IsMade ms (newer asked.0.0)) on_queue (made_newer asked.0.0)) in
           let own = All-head (λ (z : Entry). z.caller.0 ≡ by) x es (subst (All (λ (z : Entry). z.caller.0 ≡ by)) e (newer_own asked.0.0)) in
-          let put : put_on (world.run.calls asked.0.0) (x ∷ es) ≡ later.calls asked.0.0 = ap (put_on (world.run.calls asked.0.0)) (sym e) ∙ put_newer asked.0.0 in
-          let legal = (replies_front q.width q.height (x ∷ world.run.calls asked.0.0) es
+          let put : put_on (state.run.calls asked.0.0) (x ∷ es) ≡ later.calls asked.0.0 = ap (put_on (state.run.calls asked.0.0)) (sym e) ∙ put_newer asked.0.0 in
+          let legal = (replies_front q.width q.height (x ∷ state.run.calls asked.0.0) es
           (subst (AreReplies q.width q.height) (ap later.calls same ∙ sym put) replies)).0 in
-          zip.0.reply ∙ (legal ∙ (λ i. reply_after q.width q.height (world.run.calls (sym same i)) (record { 0 = own i }) (zip.0.call i)))
+          zip.0.reply ∙ (legal ∙ (λ i. reply_after q.width q.height (state.run.calls (sym same i)) (record { 0 = own i }) (zip.0.call i)))
 
-      by_found : (o : Option QueueDecl) → find (λ (q : QueueDecl). q.number == asked.0.0) scene.queues ≡ o → replied ≡ reply_now scene world.run by asked
+      by_found : (o : Option QueueDecl) → find (λ (q : QueueDecl). q.number == asked.0.0) scene.queues ≡ o → replied ≡ reply_now scene state.run by asked
       by_found None none =
           absurd (cons_is_some (sym on_queue ∙ (undeclared asked.0.0 none).2))
         where
@@ -352,26 +352,26 @@ module _ (scene : SceneValue) (world : World) (script : ActorScript) (done : Don
       by_found (Some q) found =
           let same : q.number ≡ asked.0.0 = eqb-true q.number asked.0.0 (found_passes (λ (o : QueueDecl). o.number == asked.0.0) scene.queues q found) in
           by_entries q same (declared_replies q asked.0.0 found) (newer asked.0.0) refl
-          ∙ sym (ap (λ o. option_map_or (reply_on world.run by asked) o reply.Done) found)
+          ∙ sym (ap (λ o. option_map_or (reply_on state.run by asked) o reply.Done) found)
 
   -- the number of what it sent is the next one
-  number_is : (txn : Contents FrameOf) (number : ℕ) → sent_by holdings done.step ≡ Some txn → done.answered ≡ answered.Sent number → number ≡ length world.arrivals + 1
+  number_is : (txn : Contents FrameOf) (number : ℕ) → sent_by holdings done.step ≡ Some txn → done.answered ≡ answered.Sent number → number ≡ length state.arrivals + 1
   number_is txn number sent answer =
       let sends : map sent_as arrived ≡ record { step = at.place; number = number; txn = txn } ∷ [] = sent_is ∙ (λ i. sent_with at.place (answer i) (sent i)) in
       by_arrived arrived refl sends
     where
-      by_arrived : (got : List (Arrival FrameOf)) → arrived ≡ got → map sent_as got ≡ record { step = at.place; number = number; txn = txn } ∷ [] → number ≡ length world.arrivals + 1
+      by_arrived : (got : List (Arrival FrameOf)) → arrived ≡ got → map sent_as got ≡ record { step = at.place; number = number; txn = txn } ∷ [] → number ≡ length state.arrivals + 1
       by_arrived [] e sends = absurd (cc (sends))
       by_arrived (a ∷ rest) e sends =
-          let numbers : map number_of (a ∷ rest) ≡ range_with_len (0 + length world.arrivals + 1) (length (a ∷ rest)) =
-          subst (λ (got : List (Arrival FrameOf)). map number_of got ≡ range_with_len (0 + length world.arrivals + 1) (length got)) e (numbers_behind 0 world.arrivals arrived d.numbered) in
-          let first : a.number ≡ 0 + length world.arrivals + 1 = ap (λ ns. get_or ns 0 0) numbers in
+          let numbers : map number_of (a ∷ rest) ≡ range_with_len (0 + length state.arrivals + 1) (length (a ∷ rest)) =
+          subst (λ (got : List (Arrival FrameOf)). map number_of got ≡ range_with_len (0 + length state.arrivals + 1) (length got)) e (numbers_behind 0 state.arrivals arrived d.numbered) in
+          let first : a.number ≡ 0 + length state.arrivals + 1 = ap (λ ns. get_or ns 0 0) numbers in
           let told : a.number ≡ number = (let same : sent_as a ≡ record { step = at.place; number = number; txn = txn } = cc in ap (λ (s : SentStep). s.number) same) in
           omega (arith, first, told)
 
   -- the answer of a step that no own test refuses
   answer_made : (call : Option Asked) (sent : Option (Contents FrameOf)) → call_of pictures holdings done.step ≡ call → sent_by holdings done.step ≡ sent → AnswersCall call sent done.answered
-      → done.answered ≡ answer_by scene world by call sent
+      → done.answered ≡ answer_by scene state by call sent
   answer_made (Some asked) sent call sends answers = answers.1 ∙ ap (λ r. answered.Called r) (replied_is asked answers.0 call answers.1)
   answer_made None (Some txn) call sends answers = answers.1 ∙ ap (λ n. answered.Sent n) (number_is txn answers.0 sends answers.1)
   answer_made None None call sends answers = answers
@@ -379,18 +379,18 @@ module _ (scene : SceneValue) (world : World) (script : ActorScript) (done : Don
   answer_passed : (fence : Option Fence) (refusal : refusal_of pictures holdings done.step ≡ None) → detached_fence holdings done.step ≡ fence
       → PassesFence fence (final_values scene later) at.past.shown done.answered
       (IsPassed (waited_fence holdings done.step) (final_values scene later) × AnswersCall (call_of pictures holdings done.step) (sent_by holdings done.step) done.answered)
-      → done.answered ≡ (if is_open scene world.run fence then answered.Own bad_value else answer_by scene world by (call_of pictures holdings done.step) (sent_by holdings done.step))
+      → done.answered ≡ (if is_open scene state.run fence then answered.Own bad_value else answer_by scene state by (call_of pictures holdings done.step) (sent_by holdings done.step))
   answer_passed None refusal fence passes = answer_made (call_of pictures holdings done.step) (sent_by holdings done.step) refl refl passes.1
   answer_passed (Some fence) refusal detached passes = elim passes [
-    | inl refused ↦ rw (is_opened fence (final_values scene world.run) (d.refused fence detached refusal refused.0)) refused.0
+    | inl refused ↦ rw (is_opened fence (final_values scene state.run) (d.refused fence detached refusal refused.0)) refused.0
     | inr done' ↦
         let stay = values_stay (no_signal holdings done.step fence detached) in
-        rw (is_closed fence (final_values scene world.run) (subst (IsSignalled fence) stay done'.0))
+        rw (is_closed fence (final_values scene state.run) (subst (IsSignalled fence) stay done'.0))
         (answer_made (call_of pictures holdings done.step) (sent_by holdings done.step) refl refl done'.1.1)
   ]
 
   answer_by_tests : (refusal : Option ℕ) → refusal_of pictures holdings done.step ≡ refusal → AnswersTests pictures (final_values scene later) at.past done.step done.answered refusal
-      → done.answered ≡ answer_tested scene world script done.step refusal
+      → done.answered ≡ answer_tested scene state script done.step refusal
   answer_by_tests (Some status) refusal answers = answers
   answer_by_tests None refusal answers = answer_passed (detached_fence holdings done.step) refusal refl answers
 
@@ -409,24 +409,24 @@ module _ (scene : SceneValue) (world : World) (script : ActorScript) (done : Don
 
   -- a dequeue that waits was not refused for want of a slot
   slot_free : (asked : Asked) → call_of pictures holdings done.step ≡ Some asked → may_wait asked.1 ≡ true
-      → AnswersCall (Some asked) (sent_by holdings done.step) done.answered → call_blocks scene world.run script (Some asked) ≡ false
+      → AnswersCall (Some asked) (sent_by holdings done.step) done.answered → call_blocks scene state.run script (Some asked) ≡ false
   slot_free asked call waits answers = by_found (find (λ (q : QueueDecl). q.number == asked.0.0) scene.queues) refl
     where
-      free : is_blocked (reply_now scene world.run by asked) ≡ false
+      free : is_blocked (reply_now scene state.run by asked) ≡ false
       free = ap is_blocked (sym (replied_is asked answers.0 call answers.1)) ∙ rw waits at answers.2
 
-      by_found : (o : Option QueueDecl) → find (λ (q : QueueDecl). q.number == asked.0.0) scene.queues ≡ o → call_blocks scene world.run script (Some asked) ≡ false
-      by_found None none = ap (λ o. option_map_or (is_blocked_on world.run script asked) o false) none
+      by_found : (o : Option QueueDecl) → find (λ (q : QueueDecl). q.number == asked.0.0) scene.queues ≡ o → call_blocks scene state.run script (Some asked) ≡ false
+      by_found None none = ap (λ o. option_map_or (is_blocked_on state.run script asked) o false) none
       by_found (Some q) found =
-          ap (λ o. option_map_or (is_blocked_on world.run script asked) o false) found
-          ∙ (ap (λ o. is_blocked (option_map_or (reply_on world.run by asked) o reply.Done)) (sym found) ∙ free)
+          ap (λ o. option_map_or (is_blocked_on state.run script asked) o false) found
+          ∙ (ap (λ o. is_blocked (option_map_or (reply_on state.run by asked) o reply.Done)) (sym found) ∙ free)
 
   -- it was time for the step, where it was for a draw
-  in_time_by : (s : Step) → done.step ≡ s → DrawsInTime scene world script s → refusal_of pictures holdings s ≡ None → step_waits scene world.run script holdings s ≡ false
+  in_time_by : (s : Step) → done.step ≡ s → DrawsInTime scene state script s → refusal_of pictures holdings s ≡ None → step_waits scene state.run script holdings s ≡ false
   in_time_by (step.Wait t v) same draws unrefused =
       let passed = (was_made (ap (refusal_of pictures holdings) same ∙ unrefused) (ap (detached_fence holdings) same)).0 in
       let signalled = subst (λ o. IsPassed o (final_values scene later)) (ap (waited_fence holdings) same) passed in
-      not_open (with_point no_points t v) (final_values scene world.run) (one_long t v) (subst (IsSignalled (with_point no_points t v)) (values_stay (ap signal_of same)) signalled)
+      not_open (with_point no_points t v) (final_values scene state.run) (one_long t v) (subst (IsSignalled (with_point no_points t v)) (values_stay (ap signal_of same)) signalled)
   in_time_by (step.Draw name picture) same draws unrefused = draws unrefused
   in_time_by (step.DequeueWait q name size) same draws unrefused =
       let answers = (was_made (ap (refusal_of pictures holdings) same ∙ unrefused) (ap (detached_fence holdings) same)).1 in
@@ -434,43 +434,43 @@ module _ (scene : SceneValue) (world : World) (script : ActorScript) (done : Don
       slot_free (dequeue_of q size true) call refl (subst (λ o. AnswersCall o (sent_by holdings done.step) done.answered) call answers)
   in_time_by s same draws unrefused = refl
 
-  pub in_time : DrawsInTime scene world script done.step → waits_now scene world script done.step ≡ false
+  pub in_time : DrawsInTime scene state script done.step → waits_now scene state script done.step ≡ false
   unfolding waits_now
   in_time draws = by_refusal (refusal_of pictures holdings done.step) refl
     where
-      by_refusal : (o : Option ℕ) → refusal_of pictures holdings done.step ≡ o → (is_none (refusal_of pictures holdings done.step) && step_waits scene world.run script holdings done.step) ≡ false
+      by_refusal : (o : Option ℕ) → refusal_of pictures holdings done.step ≡ o → (is_none (refusal_of pictures holdings done.step) && step_waits scene state.run script holdings done.step) ≡ false
       by_refusal None e = (λ i. is_none (e i) && in_time_by done.step refl draws e i)
-      by_refusal (Some status) e = ap (λ o. is_none o && step_waits scene world.run script holdings done.step) e
+      by_refusal (Some status) e = ap (λ o. is_none o && step_waits scene state.run script holdings done.step) e
 
-  pub done_is : done_now scene world script done.step ≡ done
+  pub done_is : done_now scene state script done.step ≡ done
   unfolding done_now
   done_is = λ i. record { step = done.step; answered = sym (answer_by_tests (refusal_of pictures holdings done.step) refl answered_so) i }
 
-  -- the turn of the actor
-  pub turn_is : find (λ (s : ActorScript). s.number == by) scene.actors ≡ Some script → waits_now scene world script done.step ≡ false
-      → actor_turn scene by world ≡ record { events = event.Reply (reply_shown (reply_at by at)) ∷ []; world = record world { run = later; arrivals = world.arrivals ++ arrived } }
-  unfolding actor_turn
-  turn_is found in_time =
-      ap (script_turn scene world) found
-      ∙ (ap (step_turn scene world script) next_is
-      ∙ (ap (λ b. if b then idle world else after_step scene world script (done_now scene world script done.step)) in_time
-      ∙ (ap (after_step scene world script) done_is
+  -- the transition of the actor
+  pub transition_is : find (λ (s : ActorScript). s.number == by) scene.actors ≡ Some script → waits_now scene state script done.step ≡ false
+      → actor_transition scene by state ≡ record { events = event.Reply (reply_shown (reply_at by at)) ∷ []; state = record state { run = later; arrivals = state.arrivals ++ arrived } }
+  unfolding actor_transition
+  transition_is found in_time =
+      ap (script_transition scene state) found
+      ∙ (ap (step_transition scene state script) next_is
+      ∙ (ap (λ b. if b then idle state else after_step scene state script (done_now scene state script done.step)) in_time
+      ∙ (ap (after_step scene state script) done_is
       ∙ (λ i. record {
         events = event.Reply (reply_shown (reply_at by at)) ∷ [];
-        world = record world { run = sym run_is i; arrivals = world.arrivals ++ sym arrived_is i };
+        state = record state { run = sym run_is i; arrivals = state.arrivals ++ sym arrived_is i };
       }))))
 
--- a turn in which an actor does nothing: it has ended, or it is not time for its next step
-pub idle_ended : (scene : SceneValue) (world : World) (script : ActorScript) → find (λ (s : ActorScript). s.number == script.number) scene.actors ≡ Some script
-    → next_step world.run script ≡ None → actor_turn scene script.number world ≡ idle world
-unfolding actor_turn
-idle_ended scene world script found none = ap (script_turn scene world) found ∙ ap (step_turn scene world script) none
+-- a transition in which an actor does nothing: it has ended, or it is not time for its next step
+pub idle_ended : (scene : SceneValue) (state : RunState) (script : ActorScript) → find (λ (s : ActorScript). s.number == script.number) scene.actors ≡ Some script
+    → next_step state.run script ≡ None → actor_transition scene script.number state ≡ idle state
+unfolding actor_transition
+idle_ended scene state script found none = ap (script_transition scene state) found ∙ ap (step_transition scene state script) none
 
-pub idle_waits : (scene : SceneValue) (world : World) (script : ActorScript) (s : Step) → find (λ (s : ActorScript). s.number == script.number) scene.actors ≡ Some script
-    → next_step world.run script ≡ Some s → IsNotReady scene world.run script (Some s) → actor_turn scene script.number world ≡ idle world
-unfolding actor_turn waits_now
-idle_waits scene world script s found is not_ready =
-    ap (script_turn scene world) found
-    ∙ (ap (step_turn scene world script) is
-    ∙ ap (λ b. if b then idle world else after_step scene world script (done_now scene world script s))
-    ((λ i. is_none (not_ready.0 i) && step_waits scene world.run script (holdings_at_end world.run script) s) ∙ not_ready.1))
+pub idle_waits : (scene : SceneValue) (state : RunState) (script : ActorScript) (s : Step) → find (λ (s : ActorScript). s.number == script.number) scene.actors ≡ Some script
+    → next_step state.run script ≡ Some s → IsNotReady scene state.run script (Some s) → actor_transition scene script.number state ≡ idle state
+unfolding actor_transition waits_now
+idle_waits scene state script s found is not_ready =
+    ap (script_transition scene state) found
+    ∙ (ap (step_transition scene state script) is
+    ∙ ap (λ b. if b then idle state else after_step scene state script (done_now scene state script s))
+    ((λ i. is_none (not_ready.0 i) && step_waits scene state.run script (holdings_at_end state.run script) s) ∙ not_ready.1))

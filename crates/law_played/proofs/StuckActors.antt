@@ -36,10 +36,10 @@ use Rattle.sf_actor.specs.Desks.{DeskHome, DeskView, WaitsForCall, mark_among}
 use Rattle.sf_actor.specs.Known.{AreAmong}
 use Rattle.sf_actor.specs.Makers.{Run}
 use Rattle.sf_actor.specs.Names.{Apart, Frame, Holdings, Lent, Owing, Token, name_in}
-use Rattle.sf_actor.specs.Parts.{token_of}
+use Rattle.sf_actor.specs.Holdings.{token_of}
 use Rattle.sf_actor.specs.Points.{undrawn_fence, waited_fence}
 use Rattle.sf_actor.specs.Scripts.{fence_of, picture_at}
-use Rattle.sf_actor.specs.Tales.{step_done}
+use Rattle.sf_actor.specs.ScriptTraces.{step_done}
 use Rattle.sf_actor.specs.Tries.{ActorOf, EarlierTurn, Keeps, LeavesStep, NoSlot, Open, WhyNotYet, held_in, next_step as next_of, past_of}
 use Rattle.sf_actor.specs.Tests.{refusal_of}
 use Rattle.sf_actor.specs.Traces.{is_blocked, past_after}

@@ -29,7 +29,7 @@ use Rattle.sf_script_scene.specs.declared.step.ActorScript.{ActorScript}
 use Rattle.sf_actor.specs.declared.done.Done.{Done}
 use Rattle.sf_actor.specs.Desks.{DeskHome, DeskView, MadeCall, has_queue as has_mark, known_of, mark_among, values_of}
 use Rattle.sf_actor.specs.Known.{GoesOn, Known, frame_of, share_of}
-use Rattle.sf_actor.specs.Parts.{PartsOf, queue_held}
+use Rattle.sf_actor.specs.Holdings.{HoldingsOf, queue_held}
 use Rattle.sf_actor.specs.Plain.{PlainOf, view_of}
 use Rattle.sf_actor.specs.Names.{FrameOf}
 use Rattle.sf_actor.specs.Scripts.{picture_at}
@@ -41,7 +41,7 @@ use Rattle.law_played.specs.Actors.{AreActors, AreCalls, IsCallBy, mark_declared
 use Rattle.law_played.specs.Framing.{framed_on}
 use Rattle.law_played.specs.Histories.{IsReleased, Released, released_at, released_in, released_on}
 use Rattle.law_played.specs.Progress.{AreWrittenToo}
-use Rattle.law_played.specs.Releasing.{ReleaseAll, released_with}
+use Rattle.law_played.specs.inner.Releasing.{ReleaseAll, released_with}
 use Rattle.law_played.specs.Runs.{calls_of, rising_actors, written_in}
 use Rattle.law_played.specs.Stages.{VsyncAt}
 use Rattle.law_played.specs.Telling.{AreReleases, TellRun}
@@ -137,7 +137,7 @@ module _ {B : Type 0} where
       }
 
   -- of a desk's home only the marks count
-  there_home : (home other : DeskHome) (parts : PartsOf B) → other.marks ≡ home.marks → AreThere home parts → AreThere other parts
+  there_home : (home other : DeskHome) (parts : HoldingsOf B) → other.marks ≡ home.marks → AreThere home parts → AreThere other parts
   there_home home other parts same there =
       let has : (queue : ℕ) → has_mark home queue ≡ true → has_mark other queue ≡ true =
       λ queue is. subst (λ (marks : List QueueMark). list_any (λ (mark : QueueMark). mark.queue.0 == queue) marks ≡ true) (sym same) is in

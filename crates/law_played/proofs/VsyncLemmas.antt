@@ -9,7 +9,7 @@ use Rattle.sf_base.specs.Fences.{value_of}
 use Rattle.sf_base.specs.declared.fences.Seen.{Seen}
 use Rattle.sf_script_scene.specs.Scene.{SceneValue}
 use Rattle.sf_actor.specs.Known.{AreAmong, Rise}
-use Rattle.sf_record.specs.declared.event.VsyncReport.{VsyncReport}
+use Rattle.sf_record.specs.declared.event.VsyncRecords.{VsyncRecords}
 use Rattle.sf_record.specs.declared.record.TimelineValue.{TimelineValue}
 use Rattle.law_played.specs.Seeing.{HasSeen, TellsTime, value_shown}
 use Rattle.law_played.specs.Vsyncs.{AllNext, AllNextTo, GoesOn, HasNotFallen, WasSignalled, rising_timelines, timeline_of}
@@ -81,81 +81,81 @@ no_more seen later timelines values rise within same all = each values (subst (A
         (each ts (All-tail IsTimeline t.timeline (map timeline_of ts) within) (All-tail (λ (t : TimelineValue). t.value ≤ value_of seen.values t.timeline) t ts all))
 
 -- the values of a vsync are at most these
-abbrev IsWithin : Seen → VsyncReport → Type 0
+abbrev IsWithin : Seen → VsyncRecords → Type 0
 IsWithin seen vsync = All (λ (t : TimelineValue). t.value ≤ value_of seen.values t.timeline) vsync.timelines
 
-abbrev ShowsAll : SceneValue → VsyncReport → Type 0
+abbrev ShowsAll : SceneValue → VsyncRecords → Type 0
 ShowsAll scene vsync = map timeline_of vsync.timelines ≡ rising_timelines scene
 
-all_within_later : (scene : SceneValue) (seen later : Seen) (vsyncs : List VsyncReport) → Rise seen later → All (ShowsAll scene) vsyncs → All (IsWithin seen) vsyncs → All (IsWithin later) vsyncs
+all_within_later : (scene : SceneValue) (seen later : Seen) (vsyncs : List VsyncRecords) → Rise seen later → All (ShowsAll scene) vsyncs → All (IsWithin seen) vsyncs → All (IsWithin later) vsyncs
 all_within_later scene seen later [] rise shows all = All-nil (IsWithin later)
 all_within_later scene seen later (v ∷ vs) rise shows all =
     All-cons (IsWithin later) v vs
     (no_more seen later (rising_timelines scene) v.timelines rise (rise_within scene) (All-head (ShowsAll scene) v vs shows) (All-head (IsWithin seen) v vs all))
     (all_within_later scene seen later vs rise (All-tail (ShowsAll scene) v vs shows) (All-tail (IsWithin seen) v vs all))
 
-all_go_on : (scene : SceneValue) (number : ℕ) (seen : Seen) (report : VsyncReport) (vsyncs : List VsyncReport) → number < report.number → report.timelines ≡ map (value_shown seen) (rising_timelines scene)
-    → All (ShowsAll scene) vsyncs → All (λ (v : VsyncReport). v.number ≤ number) vsyncs → All (IsWithin seen) vsyncs → All (λ (v : VsyncReport). GoesOn v report) vsyncs
-all_go_on scene number seen report [] less shown shows numbers values = All-nil (λ (v : VsyncReport). GoesOn v report)
+all_go_on : (scene : SceneValue) (number : ℕ) (seen : Seen) (report : VsyncRecords) (vsyncs : List VsyncRecords) → number < report.number → report.timelines ≡ map (value_shown seen) (rising_timelines scene)
+    → All (ShowsAll scene) vsyncs → All (λ (v : VsyncRecords). v.number ≤ number) vsyncs → All (IsWithin seen) vsyncs → All (λ (v : VsyncRecords). GoesOn v report) vsyncs
+all_go_on scene number seen report [] less shown shows numbers values = All-nil (λ (v : VsyncRecords). GoesOn v report)
 all_go_on scene number seen report (v ∷ vs) less shown shows numbers values =
-    let before = All-head (λ (v : VsyncReport). v.number ≤ number) v vs numbers in
-    All-cons (λ (v : VsyncReport). GoesOn v report) v vs (
+    let before = All-head (λ (v : VsyncRecords). v.number ≤ number) v vs numbers in
+    All-cons (λ (v : VsyncRecords). GoesOn v report) v vs (
       omega (arith, before, less),
       subst (AllZip HasNotFallen v.timelines) (sym shown)
           (none_fell seen v.timelines (rising_timelines scene) (All-head (ShowsAll scene) v vs shows) (All-head (IsWithin seen) v vs values)),
     )
-    (all_go_on scene number seen report vs less shown (All-tail (ShowsAll scene) v vs shows) (All-tail (λ (v : VsyncReport). v.number ≤ number) v vs numbers) (All-tail (IsWithin seen) v vs values))
+    (all_go_on scene number seen report vs less shown (All-tail (ShowsAll scene) v vs shows) (All-tail (λ (v : VsyncRecords). v.number ≤ number) v vs numbers) (All-tail (IsWithin seen) v vs values))
 
 module _ (scene : SceneValue) (signals : List (ℕ × ℕ)) where
   pub none_seen : (number : ℕ) (seen : Seen) → HasSeen scene signals [] number seen
   none_seen number seen = record {
     are = record {
-      from_1 = All-nil (λ (v : VsyncReport). 0 < v.number);
+      from_1 = All-nil (λ (v : VsyncRecords). 0 < v.number);
       go_on = tt;
-      expected = All-nil (λ (v : VsyncReport). v.expected ≡ v.number * scene.period);
-      commit = All-nil (λ (v : VsyncReport). v.commits ≢ []);
+      expected = All-nil (λ (v : VsyncRecords). v.expected ≡ v.number * scene.period);
+      commit = All-nil (λ (v : VsyncRecords). v.commits ≢ []);
       timelines = All-nil (ShowsAll scene);
-      signalled = All-nil (λ (v : VsyncReport). All (WasSignalled signals) v.timelines);
+      signalled = All-nil (λ (v : VsyncRecords). All (WasSignalled signals) v.timelines);
     };
-    numbers = All-nil (λ (v : VsyncReport). v.number ≤ number);
+    numbers = All-nil (λ (v : VsyncRecords). v.number ≤ number);
     values = All-nil (IsWithin seen);
   }
 
-  pub seen_silently : (vsyncs : List VsyncReport) (number other : ℕ) (seen later : Seen) → HasSeen scene signals vsyncs number seen → number ≤ other → Rise seen later → HasSeen scene signals vsyncs other later
+  pub seen_silently : (vsyncs : List VsyncRecords) (number other : ℕ) (seen later : Seen) → HasSeen scene signals vsyncs number seen → number ≤ other → Rise seen later → HasSeen scene signals vsyncs other later
   seen_silently vsyncs number other seen later has least rise = record {
     are = has.are;
-    numbers = All-weaker (λ (v : VsyncReport). v.number ≤ number) (λ (v : VsyncReport). v.number ≤ other) (λ v most. omega (arith, most, least)) vsyncs has.numbers;
+    numbers = All-weaker (λ (v : VsyncRecords). v.number ≤ number) (λ (v : VsyncRecords). v.number ≤ other) (λ v most. omega (arith, most, least)) vsyncs has.numbers;
     values = all_within_later scene seen later vsyncs rise has.are.timelines has.values;
   }
 
   -- something holds of one more
-  push : (P : VsyncReport → Type 0) (vsyncs : List VsyncReport) (report : VsyncReport) → All P vsyncs → P report → All P (vsyncs ++ report ∷ [])
+  push : (P : VsyncRecords → Type 0) (vsyncs : List VsyncRecords) (report : VsyncRecords) → All P vsyncs → P report → All P (vsyncs ++ report ∷ [])
   push P vsyncs report all here = All-append P vsyncs (report ∷ []) all (All-cons P report [] here (All-nil P))
 
-  pub seen_more : (vsyncs : List VsyncReport) (number : ℕ) (seen later : Seen) (report : VsyncReport) → HasSeen scene signals vsyncs number seen → number < report.number → Rise seen later
+  pub seen_more : (vsyncs : List VsyncRecords) (number : ℕ) (seen later : Seen) (report : VsyncRecords) → HasSeen scene signals vsyncs number seen → number < report.number → Rise seen later
       → TellsTime scene signals report later → HasSeen scene signals (vsyncs ++ report ∷ []) report.number later
   seen_more vsyncs number seen later report has less rise tells =
       let on = seen_silently vsyncs number report.number seen later has (omega (arith, less)) rise in
       let within = all_within_later scene seen later vsyncs rise has.are.timelines has.values in
       record {
         are = record {
-          from_1 = push (λ (v : VsyncReport). 0 < v.number) vsyncs report has.are.from_1 tells.from_1;
+          from_1 = push (λ (v : VsyncRecords). 0 < v.number) vsyncs report has.are.from_1 tells.from_1;
           go_on = next_more GoesOn vsyncs report has.are.go_on (all_go_on scene number later report vsyncs less tells.shows has.are.timelines has.numbers within);
-          expected = push (λ (v : VsyncReport). v.expected ≡ v.number * scene.period) vsyncs report has.are.expected tells.due;
-          commit = push (λ (v : VsyncReport). v.commits ≢ []) vsyncs report has.are.commit tells.commit;
+          expected = push (λ (v : VsyncRecords). v.expected ≡ v.number * scene.period) vsyncs report has.are.expected tells.due;
+          commit = push (λ (v : VsyncRecords). v.commits ≢ []) vsyncs report has.are.commit tells.commit;
           timelines = push (ShowsAll scene) vsyncs report has.are.timelines (ap (map timeline_of) tells.shows ∙ timelines_shown later (rising_timelines scene));
-          signalled = push (λ (v : VsyncReport). All (WasSignalled signals) v.timelines) vsyncs report has.are.signalled
+          signalled = push (λ (v : VsyncRecords). All (WasSignalled signals) v.timelines) vsyncs report has.are.signalled
               (subst (All (WasSignalled signals)) (sym tells.shows) (all_shown later (WasSignalled signals) (rising_timelines scene)
               (All-weaker IsTimeline (λ n. WasSignalled signals (value_shown later n)) (λ n is. tells.signalled n is.0 is.1) (rising_timelines scene) (rise_within scene))));
         };
-        numbers = push (λ (v : VsyncReport). v.number ≤ report.number) vsyncs report on.numbers (omega arith);
+        numbers = push (λ (v : VsyncRecords). v.number ≤ report.number) vsyncs report on.numbers (omega arith);
         values = push (IsWithin later) vsyncs report within
             (subst (All (λ (t : TimelineValue). t.value ≤ value_of later.values t.timeline)) (sym tells.shows)
             (all_shown later (λ (t : TimelineValue). t.value ≤ value_of later.values t.timeline) (rising_timelines scene)
             (All-weaker IsTimeline (λ n. value_of later.values n ≤ value_of later.values n) (λ n is. omega arith) (rising_timelines scene) (rise_within scene))));
       }
 
-  pub seen_too : (others : List (ℕ × ℕ)) (vsyncs : List VsyncReport) (number : ℕ) (seen : Seen) → HasSeen scene signals vsyncs number seen → AreAmong signals others → HasSeen scene others vsyncs number seen
+  pub seen_too : (others : List (ℕ × ℕ)) (vsyncs : List VsyncRecords) (number : ℕ) (seen : Seen) → HasSeen scene signals vsyncs number seen → AreAmong signals others → HasSeen scene others vsyncs number seen
   seen_too others vsyncs number seen has among = record {
     are = record {
       from_1 = has.are.from_1;
@@ -163,7 +163,7 @@ module _ (scene : SceneValue) (signals : List (ℕ × ℕ)) where
       expected = has.are.expected;
       commit = has.are.commit;
       timelines = has.are.timelines;
-      signalled = All-weaker (λ (v : VsyncReport). All (WasSignalled signals) v.timelines) (λ (v : VsyncReport). All (WasSignalled others) v.timelines)
+      signalled = All-weaker (λ (v : VsyncRecords). All (WasSignalled signals) v.timelines) (λ (v : VsyncRecords). All (WasSignalled others) v.timelines)
           (λ v all. All-weaker (WasSignalled signals) (WasSignalled others) (λ t was. still t was) v.timelines all) vsyncs has.are.signalled;
     };
     numbers = has.numbers;

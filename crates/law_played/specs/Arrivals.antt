@@ -6,6 +6,7 @@ use Rattle.sf_script_scene.specs.Scene.{SceneValue, has_actor}
 use Rattle.sf_actor.specs.Names.{FrameOf}
 use Rattle.sf_record.specs.declared.record.ArrivalEntry.{ArrivalEntry}
 
+-- the number of an arrival
 abbrev pub number_of : Arrival FrameOf → ℕ
 number_of arrived = arrived.number
 

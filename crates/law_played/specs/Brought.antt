@@ -4,7 +4,7 @@ use Rattle.sf_commit.specs.sf_txn.Buffers.{Buffer}
 use Rattle.sf_commit.specs.sf_txn.Transactions.{shown_by}
 use Rattle.sf_commit.specs.sf_token.Pending.{Arrival}
 use Rattle.sf_actor.specs.Names.{FrameOf}
-use Rattle.sf_record.specs.declared.record.Commit.{Commit}
+use Rattle.sf_record.specs.declared.record.CommitRecord.{CommitRecord}
 use Rattle.sf_record.specs.declared.record.CommittedBuffer.{CommittedBuffer}
 use Rattle.law_played.specs.Commits.{buffer_shown}
 
@@ -17,5 +17,5 @@ pub record IsBrought (arrivals : List (Arrival FrameOf)) (shown : CommittedBuffe
   pub is : shown ≡ buffer_shown (shown_by buffer)
 
 -- each buffer of these commits is one
-abbrev pub ShowBrought : List (Arrival FrameOf) → List Commit → Type 0
+abbrev pub ShowBrought : List (Arrival FrameOf) → List CommitRecord → Type 0
 ShowBrought arrivals commits = All (λ commit. All (IsBrought arrivals) commit.buffers) commits

@@ -8,7 +8,7 @@ use Rattle.sf_script_scene.specs.declared.step.ActorScript.{ActorScript}
 use Rattle.sf_script_scene.specs.declared.step.Step.{Step}
 use Rattle.sf_script_scene.specs.declared.step.Step.TheVariants as step
 use Rattle.sf_actor.specs.Scripts.{picture_at}
-use Rattle.sf_record.specs.declared.record.Commit.{Commit}
+use Rattle.sf_record.specs.declared.record.CommitRecord.{CommitRecord}
 use Rattle.sf_record.specs.declared.record.CommittedBuffer.{CommittedBuffer}
 use Rattle.sf_record.specs.declared.record.HistoryEntry.{HistoryEntry}
 use Rattle.sf_record.specs.declared.record.QueueHistory.{QueueHistory}
@@ -21,6 +21,7 @@ entries_on queue histories = flat_map (λ (history : QueueHistory). history.entr
 abbrev pub is_queueing : ℕ → HistoryEntry → Bool
 is_queueing frame entry = (entry.kind == 7) && ((entry.status == 0) && (entry.frame == frame))
 
+-- the call that queued a frame of a queue, as its history shows it
 abbrev pub queueing_of : List QueueHistory → ℕ → ℕ → Option HistoryEntry
 queueing_of histories queue frame = find (is_queueing frame) (entries_on queue histories)
 
@@ -29,6 +30,7 @@ abbrev pub step_in : Option ActorScript → ℕ → Option Step
 step_in None place = None
 step_in (Some script) place = slice_get script.steps (place - 1)
 
+-- the step of the script that made a call of a history
 abbrev pub step_of_entry : SceneValue → Option HistoryEntry → Option Step
 step_of_entry scene None = None
 step_of_entry scene (Some entry) = step_in (find (λ (script : ActorScript). script.number == entry.caller) scene.actors) entry.step
@@ -38,6 +40,7 @@ abbrev pub crop_in : Picture → Option (ℕ × ℕ × ℕ × ℕ) → ℕ × �
 crop_in picture None = (0, 0, picture.width, picture.height)
 crop_in picture (Some crop) = crop
 
+-- the crop that a committed buffer shows
 abbrev pub crop_shown : CommittedBuffer → ℕ × ℕ × ℕ × ℕ
 crop_shown buffer = (buffer.x, buffer.y, buffer.width, buffer.height)
 
@@ -46,9 +49,10 @@ abbrev pub HasOfStep : (ℕ → Picture) → CommittedBuffer → Option Step →
 HasOfStep pictures buffer (Some (step.Queue s p time crop points)) = (buffer.picture ≡ p) × (crop_shown buffer ≡ crop_in (pictures p) crop)
 HasOfStep pictures buffer other = ⊥
 
+-- a committed buffer has the picture and the crop of the step that queued its frame
 abbrev pub IsAsQueued : SceneValue → List QueueHistory → CommittedBuffer → Type 0
 IsAsQueued scene histories buffer = HasOfStep (picture_at scene.pictures) buffer (step_of_entry scene (queueing_of histories buffer.queue buffer.frame))
 
 -- Buffers. Each buffer of a commit has the picture and the crop of the step that queued its frame.
-abbrev pub ShowAsQueued : SceneValue → List QueueHistory → List Commit → Type 0
+abbrev pub ShowAsQueued : SceneValue → List QueueHistory → List CommitRecord → Type 0
 ShowAsQueued scene histories commits = All (λ commit. All (IsAsQueued scene histories) commit.buffers) commits

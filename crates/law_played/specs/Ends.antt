@@ -1,4 +1,4 @@
--- The end of a play, and the records of a whole play. They are determined by what was shown and by the world at its end.
+-- The end of a play, and the records of a whole play. They are determined by what was shown and by the state at its end.
 use Rattle.std.specs.Prelude.{◌≡◌, ℕ, ◌*◌, List, ◌∷◌, map}
 use Rattle.sf_commit.specs.sf_ready.declared.hold.Hold.{Hold}
 use Rattle.sf_commit.specs.Rounds.{held}
@@ -14,28 +14,28 @@ use Rattle.law_played.specs.Plays.{Comes, IsOver, IsPlay, Playing}
 use Rattle.law_played.specs.Progress.{held_shown}
 use Rattle.law_played.specs.Runs.{final_values, written_in}
 use Rattle.law_played.specs.Stuck.{stuck_of}
-use Rattle.law_played.specs.Worlds.{World, round_now}
+use Rattle.law_played.specs.RunStates.{RunState, round_now}
 
 -- what the last vsync held
-abbrev pub held_in : SceneValue → World → List (ℕ × Hold)
-held_in scene world = held (is_written (written_in scene world.run)) (final_values scene world.run) (world.vsyncs * scene.period) (round_now scene world)
+abbrev pub held_in : SceneValue → RunState → List (ℕ × Hold)
+held_in scene state = held (is_written (written_in scene state.run)) (final_values scene state.run) (state.vsyncs * scene.period) (round_now scene state)
 
--- what the records of a run show, whose play showed these events and came to this world
-abbrev pub shows_of : SceneValue → List Event → World → Shows
-shows_of scene events world = record {
+-- what the records of a run show, whose play showed these events and came to this state
+abbrev pub shows_of : SceneValue → List Event → RunState → Shows
+shows_of scene events state = record {
   events = events;
-  arrived = map entry_of world.arrivals;
-  histories = map (history_shown world.run) (rising_queues scene);
-  held = map held_shown (held_in scene world);
-  stuck = stuck_of scene world.run;
+  arrived = map entry_of state.arrivals;
+  histories = map (history_shown state.run) (rising_queues scene);
+  held = map held_shown (held_in scene state);
+  stuck = stuck_of scene state.run;
 }
 
 -- these are the records of the play of a scene
 pub record ArePlayRecords (scene : SceneValue) (records : List Record) : Type 0 where
   pub events : List Event
-  pub world : World
-  pub is_play : IsPlay scene events world
-  pub are : records ≡ records_of scene (shows_of scene events world)
+  pub state : RunState
+  pub is_play : IsPlay scene events state
+  pub are : records ≡ records_of scene (shows_of scene events state)
 
 -- the records of what a play showed so far
 abbrev pub records_so_far : SceneValue → List Event → List Record

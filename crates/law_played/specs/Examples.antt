@@ -22,11 +22,11 @@ use Rattle.sf_actor.specs.Names.{FrameOf}
 use Rattle.sf_actor.specs.Points.{reached_by}
 use Rattle.sf_actor.specs.Scripts.{fence_of, picture_at}
 use Rattle.sf_actor.specs.Traces.{MadeStep, SentStep, made_by, sends_of}
-use Rattle.sf_record.specs.declared.event.VsyncReport.{VsyncReport}
-use Rattle.sf_record.specs.declared.record.Commit.{Commit}
+use Rattle.sf_record.specs.declared.event.VsyncRecords.{VsyncRecords}
+use Rattle.sf_record.specs.declared.record.CommitRecord.{CommitRecord}
 use Rattle.sf_record.specs.declared.record.HistoryEntry.{HistoryEntry}
 use Rattle.sf_record.specs.declared.record.QueueHistory.{QueueHistory}
-use Rattle.sf_record.specs.declared.record.Reply.{Reply}
+use Rattle.sf_record.specs.declared.record.ReplyRecord.{ReplyRecord}
 use Rattle.law_played.specs.Commits.{commit_shown}
 use Rattle.law_played.specs.Histories.{Released}
 use Rattle.law_played.specs.Holds.{EndOf}
@@ -97,10 +97,10 @@ queue_run = record { trace = λ actor. queue_trace; calls = λ queue. queue_call
 abbrev pub pixel_queue : QueueDecl
 pixel_queue = record { number = 1; width = 1; height = 1 }
 
-abbrev pub reply_with : ℕ → List ℕ → Reply
+abbrev pub reply_with : ℕ → List ℕ → ReplyRecord
 reply_with place values = record { actor = 1; step = place; status = 0; values = values }
 
-abbrev pub queue_replies : List Reply
+abbrev pub queue_replies : List ReplyRecord
 queue_replies =
     reply_with 1 []
     ∷ reply_with 2 (0 ∷ 1 ∷ 1 ∷ [])
@@ -167,7 +167,7 @@ arrival_sent s = record { number = s.number; actor = record { 0 = 1 }; step = s.
 abbrev pub replacing_arrivals : List (Arrival FrameOf)
 replacing_arrivals = map arrival_sent (sends_of replacing_trace)
 
-abbrev pub frame_commit : ℕ → Commit
+abbrev pub frame_commit : ℕ → CommitRecord
 frame_commit n = record {
   token = 1;
   arrival = n;
@@ -176,10 +176,10 @@ frame_commit n = record {
   buffers = record { layer = 1; queue = 1; frame = n; picture = 1; x = 0; y = 0; width = 1; height = 1 } ∷ [];
 }
 
-abbrev pub vsync_of : ℕ → List Commit → VsyncReport
+abbrev pub vsync_of : ℕ → List CommitRecord → VsyncRecords
 vsync_of number commits = record { number = number; expected = 1000000; timelines = record { timeline = 1; value = 5 } ∷ []; commits = commits; shown = [] }
 
-abbrev pub replacing_vsyncs : List VsyncReport
+abbrev pub replacing_vsyncs : List VsyncRecords
 replacing_vsyncs = vsync_of 1 (frame_commit 1 ∷ frame_commit 2 ∷ []) ∷ vsync_of 2 (frame_commit 3 ∷ []) ∷ []
 
 abbrev pub pixel_scene : SceneValue
@@ -188,7 +188,7 @@ pixel_scene = bare_scene 1 1 1 1000000
 abbrev pub replacing_told : List VsyncAt
 replacing_told = told_of pixel_scene replacing_arrivals replacing_vsyncs
 
-abbrev pub commits_due : VsyncAt → List Commit
+abbrev pub commits_due : VsyncAt → List CommitRecord
 commits_due told = map commit_shown told.round.stage.commits
 
 -- of a release the vsync, the slot, the frame and the points that go back with it

@@ -20,20 +20,23 @@ use Rattle.sf_output_plan.specs.declared.plan.HitPlan.{HitPlan}
 use Rattle.sf_output_plan.specs.declared.plan.Plan.{Plan}
 use Rattle.sf_actor.specs.Scripts.{picture_at}
 use Rattle.sf_compose.specs.sf_tree.Trees.{TreeOf}
-use Rattle.sf_record.specs.declared.record.Commit.{Commit}
+use Rattle.sf_record.specs.declared.record.CommitRecord.{CommitRecord}
 use Rattle.law_played.specs.Runs.{rising}
 use Rattle.law_played.specs.Stages.{VsyncAt}
 
 -- the commit was not rejected
-abbrev pub is_done : Commit → Bool
+abbrev pub is_done : CommitRecord → Bool
 is_done commit = commit.result == 0
 
+-- the plan of a further display
 abbrev pub display_plan : DisplayDecl → DisplayPlan
 display_plan d = record { number = d.number; width = d.width; height = d.height; stack = d.stack }
 
+-- the plan of a capture
 abbrev pub capture_plan : CaptureDecl → CapturePlan
 capture_plan c = record { number = c.number; layer = c.layer; width = c.width; height = c.height }
 
+-- the plan of a hit test
 abbrev pub hit_plan : HitDecl → HitPlan
 hit_plan h = record { number = h.number; x = h.x; y = h.y }
 
@@ -66,10 +69,11 @@ unfoldable pub shown_due : (ℕ → Picture) → Plan → List Layer → List (O
 shown_due pictures plan layers = map (map_output (frame_of pictures)) (outputs_due plan layers)
 
 -- what is due after these commits, where they leave this tree
-abbrev pub shown_after : SceneValue → List Commit → TreeOf → List (Output (List ℕ))
+abbrev pub shown_after : SceneValue → List CommitRecord → TreeOf → List (Output (List ℕ))
 shown_after scene commits tree =
     if list_any is_done commits then shown_due (picture_at scene.pictures) (plan_of scene) tree.layers else []
 
+-- a vsync shows what is due of the tree after its commits
 abbrev pub ShowsImage : SceneValue → VsyncAt → Type 0
 ShowsImage scene told = told.vsync.shown ≡ shown_after scene told.vsync.commits told.round.stage.tree
 
@@ -82,5 +86,5 @@ abbrev pub tree_frame : SceneValue → List Layer → List ℕ
 tree_frame scene layers = frame_bytes (λ x y. image (picture_at scene.pictures) layers (pos x) (pos y)) scene.width scene.height
 
 -- what a vsync shows of a scene that asks for one output: the frame of its tree, where a commit was not rejected
-abbrev pub frame_after : SceneValue → List Commit → TreeOf → List (Output (List ℕ))
+abbrev pub frame_after : SceneValue → List CommitRecord → TreeOf → List (Output (List ℕ))
 frame_after scene commits tree = if list_any is_done commits then out.Frame (tree_frame scene tree.layers) ∷ [] else []

@@ -31,9 +31,11 @@ entry_shown entry = record {
 abbrev pub history_shown : Run → QueueDecl → QueueHistory
 history_shown run queue = record { queue = queue.number; entries = map entry_shown (reverse (run.calls queue.number)) }
 
+-- the number of a declared queue
 abbrev pub queue_number : QueueDecl → ℕ
 queue_number queue = queue.number
 
+-- the declared queues by rising number
 unfoldable pub rising_queues : SceneValue → List QueueDecl
 rising_queues scene = rising queue_number 16 scene.queues
 
@@ -43,6 +45,7 @@ pub record Released : Type 0 where
   pub vsync : ℕ
   pub on : OnLayer FrameOf
 
+-- what a vsync gives back
 abbrev pub released_at : VsyncAt → List Released
 released_at told = map (λ on. record { vsync = told.vsync.number; on = on }) told.round.stage.gone
 
@@ -50,9 +53,11 @@ released_at told = map (λ on. record { vsync = told.vsync.number; on = on }) to
 unfoldable pub released_in : List VsyncAt → List Released
 released_in told = flat_map released_at told
 
+-- what is given back to one queue
 abbrev pub released_on : ℕ → List Released → List Released
 released_on queue released = filter (λ one. one.on.lease.0.0 == queue) released
 
+-- the call that gives a frame back
 abbrev pub release_by : Released → PlainCall
 release_by released = call.Release released.on.lease.1 released.on.fence
 

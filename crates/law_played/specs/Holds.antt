@@ -11,15 +11,16 @@ use Rattle.sf_commit.specs.sf_ready.declared.hold.Hold.TheVariants as hold
 use Rattle.sf_commit.specs.sf_token.Pending.{Arrival, head_of}
 use Rattle.sf_actor.specs.Names.{FrameOf}
 use Rattle.sf_actor.specs.Written.{FrameNumber}
-use Rattle.sf_record.specs.declared.record.Commit.{Commit}
+use Rattle.sf_record.specs.declared.record.CommitRecord.{CommitRecord}
 use Rattle.sf_record.specs.declared.record.HeldEntry.{HeldEntry}
 use Rattle.law_played.specs.Commits.{is_written}
 
 -- the arrivals without a commit
-abbrev pub is_uncommitted : List Commit → Arrival FrameOf → Bool
+abbrev pub is_uncommitted : List CommitRecord → Arrival FrameOf → Bool
 is_uncommitted commits arrived = not (list_any (λ commit. commit.arrival == arrived.number) commits)
 
-abbrev pub uncommitted : List (Arrival FrameOf) → List Commit → List (Arrival FrameOf)
+-- those without a commit among arrivals
+abbrev pub uncommitted : List (Arrival FrameOf) → List CommitRecord → List (Arrival FrameOf)
 uncommitted arrivals commits = filter (is_uncommitted commits) arrivals
 
 -- what is known at the end of a run: the frames that were written, those that were ever committed, and the final values
@@ -39,6 +40,7 @@ hold_at_end end txn =
 abbrev pub is_head : List (Arrival FrameOf) → Arrival FrameOf → Bool
 is_head left arrived = option_map_or (λ (first : Arrival FrameOf). first.number == arrived.number) (head_of arrived.txn.token left) false
 
+-- why an arrival without a commit waits: the first of its token by what holds it, any other as being behind
 abbrev pub why_held : EndOf → List (Arrival FrameOf) → Arrival FrameOf → Option Hold
 why_held end left arrived = if is_head left arrived then hold_at_end end arrived.txn else Some hold.Behind
 

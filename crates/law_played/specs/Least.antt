@@ -8,8 +8,8 @@ use Rattle.sf_script_scene.specs.declared.step.Step.TheVariants as step
 use Rattle.sf_record.specs.sf_output.declared.output.Output.TheVariants as out
 use Rattle.sf_record.specs.declared.event.Event.{Event}
 use Rattle.sf_record.specs.declared.event.Event.TheVariants as event
-use Rattle.sf_record.specs.declared.event.VsyncReport.{VsyncReport}
-use Rattle.sf_record.specs.declared.record.Commit.{Commit}
+use Rattle.sf_record.specs.declared.event.VsyncRecords.{VsyncRecords}
+use Rattle.sf_record.specs.declared.record.CommitRecord.{CommitRecord}
 use Rattle.sf_record.specs.declared.record.Record.{Record}
 use Rattle.law_played.specs.Played.{Shows, records_of}
 
@@ -29,11 +29,11 @@ least_script = record { number = 1; steps = least_steps }
 abbrev pub least_scene : SceneValue
 least_scene = record (bare_scene 1 2 1 16666667) { actors = least_script ∷ [] }
 
-abbrev pub least_commit : Commit
+abbrev pub least_commit : CommitRecord
 least_commit = record { token = 1; arrival = 1; result = 0; operation = 0; buffers = [] }
 
 -- the first vsync commits it and shows two red pixels
-abbrev pub least_vsync : VsyncReport
+abbrev pub least_vsync : VsyncRecords
 least_vsync = record {
   number = 1;
   expected = 16666667;

@@ -14,7 +14,6 @@ pub mod Least
 pub mod Played
 pub mod Plays
 pub mod Progress
-pub mod Releasing
 pub mod Replies
 pub mod Runs
 pub mod Seeing
@@ -25,7 +24,8 @@ pub mod Stuck
 pub mod Telling
 pub mod Turns
 pub mod Vsyncs
-pub mod Worlds
+pub mod RunStates
+pub mod inner
 pub use Rattle.sf_actor.specs as sf_actor
 pub use Rattle.sf_commit.specs.sf_calls
 pub use Rattle.sf_commit.specs as sf_commit

@@ -39,6 +39,7 @@ pub record Shows : Type 0 where
   pub held : List HeldEntry
   pub stuck : List StuckEntry
 
+-- the record that a run begins with
 abbrev pub opening : SceneValue → Record
 opening scene = rec.Scen (record { version = scene.version; width = scene.width; height = scene.height; period = scene.period })
 
@@ -50,6 +51,7 @@ records_of scene shows = (opening scene ∷ events_records shows.events) ++ clos
 abbrev pub vsyncs_told : SceneValue → List (Arrival FrameOf) → List Event → List VsyncAt
 vsyncs_told scene arrivals events = told_of scene arrivals (vsyncs_in events)
 
+-- what is known at the end: what was written, what was committed, and the final values
 abbrev pub end_of : SceneValue → Run → List VsyncAt → EndOf
 end_of scene run told = record { written = written_in scene run; frames = (round_at_end (bare_round scene) told).frames; values = final_values scene run }
 
@@ -81,6 +83,7 @@ pub record PlayedWhere (tells : Bool) (scene : SceneValue) (records : List Recor
   pub arrivals : List (Arrival FrameOf)
   pub fits : FitsWhere tells scene shows run arrivals
 
+-- what a run's records mean, where each sender is told its place
 abbrev pub Played : SceneValue → List Record → Type 0
 Played = PlayedWhere true
 

@@ -1,4 +1,4 @@
--- A play on one thread: the picks of the order, then rounds in which each actor and then a vsync has a turn, up to the first
+-- A play on one thread: the picks of the order, then rounds in which each actor and then a vsync makes a transition, up to the first
 -- round in which no step is done, nothing is committed and nothing waits for a time.
 use Rattle.std.specs.Prelude.{◌≡◌, ℕ, ◌*◌, ◌==◌, Bool, true, false, not, ◌&&◌, zero, suc}
 use Rattle.std.specs.Prelude.{List, [], ◌∷◌, ◌++◌, length, map, replicate, Option, Some, None}
@@ -12,58 +12,62 @@ use Rattle.sf_record.specs.declared.event.Event.{Event}
 use Rattle.law_played.specs.Commits.{is_written}
 use Rattle.law_played.specs.Progress.{is_time}
 use Rattle.law_played.specs.Runs.{actor_number, final_values, rising_actors, written_in}
-use Rattle.law_played.specs.Worlds.{Turn, VsyncTurn, World, actor_turn, first_world, round_now}
+use Rattle.law_played.specs.RunStates.{Transition, VsyncTransition, RunState, actor_transition, first_state, round_now}
 
--- the turn of a pick: a vsync for 0, else the actor of this number
-abbrev pub TakesTurn : SceneValue → ℕ → World → Turn → Type 0
-TakesTurn scene zero world turn = VsyncTurn scene world turn
-TakesTurn scene (suc n) world turn = turn ≡ actor_turn scene (suc n) world
+-- the transition of a pick: a vsync for 0, else the actor of this number
+abbrev pub TakesTransition : SceneValue → ℕ → RunState → Transition → Type 0
+TakesTransition scene zero state transition = VsyncTransition scene state transition
+TakesTransition scene (suc n) state transition = transition ≡ actor_transition scene (suc n) state
 
--- how far a play has come: what was shown, the world, the picks that are left of the order or of a round, and the world before
+-- how far a play has come: what was shown, the state, the picks that are left of the order or of a round, and the state before
 -- the round, if one has begun
 pub record Playing : Type 0 where
   pub events : List Event
-  pub world : World
+  pub state : RunState
   pub left : List ℕ
-  pub before : Option World
+  pub before : Option RunState
 
+-- a pick of the order, as often as it says
 abbrev pub picks_of : Pick → List ℕ
 picks_of pick = replicate pick.times pick.actor
 
+-- a play before its first transition: nothing was shown, and the order is to be done
 abbrev pub first_playing : SceneValue → Playing
-first_playing scene = record { events = []; world = first_world; left = flat_map picks_of scene.order; before = None }
+first_playing scene = record { events = []; state = first_state; left = flat_map picks_of scene.order; before = None }
 
 -- a round: each actor by rising number, and then a vsync
 abbrev pub round_picks : SceneValue → List ℕ
 round_picks scene = map actor_number (rising_actors scene) ++ 0 ∷ []
 
 -- something is held until its time after the last vsync
-abbrev pub waits_for_time : SceneValue → World → Bool
-waits_for_time scene world =
+abbrev pub waits_for_time : SceneValue → RunState → Bool
+waits_for_time scene state =
     list_any (λ (h : ℕ × Hold). is_time h.1)
-    (held (is_written (written_in scene world.run)) (final_values scene world.run) (world.vsyncs * scene.period) (round_now scene world))
+    (held (is_written (written_in scene state.run)) (final_values scene state.run) (state.vsyncs * scene.period) (round_now scene state))
 
 -- no step was done since, nothing was committed, and nothing waits for a time
-abbrev pub is_quiet : SceneValue → World → World → Bool
+abbrev pub is_quiet : SceneValue → RunState → RunState → Bool
 is_quiet scene before now =
     list_all (λ (script : ActorScript). length (now.run.trace script.number) == length (before.run.trace script.number)) scene.actors
     && ((length now.reports == length before.reports) && not (waits_for_time scene now))
 
+-- a play that begins a round in this state
 abbrev pub with_round : SceneValue → Playing → Playing
-with_round scene playing = record playing { left = round_picks scene; before = Some playing.world }
+with_round scene playing = record playing { left = round_picks scene; before = Some playing.state }
 
 -- a pick more
 pub record TakesPick (scene : SceneValue) (playing : Playing) (pick : ℕ) (left : List ℕ) (next : Playing) : Type 0 where
-  pub turn : Turn
-  pub takes : TakesTurn scene pick playing.world turn
-  pub is : next ≡ record playing { events = playing.events ++ turn.events; world = turn.world; left = left }
+  pub transition : Transition
+  pub takes : TakesTransition scene pick playing.state transition
+  pub is : next ≡ record playing { events = playing.events ++ transition.events; state = transition.state; left = left }
 
 -- a play goes on by the next pick, by the first round behind the order, or by one more behind a round that was not quiet
-abbrev pub GoesOnWith : SceneValue → Playing → List ℕ → Option World → Playing → Type 0
+abbrev pub GoesOnWith : SceneValue → Playing → List ℕ → Option RunState → Playing → Type 0
 GoesOnWith scene playing (pick ∷ left) before next = TakesPick scene playing pick left next
 GoesOnWith scene playing [] None next = next ≡ with_round scene playing
-GoesOnWith scene playing [] (Some before) next = (is_quiet scene before playing.world ≡ false) × (next ≡ with_round scene playing)
+GoesOnWith scene playing [] (Some before) next = (is_quiet scene before playing.state ≡ false) × (next ≡ with_round scene playing)
 
+-- a play goes on by its next transition
 abbrev pub GoesOnTo : SceneValue → Playing → Playing → Type 0
 GoesOnTo scene playing next = GoesOnWith scene playing playing.left playing.before next
 
@@ -79,14 +83,14 @@ IsBegun scene playing = Comes scene (first_playing scene) playing
 -- it is over behind a round that was quiet
 pub record IsOver (scene : SceneValue) (playing : Playing) : Type 0 where
   pub none_left : playing.left ≡ []
-  pub before : World
+  pub before : RunState
   pub round : playing.before ≡ Some before
-  pub quiet : is_quiet scene before playing.world ≡ true
+  pub quiet : is_quiet scene before playing.state ≡ true
 
--- The play of a scene: what it shows, and the world at its end.
-pub record IsPlay (scene : SceneValue) (events : List Event) (world : World) : Type 0 where
+-- The play of a scene: what it shows, and the state at its end.
+pub record IsPlay (scene : SceneValue) (events : List Event) (state : RunState) : Type 0 where
   pub playing : Playing
   pub begun : IsBegun scene playing
   pub over : IsOver scene playing
   pub shows : playing.events ≡ events
-  pub ends : playing.world ≡ world
+  pub ends : playing.state ≡ state

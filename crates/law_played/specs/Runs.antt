@@ -13,7 +13,7 @@ use Rattle.sf_actor.specs.Makers.{Run}
 use Rattle.sf_actor.specs.Names.{FrameOf}
 use Rattle.sf_actor.specs.Points.{reached_by}
 use Rattle.sf_actor.specs.Scripts.{picture_at, with_points}
-use Rattle.sf_actor.specs.Tales.{IsTraceOf, OwnOf}
+use Rattle.sf_actor.specs.ScriptTraces.{IsTraceOf, OwnOf}
 use Rattle.sf_actor.specs.Traces.{DoneAt, places_of}
 use Rattle.sf_actor.specs.Values.{replies_of}
 use Rattle.sf_actor.specs.Written as written
@@ -22,9 +22,11 @@ use Rattle.sf_actor.specs.Written as written
 abbrev pub rising : {X : Type 0} → (X → ℕ) → ℕ → List X → List X
 rising number greatest items = flat_map (λ n. filter (λ item. number item == n) items) (range_with_len 1 greatest)
 
+-- the number of an actor
 abbrev pub actor_number : ActorScript → ℕ
 actor_number script = script.number
 
+-- the actors by rising number
 abbrev pub rising_actors : SceneValue → List ActorScript
 rising_actors scene = rising actor_number (most_actors scene.version) scene.actors
 
@@ -33,6 +35,7 @@ pub record StepBy : Type 0 where
   pub actor : ℕ
   pub at : DoneAt
 
+-- the done steps of one actor, with their places
 abbrev pub steps_by : Run → ActorScript → List StepBy
 steps_by run script = map (λ at. record { actor = script.number; at = at }) (places_of (run.trace script.number))
 
@@ -56,6 +59,7 @@ final_values scene run = reached_by (with_points no_points (signals_in scene run
 abbrev pub calls_of : ℕ → List Entry → List Entry
 calls_of caller calls = filter (λ entry. entry.caller.0 == caller) (reverse calls)
 
+-- an arrival is of this actor
 abbrev pub is_sent_by : ℕ → Arrival FrameOf → Bool
 is_sent_by actor arrived = arrived.actor.0 == actor
 
@@ -76,5 +80,6 @@ IsTraced tells scene run arrivals script =
     let trace = run.trace script.number in
     IsTraceOf (picture_at scene.pictures) script (own_in tells run arrivals (final_values scene run) script.number) trace (replies_of script.number trace)
 
+-- each actor's trace is one of its script
 abbrev pub AreTraced : Bool → SceneValue → Run → List (Arrival FrameOf) → Type 0
 AreTraced tells scene run arrivals = All (IsTraced tells scene run arrivals) scene.actors

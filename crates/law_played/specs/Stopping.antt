@@ -7,7 +7,7 @@ use Rattle.sf_actor.specs.sf_surface.Drawing.{IsShort}
 use Rattle.sf_actor.specs.declared.holding.Holding.{Holding}
 use Rattle.sf_actor.specs.Desks.{DeskView}
 use Rattle.sf_actor.specs.Makers.{Run}
-use Rattle.sf_actor.specs.Parts.{token_of, turn_held}
+use Rattle.sf_actor.specs.Holdings.{token_of, turn_held}
 use Rattle.sf_actor.specs.Points.{undrawn_fence}
 use Rattle.sf_actor.specs.Tries.{ActorOf, held_in}
 use Rattle.sf_record.specs.declared.record.StuckEntry.{StuckEntry}

@@ -28,6 +28,7 @@ stuck_if run script =
     let done = length (run.trace script.number) in
     if nat_lt done (length script.steps) then record { actor = script.number; step = done + 1 } ∷ [] else []
 
+-- the actors that have not done all their steps, by rising number
 abbrev pub stuck_of : SceneValue → Run → List StuckEntry
 stuck_of scene run = flat_map (stuck_if run) (rising_actors scene)
 
@@ -39,9 +40,11 @@ holdings_at_end run script = (past_after (run.trace script.number)).holdings
 abbrev pub owings_of : Run → ActorScript → List Token
 owings_of run script = filter (λ token. is_owing (Some token)) (flat_map option_to_list (holdings_at_end run script).names)
 
+-- the drawings that are owed in the end
 abbrev pub owings_left : SceneValue → Run → List Token
 owings_left scene run = flat_map (owings_of run) scene.actors
 
+-- a fence has a point that is not signalled in the end
 abbrev pub has_open_point : Seen → Fence → Bool
 has_open_point final fence = is_some (first_open_of fence final)
 
@@ -58,6 +61,7 @@ draw_waits scene run token fence = false
 abbrev pub is_blocked_on : Run → ActorScript → Asked → QueueDecl → Bool
 is_blocked_on run script asked queue = is_blocked (reply_after queue.width queue.height (run.calls queue.number) (record { 0 = script.number }) asked.1)
 
+-- a call waits for a slot of its queue, after all calls on that
 abbrev pub call_blocks : SceneValue → Run → ActorScript → Option Asked → Bool
 call_blocks scene run script None = false
 call_blocks scene run script (Some asked) =
@@ -79,6 +83,7 @@ IsNotReady scene run script (Some s) =
     let holdings = holdings_at_end run script in
     (refusal_of (picture_at scene.pictures) holdings s ≡ None) × (step_waits scene run script holdings s ≡ true)
 
+-- the first step of an actor that is not done
 abbrev pub next_step : Run → ActorScript → Option Step
 next_step run script = slice_get script.steps (length (run.trace script.number))
 

@@ -21,9 +21,11 @@ use Rattle.law_played.specs.Runs.{StepBy, steps_in}
 abbrev pub calls_in : SceneValue → Run → ℕ
 calls_in scene run = length (flat_map (λ (queue : QueueDecl). run.calls queue.number) scene.queues)
 
+-- who made a buffer
 abbrev pub maker_at : SceneValue → Run → BufferOf → Maker
 maker_at scene run buffer = followed (calls_in scene run) run buffer
 
+-- who made a token's buffer
 abbrev pub maker_of : SceneValue → Run → Token → Maker
 maker_of scene run token = maker_at scene run (buffer_in token)
 
@@ -32,6 +34,7 @@ abbrev pub owed_if : Option Token → List Token
 owed_if (Some (Owing queue owed)) = Owing queue owed ∷ []
 owed_if other = []
 
+-- the drawing that a done step left owed, if it queued a frame undrawn
 abbrev pub owed_by_step : DoneAt → Step → List Token
 owed_by_step at (step.Queue name picture time crop points) = owed_if (owed_by picture at.done.answered (name_in at.past.holdings name))
 owed_by_step at other = []
@@ -46,9 +49,11 @@ pub record Paid : Type 0 where
   pub step : ℕ
   pub frame : written.FrameNumber
 
+-- the owed drawings that a done step did
 abbrev pub paid_by : StepBy → List Paid
 paid_by s = map (λ frame. record { actor = s.actor; step = s.at.place; frame = frame }) (written.paid_at s.at)
 
+-- the owed drawings that were done
 abbrev pub payments_in : SceneValue → Run → List Paid
 payments_in scene run = flat_map paid_by (steps_in scene run)
 
@@ -58,6 +63,7 @@ lends slot (reply.Dequeued of held requested reallocated fence) = of.0 == slot
 lends slot (reply.Attached of held) = of.0 == slot
 lends slot other = false
 
+-- a frame was queued
 abbrev pub is_queued : PlainReply → Bool
 is_queued (reply.Queued frame) = true
 is_queued other = false
@@ -77,6 +83,7 @@ turn_frame run s (Owing queue owed) = owed.frame
 turn_frame run s (Lent queue token drawn) = frames_at_lending s.actor s.at.place token.slot.0 (run.calls queue.0) + 1
 turn_frame run s other = 0
 
+-- the number of the frame whose drawing is owed
 abbrev pub owed_frame : Token → ℕ
 owed_frame (Owing queue owed) = owed.frame
 owed_frame other = 0
@@ -88,6 +95,7 @@ is_earlier scene run owed s token =
     let theirs = maker_of scene run token in
     same_maker mine theirs && is_before mine.age (owed_frame owed) theirs.age (turn_frame run s token)
 
+-- the drawing is owed to this frame
 abbrev pub is_owed_to : Token → written.FrameNumber → Bool
 is_owed_to (Owing queue owed) frame = (frame.0.0 == queue.0) && (frame.1 == owed.frame)
 is_owed_to other frame = false
@@ -96,6 +104,7 @@ is_owed_to other frame = false
 abbrev pub pays_before : Token → StepBy → Paid → Bool
 pays_before owed s paid = is_owed_to owed paid.frame && not ((paid.actor == s.actor) && nat_le s.at.place paid.step)
 
+-- what a name holds, if there is a name
 abbrev pub token_in : Holdings → Option ℕ → Option Token
 token_in holdings None = None
 token_in holdings (Some name) = name_in holdings name
@@ -104,9 +113,11 @@ token_in holdings (Some name) = name_in holdings name
 abbrev pub entered_by : DoneAt → List Token
 entered_by at = option_to_list (token_in at.past.holdings (entered_name at.past.holdings at.done.step at.done.answered))
 
+-- a draw of this token comes after an owed drawing: that one is not earlier, or was done before
 abbrev pub ComesAfter : SceneValue → Run → StepBy → Token → Token → Type 0
 ComesAfter scene run s token owed = (not (is_earlier scene run owed s token) || list_any (pays_before owed s) (payments_in scene run)) ≡ true
 
+-- what a step draws comes after each earlier drawing that was owed
 abbrev pub EntersAfter : SceneValue → Run → StepBy → Type 0
 EntersAfter scene run s = All (λ token. All (ComesAfter scene run s token) (owed_in scene run)) (entered_by s.at)
 

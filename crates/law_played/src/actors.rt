@@ -1,3 +1,4 @@
+//! Laws about the actors of a run and their traces, called for their clauses alone.
 ghost use Rattle.std.specs.Prelude.{◌≡◌, ℕ, Bool, List, Contains, map};
 ghost use Rattle.sf_commit.specs.sf_calls.Histories.{IsLegal};
 ghost use Rattle.sf_actor.specs.sf_surface.Histories.{Answers, Made};
@@ -8,7 +9,7 @@ ghost use Rattle.sf_script_scene.specs.Scene.{SceneValue};
 ghost use Rattle.sf_actor.specs.Desks.{DeskHome, DeskView};
 ghost use Rattle.sf_actor.specs.Scripts.{picture_at};
 ghost use Rattle.sf_actor.specs.Tries.{ActorOf};
-ghost use Rattle.sf_record.specs.declared.record.Commit.{Commit as CommitRecord};
+ghost use Rattle.sf_record.specs.declared.record.CommitRecord.{CommitRecord};
 ghost use Rattle.sf_record.specs.declared.record.QueueHistory.{QueueHistory};
 ghost use Rattle.law_played.specs.Acquired.{TakesFrame, WasQueued};
 ghost use Rattle.law_played.specs.Actors.{AreActors, AreArrivals, AreCalls, KnowsSignals, arrivals_of, run_of};
@@ -17,7 +18,7 @@ ghost use Rattle.law_played.specs.Buffers.{ShowAsQueued};
 ghost use Rattle.law_played.specs.Histories.{history_shown, rising_queues};
 ghost use Rattle.law_played.specs.Runs.{AreTraced};
 
-use sf_actor::sf_turns::TableName;
+use sf_actor::TableName;
 
 /// Over a desk that knows all that happened, the actors of a scene tell a run that is traced: each
 /// actor's trace is one of its script, and its calls and arrivals are those of its steps.

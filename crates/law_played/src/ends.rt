@@ -1,3 +1,4 @@
+//! Laws about the end of a run: who is stuck there. They are called for their clauses alone.
 ghost use Rattle.std.specs.Prelude.{◌≡◌, ℕ, List, All, Contains, true};
 ghost use Rattle.sf_script_scene.specs.Limits.{IsWithinLimits};
 ghost use Rattle.sf_script_scene.specs.Scene.{SceneValue};
@@ -11,7 +12,7 @@ ghost use Rattle.law_played.specs.Runs.{signals_in};
 ghost use Rattle.law_played.specs.Stopping.{TellsOlder, stuck_among};
 ghost use Rattle.law_played.specs.Stuck.{AreStuck, IsNotReady, next_step};
 
-use sf_actor::sf_turns::TableName;
+use sf_actor::TableName;
 
 /// An actor whose step was left over an exact desk is not ready at it, in the run that is told then:
 /// no own test refuses the step, and a point is open, an older draw is owed, or no slot is free.

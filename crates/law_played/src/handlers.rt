@@ -1,3 +1,5 @@
+//! Laws about vsyncs: what a handler of `sf_commit` does is what the records of a played run may
+//! say. They are called for their clauses alone.
 ghost use Rattle.std.specs.List.{All, AllZip, list_any, range_with_len};
 ghost use Rattle.std.specs.Prelude.{◌≡◌, ℕ, ◌+◌, ◌<◌, ◌≤◌, ◌==◌, ◌++◌, List, [], ◌∷◌, Option, length, map, true, false};
 ghost use Rattle.sf_base.specs.Fences.{no_points, value_of};
@@ -7,7 +9,7 @@ ghost use Rattle.sf_script_scene.specs.sf_picture.declared.picture.Picture.{Pict
 ghost use Rattle.sf_commit.specs.sf_ready.declared.hold.Hold.{Hold as HoldValue};
 ghost use Rattle.sf_actor.specs.sf_surface.Reading.{plain_lease};
 ghost use Rattle.sf_actor.specs.sf_surface.Tokens.{ReadLeaseOf};
-ghost use Rattle.sf_commit.specs.sf_token.Looking.{AllLeases};
+ghost use Rattle.sf_commit.specs.sf_token.Loads.{AllLeases};
 ghost use Rattle.sf_commit.specs.sf_token.Pending.{Arrival, IsRisingFrom};
 ghost use Rattle.sf_compose.specs.sf_tree.Trees.{TreeOf};
 ghost use Rattle.sf_commit.specs.Handlers.{Decides, HandlerOf, last_of, new_handler};
@@ -20,7 +22,7 @@ ghost use Rattle.sf_actor.specs.Names.{FrameOf};
 ghost use Rattle.sf_actor.specs.Points.{reached_by};
 ghost use Rattle.sf_actor.specs.Scripts.{with_points};
 ghost use Rattle.sf_actor.specs.Written.{FrameNumber};
-ghost use Rattle.sf_record.specs.declared.event.VsyncReport.{VsyncReport as ReportValue};
+ghost use Rattle.sf_record.specs.declared.event.VsyncRecords.{VsyncRecords};
 ghost use Rattle.law_played.specs.Commits.{CommitInOrder, is_written, seen_by};
 ghost use Rattle.law_played.specs.Frames.{ShowImages};
 ghost use Rattle.law_played.specs.Framing.{framed_arrival, framed_on};
@@ -34,7 +36,7 @@ ghost use Rattle.law_played.specs.Stages.{VsyncAt, bare_round, round_at_end, tol
 ghost use Rattle.sf_script_scene.specs.Limits.{most_layers};
 ghost use Rattle.law_played.specs.Vsyncs.{commits_in, rising_timelines};
 
-use sf_commit::sf_txn::Lease;
+use sf_commit::Lease;
 
 /// A new handler has played nothing of a scene.
 pub fn a_new_handler_has_played_nothing<L: Lease>()
@@ -46,11 +48,11 @@ pub fn a_new_handler_has_played_nothing<L: Lease>()
 /// ready, and say their results, where what its looks showed to be written is written.
 pub fn a_vsync_is_told<L: Lease>()
     ensures { (frame : L → FrameOf) → ((a b : L) → L.plain a ≡ L.plain b → frame a ≡ frame b)
-        → (scene : SceneValue) (written : List FrameNumber) (arrivals : List (Arrival FrameOf)) (vsyncs : List ReportValue)
+        → (scene : SceneValue) (written : List FrameNumber) (arrivals : List (Arrival FrameOf)) (vsyncs : List VsyncRecords)
         (old new : HandlerOf L) (eye later : L.Eye) (arrived : List (Arrival L)) (seen : SeenValue) (expected : ℕ) (told : VsyncOf L)
         → HasPlayed frame scene written arrivals vsyncs old → (d : Decides L.Lease old eye arrived seen expected told new later)
         → IsRisingFrom old.last arrived (last_of old.last arrived)
-        → (report : ReportValue) → SaysVsync report told seen expected → WroteWhatShows frame L.shown written d.looked
+        → (report : VsyncRecords) → SaysVsync report told seen expected → WroteWhatShows frame L.shown written d.looked
         → HasPlayed frame scene written (arrivals ++ map (framed_arrival frame) arrived) (vsyncs ++ report ∷ []) new }
 {}
 
@@ -58,11 +60,11 @@ pub fn a_vsync_is_told<L: Lease>()
 /// go with it.
 pub fn a_vsync_adds_its_round<L: Lease>()
     ensures { (frame : L → FrameOf) → ((a b : L) → L.plain a ≡ L.plain b → frame a ≡ frame b)
-        → (scene : SceneValue) (written : List FrameNumber) (arrivals : List (Arrival FrameOf)) (vsyncs : List ReportValue)
+        → (scene : SceneValue) (written : List FrameNumber) (arrivals : List (Arrival FrameOf)) (vsyncs : List VsyncRecords)
         (old new : HandlerOf L) (eye later : L.Eye) (arrived : List (Arrival L)) (seen : SeenValue) (expected : ℕ) (told : VsyncOf L)
         → HasPlayed frame scene written arrivals vsyncs old → (d : Decides L.Lease old eye arrived seen expected told new later)
         → IsRisingFrom old.last arrived (last_of old.last arrived)
-        → (report : ReportValue) → SaysVsync report told seen expected
+        → (report : VsyncRecords) → SaysVsync report told seen expected
         → GoesOnBy (told_of scene arrivals vsyncs) (told_of scene (arrivals ++ map (framed_arrival frame) arrived) (vsyncs ++ report ∷ [])) report
         new.tree (map (framed_on frame) d.end.stage.gone) }
 {}
@@ -71,7 +73,7 @@ pub fn a_vsync_adds_its_round<L: Lease>()
 /// played so far still. It releases nothing.
 pub fn a_silent_vsync_is_told<L: Lease>()
     ensures { (frame : L → FrameOf) → ((a b : L) → L.plain a ≡ L.plain b → frame a ≡ frame b)
-        → (scene : SceneValue) (written : List FrameNumber) (arrivals : List (Arrival FrameOf)) (vsyncs : List ReportValue)
+        → (scene : SceneValue) (written : List FrameNumber) (arrivals : List (Arrival FrameOf)) (vsyncs : List VsyncRecords)
         (old new : HandlerOf L) (eye later : L.Eye) (arrived : List (Arrival L)) (seen : SeenValue) (expected : ℕ) (told : VsyncOf L)
         → HasPlayed frame scene written arrivals vsyncs old → Decides L.Lease old eye arrived seen expected told new later
         → IsRisingFrom old.last arrived (last_of old.last arrived) → told.commits ≡ []
@@ -84,7 +86,7 @@ pub fn a_silent_vsync_is_told<L: Lease>()
 /// then what it tells as held is what is held at the end.
 pub fn the_end_is_held<L: Lease>()
     ensures { (frame : L → FrameOf) → ((a b : L) → L.plain a ≡ L.plain b → frame a ≡ frame b)
-        → (scene : SceneValue) (written : List FrameNumber) (arrivals : List (Arrival FrameOf)) (vsyncs : List ReportValue)
+        → (scene : SceneValue) (written : List FrameNumber) (arrivals : List (Arrival FrameOf)) (vsyncs : List VsyncRecords)
         (old new : HandlerOf L) (eye later : L.Eye) (arrived : List (Arrival L)) (seen : SeenValue) (expected : ℕ) (told : VsyncOf L)
         → HasPlayed frame scene written arrivals vsyncs old → (d : Decides L.Lease old eye arrived seen expected told new later)
         → IsRisingFrom old.last arrived (last_of old.last arrived) → told.commits ≡ []
@@ -96,31 +98,31 @@ pub fn the_end_is_held<L: Lease>()
 
 /// Of a handler that has played so far the commits are in order, and each is ready at its place.
 pub fn what_was_played_is_in_order<L: Lease>()
-    ensures { (frame : L → FrameOf) (scene : SceneValue) (written : List FrameNumber) (arrivals : List (Arrival FrameOf)) (vsyncs : List ReportValue)
+    ensures { (frame : L → FrameOf) (scene : SceneValue) (written : List FrameNumber) (arrivals : List (Arrival FrameOf)) (vsyncs : List VsyncRecords)
         (handler : HandlerOf L) → HasPlayed frame scene written arrivals vsyncs handler
         → CommitInOrder arrivals written (commits_in vsyncs) (told_of scene arrivals vsyncs) }
 {}
 
 /// What is told of the vsyncs stays where more arrives.
 pub fn more_may_arrive<L: Lease>()
-    ensures { (frame : L → FrameOf) (scene : SceneValue) (written : List FrameNumber) (arrivals : List (Arrival FrameOf)) (vsyncs : List ReportValue)
+    ensures { (frame : L → FrameOf) (scene : SceneValue) (written : List FrameNumber) (arrivals : List (Arrival FrameOf)) (vsyncs : List VsyncRecords)
         (handler : HandlerOf L) → HasPlayed frame scene written arrivals vsyncs handler
         → (more : List (Arrival FrameOf)) → told_of scene (arrivals ++ more) vsyncs ≡ told_of scene arrivals vsyncs }
 {}
 
 /// What was played was so, too, where more is written.
 pub fn more_may_be_written<L: Lease>()
-    ensures { (frame : L → FrameOf) (scene : SceneValue) (written others : List FrameNumber) (arrivals : List (Arrival FrameOf)) (vsyncs : List ReportValue)
+    ensures { (frame : L → FrameOf) (scene : SceneValue) (written others : List FrameNumber) (arrivals : List (Arrival FrameOf)) (vsyncs : List VsyncRecords)
         (handler : HandlerOf L) → AreWrittenToo written others
         → HasPlayed frame scene written arrivals vsyncs handler → HasPlayed frame scene others arrivals vsyncs handler }
 {}
 
 /// A handler that lends its pixels, or gets them back, has played so far still.
 pub fn lending_plays_nothing<L: Lease>()
-    ensures lends { (frame : L → FrameOf) (scene : SceneValue) (written : List FrameNumber) (arrivals : List (Arrival FrameOf)) (vsyncs : List ReportValue)
+    ensures lends { (frame : L → FrameOf) (scene : SceneValue) (written : List FrameNumber) (arrivals : List (Arrival FrameOf)) (vsyncs : List VsyncRecords)
         (handler : HandlerOf L) → HasPlayed frame scene written arrivals vsyncs handler
         → (lent : Option (List PictureValue)) → HasPlayed frame scene written arrivals vsyncs (record handler { on = lent_from 0 handler.on; lent = lent }) }
-    ensures gives_back { (frame : L → FrameOf) (scene : SceneValue) (written : List FrameNumber) (arrivals : List (Arrival FrameOf)) (vsyncs : List ReportValue)
+    ensures gives_back { (frame : L → FrameOf) (scene : SceneValue) (written : List FrameNumber) (arrivals : List (Arrival FrameOf)) (vsyncs : List VsyncRecords)
         (handler : HandlerOf L) → HasPlayed frame scene written arrivals vsyncs handler
         → (lent : Option (List PictureValue)) (kept : List (KeptRead L))
         → HasPlayed frame scene written arrivals vsyncs (record handler { on = map at_hand handler.on; lent = lent; kept = kept }) }
@@ -152,16 +154,16 @@ pub fn releases_give_back_what_goes<L: Lease>()
 /// Where what is told goes on by a vsync, so do the frames that were released, and the images that
 /// were shown.
 pub fn what_is_told_goes_on()
-    ensures releases { (told later : List VsyncAt) (report : ReportValue) (tree : TreeOf) (gone : List (OnLayer FrameOf))
+    ensures releases { (told later : List VsyncAt) (report : VsyncRecords) (tree : TreeOf) (gone : List (OnLayer FrameOf))
         → GoesOnBy told later report tree gone → released_in later ≡ released_in told ++ released_by report gone }
-    ensures images { (scene : SceneValue) (told later : List VsyncAt) (report : ReportValue) (tree : TreeOf) (gone : List (OnLayer FrameOf))
+    ensures images { (scene : SceneValue) (told later : List VsyncAt) (report : VsyncRecords) (tree : TreeOf) (gone : List (OnLayer FrameOf))
         → GoesOnBy told later report tree gone → ShowImages scene told → report.shown ≡ shown_after scene report.commits tree → ShowImages scene later }
 {}
 
 /// A record that shows of each declared timeline what was seen says what was seen, where nothing was
 /// seen of the others; and the points that were signalled reach the greatest value of each timeline.
 pub fn values_are_seen()
-    ensures shown { (scene : SceneValue) (seen : SeenValue) (report : ReportValue) → length seen.values ≡ 64
+    ensures shown { (scene : SceneValue) (seen : SeenValue) (report : VsyncRecords) → length seen.values ≡ 64
         → report.timelines ≡ map (value_shown seen) (rising_timelines scene)
         → ((t : ℕ) → 1 ≤ t → t ≤ 64 → list_any (λ k. k == t) scene.timelines ≡ false → value_of seen.values t ≡ 0)
         → seen_by report ≡ seen }
@@ -174,12 +176,12 @@ pub fn values_are_seen()
 /// fell; also while time goes on without a record, and where more was signalled.
 pub fn vsyncs_go_on()
     ensures none { (scene : SceneValue) (signals : List (ℕ × ℕ)) (number : ℕ) (seen : SeenValue) → HasSeen scene signals [] number seen }
-    ensures more { (scene : SceneValue) (signals : List (ℕ × ℕ)) (vsyncs : List ReportValue) (number : ℕ) (seen later : SeenValue) (report : ReportValue)
+    ensures more { (scene : SceneValue) (signals : List (ℕ × ℕ)) (vsyncs : List VsyncRecords) (number : ℕ) (seen later : SeenValue) (report : VsyncRecords)
         → HasSeen scene signals vsyncs number seen → number < report.number → Rise seen later → TellsTime scene signals report later
         → HasSeen scene signals (vsyncs ++ report ∷ []) report.number later }
-    ensures silent { (scene : SceneValue) (signals : List (ℕ × ℕ)) (vsyncs : List ReportValue) (number other : ℕ) (seen later : SeenValue)
+    ensures silent { (scene : SceneValue) (signals : List (ℕ × ℕ)) (vsyncs : List VsyncRecords) (number other : ℕ) (seen later : SeenValue)
         → HasSeen scene signals vsyncs number seen → number ≤ other → Rise seen later → HasSeen scene signals vsyncs other later }
-    ensures signals { (scene : SceneValue) (signals others : List (ℕ × ℕ)) (vsyncs : List ReportValue) (number : ℕ) (seen : SeenValue)
+    ensures signals { (scene : SceneValue) (signals others : List (ℕ × ℕ)) (vsyncs : List VsyncRecords) (number : ℕ) (seen : SeenValue)
         → HasSeen scene signals vsyncs number seen → AreAmong signals others → HasSeen scene others vsyncs number seen }
 {}
 

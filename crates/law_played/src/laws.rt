@@ -1,7 +1,8 @@
+//! Laws about what a played run means, and runs for which it is computed.
 ghost use Rattle.std.specs.Prelude.{◌≡◌, ℕ, Bool, List, [], ◌∷◌, map};
 ghost use Rattle.std.specs.List.{flat_map};
 ghost use Rattle.sf_record.specs.declared.event.Event.{Event as EventValue};
-ghost use Rattle.sf_record.specs.declared.record.Commit.{Commit as CommitValue};
+ghost use Rattle.sf_record.specs.declared.record.CommitRecord.{CommitRecord};
 ghost use Rattle.sf_script_scene.specs.Limits.{IsWithinLimits};
 ghost use Rattle.sf_script_scene.specs.Scene.{SceneValue};
 ghost use Rattle.sf_commit.specs.sf_token.Pending.{Arrival};
@@ -32,7 +33,7 @@ pub fn the_order_of_replies_is_free()
 /// frame where a commit was not rejected, which is the painter's image of its tree, and nothing else.
 /// Each scene of version 1 is such a scene.
 pub fn a_scene_with_one_output_shows_its_frame()
-    ensures shown { (scene : SceneValue) (commits : List CommitValue) (tree : TreeOf) → HasOneOutput scene
+    ensures shown { (scene : SceneValue) (commits : List CommitRecord) (tree : TreeOf) → HasOneOutput scene
         → shown_after scene commits tree ≡ frame_after scene commits tree }
     ensures version_1 { (scene : SceneValue) → IsWithinLimits scene → scene.version ≡ 1 → HasOneOutput scene }
 {}

@@ -31,18 +31,20 @@ pub use ongoing::{
     a_play_ends, a_play_goes_on, a_play_has_records, a_scene_has_a_play, play_records_are_one,
 };
 pub use plays::{
-    a_done_step_is_a_turn, a_release_is_the_plays, a_scene_has_one_play,
+    a_done_step_is_a_transition, a_release_is_the_plays, a_scene_has_one_play,
     a_step_is_the_next_of_a_play, a_vsync_is_the_next_of_a_play, the_least_scene_has_a_play,
 };
-pub use sf_actor;
-pub use sf_actor::{sf_surface, sf_turns};
-pub use sf_commit;
-pub use sf_commit::{sf_ready, sf_token, sf_txn};
-pub use sf_compose::{sf_layer, sf_view};
-pub use sf_output_plan;
-pub use sf_record;
-pub use sf_record::sf_output;
-pub use sf_script_scene;
+pub use sf_actor::{HistEntry, QueueObject, ReadLease, Reply, Stepped, Stock, TableName, TurnSeat};
+pub use sf_commit::{ArrvEntry, Commit, Handler, Hold, Lease, Release, Vsync};
+pub use sf_compose::{Content, Drawn, Shown, View};
+pub use sf_output_plan::{CapturePlan, DisplayPlan, HitPlan, Plan, ViewsDue, views_due};
+pub use sf_record::sf_output::Output;
+pub use sf_record::{
+    ArrivalEntry, CommitRecord, CommittedBuffer, HeldEntry, HistoryEntry, Hit, QueueHistory,
+    Record, ReplyRecord, RunFault, SceneHeader, StuckEntry, TimelineValue, VsyncHeader,
+    write_image, write_record,
+};
+pub use sf_script_scene::{CaptureDecl, DisplayDecl, HitDecl, Scene};
 pub use telling::{
     arrivals_come_in_order, calls_are_histories, replies_answer_steps, what_actors_tell_fits,
 };

@@ -1,3 +1,4 @@
+//! Laws about the play of a scene: it goes on, it ends, and it has one list of records.
 ghost use Rattle.std.specs.Prelude.{◌≡◌, ◌≤◌, ◌⊎◌, List};
 ghost use Rattle.sf_script_scene.specs.Limits.{IsWithinLimits};
 ghost use Rattle.sf_script_scene.specs.Scene.{SceneValue};
@@ -6,7 +7,7 @@ ghost use Rattle.law_played.specs.Commits.{IsPrefix};
 ghost use Rattle.law_played.specs.Ends.{ArePlayRecords, Ends, records_so_far};
 ghost use Rattle.law_played.specs.Plays.{Comes, GoesOnTo, IsBegun, IsOver, Playing};
 
-/// A play of a scene that is not over goes on: each turn can be taken.
+/// A play of a scene that is not over goes on: each transition can be taken.
 pub fn a_play_goes_on()
     ensures { (scene : SceneValue) (playing : Playing) → IsOver scene playing ⊎ ((next : Playing) × GoesOnTo scene playing next) }
 {}

@@ -1,3 +1,5 @@
+//! Laws about the play of a scene, transition by transition: what a step or a vsync did is the next transition of the
+//! play. They are called for their clauses alone.
 ghost use Rattle.std.specs.List.{All};
 ghost use Rattle.std.specs.Prelude.{◌≡◌, ◌⊎◌, ℕ, ◌+◌, ◌*◌, ◌==◌, ◌++◌, List, [], ◌∷◌, find, map, slice_get, slice_set, false, true, Some, None};
 ghost use Rattle.sf_base.specs.Fences.{Fence as FenceValue};
@@ -13,7 +15,7 @@ ghost use Rattle.sf_script_scene.specs.declared.declarations.QueueDecl.{QueueDec
 ghost use Rattle.sf_script_scene.specs.declared.step.ActorScript.{ActorScript as ScriptValue};
 ghost use Rattle.sf_script_scene.specs.declared.step.Step.{Step as StepValue};
 ghost use Rattle.sf_actor.specs.declared.done.Done.{Done as DoneValue};
-ghost use Rattle.sf_actor.specs.declared.tried.Reply.{Reply as ReplyValue};
+ghost use Rattle.sf_actor.specs.declared.tried.Reply.{Reply};
 ghost use Rattle.sf_actor.specs.Desks.{DeskHome, DeskView, MadeCall, mark_among};
 ghost use Rattle.sf_actor.specs.Known.{frame_of};
 ghost use Rattle.sf_actor.specs.Makers.{Run};
@@ -23,7 +25,7 @@ ghost use Rattle.sf_actor.specs.Tries.{ActorOf, DoesStep};
 ghost use Rattle.sf_actor.specs.Values.{reply_at};
 ghost use Rattle.sf_record.specs.declared.event.Event.{Event as EventValue};
 ghost use Rattle.sf_record.specs.declared.event.Event.TheVariants as event;
-ghost use Rattle.sf_record.specs.declared.event.VsyncReport.{VsyncReport as ReportValue};
+ghost use Rattle.sf_record.specs.declared.event.VsyncRecords.{VsyncRecords};
 ghost use Rattle.law_played.specs.Actors.{AreCalls, arrivals_of, mark_declared, run_of};
 ghost use Rattle.law_played.specs.Framing.{framed_arrival, framed_on};
 ghost use Rattle.law_played.specs.Histories.{Released};
@@ -35,16 +37,16 @@ ghost use Rattle.law_played.specs.Runs.{final_values, written_in};
 ghost use Rattle.law_played.specs.Stepping.{DoesOneMore, DrawsInTime, KnowsRun, TellsFirst};
 ghost use Rattle.law_played.specs.Stuck.{IsNotReady, next_step};
 ghost use Rattle.law_played.specs.Telling.{AreNumbered};
-ghost use Rattle.law_played.specs.Worlds.{IsPlaysVsync, World, actor_turn, at_now, idle, release_asked, with_call};
+ghost use Rattle.law_played.specs.RunStates.{IsPlaysVsync, RunState, actor_transition, at_now, idle, release_asked, with_call};
 
-use sf_actor::sf_turns::TableName;
-use sf_commit::sf_txn::Lease;
+use sf_actor::TableName;
+use sf_commit::Lease;
 
 /// A scene has at most one play on one thread; of two that have begun one goes on with the other; and
 /// one that has begun has begun still after its next step.
 pub fn a_scene_has_one_play()
-    ensures one { (scene : SceneValue) (events others : List EventValue) (world end : World)
-        → IsPlay scene events world → IsPlay scene others end → (events ≡ others) × (world ≡ end) }
+    ensures one { (scene : SceneValue) (events others : List EventValue) (state end : RunState)
+        → IsPlay scene events state → IsPlay scene others end → (events ≡ others) × (state ≡ end) }
     ensures begun { (scene : SceneValue) (some other : Playing) → IsBegun scene some → IsBegun scene other → Comes scene some other ⊎ Comes scene other some }
     ensures more { (scene : SceneValue) (playing next : Playing) → IsBegun scene playing → GoesOnTo scene playing next → IsBegun scene next }
 {}
@@ -52,14 +54,14 @@ pub fn a_scene_has_one_play()
 /// The least scene, whose actor is picked four times first, has a play, which shows the replies to its
 /// four steps and one vsync with its pixels.
 pub fn the_least_scene_has_a_play()
-    ensures { (world : World) × IsPlay (record least_scene { order = record { actor = 1; times = 4 } ∷ [] }) least_events world }
+    ensures { (state : RunState) × IsPlay (record least_scene { order = record { actor = 1; times = 4 } ∷ [] }) least_events state }
 {}
 
 /// A vsync of a handler that has played so far is the next one of a play, where it saw the values that
 /// were signalled so far and its looks showed exactly what is written so far.
 pub fn a_vsync_is_the_next_of_a_play<L: Lease>()
     ensures { (frame : L → FrameOf) → ((a b : L) → L.plain a ≡ L.plain b → frame a ≡ frame b)
-        → (scene : SceneValue) (run : Run) (number : ℕ) (arrivals : List (Arrival FrameOf)) (vsyncs : List ReportValue)
+        → (scene : SceneValue) (run : Run) (number : ℕ) (arrivals : List (Arrival FrameOf)) (vsyncs : List VsyncRecords)
         (old new : HandlerOf L) (eye later : L.Eye) (arrived : List (Arrival L)) (told : VsyncOf L)
         → HasPlayed frame scene (written_in scene run) arrivals vsyncs old
         → (d : Decides L.Lease old eye arrived (final_values scene run) ((number + 1) * scene.period) told new later)
@@ -68,37 +70,37 @@ pub fn a_vsync_is_the_next_of_a_play<L: Lease>()
         told.commits new.tree (map (framed_on frame) d.end.stage.gone) told.held }
 {}
 
-/// A run in which an actor did one step more, while nobody else called or sent, is the world after the
-/// actor's next turn, where the turn of a draw has come; and a turn in which an actor has ended, or is not ready, changes nothing.
+/// A run in which an actor did one step more, while nobody else called or sent, is the state after the
+/// actor's next transition, where the turn of a draw has come; and a transition in which an actor has ended, or is not ready, changes nothing.
 pub fn a_step_is_the_next_of_a_play()
-    ensures done { (scene : SceneValue) (world : World) (script : ScriptValue) (done : DoneValue) (later : Run) (arrived : List (Arrival FrameOf))
-        → DoesOneMore scene world script done later arrived → DrawsInTime scene world script done.step
+    ensures done { (scene : SceneValue) (state : RunState) (script : ScriptValue) (done : DoneValue) (later : Run) (arrived : List (Arrival FrameOf))
+        → DoesOneMore scene state script done later arrived → DrawsInTime scene state script done.step
         → find (λ (s : ScriptValue). s.number == script.number) scene.actors ≡ Some script
-        → actor_turn scene script.number world ≡ record {
-          events = event.Reply (reply_shown (reply_at script.number (at_now world script done))) ∷ [];
-          world = record world { run = later; arrivals = world.arrivals ++ arrived };
+        → actor_transition scene script.number state ≡ record {
+          events = event.Reply (reply_shown (reply_at script.number (at_now state script done))) ∷ [];
+          state = record state { run = later; arrivals = state.arrivals ++ arrived };
         } }
-    ensures ended { (scene : SceneValue) (world : World) (script : ScriptValue) → find (λ (s : ScriptValue). s.number == script.number) scene.actors ≡ Some script
-        → next_step world.run script ≡ None → actor_turn scene script.number world ≡ idle world }
-    ensures waits { (scene : SceneValue) (world : World) (script : ScriptValue) (s : StepValue)
-        → find (λ (s : ScriptValue). s.number == script.number) scene.actors ≡ Some script → next_step world.run script ≡ Some s
-        → IsNotReady scene world.run script (Some s) → actor_turn scene script.number world ≡ idle world }
+    ensures ended { (scene : SceneValue) (state : RunState) (script : ScriptValue) → find (λ (s : ScriptValue). s.number == script.number) scene.actors ≡ Some script
+        → next_step state.run script ≡ None → actor_transition scene script.number state ≡ idle state }
+    ensures waits { (scene : SceneValue) (state : RunState) (script : ScriptValue) (s : StepValue)
+        → find (λ (s : ScriptValue). s.number == script.number) scene.actors ≡ Some script → next_step state.run script ≡ Some s
+        → IsNotReady scene state.run script (Some s) → actor_transition scene script.number state ≡ idle state }
 {}
 
-/// Over an exact desk that tells places a step that an actor does is its next turn of the play, where a buffer whose
+/// Over an exact desk that tells places a step that an actor does is its next transition of the play, where a buffer whose
 /// earlier turns have all left has no older draw that is owed.
-pub fn a_done_step_is_a_turn<B: TableName>()
-    ensures { (scene : SceneValue) (ofs : List (ActorOf B)) (home : DeskHome) (before after : DeskView B) (place : ℕ) (old new : ActorOf B) (reply : ReplyValue)
-        (reports : List ReportValue) (vsyncs : ℕ)
+pub fn a_done_step_is_a_transition<B: TableName>()
+    ensures { (scene : SceneValue) (ofs : List (ActorOf B)) (home : DeskHome) (before after : DeskView B) (place : ℕ) (old new : ActorOf B) (reply : Reply)
+        (reports : List VsyncRecords) (vsyncs : ℕ)
         → IsWithinLimits scene → home.is_exact ≡ true → home.tells ≡ true → slice_get ofs place ≡ Some old
         → DoesStep (picture_at scene.pictures) home old before new after reply
         → KnowsRun scene ofs home before → KnowsRun scene (slice_set ofs place new) home after → AreCalls scene (slice_set ofs place new) home after
         → AreNumbered after.arrivals
         → TellsFirst scene (run_of ofs home before) old before
-        → let world : World = record { run = run_of ofs home before; arrivals = arrivals_of before; reports = reports; vsyncs = vsyncs } in
-        actor_turn scene old.script.number world ≡ record {
+        → let state : RunState = record { run = run_of ofs home before; arrivals = arrivals_of before; reports = reports; vsyncs = vsyncs } in
+        actor_transition scene old.script.number state ≡ record {
           events = event.Reply (reply_shown reply) ∷ [];
-          world = record world { run = run_of (slice_set ofs place new) home after; arrivals = arrivals_of after };
+          state = record state { run = run_of (slice_set ofs place new) home after; arrivals = arrivals_of after };
         } }
 {}
 

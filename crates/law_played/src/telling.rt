@@ -1,3 +1,5 @@
+//! Laws by which the parts of a played run come together at its end. They are called for their
+//! clauses alone.
 ghost use Rattle.std.specs.Prelude.{◌≡◌, List, map};
 ghost use Rattle.sf_script_scene.specs.Limits.{IsWithinLimits};
 ghost use Rattle.sf_script_scene.specs.Scene.{SceneValue};
@@ -20,7 +22,7 @@ ghost use Rattle.law_played.specs.Telling.{AreNumbered, AreReleases, TellReplies
 ghost use Rattle.law_played.specs.Turns.{DrawAfterOwed};
 ghost use Rattle.law_played.specs.Vsyncs.{AreVsyncs, commits_in, vsyncs_in};
 
-use sf_actor::sf_turns::TableName;
+use sf_actor::TableName;
 
 /// Where the replies among events are those of the actors, they are those to the steps of their
 /// traces.

@@ -19,9 +19,9 @@ use Rattle.law_rights.specs.sf_actor_set.Opening.{new_actors, new_queue}
 use Rattle.sf_play_report.specs.law_played.Actors.{trace_among}
 use Rattle.sf_play_report.specs.law_played.Plays.{IsPlay}
 use Rattle.sf_play_report.specs.law_played.Vsyncs.{vsyncs_in}
-use Rattle.sf_play_report.specs.law_played.Worlds.{World, first_world}
+use Rattle.sf_play_report.specs.law_played.RunStates.{RunState, first_state}
 use Rattle.sf_play.proofs.AlongLemmas.{plays_first}
-use Rattle.sf_play.specs.Alongs.{PlaysSo, PlaysTo, world_so}
+use Rattle.sf_play.specs.Alongs.{PlaysSo, PlaysTo, state_so}
 use Rattle.sf_play.specs.Players.{PlayOf, SoFar}
 use Rattle.sf_play.specs.declared.place.Place.TheVariants as at
 
@@ -47,7 +47,7 @@ module _ {B : Type 0} where
     abbrev at_first : SoFar B
     at_first = record { actors = new_actors opens.declared stock; events = [] }
 
-    first_now : world_so at_first play ≡ first_world
+    first_now : state_so at_first play ≡ first_state
     unfolding told vsyncs_in
     first_now = λ i. record {
       run = record {
@@ -61,8 +61,8 @@ module _ {B : Type 0} where
     }
 
     pub begins_along : PlaysSo scene at_first play (at.Order 0 0)
-    begins_along = subst (λ (w : World). PlaysTo scene [] w (at.Order 0 0)) (sym first_now) (plays_first scene)
+    begins_along = subst (λ (w : RunState). PlaysTo scene [] w (at.Order 0 0)) (sym first_now) (plays_first scene)
 
   -- what was shown at the end is the play of the scene
-  pub ends_play : (scene : SceneValue) (so : SoFar B) (play : PlayOf B) → PlaysSo scene so play at.End → IsPlay scene so.events (world_so so play)
+  pub ends_play : (scene : SceneValue) (so : SoFar B) (play : PlayOf B) → PlaysSo scene so play at.End → IsPlay scene so.events (state_so so play)
   ends_play scene so play plays = record { playing = plays.playing; begun = plays.begun; over = plays.at_place; shows = plays.shows; ends = plays.comes }

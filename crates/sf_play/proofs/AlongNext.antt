@@ -1,4 +1,4 @@
--- The next turn of a player is that of the play of its scene.
+-- The next action of a player is that of the play of its scene.
 use Rattle.std.proofs.Common.{◌≡◌, ℕ, zero, suc, ◌+◌, ◌<◌, ◌≤◌, ◌==◌, Bool, true, false, ◌||◌, List, [], ◌∷◌, length, map, get_or, Option, Some, None, refl, sym, ap, ◌∙◌, subst, inl, inr, arith}
 use Rattle.std.specs.Prelude.{All, Contains, if◌then◌else◌, nat_lt, slice_get, ◌*◌}
 use Rattle.std.specs.List.{list_any, position, position_or_len}
@@ -17,7 +17,7 @@ use Rattle.sf_play_report.specs.sf_surface.declared.mark.QueueMark.{QueueMark}
 use Rattle.sf_play_report.specs.sf_turns.Views.{SeatView}
 use Rattle.sf_play_report.specs.sf_txn.declared.lease.Lease.{Ghosts}
 use Rattle.sf_play_report.specs.sf_commit.Releases.{VsyncOf}
-use Rattle.sf_play_report.specs.sf_commit.declared.vsync.Commit.{Commit as Decided}
+use Rattle.sf_play_report.specs.sf_commit.declared.vsync.Commit.{Commit}
 use Rattle.sf_script_scene.specs.Limits.{IsPick}
 use Rattle.sf_script_scene.specs.Scene.{SceneValue, has_actor}
 use Rattle.sf_script_scene.specs.declared.declarations.Pick.{Pick}
@@ -42,7 +42,7 @@ use Rattle.sf_play_report.proofs.law_played_lemmas.AsQueued.{one_passes}
 use Rattle.sf_play_report.proofs.law_played_lemmas.StepKeepsTold.{got_has}
 use Rattle.sf_play_report.proofs.law_played_lemmas.Members.{has_cases, has_found, has_here, has_later, has_none, map_has}
 use Rattle.sf_play.proofs.AlongLemmas.{plays_settled}
-use Rattle.sf_play.proofs.AlongTurns.{pick_done, pick_ended, pick_waits, round_done, round_ended, round_waits}
+use Rattle.sf_play.proofs.AlongTransitions.{pick_done, pick_ended, pick_waits, round_done, round_ended, round_waits}
 use Rattle.sf_play.proofs.AlongVsyncs.{all_had, holds_silent, pick_shown, pick_silent, round_shown, round_silent}
 use Rattle.sf_play.proofs.StageAndContents.{are_expected, is_stage}
 use Rattle.sf_play.proofs.PlayFuel.{settled_has}
@@ -50,7 +50,7 @@ use Rattle.sf_play.proofs.HandlerLeases.{OfFrames}
 use Rattle.sf_play.proofs.PlayLedger.{TellsAll}
 use Rattle.sf_play.proofs.Makers.{first_told, older_told}
 use Rattle.sf_play.proofs.Together.{StandsWith, done_with, ended_with, left_with, nothing_with, shown_with, shows_written, silent_with}
-use Rattle.sf_play.specs.Alongs.{DeskKnows, PlaysSo, behind_round, world_so}
+use Rattle.sf_play.specs.Alongs.{DeskKnows, PlaysSo, behind_round, state_so}
 use Rattle.sf_play.specs.Going.{TellsStage}
 use Rattle.sf_play.specs.Places.{settled}
 use Rattle.sf_play.specs.Players.{PlayOf, PlayerOf, SoFar, Stands, home_in, run_so, view_in, written_so}
@@ -58,12 +58,12 @@ use Rattle.sf_play.specs.Playing.{KeepsItself, KeepsRights}
 use Rattle.sf_play.specs.Standing.{HoldsAt}
 use Rattle.sf_play_report.specs.Reports.{has_commits}
 use Rattle.sf_play_report.specs.declared.report.VsyncReport.{VsyncReport}
-use Rattle.sf_play.specs.Turning.{Picks, RoundsIf, TriesIf, TriesStep, Turns, TurnsAt, TurnsVsync, is_step, turn_by}
+use Rattle.sf_play.specs.Actions.{Picks, RoundsIf, TriesIf, TriesStep, TakesAction, TakesActionAt, TakesVsync, is_step, action_by}
 use Rattle.sf_play.specs.declared.place.Place.{Place}
 use Rattle.sf_play.specs.declared.place.Place.TheVariants as at
 use Rattle.sf_play.specs.Vsyncing.{MakesVsync}
-use Rattle.sf_play.specs.declared.turn.Turn.{Turn}
-use Rattle.sf_play.specs.declared.turn.Turn.TheVariants as turn
+use Rattle.sf_play.specs.declared.action.Action.{Action}
+use Rattle.sf_play.specs.declared.action.Action.TheVariants as action
 
 or_true : (b : Bool) → (b || true) ≡ true
 or_true true = refl
@@ -113,19 +113,19 @@ module _ {B : Type 0} where
       cc (none, some)
 
 module _ {B : Type 0} where
-  abbrev pub StageTold : SceneValue → Turn → PlayOf B → Type 0
-  StageTold scene (turn.Vsync report) play = TellsStage scene report play
+  abbrev pub StageTold : SceneValue → Action → PlayOf B → Type 0
+  StageTold scene (action.Vsync report) play = TellsStage scene report play
   StageTold scene other play = Unit {0}
 
-  -- after a turn a player stands in a run of its scene, and along with the scene's play where it was so before
-  pub record PlaysOn (Was : Type 0) (table : TableId) (scene : SceneValue) (marks : List QueueMark) (so : SoFar B) (came_to : Turn) (new : PlayerOf B) (place : Place) : Type 0 where
+  -- after an action a player stands in a run of its scene, and along with the scene's play where it was so before
+  pub record PlaysOn (Was : Type 0) (table : TableId) (scene : SceneValue) (marks : List QueueMark) (so : SoFar B) (came_to : Action) (new : PlayerOf B) (place : Place) : Type 0 where
     pub kept : StandsWith table scene marks so came_to new.play
     pub along : Was → PlaysSo scene kept.later new.play place
     pub holds : Was → HoldsAt scene kept.later new place
     pub stage : StageTold scene came_to new.play
 
   module _ (lease : Ghosts ReadLeaseOf SeatView ReadLeaseOf Issued) (frames : OfFrames lease) (of_turns : IsOfTurns lease) (tells : TellsAll lease) (table : TableId) (scene : SceneValue) (so : SoFar B)
-      (old new : PlayerOf B) (came_to : Turn) (marks : List QueueMark) (stands : Stands table scene so old.play) (rights : KeepsRights table scene so old.play) (marked : (home_in old.play).marks ≡ marks)
+      (old new : PlayerOf B) (came_to : Action) (marks : List QueueMark) (stands : Stands table scene so old.play) (rights : KeepsRights table scene so old.play) (marked : (home_in old.play).marks ≡ marks)
       (keeps : KeepsItself lease table old.play) (keeps_now : KeepsItself lease table new.play) where
     -- the play with the new actor set
     abbrev with_actor_set : PlayOf B
@@ -141,14 +141,14 @@ module _ {B : Type 0} where
     abbrev On : Place → Type 0
     On place = PlaysOn WasAlong table scene marks so came_to new place
 
-    firsts : (of : ActorOf B) → Contains so.actors of → TellsFirst scene (world_so so old.play).run of (view_of old.play.actor_set.desk)
+    firsts : (of : ActorOf B) → Contains so.actors of → TellsFirst scene (state_so so old.play).run of (view_of old.play.actor_set.desk)
     firsts = first_told table scene so old.play stands rights keeps.desk.legal keeps.desk.knows keeps.own
 
     -- what a try comes to is the same for the new player
-    comes : (came : Turn) (place next : Place) → came_to ≡ came → new.play ≡ with_actor_set → place ≡ next → PlaysOn WasAlong table scene marks so came (record new { play = with_actor_set }) place → On next
+    comes : (came : Action) (place next : Place) → came_to ≡ came → new.play ≡ with_actor_set → place ≡ next → PlaysOn WasAlong table scene marks so came (record new { play = with_actor_set }) place → On next
     comes came place next is rest there on =
         subst On there
-        (subst (λ (c : Turn). PlaysOn WasAlong table scene marks so c new place) (sym is) (subst (λ (p : PlayOf B). PlaysOn WasAlong table scene marks so came (record new { play = p }) place) (sym rest) on))
+        (subst (λ (c : Action). PlaysOn WasAlong table scene marks so c new place) (sym is) (subst (λ (p : PlayOf B). PlaysOn WasAlong table scene marks so came (record new { play = p }) place) (sym rest) on))
 
     as_scene : (place : ℕ) (st : Stepped) → StepsAt table (picture_at old.play.actor_set.pictures) place old.play.actor_set.actors so.actors old.play.actor_set.desk new.play.actor_set.actors new.play.actor_set.desk st
         → StepsAt table (picture_at scene.pictures) place old.play.actor_set.actors so.actors old.play.actor_set.desk new.play.actor_set.actors new.play.actor_set.desk st
@@ -156,16 +156,16 @@ module _ {B : Type 0} where
 
     -- the actor at a place was tried
     module _ (place : ℕ) (t : TriesStep table place so.actors old.play new.play came_to) where
-      abbrev did : (s : StepsAt table (picture_at scene.pictures) place old.play.actor_set.actors so.actors old.play.actor_set.desk new.play.actor_set.actors new.play.actor_set.desk stepped.Done) → StandsWith table scene marks so (turn.Step place) with_actor_set
+      abbrev did : (s : StepsAt table (picture_at scene.pictures) place old.play.actor_set.actors so.actors old.play.actor_set.desk new.play.actor_set.actors new.play.actor_set.desk stepped.Done) → StandsWith table scene marks so (action.Step place) with_actor_set
       did s = done_with table scene marks so old.play stands rights marked keeps.desk.legal keeps.desk.knows keeps.own new.play.actor_set place t.same t.acts s
 
-      abbrev left : (s : StepsAt table (picture_at scene.pictures) place old.play.actor_set.actors so.actors old.play.actor_set.desk new.play.actor_set.actors new.play.actor_set.desk stepped.NotYet) → StandsWith table scene marks so turn.Idle with_actor_set
+      abbrev left : (s : StepsAt table (picture_at scene.pictures) place old.play.actor_set.actors so.actors old.play.actor_set.desk new.play.actor_set.actors new.play.actor_set.desk stepped.NotYet) → StandsWith table scene marks so action.Idle with_actor_set
       left s = left_with table scene marks so old.play stands rights marked keeps.desk.legal keeps.desk.knows keeps.own new.play.actor_set place t.same t.acts s
 
-      abbrev ended : (s : StepsAt table (picture_at scene.pictures) place old.play.actor_set.actors so.actors old.play.actor_set.desk new.play.actor_set.actors new.play.actor_set.desk stepped.Ended) → StandsWith table scene marks so turn.Idle with_actor_set
+      abbrev ended : (s : StepsAt table (picture_at scene.pictures) place old.play.actor_set.actors so.actors old.play.actor_set.desk new.play.actor_set.actors new.play.actor_set.desk stepped.Ended) → StandsWith table scene marks so action.Idle with_actor_set
       ended s = ended_with table scene marks so old.play stands rights marked keeps.desk.legal keeps.desk.knows keeps.own new.play.actor_set place t.same t.acts s
 
-      -- an earlier turn that it waits for is an older draw
+      -- an earlier action that it waits for is an older draw
       older : (s : StepsAt table (picture_at scene.pictures) place old.play.actor_set.actors so.actors old.play.actor_set.desk new.play.actor_set.actors new.play.actor_set.desk stepped.NotYet)
           → TellsOlder scene (run_so so with_actor_set) s.old (view_in old.play) (view_in with_actor_set)
       older s =
@@ -175,11 +175,11 @@ module _ {B : Type 0} where
       tried_round : (was : Bool) → (WasAlong → PlaysSo scene so old.play (at.Round place was)) → On (at.Round (place + 1) (was || is_step came_to))
       tried_round was plays = by_stepped t.stepped t.is (as_scene place t.stepped t.steps)
         where
-          by_stepped : (st : Stepped) → came_to ≡ turn_by place st
+          by_stepped : (st : Stepped) → came_to ≡ action_by place st
               → StepsAt table (picture_at scene.pictures) place old.play.actor_set.actors so.actors old.play.actor_set.desk new.play.actor_set.actors new.play.actor_set.desk st → On (at.Round (place + 1) (was || is_step came_to))
           by_stepped stepped.Done is s =
-              comes (turn.Step place) (at.Round (place + 1) true) (at.Round (place + 1) (was || is_step came_to)) is t.rest
-              (ap (λ (b : Bool). at.Round (place + 1) b) (sym (or_true was) ∙ ap (λ (x : Turn). was || is_step x) (sym is)))
+              comes (action.Step place) (at.Round (place + 1) true) (at.Round (place + 1) (was || is_step came_to)) is t.rest
+              (ap (λ (b : Bool). at.Round (place + 1) b) (sym (or_true was) ∙ ap (λ (x : Action). was || is_step x) (sym is)))
               (record {
                 kept = did s;
                 along = λ w. round_done table scene so old.play stands place new.play.actor_set t.same t.acts s keeps.desk known_actor_set (firsts s.old (got_has so.actors place s.old s.here)) w.2 was (plays w);
@@ -187,8 +187,8 @@ module _ {B : Type 0} where
                 stage = tt;
               })
           by_stepped stepped.NotYet is s =
-              comes turn.Idle (at.Round (place + 1) was) (at.Round (place + 1) (was || is_step came_to)) is t.rest
-              (ap (λ (b : Bool). at.Round (place + 1) b) (sym (or_none was) ∙ ap (λ (x : Turn). was || is_step x) (sym is)))
+              comes action.Idle (at.Round (place + 1) was) (at.Round (place + 1) (was || is_step came_to)) is t.rest
+              (ap (λ (b : Bool). at.Round (place + 1) b) (sym (or_none was) ∙ ap (λ (x : Action). was || is_step x) (sym is)))
               (record {
                 kept = left s;
                 along = λ w. round_waits table scene so old.play stands place new.play.actor_set t.same t.acts s known_actor_set (older s) was (plays w);
@@ -196,18 +196,18 @@ module _ {B : Type 0} where
                 stage = tt;
               })
           by_stepped stepped.Ended is s =
-              comes turn.Idle (at.Round (place + 1) was) (at.Round (place + 1) (was || is_step came_to)) is t.rest
-              (ap (λ (b : Bool). at.Round (place + 1) b) (sym (or_none was) ∙ ap (λ (x : Turn). was || is_step x) (sym is)))
+              comes action.Idle (at.Round (place + 1) was) (at.Round (place + 1) (was || is_step came_to)) is t.rest
+              (ap (λ (b : Bool). at.Round (place + 1) b) (sym (or_none was) ∙ ap (λ (x : Action). was || is_step x) (sym is)))
               (record { kept = ended s; along = λ w. round_ended table scene so old.play stands place new.play.actor_set t.same t.acts s was (plays w); holds = λ w. tt; stage = tt })
 
       tried_pick : (at' done : ℕ) (pick : Pick) → (WasAlong → PlaysSo scene so old.play (at.Order at' done)) → slice_get scene.order at' ≡ Some pick → done < pick.times
           → ((of : ActorOf B) → slice_get so.actors place ≡ Some of → pick.actor ≡ of.script.number) → On (at.Order at' (done + 1))
       tried_pick at' done pick plays there less number = by_stepped t.stepped t.is (as_scene place t.stepped t.steps)
         where
-          by_stepped : (st : Stepped) → came_to ≡ turn_by place st
+          by_stepped : (st : Stepped) → came_to ≡ action_by place st
               → StepsAt table (picture_at scene.pictures) place old.play.actor_set.actors so.actors old.play.actor_set.desk new.play.actor_set.actors new.play.actor_set.desk st → On (at.Order at' (done + 1))
           by_stepped stepped.Done is s =
-              comes (turn.Step place) (at.Order at' (done + 1)) (at.Order at' (done + 1)) is t.rest refl
+              comes (action.Step place) (at.Order at' (done + 1)) (at.Order at' (done + 1)) is t.rest refl
               (record {
                 kept = did s;
                 along = λ w. pick_done table scene so old.play stands place new.play.actor_set t.same t.acts s keeps.desk known_actor_set (firsts s.old (got_has so.actors place s.old s.here)) w.2 at' done pick (plays w) there less
@@ -216,7 +216,7 @@ module _ {B : Type 0} where
                 stage = tt;
               })
           by_stepped stepped.NotYet is s =
-              comes turn.Idle (at.Order at' (done + 1)) (at.Order at' (done + 1)) is t.rest refl
+              comes action.Idle (at.Order at' (done + 1)) (at.Order at' (done + 1)) is t.rest refl
               (record {
                 kept = left s;
                 along = λ w. pick_waits table scene so old.play stands place new.play.actor_set t.same t.acts s known_actor_set (older s) at' done pick (plays w) there less (number s.old s.here);
@@ -224,7 +224,7 @@ module _ {B : Type 0} where
                 stage = tt;
               })
           by_stepped stepped.Ended is s =
-              comes turn.Idle (at.Order at' (done + 1)) (at.Order at' (done + 1)) is t.rest refl
+              comes action.Idle (at.Order at' (done + 1)) (at.Order at' (done + 1)) is t.rest refl
               (record {
                 kept = ended s;
                 along = λ w. pick_ended table scene so old.play stands place new.play.actor_set t.same t.acts s at' done pick (plays w) there less (number s.old s.here);
@@ -233,7 +233,7 @@ module _ {B : Type 0} where
               })
 
     -- a vsync, in the order or behind a round
-    module _ (v : TurnsVsync lease table so.actors old new came_to) where
+    module _ (v : TakesVsync lease table so.actors old new came_to) where
       abbrev told : VsyncOf ReadLeaseOf
       told = v.makes.told
 
@@ -246,10 +246,10 @@ module _ {B : Type 0} where
       shows : ShowsWhatIsWritten frame_of lease.shown (written_so scene so old.play) makes.decides.looked
       shows = shows_written table scene marks so old.play stands rights marked keeps.desk.legal keeps.desk.knows keeps.own lease frames of_turns tells new.play report told makes v.makes.commits
 
-      abbrev silent : told.commits ≡ [] → StandsWith table scene marks so (turn.Vsync report) new.play
+      abbrev silent : told.commits ≡ [] → StandsWith table scene marks so (action.Vsync report) new.play
       silent none = silent_with table scene marks so old.play stands rights marked keeps.desk.legal keeps.desk.knows keeps.own lease frames of_turns tells new.play report told makes v.makes.commits none
 
-      abbrev some : (c : Decided) (cs : List Decided) → told.commits ≡ c ∷ cs → StandsWith table scene marks so (turn.Vsync report) new.play
+      abbrev some : (c : Commit) (cs : List Commit) → told.commits ≡ c ∷ cs → StandsWith table scene marks so (action.Vsync report) new.play
       some c cs are =
           shown_with table scene marks so old.play stands rights marked keeps.desk.legal keeps.desk.knows keeps.own lease frames of_turns tells new.play report told makes v.makes.commits c cs are v.makes.number v.makes.expected
 
@@ -262,9 +262,9 @@ module _ {B : Type 0} where
       }
 
       vsync_pick : (place done : ℕ) (pick : Pick) → (WasAlong → PlaysSo scene so old.play (at.Order place done)) → slice_get scene.order place ≡ Some pick → done < pick.times → pick.actor ≡ 0 → On (at.Order place (done + 1))
-      vsync_pick place done pick plays there less is = subst (λ (c : Turn). PlaysOn WasAlong table scene marks so c new (at.Order place (done + 1))) (sym v.is) (by_commits told.commits refl)
+      vsync_pick place done pick plays there less is = subst (λ (c : Action). PlaysOn WasAlong table scene marks so c new (at.Order place (done + 1))) (sym v.is) (by_commits told.commits refl)
         where
-          by_commits : (cs : List Decided) → told.commits ≡ cs → PlaysOn WasAlong table scene marks so (turn.Vsync report) new (at.Order place (done + 1))
+          by_commits : (cs : List Commit) → told.commits ≡ cs → PlaysOn WasAlong table scene marks so (action.Vsync report) new (at.Order place (done + 1))
           by_commits [] e = record {
             kept = silent e;
             along = λ w. pick_silent lease frames table scene so old.play new.play report.seen told stands makes shows e place done pick (plays w) there less is;
@@ -280,14 +280,14 @@ module _ {B : Type 0} where
 
       vsync_round : (place : ℕ) (was : Bool) → (WasAlong → PlaysSo scene so old.play (at.Round place was)) → nat_lt place (length old.play.actor_set.actors) ≡ false → On (behind_round was report.commits new.held)
       vsync_round place was plays past =
-          subst (λ (c : Turn). PlaysOn WasAlong table scene marks so c new (behind_round was report.commits new.held)) (sym v.is)
-          (subst (PlaysOn WasAlong table scene marks so (turn.Vsync report) new) (λ i. behind_round was (sym v.makes.commits i) (sym v.makes.held i)) (by_commits told.commits refl))
+          subst (λ (c : Action). PlaysOn WasAlong table scene marks so c new (behind_round was report.commits new.held)) (sym v.is)
+          (subst (PlaysOn WasAlong table scene marks so (action.Vsync report) new) (λ i. behind_round was (sym v.makes.commits i) (sym v.makes.held i)) (by_commits told.commits refl))
         where
           had : length (rising_actors scene) ≤ place
           had = all_had lease frames table scene so old.play new.play report.seen told stands makes place past
 
           -- at the end
-          ends : (later : SoFar B) (b : Bool) → new.held ≡ held_in scene (world_so later new.play) → HoldsAt scene later new (if b then at.Round 0 false else at.End)
+          ends : (later : SoFar B) (b : Bool) → new.held ≡ held_in scene (state_so later new.play) → HoldsAt scene later new (if b then at.Round 0 false else at.End)
           ends later true is = tt
           ends later false is = is
 
@@ -295,7 +295,7 @@ module _ {B : Type 0} where
           goes_on later true = tt
           goes_on later false = tt
 
-          by_commits : (cs : List Decided) → told.commits ≡ cs → PlaysOn WasAlong table scene marks so (turn.Vsync report) new (behind_round was told.commits told.held)
+          by_commits : (cs : List Commit) → told.commits ≡ cs → PlaysOn WasAlong table scene marks so (action.Vsync report) new (behind_round was told.commits told.held)
           by_commits [] e = record {
             kept = silent e;
             along = λ w. round_silent lease frames table scene so old.play new.play report.seen told stands makes shows e place was (plays w) had;
@@ -306,11 +306,11 @@ module _ {B : Type 0} where
           by_commits (c ∷ cs) e = record {
             kept = some c cs e;
             along = λ w. round_shown lease frames table scene so old.play new.play report.seen told stands makes shows c cs e place was (plays w) had;
-            holds = λ w. subst (λ (ds : List Decided). HoldsAt scene (some c cs e).later new (behind_round was ds told.held)) (sym e) (goes_on (some c cs e).later was);
+            holds = λ w. subst (λ (ds : List Commit). HoldsAt scene (some c cs e).later new (behind_round was ds told.held)) (sym e) (goes_on (some c cs e).later was);
             stage = staged (some c cs e).later (some c cs e).stands;
           }
 
-    -- the turn of a pick
+    -- the action of a pick
     picks_on : (place done : ℕ) (pick : Pick) → (WasAlong → PlaysSo scene so old.play (at.Order place done)) → slice_get scene.order place ≡ Some pick → done < pick.times → (n : ℕ) → pick.actor ≡ n
         → Picks lease table so.actors n old new came_to → On (at.Order place (done + 1))
     picks_on place done pick plays there less zero is picks = vsync_pick picks place done pick plays there less is
@@ -347,31 +347,31 @@ module _ {B : Type 0} where
                     ∙ number_kept table (picture_at scene.pictures) (home_of old.play.actor_set.desk) (view_of old.play.actor_set.desk) old.play.actor_set.actors so.actors at' (get_or old.play.actor_set.actors at' d) of stands.keep
                     (slice_get-get_or old.play.actor_set.actors at' d found.0) here)
 
-    turn_on : (from : Place) → settled old.play.order old.place ≡ from → TurnsAt lease table so.actors from old new came_to → (WasAlong → PlaysSo scene so old.play from) → On new.place
-    turn_on (at.Order place done) e turns plays =
+    action_on : (from : Place) → settled old.play.order old.place ≡ from → TakesActionAt lease table so.actors from old new came_to → (WasAlong → PlaysSo scene so old.play from) → On new.place
+    action_on (at.Order place done) e acts plays =
         let times : All (λ (pick : Pick). 1 ≤ pick.times) old.play.order =
         subst (All (λ (pick : Pick). 1 ≤ pick.times)) (sym stands.of_scene.order)
         (All-weaker (IsPick scene.actors) (λ (pick : Pick). 1 ≤ pick.times) (λ pick is. is.low) scene.order stands.of_scene.limits.order.picks) in
         let has = settled_has old.play.order old.place place done times e in
-        let same : has.pick ≡ turns.pick = one_pick has.pick turns.pick (sym has.here ∙ turns.there) in
-        subst On (sym turns.next)
-        (picks_on place done turns.pick plays (ap (λ (order : List Pick). slice_get order place) (sym stands.of_scene.order) ∙ turns.there) (subst (λ (pick : Pick). done < pick.times) same has.left)
-        turns.pick.actor refl turns.picks)
+        let same : has.pick ≡ acts.pick = one_pick has.pick acts.pick (sym has.here ∙ acts.there) in
+        subst On (sym acts.next)
+        (picks_on place done acts.pick plays (ap (λ (order : List Pick). slice_get order place) (sym stands.of_scene.order) ∙ acts.there) (subst (λ (pick : Pick). done < pick.times) same has.left)
+        acts.pick.actor refl acts.picks)
       where
         one_pick : (a b : Pick) → Some a ≡ Some b → a ≡ b
         one_pick a b e = cc
-    turn_on (at.Round place was) e turns plays = by_test (nat_lt place (length old.play.actor_set.actors)) refl turns
+    action_on (at.Round place was) e acts plays = by_test (nat_lt place (length old.play.actor_set.actors)) refl acts
       where
         by_test : (b : Bool) → nat_lt place (length old.play.actor_set.actors) ≡ b → RoundsIf lease table so.actors b place was old new came_to → On new.place
         by_test true low goes = subst On (sym goes.next) (tried_round place goes.tries was plays)
         by_test false past ends = subst On (sym ends.next) (vsync_round ends.vsync place was plays past)
-    turn_on at.End e turns plays =
-        subst (λ (c : Turn). PlaysOn WasAlong table scene marks so c new new.place) (sym turns.0)
-        (subst (λ (p : PlayerOf B). PlaysOn WasAlong table scene marks so turn.End p p.place) (sym turns.1)
-        (record { kept = nothing_with table scene marks so old.play stands rights marked keeps.desk.legal keeps.desk.knows keeps.own turn.End refl; along = λ w. w.0; holds = λ w. w.1; stage = tt }))
+    action_on at.End e acts plays =
+        subst (λ (c : Action). PlaysOn WasAlong table scene marks so c new new.place) (sym acts.0)
+        (subst (λ (p : PlayerOf B). PlaysOn WasAlong table scene marks so action.End p p.place) (sym acts.1)
+        (record { kept = nothing_with table scene marks so old.play stands rights marked keeps.desk.legal keeps.desk.knows keeps.own action.End refl; along = λ w. w.0; holds = λ w. w.1; stage = tt }))
 
-    -- each turn
-    pub turns_on : Turns lease table so.actors old new came_to → On new.place
-    turns_on turns =
-        turn_on (settled old.play.order old.place) refl turns (λ w.
-        subst (λ (order : List Pick). PlaysSo scene so old.play (settled order old.place)) (sym stands.of_scene.order) (plays_settled scene so.events (world_so so old.play) old.place w.0))
+    -- each action
+    pub actions_on : TakesAction lease table so.actors old new came_to → On new.place
+    actions_on acts =
+        action_on (settled old.play.order old.place) refl acts (λ w.
+        subst (λ (order : List Pick). PlaysSo scene so old.play (settled order old.place)) (sym stands.of_scene.order) (plays_settled scene so.events (state_so so old.play) old.place w.0))

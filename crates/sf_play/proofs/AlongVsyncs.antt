@@ -1,4 +1,4 @@
--- A vsync of a player is a turn of the play of its scene.
+-- A vsync of a player is a transition of the play of its scene.
 use Rattle.std.proofs.Common.{◌≡◌, ℕ, suc, ◌+◌, ◌*◌, ◌<◌, ◌≤◌, Bool, true, false, List, [], ◌∷◌, ◌++◌, length, map, take, Some, refl, sym, ap, ◌∙◌, subst, arith}
 use Rattle.std.specs.Prelude.{Contains, nat_lt, slice_get}
 use Rattle.std.specs.List.{All, AllZip}
@@ -21,7 +21,7 @@ use Rattle.sf_play_report.specs.sf_commit.Handlers.{Decides}
 use Rattle.sf_play_report.specs.sf_commit.Leases.{HandsBack, IsReleaseOf}
 use Rattle.sf_play_report.specs.sf_commit.OnLayers.{OnLayer}
 use Rattle.sf_play_report.specs.sf_commit.Releases.{ReleaseOf, VsyncOf}
-use Rattle.sf_play_report.specs.sf_commit.declared.vsync.Commit.{Commit as Decided}
+use Rattle.sf_play_report.specs.sf_commit.declared.vsync.Commit.{Commit}
 use Rattle.sf_script_scene.specs.Scene.{SceneValue, has_queue}
 use Rattle.sf_script_scene.specs.declared.declarations.Pick.{Pick}
 use Rattle.sf_script_scene.specs.declared.declarations.QueueDecl.{QueueDecl}
@@ -37,30 +37,30 @@ use Rattle.law_rights.proofs.sf_actor_set_lemmas.ArrivalLemmas.{sent_is}
 use Rattle.law_rights.specs.sf_actor_set.ActorSets.{KeepAs}
 use Rattle.sf_play_report.specs.sf_record.declared.event.Event.{Event}
 use Rattle.sf_play_report.specs.sf_record.declared.event.Event.TheVariants as event
-use Rattle.sf_play_report.specs.sf_record.declared.event.VsyncReport.{VsyncReport}
+use Rattle.sf_play_report.specs.sf_record.declared.event.VsyncRecords.{VsyncRecords}
 use Rattle.sf_play_report.specs.law_played.Actors.{mark_declared, run_of, script_of, trace_among}
 use Rattle.sf_play_report.specs.law_played.Commits.{commit_shown}
 use Rattle.sf_play_report.specs.law_played.Ends.{held_in}
 use Rattle.sf_play_report.specs.law_played.Framing.{framed_arrival, framed_on}
 use Rattle.sf_play_report.specs.law_played.Histories.{Released}
-use Rattle.sf_play_report.specs.law_played.Plays.{TakesTurn}
+use Rattle.sf_play_report.specs.law_played.Plays.{TakesTransition}
 use Rattle.sf_play_report.specs.law_played.Frames.{shown_after}
 use Rattle.sf_play_report.specs.law_played.Progress.{ShowsWhatIsWritten}
 use Rattle.sf_play_report.specs.law_played.Runs.{final_values, rising_actors}
 use Rattle.sf_play_report.specs.law_played.Seeing.{value_shown}
 use Rattle.sf_play_report.specs.law_played.Vsyncs.{rising_timelines, vsyncs_in}
-use Rattle.sf_play_report.specs.law_played.Worlds.{IsPlaysVsync, Turn, World, after_vsync, release_asked, report_of, reports_if, reports_of, with_call, with_calls}
+use Rattle.sf_play_report.specs.law_played.RunStates.{IsPlaysVsync, Transition, RunState, after_vsync, release_asked, report_of, reports_if, reports_of, with_call, with_calls}
 use Rattle.sf_play_report.proofs.law_played_lemmas.LeaseLemmas.{plain_arrivals, plain_frame}
 use Rattle.sf_play_report.proofs.law_played_lemmas.NextStep.{desk_release}
 use Rattle.sf_play_report.proofs.law_played_lemmas.ProgressLemmas.{vsync_of_play}
 use Rattle.sf_play_report.proofs.law_played_lemmas.RisingNumbers.{rising_actors_are}
 use Rattle.sf_play_report.proofs.law_played_lemmas.StuckActors.{final_is}
 use Rattle.sf_play.proofs.AlongLemmas.{plays_pick, plays_round}
-use Rattle.sf_play.proofs.AlongTurns.{calls_declared}
+use Rattle.sf_play.proofs.AlongTransitions.{calls_declared}
 use Rattle.sf_play.proofs.VsyncKeepsPlayer.{arrived_is, arrivals_now, calls_same, gives_now, goes, home_now, plain, rises, vsyncs_in_more}
 use Rattle.sf_play.proofs.LastHolds.{held_bare}
 use Rattle.sf_play.proofs.HandlerLeases.{IsOnLent, OfFrames}
-use Rattle.sf_play.specs.Alongs.{PlaysSo, PlaysTo, behind_round, world_so}
+use Rattle.sf_play.specs.Alongs.{PlaysSo, PlaysTo, behind_round, state_so}
 use Rattle.sf_play.specs.Giving.{GivesFrame, GivesFrames}
 use Rattle.sf_play.specs.Players.{PlayOf, SoFar, Stands, arrived_at, run_so, taken_at, written_so}
 use Rattle.sf_play.specs.Showing.{vsync_shown}
@@ -142,21 +142,21 @@ module _ {B : Type 0} where
       abbrev gone : List (OnLayer FrameOf)
       gone = map (framed_on frame_of) v.decides.end.stage.gone
 
-      pub next_vsync : IsPlaysVsync scene (world_so so old) told.commits new.handler.tree gone told.held
+      pub next_vsync : IsPlaysVsync scene (state_so so old) told.commits new.handler.tree gone told.held
       next_vsync =
-          subst (λ (xs : List (Arrival FrameOf)). IsPlaysVsync scene (record (world_so so old) { arrivals = xs }) told.commits new.handler.tree gone told.held) all_arrived
+          subst (λ (xs : List (Arrival FrameOf)). IsPlaysVsync scene (record (state_so so old) { arrivals = xs }) told.commits new.handler.tree gone told.held) all_arrived
           (subst (λ (p : Seen × ℕ). (d : Decides lease old.handler v.took.desk.turns v.arrived p.0 p.1 told new.handler v.decided.desk.turns) → ShowsWhatIsWritten frame_of lease.shown (written_so scene so old) d.looked
-          → IsPlaysVsync scene (record (world_so so old) { arrivals = taken_at old ++ map (framed_arrival frame_of) v.arrived }) told.commits new.handler.tree (map (framed_on frame_of) d.end.stage.gone) told.held)
+          → IsPlaysVsync scene (record (state_so so old) { arrivals = taken_at old ++ map (framed_arrival frame_of) v.arrived }) told.commits new.handler.tree (map (framed_on frame_of) d.end.stage.gone) told.held)
           (λ i. (final_now i, period_now i))
           (λ d shown. vsync_of_play lease frame_of (plain lease frames table scene so old new seen told stands v) scene (run_so so old) old.vsyncs (taken_at old) (vsyncs_in so.events) old.handler new.handler
           v.took.desk.turns v.decided.desk.turns v.arrived told stands.vsyncs.played d (rises lease frames table scene so old new seen told stands v) shown)
           v.decides shows)
 
-      abbrev turn : Turn
-      turn = after_vsync scene (world_so so old) next_vsync.end
+      abbrev transition : Transition
+      transition = after_vsync scene (state_so so old) next_vsync.end
 
       -- the calls that give frames back
-      run_now : turn.world.run ≡ run_so so new
+      run_now : transition.state.run ≡ run_so so new
       run_now =
           let home : DeskHome = record (home_of old.actor_set.desk) { taken = taken_in v.took.desk.arrivals } in
           ap (λ (ones : List (OnLayer FrameOf)). with_calls scene 0 (old.vsyncs + 1) (run_so so old) (map release_asked (released_then (old.vsyncs + 1) ones))) next_vsync.goes
@@ -166,19 +166,19 @@ module _ {B : Type 0} where
           (view_of v.decided.desk) (view_of new.actor_set.desk) v.decides.settled.releases (goes lease frames table scene so old new seen told stands v) (gives_now lease frames table scene so old new seen told stands v))
           ∙ ap (λ (h : DeskHome). run_of so.actors h (view_of new.actor_set.desk)) (sym (home_now lease frames table scene so old new seen told stands v))
 
-      world_now : turn.world ≡ record { run = run_so so new; arrivals = arrived_at new; reports = turn.world.reports; vsyncs = new.vsyncs }
-      world_now = λ i. record {
+      state_now : transition.state ≡ record { run = run_so so new; arrivals = arrived_at new; reports = transition.state.reports; vsyncs = new.vsyncs }
+      state_now = λ i. record {
         run = run_now i;
         arrivals = map plain_arrival (sym (arrivals_now lease frames table scene so old new seen told stands v) i);
-        reports = turn.world.reports;
+        reports = transition.state.reports;
         vsyncs = sym (ap (λ (p : PlayOf B). p.vsyncs) v.rest) i;
       }
 
       -- what it shows
-      abbrev report : VsyncReport
+      abbrev report : VsyncRecords
       report = vsync_shown scene (old.vsyncs + 1) ((old.vsyncs + 1) * old.period) seen told.commits new.handler.tree
 
-      report_is : report_of scene (world_so so old) next_vsync.end ≡ report
+      report_is : report_of scene (state_so so old) next_vsync.end ≡ report
       report_is = λ i. record {
         number = old.vsyncs + 1;
         expected = period_now i;
@@ -187,62 +187,62 @@ module _ {B : Type 0} where
         shown = shown_after scene (map commit_shown (next_vsync.commits_are i)) (next_vsync.leaves i);
       }
 
-      goes_pick : (place done : ℕ) (pick : Pick) (later : SoFar B) → so.events ++ turn.events ≡ later.events → turn.world ≡ world_so later new → PlaysSo scene so old (at.Order place done)
+      goes_pick : (place done : ℕ) (pick : Pick) (later : SoFar B) → so.events ++ transition.events ≡ later.events → transition.state ≡ state_so later new → PlaysSo scene so old (at.Order place done)
           → slice_get scene.order place ≡ Some pick → done < pick.times → pick.actor ≡ 0 → PlaysSo scene later new (at.Order place (done + 1))
-      goes_pick place done pick later events world plays there less is =
-          subst (λ (w : World). PlaysTo scene later.events w (at.Order place (done + 1))) world
-          (subst (λ (es : List Event). PlaysTo scene es turn.world (at.Order place (done + 1))) events
-          (plays_pick scene so.events (world_so so old) place done pick turn plays there less
-          (subst (λ (n : ℕ). TakesTurn scene n (world_so so old) turn) (sym is) (record { end = next_vsync.end; decides = next_vsync.decides; is = refl }))))
+      goes_pick place done pick later events state plays there less is =
+          subst (λ (w : RunState). PlaysTo scene later.events w (at.Order place (done + 1))) state
+          (subst (λ (es : List Event). PlaysTo scene es transition.state (at.Order place (done + 1))) events
+          (plays_pick scene so.events (state_so so old) place done pick transition plays there less
+          (subst (λ (n : ℕ). TakesTransition scene n (state_so so old) transition) (sym is) (record { end = next_vsync.end; decides = next_vsync.decides; is = refl }))))
 
-      goes_round : (place : ℕ) (stepped : Bool) (later : SoFar B) → so.events ++ turn.events ≡ later.events → turn.world ≡ world_so later new → PlaysSo scene so old (at.Round place stepped)
+      goes_round : (place : ℕ) (stepped : Bool) (later : SoFar B) → so.events ++ transition.events ≡ later.events → transition.state ≡ state_so later new → PlaysSo scene so old (at.Round place stepped)
           → length (rising_actors scene) ≤ place → PlaysSo scene later new (behind_round stepped told.commits told.held)
-      goes_round place stepped later events world plays had =
-          subst (λ (w : World). PlaysTo scene later.events w (behind_round stepped told.commits told.held)) world
-          (subst (λ (es : List Event). PlaysTo scene es turn.world (behind_round stepped told.commits told.held)) events
-          (plays_round scene so.events (world_so so old) place stepped plays had told.commits new.handler.tree gone told.held next_vsync))
+      goes_round place stepped later events state plays had =
+          subst (λ (w : RunState). PlaysTo scene later.events w (behind_round stepped told.commits told.held)) state
+          (subst (λ (es : List Event). PlaysTo scene es transition.state (behind_round stepped told.commits told.held)) events
+          (plays_round scene so.events (state_so so old) place stepped plays had told.commits new.handler.tree gone told.held next_vsync))
 
       -- a vsync that commits something is shown
-      module _ (c : Decided) (cs : List Decided) (some : told.commits ≡ c ∷ cs) where
+      module _ (c : Commit) (cs : List Commit) (some : told.commits ≡ c ∷ cs) where
         abbrev shown : SoFar B
         shown = record so { events = so.events ++ event.Vsync report ∷ [] }
 
-        reports_some : reports_of scene (world_so so old) next_vsync.end ≡ report ∷ []
+        reports_some : reports_of scene (state_so so old) next_vsync.end ≡ report ∷ []
         reports_some = λ i. reports_if (report_is i) (map commit_shown ((next_vsync.commits_are ∙ some) i))
 
-        events_some : so.events ++ turn.events ≡ shown.events
-        events_some = ap (λ (rs : List VsyncReport). so.events ++ map event.Vsync rs) reports_some
+        events_some : so.events ++ transition.events ≡ shown.events
+        events_some = ap (λ (rs : List VsyncRecords). so.events ++ map event.Vsync rs) reports_some
 
-        world_some : turn.world ≡ world_so shown new
-        world_some = world_now ∙ ap (λ (rs : List VsyncReport). record { run = run_so so new; arrivals = arrived_at new; reports = rs; vsyncs = new.vsyncs })
-            (ap (λ (rs : List VsyncReport). vsyncs_in so.events ++ rs) reports_some ∙ sym (vsyncs_in_more so.events report))
+        state_some : transition.state ≡ state_so shown new
+        state_some = state_now ∙ ap (λ (rs : List VsyncRecords). record { run = run_so so new; arrivals = arrived_at new; reports = rs; vsyncs = new.vsyncs })
+            (ap (λ (rs : List VsyncRecords). vsyncs_in so.events ++ rs) reports_some ∙ sym (vsyncs_in_more so.events report))
 
         pub pick_shown : (place done : ℕ) (pick : Pick) → PlaysSo scene so old (at.Order place done) → slice_get scene.order place ≡ Some pick → done < pick.times → pick.actor ≡ 0
             → PlaysSo scene shown new (at.Order place (done + 1))
-        pick_shown place done pick = goes_pick place done pick shown events_some world_some
+        pick_shown place done pick = goes_pick place done pick shown events_some state_some
 
         pub round_shown : (place : ℕ) (stepped : Bool) → PlaysSo scene so old (at.Round place stepped) → length (rising_actors scene) ≤ place → PlaysSo scene shown new (behind_round stepped told.commits told.held)
-        round_shown place stepped = goes_round place stepped shown events_some world_some
+        round_shown place stepped = goes_round place stepped shown events_some state_some
 
       -- a vsync that commits nothing is not
       module _ (none : told.commits ≡ []) where
-        reports_none : reports_of scene (world_so so old) next_vsync.end ≡ []
-        reports_none = ap (λ (ds : List Decided). reports_if (report_of scene (world_so so old) next_vsync.end) (map commit_shown ds)) (next_vsync.commits_are ∙ none)
+        reports_none : reports_of scene (state_so so old) next_vsync.end ≡ []
+        reports_none = ap (λ (ds : List Commit). reports_if (report_of scene (state_so so old) next_vsync.end) (map commit_shown ds)) (next_vsync.commits_are ∙ none)
 
-        events_none : so.events ++ turn.events ≡ so.events
-        events_none = ap (λ (rs : List VsyncReport). so.events ++ map event.Vsync rs) reports_none ∙ append-nil so.events
+        events_none : so.events ++ transition.events ≡ so.events
+        events_none = ap (λ (rs : List VsyncRecords). so.events ++ map event.Vsync rs) reports_none ∙ append-nil so.events
 
-        world_none : turn.world ≡ world_so so new
-        world_none = world_now ∙ ap (λ (rs : List VsyncReport). record { run = run_so so new; arrivals = arrived_at new; reports = rs; vsyncs = new.vsyncs })
-            (ap (λ (rs : List VsyncReport). vsyncs_in so.events ++ rs) reports_none ∙ append-nil (vsyncs_in so.events))
+        state_none : transition.state ≡ state_so so new
+        state_none = state_now ∙ ap (λ (rs : List VsyncRecords). record { run = run_so so new; arrivals = arrived_at new; reports = rs; vsyncs = new.vsyncs })
+            (ap (λ (rs : List VsyncRecords). vsyncs_in so.events ++ rs) reports_none ∙ append-nil (vsyncs_in so.events))
 
         -- it holds what the play's last vsync held
-        pub holds_silent : held_in scene (world_so so new) ≡ told.held
-        holds_silent = ap (held_in scene) (sym world_none) ∙ held_bare scene (world_so so old) told.commits new.handler.tree gone told.held next_vsync none
+        pub holds_silent : held_in scene (state_so so new) ≡ told.held
+        holds_silent = ap (held_in scene) (sym state_none) ∙ held_bare scene (state_so so old) told.commits new.handler.tree gone told.held next_vsync none
 
         pub pick_silent : (place done : ℕ) (pick : Pick) → PlaysSo scene so old (at.Order place done) → slice_get scene.order place ≡ Some pick → done < pick.times → pick.actor ≡ 0
             → PlaysSo scene so new (at.Order place (done + 1))
-        pick_silent place done pick = goes_pick place done pick so events_none world_none
+        pick_silent place done pick = goes_pick place done pick so events_none state_none
 
         pub round_silent : (place : ℕ) (stepped : Bool) → PlaysSo scene so old (at.Round place stepped) → length (rising_actors scene) ≤ place → PlaysSo scene so new (behind_round stepped told.commits told.held)
-        round_silent place stepped = goes_round place stepped so events_none world_none
+        round_silent place stepped = goes_round place stepped so events_none state_none

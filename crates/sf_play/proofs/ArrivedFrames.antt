@@ -15,7 +15,7 @@ use Rattle.sf_script_scene.specs.Scene.{SceneValue}
 use Rattle.sf_play_report.specs.sf_actor.Desks.{DeskHome, DeskView, known_of, mark_among}
 use Rattle.sf_play_report.specs.sf_actor.Known.{arrivals_told, is_sent_by, plain_arrival, plain_buffer, share_of}
 use Rattle.sf_play_report.specs.sf_actor.Rights.{HoldsAcquired, SendsAcquired, Takes, WasTaken}
-use Rattle.sf_play_report.specs.sf_actor.Tales.{sent_as}
+use Rattle.sf_play_report.specs.sf_actor.ScriptTraces.{sent_as}
 use Rattle.sf_play_report.specs.sf_actor.Traces.{SentStep}
 use Rattle.sf_play_report.specs.sf_actor.Tries.{ActorOf}
 use Rattle.sf_play_report.proofs.law_played_lemmas.ArrivedFrames.{is_numbered, own_is, told_has}

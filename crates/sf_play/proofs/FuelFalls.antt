@@ -1,4 +1,4 @@
--- Each turn of a player lessens its fuel, and its vsyncs do not pass those that were left.
+-- Each action of a player lessens its fuel, and its vsyncs do not pass those that were left.
 use Rattle.std.proofs.Common.{◌≡◌, ◌≢◌, ℕ, zero, suc, ◌+◌, ◌<◌, ◌≤◌, ◌==◌, Bool, true, false, ◌||◌, List, [], ◌∷◌, length, Option, Some, None, refl, sym, ap, ◌∙◌, subst, inl, inr, arith}
 use Rattle.std.specs.Prelude.{◌⊎◌, if◌then◌else◌, nat_lt}
 use Rattle.std.specs.List.{All, list_any, position}
@@ -22,19 +22,19 @@ use Rattle.sf_play.specs.Fuel.{fuel, rounds_left, vsyncs_left, work_left}
 use Rattle.sf_play.specs.Places.{settled}
 use Rattle.sf_play.specs.Players.{PlayOf, PlayerOf, home_in, view_in}
 use Rattle.sf_play_report.specs.Reports.{has_commits}
-use Rattle.sf_play.specs.Turning.{EndsRound, GoesRound, KeepsActorSet, Picks, Rounds, RoundsIf, TakesPick, TriesIf, TriesStep, Turns, TurnsAt, TurnsVsync, goes_on, is_step, turn_by}
+use Rattle.sf_play.specs.Actions.{EndsRound, GoesRound, KeepsActorSet, Picks, Rounds, RoundsIf, TakesPick, TriesIf, TriesStep, TakesAction, TakesActionAt, TakesVsync, goes_on, is_step, action_by}
 use Rattle.sf_play.specs.declared.place.Place.{Place}
 use Rattle.sf_play.specs.declared.place.Place.TheVariants as at
-use Rattle.sf_play.specs.declared.turn.Turn.{Turn}
-use Rattle.sf_play.specs.declared.turn.Turn.TheVariants as turn
+use Rattle.sf_play.specs.declared.action.Action.{Action}
+use Rattle.sf_play.specs.declared.action.Action.TheVariants as action
 use Rattle.sf_play.proofs.LessToCommit.{less_at_vsync, same_actors, work_at_vsync}
-use Rattle.sf_play.proofs.TurnFuel.{TriesIn, turns_same, work_less, work_stays}
+use Rattle.sf_play.proofs.ActionFuel.{TriesIn, actors_same, work_less, work_stays}
 use Rattle.sf_play.proofs.PlayFuel as lasting
 use Rattle.sf_play.proofs.PlayFuel.{again_less, again_vsyncs, end_less, end_vsyncs, order_less, order_vsyncs, round_less, round_vsyncs, settled_fuel, settled_has, settled_vsyncs}
 
 module _ {B : Type 0} {R C : Type 0} (lease : Ghosts ReadLeaseOf SeatView R C) (table : TableId) (ofs : List (ActorOf B)) where
-  -- what the turns of a play rest on
-  pub record MayTurn (play : PlayOf B) : Type 0 where
+  -- what the acts of a play rest on
+  pub record MayAct (play : PlayOf B) : Type 0 where
     pub keep : KeepsActorSet table play ofs
     pub taken : (home_in play).taken ≤ length (view_in play).arrivals
     pub times : All (λ (pick : Pick). 1 ≤ pick.times) play.order
@@ -42,20 +42,20 @@ module _ {B : Type 0} {R C : Type 0} (lease : Ghosts ReadLeaseOf SeatView R C) (
     pub high : play.period ≤ 1000000000
 
   -- a try leaves as much work, or less where the step was done
-  record Tried (old new : PlayOf B) (came_to : Turn) : Type 0 where
+  record Tried (old new : PlayOf B) (came_to : Action) : Type 0 where
     work : work_left new ≤ work_left old
     did : is_step came_to ≡ true → work_left new + 2 ≤ work_left old
     many : length new.actor_set.actors ≡ length old.actor_set.actors
     vsyncs : new.vsyncs ≡ old.vsyncs
 
-  tried_by : (place : ℕ) (old new : PlayOf B) (came_to : Turn) (stepped : Stepped) → TriesIn table (picture_at old.actor_set.pictures) place ofs old new → came_to ≡ turn_by place stepped
+  tried_by : (place : ℕ) (old new : PlayOf B) (came_to : Action) (stepped : Stepped) → TriesIn table (picture_at old.actor_set.pictures) place ofs old new → came_to ≡ action_by place stepped
       → StepsAt table (picture_at old.actor_set.pictures) place old.actor_set.actors ofs old.actor_set.desk new.actor_set.actors new.actor_set.desk stepped → new.vsyncs ≡ old.vsyncs → Tried old new came_to
   tried_by place old new came_to stepped.Done tries is steps vsyncs =
       let less = work_less table (picture_at old.actor_set.pictures) place ofs old new tries steps in
       record {
         work = omega (arith, less);
         did = λ done. less;
-        many = turns_same table (picture_at old.actor_set.pictures) place ofs old new tries steps.new steps.keep;
+        many = actors_same table (picture_at old.actor_set.pictures) place ofs old new tries steps.new steps.keep;
         vsyncs = vsyncs;
       }
   tried_by place old new came_to stepped.NotYet tries is steps vsyncs =
@@ -63,7 +63,7 @@ module _ {B : Type 0} {R C : Type 0} (lease : Ghosts ReadLeaseOf SeatView R C) (
       record {
         work = omega (arith, same);
         did = λ done. absurd (cc (ap is_step is, done));
-        many = turns_same table (picture_at old.actor_set.pictures) place ofs old new tries steps.new steps.keep;
+        many = actors_same table (picture_at old.actor_set.pictures) place ofs old new tries steps.new steps.keep;
         vsyncs = vsyncs;
       }
   tried_by place old new came_to stepped.Ended tries is steps vsyncs =
@@ -71,16 +71,16 @@ module _ {B : Type 0} {R C : Type 0} (lease : Ghosts ReadLeaseOf SeatView R C) (
       record {
         work = omega (arith, same);
         did = λ done. absurd (cc (ap is_step is, done));
-        many = turns_same table (picture_at old.actor_set.pictures) place ofs old new tries steps.new steps.keep;
+        many = actors_same table (picture_at old.actor_set.pictures) place ofs old new tries steps.new steps.keep;
         vsyncs = vsyncs;
       }
 
-  tried : (place : ℕ) (old new : PlayOf B) (came_to : Turn) → MayTurn old → TriesStep table place ofs old new came_to → Tried old new came_to
+  tried : (place : ℕ) (old new : PlayOf B) (came_to : Action) → MayAct old → TriesStep table place ofs old new came_to → Tried old new came_to
   tried place old new came_to may tries =
       tried_by place old new came_to tries.stepped
       (record { same = tries.rest; home = tries.same.home; exact = refl; taken = may.taken; keep = may.keep }) tries.is tries.steps (ap (λ (p : PlayOf B). p.vsyncs) tries.rest)
 
-  tried_if : (found : Option ℕ) (old new : PlayOf B) (came_to : Turn) → MayTurn old → TriesIf lease table ofs found old new came_to → Tried old new came_to
+  tried_if : (found : Option ℕ) (old new : PlayOf B) (came_to : Action) → MayAct old → TriesIf lease table ofs found old new came_to → Tried old new came_to
   tried_if None old new came_to may tries =
       let same = ap work_left tries.1 in
       record {
@@ -91,13 +91,13 @@ module _ {B : Type 0} {R C : Type 0} (lease : Ghosts ReadLeaseOf SeatView R C) (
       }
   tried_if (Some place) old new came_to may tries = tried place old new came_to may tries
 
-  -- a turn of the order leaves as much work at most, and makes one vsync at most
+  -- an action of the order leaves as much work at most, and makes one vsync at most
   record Picked (old new : PlayOf B) : Type 0 where
     work : work_left new ≤ work_left old
     many : length new.actor_set.actors ≡ length old.actor_set.actors
     vsyncs : new.vsyncs ≤ old.vsyncs + 1
 
-  made_vsync : (old new : PlayerOf B) (came_to : Turn) → TurnsVsync lease table ofs old new came_to → Picked old.play new.play
+  made_vsync : (old new : PlayerOf B) (came_to : Action) → TakesVsync lease table ofs old new came_to → Picked old.play new.play
   made_vsync old new came_to vsync =
       let makes = vsync.makes.makes in
       let vsyncs = ap (λ (p : PlayOf B). p.vsyncs) makes.rest in
@@ -107,19 +107,19 @@ module _ {B : Type 0} {R C : Type 0} (lease : Ghosts ReadLeaseOf SeatView R C) (
         vsyncs = omega (arith, vsyncs);
       }
 
-  picked : (number : ℕ) (old new : PlayerOf B) (came_to : Turn) → MayTurn old.play → Picks lease table ofs number old new came_to → Picked old.play new.play
+  picked : (number : ℕ) (old new : PlayerOf B) (came_to : Action) → MayAct old.play → Picks lease table ofs number old new came_to → Picked old.play new.play
   picked zero old new came_to may picks = made_vsync old new came_to picks
   picked (suc n) old new came_to may picks =
       let it = tried_if (position (λ (actor : Actor B). number_of actor == suc n) old.play.actor_set.actors) old.play new.play came_to may picks.0 in
       let vsyncs = it.vsyncs in
       record { work = it.work; many = it.many; vsyncs = omega (arith, vsyncs) }
 
-  -- what is less after a turn
+  -- what is less after an action
   pub record Lessens (order : List Pick) (old new : PlayOf B) (from next : Place) : Type 0 where
     pub fuel : fuel order new next < fuel order old from
     pub vsyncs : new.vsyncs + vsyncs_left order new next ≤ old.vsyncs + vsyncs_left order old from
 
-  order_lessens : (order : List Pick) (place done : ℕ) (old new : PlayerOf B) (came_to : Turn) → MayTurn old.play → order ≡ old.play.order → lasting.HasTurn order place done → TakesPick lease table ofs place done old new came_to
+  order_lessens : (order : List Pick) (place done : ℕ) (old new : PlayerOf B) (came_to : Action) → MayAct old.play → order ≡ old.play.order → lasting.HasAction order place done → TakesPick lease table ofs place done old new came_to
       → Lessens order old.play new.play (at.Order place done) new.place
   order_lessens order place done old new came_to may same has takes =
       let it = picked takes.pick.actor old new came_to may takes.picks in
@@ -128,7 +128,7 @@ module _ {B : Type 0} {R C : Type 0} (lease : Ghosts ReadLeaseOf SeatView R C) (
         vsyncs = order_vsyncs order old.play new.play place done has.pick has.here has.left it.work it.vsyncs;
       })
 
-  round_lessens : (order : List Pick) (place : ℕ) (was : Bool) (old new : PlayerOf B) (came_to : Turn) → MayTurn old.play → place < length old.play.actor_set.actors → GoesRound lease table ofs place was old new came_to
+  round_lessens : (order : List Pick) (place : ℕ) (was : Bool) (old new : PlayerOf B) (came_to : Action) → MayAct old.play → place < length old.play.actor_set.actors → GoesRound lease table ofs place was old new came_to
       → Lessens order old.play new.play (at.Round place was) new.place
   round_lessens order place was old new came_to may low goes =
       let it = tried place old.play new.play came_to may goes.tries in
@@ -148,7 +148,7 @@ module _ {B : Type 0} {R C : Type 0} (lease : Ghosts ReadLeaseOf SeatView R C) (
   has_some [] e = absurd (cc (e))
   has_some (commit ∷ commits) e = λ none. cc (none)
 
-  vsync_lessens : (order : List Pick) (place : ℕ) (was : Bool) (old new : PlayerOf B) (came_to : Turn) → MayTurn old.play → EndsRound lease table ofs was old new came_to
+  vsync_lessens : (order : List Pick) (place : ℕ) (was : Bool) (old new : PlayerOf B) (came_to : Action) → MayAct old.play → EndsRound lease table ofs was old new came_to
       → Lessens order old.play new.play (at.Round place was) new.place
   vsync_lessens order place was old new came_to may ends =
       let makes = ends.vsync.makes in
@@ -179,7 +179,7 @@ module _ {B : Type 0} {R C : Type 0} (lease : Ghosts ReadLeaseOf SeatView R C) (
             })
       ]
 
-  rounds_lessen : (order : List Pick) (place : ℕ) (was : Bool) (old new : PlayerOf B) (came_to : Turn) → MayTurn old.play → Rounds lease table ofs place was old new came_to
+  rounds_lessen : (order : List Pick) (place : ℕ) (was : Bool) (old new : PlayerOf B) (came_to : Action) → MayAct old.play → Rounds lease table ofs place was old new came_to
       → Lessens order old.play new.play (at.Round place was) new.place
   rounds_lessen order place was old new came_to may rounds = by_test (nat_lt place (length old.play.actor_set.actors)) refl rounds
     where
@@ -187,32 +187,32 @@ module _ {B : Type 0} {R C : Type 0} (lease : Ghosts ReadLeaseOf SeatView R C) (
       by_test true e goes = round_lessens order place was old new came_to may (ltb-true place (length old.play.actor_set.actors) e) goes
       by_test false e ends = vsync_lessens order place was old new came_to may ends
 
-  turn_lessens : (from : Place) (old new : PlayerOf B) (came_to : Turn) → MayTurn old.play → came_to ≢ turn.End → settled old.play.order old.place ≡ from → TurnsAt lease table ofs from old new came_to
+  action_lessens : (from : Place) (old new : PlayerOf B) (came_to : Action) → MayAct old.play → came_to ≢ action.End → settled old.play.order old.place ≡ from → TakesActionAt lease table ofs from old new came_to
       → Lessens old.play.order old.play new.play from new.place
-  turn_lessens (at.Order place done) old new came_to may goes e turns =
-      order_lessens old.play.order place done old new came_to may refl (settled_has old.play.order old.place place done may.times e) turns
-  turn_lessens (at.Round place was) old new came_to may goes e turns = rounds_lessen old.play.order place was old new came_to may turns
-  turn_lessens at.End old new came_to may goes e turns = absurd (goes turns.0)
+  action_lessens (at.Order place done) old new came_to may goes e acts =
+      order_lessens old.play.order place done old new came_to may refl (settled_has old.play.order old.place place done may.times e) acts
+  action_lessens (at.Round place was) old new came_to may goes e acts = rounds_lessen old.play.order place was old new came_to may acts
+  action_lessens at.End old new came_to may goes e acts = absurd (goes acts.0)
 
-  -- each turn that is not the end
-  pub turns_lessen : (old new : PlayerOf B) (came_to : Turn) → MayTurn old.play → came_to ≢ turn.End → Turns lease table ofs old new came_to → Lessens old.play.order old.play new.play old.place new.place
-  turns_lessen old new came_to may goes turns =
-      let less = turn_lessens (settled old.play.order old.place) old new came_to may goes refl turns in
+  -- each action that is not the end
+  pub actions_lessen : (old new : PlayerOf B) (came_to : Action) → MayAct old.play → came_to ≢ action.End → TakesAction lease table ofs old new came_to → Lessens old.play.order old.play new.play old.place new.place
+  actions_lessen old new came_to may goes acts =
+      let less = action_lessens (settled old.play.order old.place) old new came_to may goes refl acts in
       let one = settled_fuel old.play.order old.play old.place in
       let other = settled_vsyncs old.play.order old.play old.place in
       let fuel = less.fuel in
       let vsyncs = less.vsyncs in
       record { fuel = omega (arith, fuel, one); vsyncs = omega (arith, vsyncs, other) }
 
-  -- no turn makes a vsync that was not counted
-  pub vsyncs_last : (old new : PlayerOf B) (came_to : Turn) → MayTurn old.play → Turns lease table ofs old new came_to
+  -- no action makes a vsync that was not counted
+  pub vsyncs_last : (old new : PlayerOf B) (came_to : Action) → MayAct old.play → TakesAction lease table ofs old new came_to
       → new.play.vsyncs + vsyncs_left old.play.order new.play new.place ≤ old.play.vsyncs + vsyncs_left old.play.order old.play old.place
-  vsyncs_last old new came_to may turns = by_place (settled old.play.order old.place) refl turns
+  vsyncs_last old new came_to may acts = by_place (settled old.play.order old.place) refl acts
     where
       left_at : (from : Place) → settled old.play.order old.place ≡ from → vsyncs_left old.play.order old.play from ≤ vsyncs_left old.play.order old.play old.place
       left_at from e = subst (λ (p : Place). vsyncs_left old.play.order old.play p ≤ vsyncs_left old.play.order old.play old.place) e (settled_vsyncs old.play.order old.play old.place)
 
-      by_place : (from : Place) → settled old.play.order old.place ≡ from → TurnsAt lease table ofs from old new came_to
+      by_place : (from : Place) → settled old.play.order old.place ≡ from → TakesActionAt lease table ofs from old new came_to
           → new.play.vsyncs + vsyncs_left old.play.order new.play new.place ≤ old.play.vsyncs + vsyncs_left old.play.order old.play old.place
       by_place (at.Order place done) e takes =
           let less = (order_lessens old.play.order place done old new came_to may refl (settled_has old.play.order old.place place done may.times e) takes).vsyncs in

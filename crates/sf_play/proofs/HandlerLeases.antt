@@ -8,7 +8,7 @@ use Rattle.sf_play_report.specs.sf_layer.declared.shown.Shown.{Shown}
 use Rattle.sf_play_report.specs.sf_surface.Histories.{Made}
 use Rattle.sf_play_report.specs.sf_surface.Reading.{PlainLease, plain_lease}
 use Rattle.sf_play_report.specs.sf_surface.Tokens.{ReadLeaseOf}
-use Rattle.sf_play_report.specs.sf_token.Looking.{IsLookedArrival}
+use Rattle.sf_play_report.specs.sf_token.Loads.{IsLookedArrival}
 use Rattle.sf_play_report.specs.sf_token.Pending.{Arrival, is_of}
 use Rattle.sf_play_report.specs.sf_turns.Views.{SeatView}
 use Rattle.sf_play_report.specs.sf_txn.Buffers.{Buffer}

@@ -19,8 +19,8 @@ use Rattle.sf_play_report.specs.sf_actor.Values.{reply_at, replies_of}
 use Rattle.sf_play_report.specs.sf_record.Fitting.{RecordFits}
 use Rattle.sf_play_report.specs.sf_record.declared.event.Event.{Event}
 use Rattle.sf_play_report.specs.sf_record.declared.event.Event.TheVariants as event
-use Rattle.sf_play_report.specs.sf_record.declared.event.VsyncReport.{VsyncReport}
-use Rattle.sf_play_report.specs.sf_record.declared.record.Reply.{Reply}
+use Rattle.sf_play_report.specs.sf_record.declared.event.VsyncRecords.{VsyncRecords}
+use Rattle.sf_play_report.specs.sf_record.declared.record.ReplyRecord.{ReplyRecord}
 use Rattle.sf_play_report.proofs.law_played_lemmas.ArrivedFrames.{is_actor}
 use Rattle.sf_play_report.proofs.law_played_lemmas.StepKeepsTold.{of_all}
 use Rattle.sf_play_report.proofs.law_played_lemmas.Members.{has_cases, has_here, has_later, has_map, has_none, map_has}
@@ -42,37 +42,37 @@ use Rattle.sf_play.specs.Going.{EndsRun}
 use Rattle.sf_play.specs.Players.{PlayerOf, SoFar, Stands, arrived_at, home_in, run_so, view_in}
 use Rattle.sf_play.specs.Standing.{StandsInRun}
 
-abbrev is_to : ℕ → Reply → Bool
+abbrev is_to : ℕ → ReplyRecord → Bool
 is_to actor reply = reply.actor == actor
 
 -- vsyncs and replies among events of one kind
-vsyncs_alone : (reports : List VsyncReport) → flat_map vsync_in (map event.Vsync reports) ≡ reports
+vsyncs_alone : (reports : List VsyncRecords) → flat_map vsync_in (map event.Vsync reports) ≡ reports
 vsyncs_alone [] = refl
-vsyncs_alone (report ∷ reports) = ap (λ (rs : List VsyncReport). report ∷ rs) (vsyncs_alone reports)
+vsyncs_alone (report ∷ reports) = ap (λ (rs : List VsyncRecords). report ∷ rs) (vsyncs_alone reports)
 
-no_replies : (reports : List VsyncReport) → flat_map reply_in (map event.Vsync reports) ≡ []
+no_replies : (reports : List VsyncRecords) → flat_map reply_in (map event.Vsync reports) ≡ []
 no_replies [] = refl
 no_replies (report ∷ reports) = no_replies reports
 
-no_vsyncs : (replies : List Reply) → flat_map vsync_in (map event.Reply replies) ≡ []
+no_vsyncs : (replies : List ReplyRecord) → flat_map vsync_in (map event.Reply replies) ≡ []
 no_vsyncs [] = refl
 no_vsyncs (reply ∷ replies) = no_vsyncs replies
 
-replies_alone : (replies : List Reply) → flat_map reply_in (map event.Reply replies) ≡ replies
+replies_alone : (replies : List ReplyRecord) → flat_map reply_in (map event.Reply replies) ≡ replies
 replies_alone [] = refl
-replies_alone (reply ∷ replies) = ap (λ (rs : List Reply). reply ∷ rs) (replies_alone replies)
+replies_alone (reply ∷ replies) = ap (λ (rs : List ReplyRecord). reply ∷ rs) (replies_alone replies)
 
 -- the replies to the steps of an actor are its own
 own_replies : (n : ℕ) (ats : List DoneAt) → filter (is_to n) (map reply_shown (map (reply_at n) ats)) ≡ map reply_shown (map (reply_at n) ats)
 own_replies n [] = refl
-own_replies n (at ∷ ats) = rw (eq-eqb n n refl) (ap (λ (rs : List Reply). reply_shown (reply_at n at) ∷ rs) (own_replies n ats))
+own_replies n (at ∷ ats) = rw (eq-eqb n n refl) (ap (λ (rs : List ReplyRecord). reply_shown (reply_at n at) ∷ rs) (own_replies n ats))
 
 others_replies : (n m : ℕ) (ats : List DoneAt) → n ≢ m → filter (is_to m) (map reply_shown (map (reply_at n) ats)) ≡ []
 others_replies n m [] apart = refl
 others_replies n m (at ∷ ats) apart = rw (ne_eqb n m apart) (others_replies n m ats apart)
 
 module _ (run : Run) where
-  abbrev due : ActorScript → List Reply
+  abbrev due : ActorScript → List ReplyRecord
   due script = replies_due run script.number
 
   late_vsyncs : (scripts : List ActorScript) → flat_map vsync_in (flat_map (reply_events run) scripts) ≡ []
@@ -121,7 +121,7 @@ module _ (run : Run) where
         ++ each_due scripts (later_rises actor_number first scripts up) script c i)
   ]
 
-  all_due : (P : Reply → Type 0) (scripts : List ActorScript) → ((script : ActorScript) → Contains scripts script → (at : DoneAt) → P (reply_shown (reply_at script.number at)))
+  all_due : (P : ReplyRecord → Type 0) (scripts : List ActorScript) → ((script : ActorScript) → Contains scripts script → (at : DoneAt) → P (reply_shown (reply_at script.number at)))
       → All P (flat_map due scripts)
   all_due P [] each = All-nil P
   all_due P (script ∷ scripts) each =
@@ -140,11 +140,11 @@ module _ (run : Run) where
     replies = answers;
     arrive = fits.arrive;
     vsyncs = subst (AreVsyncs scene (signals_in scene run)) (sym vsyncs) fits.vsyncs;
-    commits = subst (λ (vs : List VsyncReport). CommitInOrder arrivals (written_in scene run) (commits_in vs) (told_of scene arrivals vs)) (sym vsyncs) fits.commits;
-    calls = subst (λ (vs : List VsyncReport). AreHistories scene run (released_in (told_of scene arrivals vs)) shows.histories) (sym vsyncs) fits.calls;
-    frames = subst (λ (vs : List VsyncReport). ShowImages scene (told_of scene arrivals vs)) (sym vsyncs) fits.frames;
-    buffers = subst (λ (vs : List VsyncReport). ShowAsQueued scene shows.histories (commits_in vs)) (sym vsyncs) fits.buffers;
-    holds = subst (λ (vs : List VsyncReport). AreHeld (end_of scene run (told_of scene arrivals vs)) (uncommitted arrivals (commits_in vs)) shows.held) (sym vsyncs) fits.holds;
+    commits = subst (λ (vs : List VsyncRecords). CommitInOrder arrivals (written_in scene run) (commits_in vs) (told_of scene arrivals vs)) (sym vsyncs) fits.commits;
+    calls = subst (λ (vs : List VsyncRecords). AreHistories scene run (released_in (told_of scene arrivals vs)) shows.histories) (sym vsyncs) fits.calls;
+    frames = subst (λ (vs : List VsyncRecords). ShowImages scene (told_of scene arrivals vs)) (sym vsyncs) fits.frames;
+    buffers = subst (λ (vs : List VsyncRecords). ShowAsQueued scene shows.histories (commits_in vs)) (sym vsyncs) fits.buffers;
+    holds = subst (λ (vs : List VsyncRecords). AreHeld (end_of scene run (told_of scene arrivals vs)) (uncommitted arrivals (commits_in vs)) shows.held) (sym vsyncs) fits.holds;
     ends = fits.ends;
   }
 
@@ -175,8 +175,8 @@ module _ {B : Type 0} (table : TableId) (scene : SceneValue) (so : SoFar B) (pla
             ap (filter (is_to script.number)) replies
             ∙ each_due run (rising_actors scene) up script
             (subst (λ (ss : List ActorScript). Contains ss script) (sym are) (Contains-permutation scene.actors (map script_of so.actors) script stands.tell.actors.scripts there)));
-        of_none_else = subst (All (λ (reply : Reply). has_actor scene.actors reply.actor ≡ true)) (sym replies)
-            (all_due run (λ (reply : Reply). has_actor scene.actors reply.actor ≡ true) (rising_actors scene) (λ script there at. among script there));
+        of_none_else = subst (All (λ (reply : ReplyRecord). has_actor scene.actors reply.actor ≡ true)) (sym replies)
+            (all_due run (λ (reply : ReplyRecord). has_actor scene.actors reply.actor ≡ true) (rising_actors scene) (λ script there at. among script there));
       }
 
   pub fits_late : EndsRun scene so player → FitsWhere (home_in player.play).tells scene (shows_late scene so player) run (arrived_at player.play)
@@ -185,5 +185,5 @@ module _ {B : Type 0} (table : TableId) (scene : SceneValue) (so : SoFar B) (pla
   pub played_live : EndsRun scene so player → All RecordFits (records_of scene (shows_late scene so player)) → PlayedLiveWhere (home_in player.play).tells scene (records_of scene (shows_late scene so player))
   played_live fits fit = record {
     played = record { shows = shows_late scene so player; order = refl; fit = fit; run = run; arrivals = arrived_at player.play; fits = fits_late fits };
-    late = ap (λ (vs : List VsyncReport). map event.Vsync vs ++ flat_map (reply_events run) (rising_actors scene)) (sym (same_vsyncs run scene so.events));
+    late = ap (λ (vs : List VsyncRecords). map event.Vsync vs ++ flat_map (reply_events run) (rising_actors scene)) (sym (same_vsyncs run scene so.events));
   }

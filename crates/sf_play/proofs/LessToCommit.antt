@@ -20,7 +20,7 @@ use Rattle.sf_play.specs.Fuel.{now_in, steps_left, to_commit, untaken, work_left
 use Rattle.sf_play.specs.Giving.{GivesFrames}
 use Rattle.sf_play.specs.Players.{PlayOf, home_in, view_in}
 use Rattle.sf_play.specs.Vsyncing.{MakesVsync}
-use Rattle.sf_play.proofs.TurnFuel.{same_rest}
+use Rattle.sf_play.proofs.ActionFuel.{same_rest}
 use Rattle.sf_play.proofs.WaitingWork.{left_by_vsync, less_by_vsync}
 
 -- nothing is behind all of a list

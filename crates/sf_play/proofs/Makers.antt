@@ -1,4 +1,4 @@
--- The makers of buffers are followed through the run of a play, and what draws entered is in turn: so it is after each turn, and it
+-- The makers of buffers are followed through the run of a play, and what draws entered is in turn: so it is after each action, and it
 -- tells which draws are older.
 use Rattle.std.proofs.Common.{◌≡◌, ℕ, set, sym, subst}
 use Rattle.std.specs.Prelude.{Contains}

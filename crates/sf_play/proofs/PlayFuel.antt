@@ -1,4 +1,4 @@
--- How long a play lasts: each turn lessens its fuel, and vsyncs do not pass those that were left.
+-- How long a play lasts: each action lessens its fuel, and vsyncs do not pass those that were left.
 use Rattle.std.proofs.lemmas.Option.{slice_get-get_or}
 use Rattle.std.proofs.Common.{◌≡◌, ℕ, zero, suc, ◌+◌, ◌-◌, ◌*◌, ◌<◌, ◌≤◌, Bool, true, false, List, [], ◌∷◌, get_or, length, drop, map, Option, Some, None, refl, sym, ap, ◌∙◌, subst, inl, inr, arith}
 use Rattle.std.specs.Prelude.{◌⊎◌, ◌==◌, nat_lt, slice_get}
@@ -12,7 +12,7 @@ use Rattle.std.proofs.Math.Nat.{mul-le-mul_right}
 use Rattle.sf_script_scene.specs.Limits.{most_actors}
 use Rattle.sf_script_scene.specs.declared.declarations.Pick.{Pick}
 use Rattle.law_rights.specs.sf_actor_steps.declared.actor.Actor.{Actor}
-use Rattle.sf_play.specs.Fuel.{fuel, now_in, round_fuel, rounds_left, steps_left, to_commit, turns_of, untaken, vsyncs_left, work_left}
+use Rattle.sf_play.specs.Fuel.{fuel, now_in, round_fuel, rounds_left, steps_left, to_commit, actions_of, untaken, vsyncs_left, work_left}
 use Rattle.sf_play.specs.Places.{behind, settled, settled_at}
 use Rattle.sf_play.specs.Players.{PlayOf}
 use Rattle.sf_play.specs.declared.place.Place.{Place}
@@ -26,29 +26,29 @@ from_here (p ∷ order) (suc place) pick here =
     let next : suc (place + 1) ≡ suc place + 1 = omega arith in
     from_here order place pick here ∙ ap (λ (n : ℕ). pick ∷ drop n (p ∷ order)) next
 
--- the turns that are left of picks, before so much more
+-- the actions that are left of picks, before so much more
 abbrev ahead : List Pick → ℕ → Place → ℕ
-ahead order more (at.Order place done) = turns_of (drop place order) done + more
+ahead order more (at.Order place done) = actions_of (drop place order) done + more
 ahead order more other = more
 
-behind_less : (order : List Pick) (place more : ℕ) → ahead order more (behind order place) ≤ turns_of (drop (place + 1) order) 0 + more
+behind_less : (order : List Pick) (place more : ℕ) → ahead order more (behind order place) ≤ actions_of (drop (place + 1) order) 0 + more
 behind_less order place more = elim (cases_Bool (nat_lt (place + 1) (length order))) [
   | inl met ↦ rw met (omega arith)
   | inr unmet ↦ rw unmet (omega arith)
 ]
 
--- where the next turn is done, no more is left
-settled_less : (order : List Pick) (place done more : ℕ) (found : Option Pick) → slice_get order place ≡ found → ahead order more (settled_at order place done found) ≤ turns_of (drop place order) done + more
+-- where the next action is done, no more is left
+settled_less : (order : List Pick) (place done more : ℕ) (found : Option Pick) → slice_get order place ≡ found → ahead order more (settled_at order place done found) ≤ actions_of (drop place order) done + more
 settled_less order place done more None e = omega arith
 settled_less order place done more (Some pick) e =
-    let split = ap (λ (later : List Pick). turns_of later done) (from_here order place pick e) in
+    let split = ap (λ (later : List Pick). actions_of later done) (from_here order place pick e) in
     let less = behind_less order place more in
     elim (cases_Bool (nat_lt done pick.times)) [
       | inl met ↦ rw met (omega arith)
       | inr unmet ↦ rw unmet (omega (arith, less, split))
     ]
 
--- rounds with no more to do, and no more turns of the one that was begun, are no more
+-- rounds with no more to do, and no more actions of the one that was begun, are no more
 no_more : (work rounds actors many here place : ℕ) → work ≤ rounds → actors ≡ many → (many + 1) - here ≤ (many + 1) - place → work * (actors + 2) + ((actors + 1) - here) + 1 ≤ rounds * (many + 2) + ((many + 1) - place) + 1
 no_more work rounds actors many here place less same turns =
     let product = mul-le-mul_right (many + 2) less in
@@ -87,17 +87,17 @@ module _ {B : Type 0} (order : List Pick) where
   settled_vsyncs play (at.Round place stepped) = omega arith
   settled_vsyncs play at.End = omega arith
 
-  -- a turn of the order
+  -- an action of the order
   pub order_less : (old new : PlayOf B) (place done : ℕ) (pick : Pick) → slice_get order place ≡ Some pick → done < pick.times → work_left new ≤ work_left old
       → length new.actor_set.actors ≡ length old.actor_set.actors → fuel order new (at.Order place (done + 1)) < fuel order old (at.Order place done)
   order_less old new place done pick here left work many =
-      let now = ap (λ (later : List Pick). turns_of later (done + 1)) (from_here order place pick here) in
-      let was = ap (λ (later : List Pick). turns_of later done) (from_here order place pick here) in
+      let now = ap (λ (later : List Pick). actions_of later (done + 1)) (from_here order place pick here) in
+      let was = ap (λ (later : List Pick). actions_of later done) (from_here order place pick here) in
       let rounds : rounds_left new false ≤ rounds_left old false = omega (arith, work) in
       let rest = no_more (rounds_left new false) (rounds_left old false) (length new.actor_set.actors) (length old.actor_set.actors) 0 0 rounds many (omega arith) in
       omega (arith, now, was, left, rest)
 
-  -- a turn of an actor in a round
+  -- an action of an actor in a round
   pub round_less : (old new : PlayOf B) (place : ℕ) (was did : Bool) → place < length old.actor_set.actors → rounds_left new did ≤ rounds_left old was
       → length new.actor_set.actors ≡ length old.actor_set.actors → fuel order new (at.Round (place + 1) did) < fuel order old (at.Round place was)
   round_less old new place was did low rounds many =
@@ -135,8 +135,8 @@ module _ {B : Type 0} (order : List Pick) where
   pub order_vsyncs : (old new : PlayOf B) (place done : ℕ) (pick : Pick) → slice_get order place ≡ Some pick → done < pick.times → work_left new ≤ work_left old → new.vsyncs ≤ old.vsyncs + 1
       → new.vsyncs + vsyncs_left order new (at.Order place (done + 1)) ≤ old.vsyncs + vsyncs_left order old (at.Order place done)
   order_vsyncs old new place done pick here left work vsyncs =
-      let now = ap (λ (later : List Pick). turns_of later (done + 1)) (from_here order place pick here) in
-      let was = ap (λ (later : List Pick). turns_of later done) (from_here order place pick here) in
+      let now = ap (λ (later : List Pick). actions_of later (done + 1)) (from_here order place pick here) in
+      let was = ap (λ (later : List Pick). actions_of later done) (from_here order place pick here) in
       omega (arith, now, was, left, work, vsyncs)
 
   pub round_vsyncs : (old new : PlayOf B) (place next : ℕ) (was did : Bool) → rounds_left new did ≤ rounds_left old was → new.vsyncs ≡ old.vsyncs
@@ -150,14 +150,14 @@ module _ {B : Type 0} (order : List Pick) where
   pub end_vsyncs : (old new : PlayOf B) (place : ℕ) (was : Bool) → new.vsyncs ≡ old.vsyncs + 1 → new.vsyncs + vsyncs_left order new at.End ≤ old.vsyncs + vsyncs_left order old (at.Round place was)
   end_vsyncs old new place was vsyncs = omega (arith, vsyncs)
 
--- a place in the order at which the next turn is done has a pick with a turn left
-pub record HasTurn (order : List Pick) (place done : ℕ) : Type 0 where
+-- a place in the order at which the next action is done has a pick with an action left
+pub record HasAction (order : List Pick) (place done : ℕ) : Type 0 where
   pub pick : Pick
   pub here : slice_get order place ≡ Some pick
   pub left : done < pick.times
 
 abbrev HasIfOrder : List Pick → Place → Type 0
-HasIfOrder order (at.Order place done) = HasTurn order place done
+HasIfOrder order (at.Order place done) = HasAction order place done
 HasIfOrder order other = Unit {0}
 
 has_behind : (order : List Pick) (place : ℕ) → All (λ (pick : Pick). 1 ≤ pick.times) order → HasIfOrder order (behind order place)
@@ -176,16 +176,16 @@ has_settled order place done (Some pick) e times = elim (cases_Bool (nat_lt done
   | inr unmet ↦ rw unmet (has_behind order place times)
 ]
 
-pub settled_has : (order : List Pick) (from : Place) (place done : ℕ) → All (λ (pick : Pick). 1 ≤ pick.times) order → settled order from ≡ at.Order place done → HasTurn order place done
+pub settled_has : (order : List Pick) (from : Place) (place done : ℕ) → All (λ (pick : Pick). 1 ≤ pick.times) order → settled order from ≡ at.Order place done → HasAction order place done
 settled_has order (at.Order p d) place done times e = subst (HasIfOrder order) e (has_settled order p d (slice_get order p) refl times)
 settled_has order (at.Round p stepped) place done times e = absurd (cc (e))
 settled_has order at.End place done times e = absurd (cc (e))
 
--- the turns of all picks are few
-few_turns : (order : List Pick) (done : ℕ) → All (λ (pick : Pick). pick.times ≤ 256) order → turns_of order done ≤ 256 * length order
-few_turns [] done times = omega arith
-few_turns (pick ∷ later) done times =
-    let rest = few_turns later 0 (All-tail (λ (p : Pick). p.times ≤ 256) pick later times) in
+-- the actions of all picks are few
+few_actions : (order : List Pick) (done : ℕ) → All (λ (pick : Pick). pick.times ≤ 256) order → actions_of order done ≤ 256 * length order
+few_actions [] done times = omega arith
+few_actions (pick ∷ later) done times =
+    let rest = few_actions later 0 (All-tail (λ (p : Pick). p.times ≤ 256) pick later times) in
     let here = All-head (λ (p : Pick). p.times ≤ 256) pick later times in
     omega (arith, rest, here)
 
@@ -238,7 +238,7 @@ module _ {B : Type 0} where
       let mapped = length-map actors (λ (actor : Actor B). actor.script.number) in
       let steps = few_steps actors (All-weaker (λ (actor : Actor B). ((1 ≤ actor.script.number) × (actor.script.number ≤ 64)) × (length actor.script.steps ≤ 4096))
       (λ (actor : Actor B). length actor.script.steps ≤ 4096) (λ actor is. is.1) actors each) in
-      let turns = few_turns order 0 times in
+      let turns = few_actions order 0 times in
       let waits = ap (to_commit (now_in play)) pending in
       let sent = ap (to_commit (now_in play)) none in
       omega (arith, few, many, mapped, steps, turns, waits, sent)

@@ -1,4 +1,4 @@
--- The ledger of a play: it stands before the first turn and after a vsync, and tells what a vsync's looks show.
+-- The ledger of a play: it stands before the first action and after a vsync, and tells what a vsync's looks show.
 use Rattle.std.proofs.Common.{◌≡◌, ℕ, zero, suc, ◌+◌, ◌*◌, ◌≤◌, ◌==◌, ◌||◌, Bool, true, false, List, [], ◌∷◌, ◌++◌, length, map, take, drop, refl, ap, sym, ◌∙◌, subst, inl, inr, arith}
 use Rattle.std.specs.Prelude.{Contains}
 use Rattle.std.specs.List.{All, flat_map, list_any}
@@ -41,7 +41,7 @@ use Rattle.sf_play_report.specs.law_played.Commits.{is_written}
 use Rattle.sf_play_report.specs.law_played.Progress.{ShowsWhatIsWritten}
 use Rattle.sf_play_report.specs.law_played.Runs.{written_in}
 use Rattle.law_rights.specs.Actors.{AreOver}
-use Rattle.law_rights.specs.Looks.{WasAcquired}
+use Rattle.law_rights.specs.Loads.{WasAcquired}
 use Rattle.law_rights.specs.Standing.{GiveAll, LedgerStands, VsyncIn, home_taken}
 use Rattle.law_rights.specs.PlaceTries.{TellsPlaces}
 use Rattle.law_rights.specs.States.{is_queue}

@@ -40,8 +40,8 @@ use Rattle.law_rights.specs.Standing.{stock_of}
 use Rattle.law_rights.specs.Standing.{Begins as RightsBegin}
 use Rattle.law_rights.specs.States.{AreApart}
 use Rattle.sf_play.proofs.AlongEnds.{begins_along}
-use Rattle.sf_play.proofs.FirstTurn.{arrivals_none, calls_none, nothing, stands_at_first}
-use Rattle.sf_play.proofs.TurnKeepsPlayer.{begins_stand}
+use Rattle.sf_play.proofs.BeforeFirstAction.{arrivals_none, calls_none, nothing, stands_at_first}
+use Rattle.sf_play.proofs.ActionKeepsPlayer.{begins_stand}
 use Rattle.sf_play.proofs.Stocks.{all_fresh, dealt_below, dealt_once, marks_apart}
 use Rattle.sf_play.specs.Alongs.{PlaysSo}
 use Rattle.sf_play.specs.Players.{PlayOf, PlayerOf, SoFar, home_in, run_so, view_in}
@@ -50,7 +50,7 @@ use Rattle.sf_play.specs.Standing.{Begins, HoldsAt, IsPlayer, StandsAlong}
 use Rattle.sf_play.specs.declared.place.Place.{Place}
 use Rattle.sf_play.specs.declared.place.Place.TheVariants as at
 
--- before the first turn
+-- before the first action
 module _ {B : Type 0} (table : TableId) (scene : SceneValue) (limits : IsWithinLimits scene) (seat : SeatView) (stock : List ℕ) (play : PlayOf B) (opens : Opens table scene.queues scene.pictures scene.actors seat stock play.actor_set)
     (period : play.period ≡ scene.period) (order : play.order ≡ scene.order) (handler : play.handler ≡ new_handler scene.width scene.height (most_layers scene.version)) (none : play.vsyncs ≡ 0) where
   opened_are : (home : DeskHome) (view : DeskView B) (pictures : ℕ → Picture) (actors : List (Actor B)) (ofs : List (ActorOf B)) → KeepAs table pictures home view actors ofs → AllZip (IsActor table) actors ofs

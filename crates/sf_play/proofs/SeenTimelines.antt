@@ -18,11 +18,11 @@ use Rattle.sf_script_scene.specs.declared.step.Step.{Step}
 use Rattle.sf_script_scene.specs.declared.step.Step.TheVariants as step
 use Rattle.sf_play_report.specs.sf_actor.Desks.{DeskHome, DeskView}
 use Rattle.sf_play_report.specs.sf_actor.Known.{AreAmong}
-use Rattle.sf_play_report.specs.sf_actor.Tales.{step_done}
+use Rattle.sf_play_report.specs.sf_actor.ScriptTraces.{step_done}
 use Rattle.sf_play_report.specs.sf_actor.Tries.{ActorOf, Sees}
 use Rattle.sf_play_report.specs.sf_actor.Written.{signal_of, signals_of}
 use Rattle.sf_play_report.specs.sf_actor.declared.done.Done.{Done}
-use Rattle.sf_play_report.specs.sf_record.declared.event.VsyncReport.{VsyncReport}
+use Rattle.sf_play_report.specs.sf_record.declared.event.VsyncRecords.{VsyncRecords}
 use Rattle.sf_play_report.specs.sf_record.declared.record.TimelineValue.{TimelineValue}
 use Rattle.sf_play_report.proofs.law_played_lemmas.Members.{filter_has, has_cases, has_first, has_here, has_later, has_map, has_none, joined_has, map_has}
 use Rattle.sf_play_report.proofs.law_played_lemmas.SeenLemmas.{seen_is}
@@ -91,7 +91,7 @@ pub record SeesSignals (scene : SceneValue) (made signals : List (ℕ × ℕ)) (
 
 module _ (scene : SceneValue) (limits : IsWithinLimits scene) (made signals : List (ℕ × ℕ)) (seen : Seen) (sees : SeesSignals scene made signals seen) where
   -- what is shown of the timelines is what was seen of them
-  pub saw_is : (report : VsyncReport) → report.timelines ≡ values_shown scene seen → seen_by report ≡ seen
+  pub saw_is : (report : VsyncRecords) → report.timelines ≡ values_shown scene seen → seen_by report ≡ seen
   saw_is report shown = seen_is scene seen report sees.all shown (λ t low high undeclared. elim (greatest_there t signals) [
     | inl nothing ↦ sees.exact t low high ∙ nothing
     | inr there ↦ absurd (false≢true (sym undeclared ∙ sees.declared (t, greatest t signals) there))
@@ -155,24 +155,24 @@ all_more : {X : Type 0} (P : X → Type 0) (xs : List X) (y : X) → All P xs �
 all_more P xs y all one = All-append P xs (y ∷ []) all (All-cons P y [] one (All-nil P))
 
 -- one vsync more
-pub vsyncs_more : (scene : SceneValue) (made signals : List (ℕ × ℕ)) (seen : Seen) (vsyncs : List VsyncReport) (report : VsyncReport) (before : ℕ) → IsWithinLimits scene → SeesSignals scene made signals seen
-    → AreVsyncs scene made vsyncs → All (λ (vsync : VsyncReport). vsync.number ≤ before) vsyncs
+pub vsyncs_more : (scene : SceneValue) (made signals : List (ℕ × ℕ)) (seen : Seen) (vsyncs : List VsyncRecords) (report : VsyncRecords) (before : ℕ) → IsWithinLimits scene → SeesSignals scene made signals seen
+    → AreVsyncs scene made vsyncs → All (λ (vsync : VsyncRecords). vsync.number ≤ before) vsyncs
     → report.number ≡ before + 1 → report.expected ≡ report.number * scene.period → report.timelines ≡ values_shown scene seen → report.commits ≢ [] → AreVsyncs scene made (vsyncs ++ report ∷ [])
 vsyncs_more scene made signals seen vsyncs report before limits sees are numbers next due shown commits = record {
-  from_1 = all_more (λ (vsync : VsyncReport). 0 < vsync.number) vsyncs report are.from_1 (omega (arith, next));
-  go_on = next_more GoesOn vsyncs report are.go_on (all_that (λ (vsync : VsyncReport). GoesOn vsync report) vsyncs (λ vsync there.
-      let number = All-contains (λ (vsync : VsyncReport). vsync.number ≤ before) vsyncs vsync numbers there in (
+  from_1 = all_more (λ (vsync : VsyncRecords). 0 < vsync.number) vsyncs report are.from_1 (omega (arith, next));
+  go_on = next_more GoesOn vsyncs report are.go_on (all_that (λ (vsync : VsyncRecords). GoesOn vsync report) vsyncs (λ vsync there.
+      let number = All-contains (λ (vsync : VsyncRecords). vsync.number ≤ before) vsyncs vsync numbers there in (
         omega (arith, number, next),
         subst (λ (tvs : List TimelineValue). AllZip HasNotFallen vsync.timelines tvs) (sym shown)
             (not_fallen scene limits made signals seen sees (rising_timelines scene) vsync.timelines
-            (All-contains (λ (vsync : VsyncReport). map timeline_of vsync.timelines ≡ rising_timelines scene) vsyncs vsync are.timelines there)
-            (All-contains (λ (vsync : VsyncReport). All (WasSignalled made) vsync.timelines) vsyncs vsync are.signalled there) (ranges scene limits)),
+            (All-contains (λ (vsync : VsyncRecords). map timeline_of vsync.timelines ≡ rising_timelines scene) vsyncs vsync are.timelines there)
+            (All-contains (λ (vsync : VsyncRecords). All (WasSignalled made) vsync.timelines) vsyncs vsync are.signalled there) (ranges scene limits)),
       )));
-  expected = all_more (λ (vsync : VsyncReport). vsync.expected ≡ vsync.number * scene.period) vsyncs report are.expected due;
-  commit = all_more (λ (vsync : VsyncReport). vsync.commits ≢ []) vsyncs report are.commit commits;
-  timelines = all_more (λ (vsync : VsyncReport). map timeline_of vsync.timelines ≡ rising_timelines scene) vsyncs report are.timelines
+  expected = all_more (λ (vsync : VsyncRecords). vsync.expected ≡ vsync.number * scene.period) vsyncs report are.expected due;
+  commit = all_more (λ (vsync : VsyncRecords). vsync.commits ≢ []) vsyncs report are.commit commits;
+  timelines = all_more (λ (vsync : VsyncRecords). map timeline_of vsync.timelines ≡ rising_timelines scene) vsyncs report are.timelines
       (ap (map timeline_of) shown ∙ timelines_are scene limits made signals seen sees (rising_timelines scene));
-  signalled = all_more (λ (vsync : VsyncReport). All (WasSignalled made) vsync.timelines) vsyncs report are.signalled
+  signalled = all_more (λ (vsync : VsyncRecords). All (WasSignalled made) vsync.timelines) vsyncs report are.signalled
       (subst (λ (tvs : List TimelineValue). All (WasSignalled made) tvs) (sym shown) (all_that (WasSignalled made) (values_shown scene seen) (λ tv there.
       let k = map_has (value_shown seen) (rising_timelines scene) tv there in
       let range = rising_is scene limits k.0 k.1 in

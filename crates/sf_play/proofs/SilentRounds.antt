@@ -46,10 +46,10 @@ use Rattle.sf_play.specs.Giving.{GivesFrames}
 use Rattle.sf_play.specs.Places.{behind, settled, settled_at}
 use Rattle.sf_play_report.specs.Reports.{has_commits}
 use Rattle.sf_play.specs.Players.{PlayOf, PlayerOf, SoFar, Stands, home_in, run_so, taken_at, told_at, view_in, written_so}
-use Rattle.sf_play.specs.Turning.{EndsRound, Rounds, RoundsIf, Turns, TurnsAt, TurnsVsync, is_step, turn_by}
+use Rattle.sf_play.specs.Actions.{EndsRound, Rounds, RoundsIf, TakesAction, TakesActionAt, TakesVsync, is_step, action_by}
 use Rattle.sf_play.specs.declared.place.Place.{Place}
 use Rattle.sf_play.specs.declared.place.Place.TheVariants as at
-use Rattle.sf_play.specs.declared.turn.Turn.{Turn}
+use Rattle.sf_play.specs.declared.action.Action.{Action}
 
 -- one more of the first of a list
 take_more : {X : Type 0} (xs : List X) (n : ℕ) (x : X) → slice_get xs n ≡ Some x → take (suc n) xs ≡ take n xs ++ x ∷ []
@@ -111,7 +111,7 @@ module _ {B : Type 0} where
 
   module _ {R C : Type 0} (lease : Ghosts ReadLeaseOf SeatView R C) (frames : OfFrames lease) (table : TableId) (scene : SceneValue) (so : SoFar B) (old new : PlayerOf B) where
     -- the last vsync of a play
-    pub comes_to_end : (came_to : Turn) → Stands table scene so old.play → LooksTell lease table scene so old.play new.play → (vsync : TurnsVsync lease table so.actors old new came_to)
+    pub comes_to_end : (came_to : Action) → Stands table scene so old.play → LooksTell lease table scene so old.play new.play → (vsync : TakesVsync lease table so.actors old new came_to)
         → has_commits vsync.report.commits ≡ false → list_any (λ (h : ℕ × Hold). is_time h.1) new.held ≡ false → All (Rests scene (run_so so old.play)) so.actors → IsAtEnd scene so new
     comes_to_end came_to stands looks vsync quiet no_time rest =
         let makes = vsync.makes in
@@ -140,7 +140,7 @@ module _ {B : Type 0} where
           rest = subst (λ (run : Run). All (Rests scene run) so.actors) (sym same) rest;
         }
 
-    -- where the next turn is done, each that was tried rests as before it
+    -- where the next action is done, each that was tried rests as before it
     none_tried : (play : PlayerOf B) (s : SoFar B) → RestsAt scene s play (at.Round 0 false)
     none_tried play s = All-nil (Rests scene (run_so s play.play))
 
@@ -156,7 +156,7 @@ module _ {B : Type 0} where
     settled_rests order (at.Round place was) rests = rests
     settled_rests order at.End rests = rests
 
-    module _ (later : SoFar B) (came_to : Turn) (stands : Stands table scene so old.play) (now : Stands table scene later new.play) (legal : IsLegalDesk new.play.actor_set.desk)
+    module _ (later : SoFar B) (came_to : Action) (stands : Stands table scene so old.play) (now : Stands table scene later new.play) (legal : IsLegalDesk new.play.actor_set.desk)
         (same : has_shown came_to ≡ false → later ≡ so) (looks : has_shown came_to ≡ false → LooksTell lease table scene so old.play new.play) where
       as_before : (place : Place) → has_shown came_to ≡ false → RestsAt scene so new place → RestsAt scene later new place
       as_before place none = subst (λ (s : SoFar B). RestsAt scene s new place) (sym (same none))
@@ -164,7 +164,7 @@ module _ {B : Type 0} where
       still_stands : has_shown came_to ≡ false → Stands table scene so new.play
       still_stands none = subst (λ (s : SoFar B). Stands table scene s new.play) (same none) now
 
-      tried_at : (place : ℕ) (tries : Stepped) → came_to ≡ turn_by place tries → home_of new.play.actor_set.desk ≡ home_of old.play.actor_set.desk
+      tried_at : (place : ℕ) (tries : Stepped) → came_to ≡ action_by place tries → home_of new.play.actor_set.desk ≡ home_of old.play.actor_set.desk
           → StepsAt table (picture_at old.play.actor_set.pictures) place old.play.actor_set.actors so.actors old.play.actor_set.desk new.play.actor_set.actors new.play.actor_set.desk tries
           → All (Rests scene (run_so so old.play)) (take place so.actors) → RestsAt scene later new (at.Round (place + 1) (is_step came_to))
       tried_at place stepped.Done is home steps rests = subst (λ (b : Bool). RestsAt scene later new (at.Round (place + 1) b)) (sym (ap is_step is)) tt
@@ -202,11 +202,11 @@ module _ {B : Type 0} where
               let high = ltb-false place (length old.play.actor_set.actors) e in
               ends_round ends (subst (All (Rests scene (run_so so old.play))) (take_all place so.actors (omega (arith, many, high))) rests)
 
-      turn_rests : (from : Place) → TurnsAt lease table so.actors from old new came_to → RestsAt scene so old old.place → RestsAt scene so old from → RestsAt scene later new new.place
-      turn_rests (at.Order place done) takes rested rests = subst (RestsAt scene later new) (sym takes.next) tt
-      turn_rests (at.Round place was) rounds rested rests = round_rests place was rounds rests
-      turn_rests at.End turns rested rests = as_before new.place (ap has_shown turns.0) (subst (λ (p : PlayerOf B). RestsAt scene so p p.place) (sym turns.1) rested)
+      action_rests : (from : Place) → TakesActionAt lease table so.actors from old new came_to → RestsAt scene so old old.place → RestsAt scene so old from → RestsAt scene later new new.place
+      action_rests (at.Order place done) takes rested rests = subst (RestsAt scene later new) (sym takes.next) tt
+      action_rests (at.Round place was) rounds rested rests = round_rests place was rounds rests
+      action_rests at.End acts rested rests = as_before new.place (ap has_shown acts.0) (subst (λ (p : PlayerOf B). RestsAt scene so p p.place) (sym acts.1) rested)
 
-      -- each turn
-      pub turns_rest : Turns lease table so.actors old new came_to → RestsAt scene so old old.place → RestsAt scene later new new.place
-      turns_rest turns rests = turn_rests (settled old.play.order old.place) turns rests (settled_rests old.play.order old.place rests)
+      -- each action
+      pub actions_rest : TakesAction lease table so.actors old new came_to → RestsAt scene so old old.place → RestsAt scene later new new.place
+      actions_rest acts rests = action_rests (settled old.play.order old.place) acts rests (settled_rests old.play.order old.place rests)

@@ -26,7 +26,7 @@ use Rattle.law_rights.specs.sf_actor_set.ActorSets.{ActorSetOf, IsSameActorSet, 
 use Rattle.law_rights.specs.sf_actor_steps.declared.actor.Actor.{Actor}
 use Rattle.sf_play_report.specs.sf_record.declared.event.Event.{Event}
 use Rattle.sf_play_report.specs.sf_record.declared.event.Event.TheVariants as event
-use Rattle.sf_play_report.specs.sf_record.declared.event.VsyncReport.{VsyncReport}
+use Rattle.sf_play_report.specs.sf_record.declared.event.VsyncRecords.{VsyncRecords}
 use Rattle.sf_play_report.specs.sf_record.declared.record.TimelineValue.{TimelineValue}
 use Rattle.sf_play_report.specs.law_played.Actors.{arrivals_of, mark_declared, number_of, run_of}
 use Rattle.sf_play_report.specs.law_played.Frames.{ShowImages}
@@ -61,7 +61,7 @@ map_joined {X} {Y} f (x ∷ xs) ys = ap (λ (zs : List Y). f x ∷ zs) (map_join
 -- a reply is no vsync
 no_vsync : (events : List Event) (e : Event) → vsync_in e ≡ [] → vsyncs_in (events ++ e ∷ []) ≡ vsyncs_in events
 unfolding vsyncs_in
-no_vsync events e none = flat_map-append vsync_in events (e ∷ []) ∙ ap (λ (v : List VsyncReport). flat_map vsync_in events ++ (v ++ [])) none ∙ append-nil (flat_map vsync_in events)
+no_vsync events e none = flat_map-append vsync_in events (e ∷ []) ∙ ap (λ (v : List VsyncRecords). flat_map vsync_in events ++ (v ++ [])) none ∙ append-nil (flat_map vsync_in events)
 
 -- what was signalled stays signalled
 still_signalled : (t : TimelineValue) (xs ys : List (ℕ × ℕ)) → AreAmong xs ys → WasSignalled xs t → WasSignalled ys t
@@ -77,14 +77,14 @@ still_signalled t xs ys more was = elim (or_cases (t.value == 0) (list_any (λ (
     or_right true b e = refl
     or_right false b e = e
 
-still_vsyncs : (scene : SceneValue) (xs ys : List (ℕ × ℕ)) (vsyncs : List VsyncReport) → AreAmong xs ys → AreVsyncs scene xs vsyncs → AreVsyncs scene ys vsyncs
+still_vsyncs : (scene : SceneValue) (xs ys : List (ℕ × ℕ)) (vsyncs : List VsyncRecords) → AreAmong xs ys → AreVsyncs scene xs vsyncs → AreVsyncs scene ys vsyncs
 still_vsyncs scene xs ys vsyncs more are = record {
   from_1 = are.from_1;
   go_on = are.go_on;
   expected = are.expected;
   commit = are.commit;
   timelines = are.timelines;
-  signalled = All-weaker (λ (v : VsyncReport). All (WasSignalled xs) v.timelines) (λ (v : VsyncReport). All (WasSignalled ys) v.timelines)
+  signalled = All-weaker (λ (v : VsyncRecords). All (WasSignalled xs) v.timelines) (λ (v : VsyncRecords). All (WasSignalled ys) v.timelines)
       (λ v. All-weaker (WasSignalled xs) (WasSignalled ys) (λ t. still_signalled t xs ys more) v.timelines) vsyncs are.signalled;
 }
 
@@ -201,9 +201,9 @@ module _ {B : Type 0} where
         vsyncs = record {
           vsyncs = subst (AreVsyncs scene (signals_so scene later_so later_play)) (sym same_vsyncs)
               (still_vsyncs scene (signals_so scene so play) (signals_so scene later_so later_play) (vsyncs_in so.events) signals stands.vsyncs.vsyncs);
-          numbers = subst (All (λ (vsync : VsyncReport). vsync.number ≤ play.vsyncs)) (sym same_vsyncs) stands.vsyncs.numbers;
+          numbers = subst (All (λ (vsync : VsyncRecords). vsync.number ≤ play.vsyncs)) (sym same_vsyncs) stands.vsyncs.numbers;
           last = stands.vsyncs.last ∙ sym (ap (λ (h : DeskHome). h.taken) same.home);
-          played = subst (λ (vs : List VsyncReport). HasPlayed frame_of scene (written_so scene later_so later_play) (taken_at later_play) vs play.handler) (sym same_vsyncs)
+          played = subst (λ (vs : List VsyncRecords). HasPlayed frame_of scene (written_so scene later_so later_play) (taken_at later_play) vs play.handler) (sym same_vsyncs)
               (subst (λ (taken : List (Arrival FrameOf)). HasPlayed frame_of scene (written_so scene later_so later_play) taken (vsyncs_in so.events) play.handler) (sym same_taken)
               (played_too frame_of scene (written_so scene so play) (written_so scene later_so later_play) (taken_at play) (vsyncs_in so.events) play.handler written stands.vsyncs.played));
           frames = subst (ShowImages scene) (sym same_told) stands.vsyncs.frames;

@@ -1,4 +1,4 @@
--- The ledger of a play stands before its first turn.
+-- The ledger of a play stands before its first action.
 use Rattle.std.proofs.Common.{◌≡◌, ◌≢◌, ℕ, zero, suc, ◌+◌, ◌≤◌, ◌<◌, ◌==◌, ◌⊎◌, true, false, List, [], ◌∷◌, ◌++◌, map, take, drop, refl, sym, inl, inr, arith}
 use Rattle.std.specs.Prelude.{Contains}
 use Rattle.std.specs.List.{All, AllPairs, flat_map, list_any}

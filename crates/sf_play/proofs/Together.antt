@@ -11,7 +11,7 @@ use Rattle.sf_play_report.specs.sf_token.Pending.{Arrival}
 use Rattle.sf_play_report.specs.sf_turns.Views.{SeatView}
 use Rattle.sf_play_report.specs.sf_txn.declared.lease.Lease.{Ghosts}
 use Rattle.sf_play_report.specs.sf_commit.Releases.{VsyncOf}
-use Rattle.sf_play_report.specs.sf_commit.declared.vsync.Commit.{Commit as Decided}
+use Rattle.sf_play_report.specs.sf_commit.declared.vsync.Commit.{Commit}
 use Rattle.sf_script_scene.specs.Scene.{SceneValue}
 use Rattle.sf_script_scene.specs.declared.step.ActorScript.{ActorScript}
 use Rattle.sf_play_report.specs.sf_actor.declared.tried.Stepped.{Stepped}
@@ -45,11 +45,11 @@ use Rattle.sf_play.specs.Players.{PlayOf, SoFar, Stands, home_in, view_in, writt
 use Rattle.sf_play.specs.Playing.{KeepsRights}
 use Rattle.sf_play.specs.Showing.{vsync_shown}
 use Rattle.sf_play.specs.Vsyncing.{MakesVsync}
-use Rattle.sf_play.specs.declared.turn.Turn.{Turn}
-use Rattle.sf_play.specs.declared.turn.Turn.TheVariants as turn
+use Rattle.sf_play.specs.declared.action.Action.{Action}
+use Rattle.sf_play.specs.declared.action.Action.TheVariants as action
 
--- after a turn this much has happened, the play stands still, and the ledger of its rights with it; its queues are these
-pub record StandsWith {B : Type 0} (table : TableId) (scene : SceneValue) (marks : List QueueMark) (so : SoFar B) (came_to : Turn) (new : PlayOf B) : Type 0 where
+-- after an action this much has happened, the play stands still, and the ledger of its rights with it; its queues are these
+pub record StandsWith {B : Type 0} (table : TableId) (scene : SceneValue) (marks : List QueueMark) (so : SoFar B) (came_to : Action) (new : PlayOf B) : Type 0 where
   pub later : SoFar B
   pub happens : Happens scene came_to new so later
   pub stands : Stands table scene later new
@@ -75,7 +75,7 @@ module _ {B : Type 0} where
 module _ {B : Type 0} (table : TableId) (scene : SceneValue) (marks : List QueueMark) (so : SoFar B) (old : PlayOf B) (stands : Stands table scene so old) (rights : KeepsRights table scene so old) (marked : (home_in old).marks ≡ marks)
     (legal : IsLegalDesk old.actor_set.desk) (knows : KnowsAll (view_in old)) (own : old.actor_set.desk.turns.table ≡ table) where
   -- nothing was done
-  abbrev pub nothing_with : (came_to : Turn) → Happens scene came_to old so so → StandsWith table scene marks so came_to old
+  abbrev pub nothing_with : (came_to : Action) → Happens scene came_to old so so → StandsWith table scene marks so came_to old
   nothing_with came_to happens = record { later = so; happens = happens; stands = stands; rights = record { ledger = rights.ledger; makers = rights.makers; draws = rights.draws; plays = rights.plays }; queues = marked }
 
   -- an actor's next step was tried
@@ -111,7 +111,7 @@ module _ {B : Type 0} (table : TableId) (scene : SceneValue) (marks : List Queue
             plays = plays_then;
           }
 
-    abbrev pub done_with : (s : StepsAt table (picture_at scene.pictures) place old.actor_set.actors so.actors old.actor_set.desk actor_set.actors actor_set.desk stepped.Done) → StandsWith table scene marks so (turn.Step place) then
+    abbrev pub done_with : (s : StepsAt table (picture_at scene.pictures) place old.actor_set.actors so.actors old.actor_set.desk actor_set.actors actor_set.desk stepped.Done) → StandsWith table scene marks so (action.Step place) then
     done_with s = record {
       later = later_so table scene so old place actor_set stands same acts s;
       happens = record {
@@ -128,7 +128,7 @@ module _ {B : Type 0} (table : TableId) (scene : SceneValue) (marks : List Queue
       queues = marks_then;
     }
 
-    abbrev pub left_with : (s : StepsAt table (picture_at scene.pictures) place old.actor_set.actors so.actors old.actor_set.desk actor_set.actors actor_set.desk stepped.NotYet) → StandsWith table scene marks so turn.Idle then
+    abbrev pub left_with : (s : StepsAt table (picture_at scene.pictures) place old.actor_set.actors so.actors old.actor_set.desk actor_set.actors actor_set.desk stepped.NotYet) → StandsWith table scene marks so action.Idle then
     left_with s = record {
       later = so;
       happens = refl;
@@ -137,7 +137,7 @@ module _ {B : Type 0} (table : TableId) (scene : SceneValue) (marks : List Queue
       queues = marks_then;
     }
 
-    abbrev pub ended_with : (s : StepsAt table (picture_at scene.pictures) place old.actor_set.actors so.actors old.actor_set.desk actor_set.actors actor_set.desk stepped.Ended) → StandsWith table scene marks so turn.Idle then
+    abbrev pub ended_with : (s : StepsAt table (picture_at scene.pictures) place old.actor_set.actors so.actors old.actor_set.desk actor_set.actors actor_set.desk stepped.Ended) → StandsWith table scene marks so action.Idle then
     ended_with s = record {
       later = so;
       happens = refl;
@@ -176,7 +176,7 @@ module _ {B : Type 0} (table : TableId) (scene : SceneValue) (marks : List Queue
     pub wrote_written : WroteWhatShows frame_of lease.shown (written_so scene so old) v.decides.looked
     wrote_written = wrote_shown lease scene so old v.decides.looked shows_written
 
-    abbrev pub silent_with : told.commits ≡ [] → StandsWith table scene marks so (turn.Vsync report) new
+    abbrev pub silent_with : told.commits ≡ [] → StandsWith table scene marks so (action.Vsync report) new
     silent_with none = record {
       later = so;
       happens = subst (λ (b : Bool). VsyncHappens scene b report new so so) (sym (ap has_commits (commits ∙ none))) refl;
@@ -185,10 +185,10 @@ module _ {B : Type 0} (table : TableId) (scene : SceneValue) (marks : List Queue
       queues = marks_now;
     }
 
-    pub some_commit : (c : Decided) (cs : List Decided) → told.commits ≡ c ∷ cs → told.commits ≢ []
+    pub some_commit : (c : Commit) (cs : List Commit) → told.commits ≡ c ∷ cs → told.commits ≢ []
     some_commit c cs are none = cc (are, none)
 
-    abbrev pub shown_with : (c : Decided) (cs : List Decided) → told.commits ≡ c ∷ cs → report.number ≡ old.vsyncs + 1 → report.expected ≡ (old.vsyncs + 1) * old.period → StandsWith table scene marks so (turn.Vsync report) new
+    abbrev pub shown_with : (c : Commit) (cs : List Commit) → told.commits ≡ c ∷ cs → report.number ≡ old.vsyncs + 1 → report.expected ≡ (old.vsyncs + 1) * old.period → StandsWith table scene marks so (action.Vsync report) new
     shown_with c cs are number expected =
         let after = shown lease frames table scene so old new report.seen told stands v (some_commit c cs are) wrote_written in
         record {

@@ -20,7 +20,7 @@ use Rattle.sf_play_report.specs.sf_commit.Handlers.{HandlerOf, last_of}
 use Rattle.sf_play_report.specs.sf_commit.OnLayers.{OnLayer}
 use Rattle.sf_play_report.specs.sf_commit.Leases.{IsReleaseOf}
 use Rattle.sf_play_report.specs.sf_commit.Releases.{ReleaseOf, VsyncOf}
-use Rattle.sf_play_report.specs.sf_commit.declared.vsync.Commit.{Commit as Decided}
+use Rattle.sf_play_report.specs.sf_commit.declared.vsync.Commit.{Commit}
 use Rattle.sf_script_scene.specs.Scene.{SceneValue, has_queue}
 use Rattle.sf_script_scene.specs.declared.declarations.QueueDecl.{QueueDecl}
 use Rattle.sf_play_report.specs.sf_actor.Desks.{DeskHome, DeskView, mark_among}
@@ -35,7 +35,7 @@ use Rattle.law_rights.specs.sf_actor_set.ActorSets.{ActorSetOf, KeepAs}
 use Rattle.law_rights.specs.sf_actor_set.Compositing.{OnlyDesk}
 use Rattle.sf_play_report.specs.sf_record.declared.event.Event.{Event}
 use Rattle.sf_play_report.specs.sf_record.declared.event.Event.TheVariants as event
-use Rattle.sf_play_report.specs.sf_record.declared.event.VsyncReport.{VsyncReport}
+use Rattle.sf_play_report.specs.sf_record.declared.event.VsyncRecords.{VsyncRecords}
 use Rattle.sf_play_report.proofs.law_played_lemmas.RunGrowth.{nothing_told, tells_vsync}
 use Rattle.sf_play_report.proofs.law_played_lemmas.LeaseLemmas.{images_go_on, plain_arrivals, plain_frame, releases_go_on}
 use Rattle.sf_play_report.proofs.law_played_lemmas.ProgressLemmas.{goes_further, goes_on_by, goes_silently, releases_nothing, tells_no_more}
@@ -57,7 +57,7 @@ use Rattle.sf_play.specs.Players.{DeskStands, IsOfScene, LeasesStand, PlayOf, So
 use Rattle.sf_play.specs.Showing.{vsync_shown}
 use Rattle.sf_play.specs.Vsyncing.{MakesVsync}
 
-pub vsyncs_in_more : (events : List Event) (report : VsyncReport) → vsyncs_in (events ++ event.Vsync report ∷ []) ≡ vsyncs_in events ++ report ∷ []
+pub vsyncs_in_more : (events : List Event) (report : VsyncRecords) → vsyncs_in (events ++ event.Vsync report ∷ []) ≡ vsyncs_in events ++ report ∷ []
 unfolding vsyncs_in
 vsyncs_in_more events report = flat_map-append vsync_in events (event.Vsync report ∷ [])
 
@@ -266,15 +266,15 @@ module _ {B : Type 0} where
           (stays_lent lease frames lent old.handler new.handler v.took.desk.turns middle.turns v.arrived seen (number * old.period) told v.decides stands.leases.pending came stands.leases.on);
     }
 
-    numbers_now : (vsyncs : List VsyncReport) → All (λ (vsync : VsyncReport). vsync.number ≤ old.vsyncs) vsyncs → All (λ (vsync : VsyncReport). vsync.number ≤ new.vsyncs) vsyncs
-    numbers_now = All-weaker (λ (vsync : VsyncReport). vsync.number ≤ old.vsyncs) (λ (vsync : VsyncReport). vsync.number ≤ new.vsyncs) (λ vsync low. later vsync.number low (ap (λ (p : PlayOf B). p.vsyncs) v.rest))
+    numbers_now : (vsyncs : List VsyncRecords) → All (λ (vsync : VsyncRecords). vsync.number ≤ old.vsyncs) vsyncs → All (λ (vsync : VsyncRecords). vsync.number ≤ new.vsyncs) vsyncs
+    numbers_now = All-weaker (λ (vsync : VsyncRecords). vsync.number ≤ old.vsyncs) (λ (vsync : VsyncRecords). vsync.number ≤ new.vsyncs) (λ vsync low. later vsync.number low (ap (λ (p : PlayOf B). p.vsyncs) v.rest))
       where
         later : (n : ℕ) → n ≤ old.vsyncs → new.vsyncs ≡ old.vsyncs + 1 → n ≤ new.vsyncs
         later n low next = omega (arith, low, next)
 
     -- a vsync that commits something is shown
     module _ (some : told.commits ≢ []) (wrote : WroteWhatShows frame_of lease.shown (written_so scene so old) v.decides.looked) where
-      abbrev report : VsyncReport
+      abbrev report : VsyncRecords
       report = vsync_shown scene number (number * old.period) seen told.commits new.handler.tree
 
       abbrev pub shown : SoFar B
@@ -299,7 +299,7 @@ module _ {B : Type 0} where
       commits_are : report.commits ≢ []
       commits_are none = some (map_none told.commits none)
         where
-          map_none : (commits : List Decided) → map commit_shown commits ≡ [] → commits ≡ []
+          map_none : (commits : List Commit) → map commit_shown commits ≡ [] → commits ≡ []
           map_none [] e = refl
           map_none (c ∷ cs) e = cc
 
@@ -315,12 +315,12 @@ module _ {B : Type 0} where
           vsyncs = subst (AreVsyncs scene (signals_so scene so old)) (sym (vsyncs_in_more so.events report))
               (vsyncs_more scene (signals_so scene so old) (view_of before).times.signals seen (vsyncs_in so.events) report old.vsyncs stands.of_scene.limits sees stands.vsyncs.vsyncs stands.vsyncs.numbers refl
               (ap (λ (n : ℕ). number * n) stands.of_scene.period) refl commits_are);
-          numbers = subst (All (λ (vsync : VsyncReport). vsync.number ≤ new.vsyncs)) (sym (vsyncs_in_more so.events report))
-              (All-append (λ (vsync : VsyncReport). vsync.number ≤ new.vsyncs) (vsyncs_in so.events) (report ∷ []) (numbers_now (vsyncs_in so.events) stands.vsyncs.numbers)
-              (All-cons (λ (vsync : VsyncReport). vsync.number ≤ new.vsyncs) report [] (itself (ap (λ (p : PlayOf B). p.vsyncs) v.rest)) (All-nil (λ (vsync : VsyncReport). vsync.number ≤ new.vsyncs))));
+          numbers = subst (All (λ (vsync : VsyncRecords). vsync.number ≤ new.vsyncs)) (sym (vsyncs_in_more so.events report))
+              (All-append (λ (vsync : VsyncRecords). vsync.number ≤ new.vsyncs) (vsyncs_in so.events) (report ∷ []) (numbers_now (vsyncs_in so.events) stands.vsyncs.numbers)
+              (All-cons (λ (vsync : VsyncRecords). vsync.number ≤ new.vsyncs) report [] (itself (ap (λ (p : PlayOf B). p.vsyncs) v.rest)) (All-nil (λ (vsync : VsyncRecords). vsync.number ≤ new.vsyncs))));
           last = last_now ∙ sym (ap (λ (h : DeskHome). h.taken) home_now);
           played = subst (λ (xs : List (Arrival FrameOf)). HasPlayed frame_of scene (written_so scene so old) xs (vsyncs_in (so.events ++ event.Vsync report ∷ [])) new.handler) (sym taken_now)
-              (subst (λ (rs : List VsyncReport). HasPlayed frame_of scene (written_so scene so old) (taken_at old ++ map (framed_arrival frame_of) v.arrived) rs new.handler) (sym (vsyncs_in_more so.events report))
+              (subst (λ (rs : List VsyncRecords). HasPlayed frame_of scene (written_so scene so old) (taken_at old ++ map (framed_arrival frame_of) v.arrived) rs new.handler) (sym (vsyncs_in_more so.events report))
               (goes_further lease frame_of plain scene (written_so scene so old) (taken_at old) (vsyncs_in so.events) old.handler new.handler v.took.desk.turns middle.turns v.arrived seen (number * old.period) told
               stands.vsyncs.played v.decides rises report says wrote));
           frames = subst (ShowImages scene) (sym told_is) (images_go_on scene (told_at scene so old) _ report new.handler.tree (map (framed_on frame_of) gone) goes_on stands.vsyncs.frames refl);

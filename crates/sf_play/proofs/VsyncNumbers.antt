@@ -22,7 +22,7 @@ use Rattle.sf_play_report.specs.sf_actor.Known.{frame_of, is_sent_by, plain_arri
 use Rattle.sf_play_report.specs.sf_actor.Names.{FrameOf}
 use Rattle.sf_play_report.specs.sf_actor.Scripts.{picture_at}
 use Rattle.sf_play_report.specs.sf_actor.Steps.{sent_by}
-use Rattle.sf_play_report.specs.sf_actor.Tales.{step_done}
+use Rattle.sf_play_report.specs.sf_actor.ScriptTraces.{step_done}
 use Rattle.sf_play_report.specs.sf_actor.Traces.{Past, next, no_past, places_from, sent_at}
 use Rattle.sf_play_report.specs.sf_actor.Tries.{ActorOf, Keeps}
 use Rattle.law_rights.specs.sf_actor_set.ActorSets.{KeepAs}
@@ -32,7 +32,7 @@ use Rattle.sf_play_report.specs.law_played.Actors.{number_of, script_of}
 use Rattle.sf_play_report.specs.law_played.Framing.{framed_arrival}
 use Rattle.sf_play_report.specs.law_played.Holds.{is_uncommitted}
 use Rattle.sf_play_report.specs.law_played.Vsyncs.{commits_in, vsyncs_in}
-use Rattle.sf_play.proofs.TurnFuel.{few_weigh, one_sent, sent_many}
+use Rattle.sf_play.proofs.ActionFuel.{few_weigh, one_sent, sent_many}
 use Rattle.sf_play.proofs.PlayFuel.{few_actors, many_below}
 use Rattle.sf_play.specs.Fuel.{now_in, steps_left, untaken, vsyncs_left}
 use Rattle.sf_play.specs.Players.{PlayOf, SoFar, Stands, arrived_at, home_in, taken_at, view_in}

@@ -16,7 +16,7 @@ use Rattle.sf_play_report.specs.sf_ready.Facts.{FactsOf}
 use Rattle.sf_play_report.specs.sf_ready.Holds.{barrier_hold, fence_hold, hold_of, point_hold, pressure_hold, time_hold, undrawn_hold}
 use Rattle.sf_play_report.specs.sf_ready.declared.hold.Hold.{Hold}
 use Rattle.sf_play_report.specs.sf_ready.declared.hold.Hold.TheVariants as hold
-use Rattle.sf_play_report.specs.sf_token.Looking.{IsLookedArrival}
+use Rattle.sf_play_report.specs.sf_token.Loads.{IsLookedArrival}
 use Rattle.sf_play_report.specs.sf_token.Pending.{Arrival, head_of, is_of}
 use Rattle.sf_play_report.specs.sf_commit.Handlers.{Decides, HandlerOf, begun}
 use Rattle.sf_play_report.specs.sf_commit.declared.vsync.Commit.{Commit}

@@ -27,13 +27,13 @@ use Rattle.sf_play_report.specs.Reports.{has_commits}
 use Rattle.sf_play.specs.Vsyncing.{MakesVsync}
 use Rattle.sf_play.specs.declared.place.Place.{Place}
 use Rattle.sf_play.specs.declared.place.Place.TheVariants as at
-use Rattle.sf_play.specs.declared.turn.Turn.{Turn}
-use Rattle.sf_play.specs.declared.turn.Turn.TheVariants as turn
+use Rattle.sf_play.specs.declared.action.Action.{Action}
+use Rattle.sf_play.specs.declared.action.Action.TheVariants as action
 
--- a turn did a step, or committed something
-abbrev pub has_shown : Turn → Bool
-has_shown (turn.Step place) = true
-has_shown (turn.Vsync report) = has_commits report.commits
+-- an action did a step, or committed something
+abbrev pub has_shown : Action → Bool
+has_shown (action.Step place) = true
+has_shown (action.Vsync report) = has_commits report.commits
 has_shown other = false
 
 -- the same events where threads ran: the vsyncs, and behind them the replies to the steps of each actor

@@ -1,4 +1,4 @@
--- How much is left of a play. Each of its turns lessens it.
+-- How much is left of a play. Each of its actions lessens it.
 use Rattle.std.specs.Prelude.{ℕ, ◌+◌, ◌-◌, ◌*◌, ◌/◌, min, Bool, false, if◌then◌else◌, List, [], ◌∷◌, drop, length, Option, Some, None}
 use Rattle.std.specs.List.{sum_by}
 use Rattle.sf_play_report.specs.sf_surface.Tokens.{ReadLeaseOf}
@@ -19,13 +19,13 @@ wait_left now (Some desired) = min 2000 ((desired - now) / 1000000)
 abbrev pub to_commit : {L : Type 0} → ℕ → List (Arrival L) → ℕ
 to_commit {L} now arrivals = sum_by (λ (arrived : Arrival L). 1 + wait_left now arrived.txn.desired) arrivals
 
--- the turns that are left of picks, of the first of which so many are done
-abbrev pub turns_of : List Pick → ℕ → ℕ
-turns_of [] done = 0
-turns_of (pick ∷ later) done = (pick.times - done) + turns_of later 0
+-- the actions that are left of picks, of the first of which so many are done
+abbrev pub actions_of : List Pick → ℕ → ℕ
+actions_of [] done = 0
+actions_of (pick ∷ later) done = (pick.times - done) + actions_of later 0
 
 abbrev pub picks_left : List Pick → Place → ℕ
-picks_left order (at.Order place done) = turns_of (drop place order) done
+picks_left order (at.Order place done) = actions_of (drop place order) done
 picks_left order other = 0
 
 module _ {B : Type 0} where
@@ -49,11 +49,11 @@ module _ {B : Type 0} where
   abbrev pub rounds_left : PlayOf B → Bool → ℕ
   rounds_left play stepped = work_left play + (if stepped then 1 else 0)
 
-  -- what is left in rounds, each of which has a turn of each actor and one of the compositor
+  -- what is left in rounds, each of which has an action of each actor and one of the compositor
   abbrev pub round_fuel : PlayOf B → ℕ → Bool → ℕ
   round_fuel play place stepped = rounds_left play stepped * (length play.actor_set.actors + 2) + ((length play.actor_set.actors + 1) - place) + 1
 
-  -- what is left of a play whose next turn is at a place
+  -- what is left of a play whose next action is at a place
   abbrev pub fuel : List Pick → PlayOf B → Place → ℕ
   fuel order play (at.Order place done) = picks_left order (at.Order place done) + round_fuel play 0 false
   fuel order play (at.Round place stepped) = round_fuel play place stepped

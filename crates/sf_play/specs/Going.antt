@@ -1,4 +1,4 @@
--- What a turn of a player tells who shows it: it goes on with a run of the scene, up to its end, and along with the scene's play.
+-- What an action of a player tells who shows it: it goes on with a run of the scene, up to its end, and along with the scene's play.
 use Rattle.std.specs.Prelude.{◌≡◌, ℕ, ◌<◌, List, All}
 use Rattle.atomic_table.specs.Seated.{TableId}
 use Rattle.sf_script_scene.specs.Scene.{SceneValue}
@@ -17,8 +17,8 @@ use Rattle.sf_play.specs.Players.{PlayOf, PlayerOf, SoFar, arrived_at, home_in, 
 use Rattle.sf_play.specs.Playing.{expected_by}
 use Rattle.sf_play.specs.Standing.{StandsAlong, StandsInRun}
 use Rattle.sf_play.specs.declared.place.Place.TheVariants as at
-use Rattle.sf_play.specs.declared.turn.Turn.{Turn}
-use Rattle.sf_play.specs.declared.turn.Turn.TheVariants as turn
+use Rattle.sf_play.specs.declared.action.Action.{Action}
+use Rattle.sf_play.specs.declared.action.Action.TheVariants as action
 
 module _ {B : Type 0} where
   -- What a vsync leaves to whoever shows it: the stage, whose buffers have the scene's pictures.
@@ -40,21 +40,21 @@ module _ {B : Type 0} where
   abbrev pub EndsRun : SceneValue → SoFar B → PlayerOf B → Type 0
   EndsRun scene so player = FitsWhere (home_in player.play).tells scene (shows_at_end scene so player) (run_so so player.play) (arrived_at player.play)
 
-  -- what a turn tells beside what happened: a vsync its stage, and the end what is then
-  abbrev pub Tells : (SoFar B → PlayerOf B → Type 0) → SceneValue → Turn → SoFar B → PlayerOf B → Type 0
-  Tells Ends scene (turn.Vsync report) so player = TellsStage scene report player.play
-  Tells Ends scene turn.End so player = Ends so player
+  -- what an action tells beside what happened: a vsync its stage, and the end what is then
+  abbrev pub Tells : (SoFar B → PlayerOf B → Type 0) → SceneValue → Action → SoFar B → PlayerOf B → Type 0
+  Tells Ends scene (action.Vsync report) so player = TellsStage scene report player.play
+  Tells Ends scene action.End so player = Ends so player
   Tells Ends scene other so player = Unit {0}
 
-  -- a turn goes on with a run of the scene: this much has happened since, and the player stands in the run with it
-  pub record GoesOn (table : TableId) (scene : SceneValue) (so : SoFar B) (came_to : Turn) (new : PlayerOf B) : Type 0 where
+  -- an action goes on with a run of the scene: this much has happened since, and the player stands in the run with it
+  pub record GoesOn (table : TableId) (scene : SceneValue) (so : SoFar B) (came_to : Action) (new : PlayerOf B) : Type 0 where
     pub later : SoFar B
     pub happens : Happens scene came_to new.play so later
     pub tells : Tells (EndsRun scene) scene came_to later new
     pub stands : StandsInRun table scene later new
 
-  -- a turn goes along with the play of the scene: this much has happened since, and the player stands along with it
-  pub record GoesAlong (table : TableId) (scene : SceneValue) (so : SoFar B) (came_to : Turn) (new : PlayerOf B) : Type 0 where
+  -- an action goes along with the play of the scene: this much has happened since, and the player stands along with it
+  pub record GoesAlong (table : TableId) (scene : SceneValue) (so : SoFar B) (came_to : Action) (new : PlayerOf B) : Type 0 where
     pub later : SoFar B
     pub happens : Happens scene came_to new.play so later
     pub tells : Tells (EndsPlay scene) scene came_to later new
@@ -64,7 +64,7 @@ module _ {B : Type 0} where
   abbrev pub fuel_of : PlayerOf B → ℕ
   fuel_of player = fuel player.play.order player.play player.place
 
-  -- each turn leaves less of a play, up to its end, at which a turn does nothing
-  abbrev pub LeavesLess : Turn → PlayerOf B → PlayerOf B → Type 0
-  LeavesLess turn.End old new = (new ≡ old) × (new.place ≡ at.End)
+  -- each action leaves less of a play, up to its end, at which an action does nothing
+  abbrev pub LeavesLess : Action → PlayerOf B → PlayerOf B → Type 0
+  LeavesLess action.End old new = (new ≡ old) × (new.place ≡ at.End)
   LeavesLess other old new = fuel_of new < fuel_of old

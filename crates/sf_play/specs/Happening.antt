@@ -1,4 +1,4 @@
--- What happened by a turn of a play, and what stands then.
+-- What happened by an action of a play, and what stands then.
 use Rattle.std.specs.Prelude.{◌≡◌, ℕ, ◌+◌, ◌<◌, Bool, true, false, List, [], ◌∷◌, ◌++◌, Some, slice_get, slice_set}
 use Rattle.atomic_table.specs.Seated.{TableId}
 use Rattle.sf_script_scene.specs.Scene.{SceneValue}
@@ -13,8 +13,8 @@ use Rattle.sf_play.specs.Players.{PlayOf, PlayerOf, SoFar, Stands}
 use Rattle.sf_play.specs.Showing.{vsync_shown}
 use Rattle.sf_play_report.specs.Reports.{has_commits}
 use Rattle.sf_play_report.specs.declared.report.VsyncReport.{VsyncReport}
-use Rattle.sf_play.specs.declared.turn.Turn.{Turn}
-use Rattle.sf_play.specs.declared.turn.Turn.TheVariants as turn
+use Rattle.sf_play.specs.declared.action.Action.{Action}
+use Rattle.sf_play.specs.declared.action.Action.TheVariants as action
 
 module _ {B : Type 0} where
   -- the actor at a place did a step, and its reply is shown, which is its last one
@@ -33,9 +33,9 @@ module _ {B : Type 0} where
       later ≡ record so { events = so.events ++ event.Vsync (vsync_shown scene report.number report.expected report.seen report.commits play.handler.tree) ∷ [] }
   VsyncHappens scene false report play so later = later ≡ so
 
-  abbrev pub Happens : SceneValue → Turn → PlayOf B → SoFar B → SoFar B → Type 0
-  Happens scene (turn.Step place) play so later = DidStep place play so later
-  Happens scene (turn.Vsync report) play so later = VsyncHappens scene (has_commits report.commits) report play so later
+  abbrev pub Happens : SceneValue → Action → PlayOf B → SoFar B → SoFar B → Type 0
+  Happens scene (action.Step place) play so later = DidStep place play so later
+  Happens scene (action.Vsync report) play so later = VsyncHappens scene (has_commits report.commits) report play so later
   Happens scene other play so later = later ≡ so
 
   -- a player stands; those that were tried in a round in which no step was done rest; and the numbers of all vsyncs to come fit

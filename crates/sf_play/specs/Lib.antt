@@ -9,7 +9,7 @@ pub mod Players
 pub mod Playing
 pub mod Showing
 pub mod Standing
-pub mod Turning
+pub mod Actions
 pub mod Vsyncing
 pub use Rattle.sf_play_report.specs.law_played
 pub use Rattle.law_rights.specs as law_rights

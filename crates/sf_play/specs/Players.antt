@@ -25,7 +25,7 @@ use Rattle.sf_play_report.specs.sf_actor.Tries.{ActorOf}
 use Rattle.sf_play_report.specs.sf_actor.Written.{FrameNumber}
 use Rattle.law_rights.specs.sf_actor_set.ActorSets.{ActorSetOf, KeepAs}
 use Rattle.sf_play_report.specs.sf_record.declared.event.Event.{Event}
-use Rattle.sf_play_report.specs.sf_record.declared.event.VsyncReport.{VsyncReport}
+use Rattle.sf_play_report.specs.sf_record.declared.event.VsyncRecords.{VsyncRecords}
 use Rattle.sf_play_report.specs.law_played.Acquired.{TakesFrame}
 use Rattle.sf_play_report.specs.law_played.Actors.{arrivals_of, mark_declared, run_of}
 use Rattle.sf_play_report.specs.law_played.Frames.{ShowImages}
@@ -119,7 +119,7 @@ module _ {B : Type 0} where
   -- the vsyncs among what was shown are those that the compositor made
   pub record VsyncsStand (scene : SceneValue) (so : SoFar B) (play : PlayOf B) : Type 0 where
     pub vsyncs : AreVsyncs scene (signals_so scene so play) (vsyncs_in so.events)
-    pub numbers : All (λ (vsync : VsyncReport). vsync.number ≤ play.vsyncs) (vsyncs_in so.events)
+    pub numbers : All (λ (vsync : VsyncRecords). vsync.number ≤ play.vsyncs) (vsyncs_in so.events)
     pub last : play.handler.last ≡ (home_in play).taken
     pub played : HasPlayed frame_of scene (written_so scene so play) (taken_at play) (vsyncs_in so.events) play.handler
     pub frames : ShowImages scene (told_at scene so play)

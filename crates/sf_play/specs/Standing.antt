@@ -6,7 +6,7 @@ use Rattle.sf_script_scene.specs.Scene.{SceneValue}
 use Rattle.sf_play_report.specs.law_played.Actors.{mark_declared}
 use Rattle.sf_play_report.specs.law_played.Ends.{held_in}
 use Rattle.sf_play_report.specs.law_played.Histories.{rising_queues}
-use Rattle.sf_play.specs.Alongs.{PlaysSo, world_so}
+use Rattle.sf_play.specs.Alongs.{PlaysSo, state_so}
 use Rattle.sf_play.specs.Happening.{StandsAt}
 use Rattle.sf_play.specs.Players.{PlayerOf, SoFar, home_in}
 use Rattle.sf_play.specs.Playing.{KeepsRights}
@@ -16,7 +16,7 @@ use Rattle.sf_play.specs.declared.place.Place.TheVariants as at
 module _ {B : Type 0} where
   -- at its end it holds what the play's last vsync held
   abbrev pub HoldsAt : SceneValue → SoFar B → PlayerOf B → Place → Type 0
-  HoldsAt scene so player at.End = player.held ≡ held_in scene (world_so so player.play)
+  HoldsAt scene so player at.End = player.held ≡ held_in scene (state_so so player.play)
   HoldsAt scene so player other = Unit {0}
 
   -- A player that has shown this much stands in a run of the scene: at its place, with the ledger of its rights and its queues by

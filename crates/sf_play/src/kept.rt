@@ -1,3 +1,5 @@
+//! The report of a vsync in memory of its own: it is handed up from the player to whoever writes
+//! its records, inside types that should stay small.
 ghost use Rattle.std.specs.Prelude.{◌≡◌, IfOk};
 
 use sf_base::NoMemory;

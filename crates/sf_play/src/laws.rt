@@ -1,3 +1,5 @@
+//! Laws about players, called for their clauses alone: what a caller who plays or joins threads
+//! learns of the run besides the clauses of `next`.
 ghost use Rattle.std.specs.Prelude.{◌≡◌, ℕ, ◌+◌, ◌<◌, ◌≤◌, All, List, Some, false};
 ghost use Rattle.atomic_table.specs.Seated.{TableId};
 ghost use Rattle.sf_script_scene.specs.Scene.{SceneValue};
@@ -10,14 +12,12 @@ ghost use Rattle.sf_play.specs.Fuel.{vsyncs_left};
 ghost use Rattle.sf_play.specs.Going.{EndsRun};
 ghost use Rattle.sf_play.specs.Players.{PlayOf, PlayerOf, SoFar, Stands, arrived_at, home_in, run_so};
 ghost use Rattle.sf_play.specs.Standing.{StandsInRun};
-ghost use Rattle.sf_play.specs.Turning.{TriesStep, Turns, next_tried};
+ghost use Rattle.sf_play.specs.Actions.{TriesStep, TakesAction, next_tried};
 ghost use Rattle.sf_play.specs.declared.place.Place.TheVariants as at;
-ghost use Rattle.sf_play.specs.declared.turn.Turn.{Turn as TurnOf};
-ghost use Rattle.sf_play.specs.declared.turn.Turn.TheVariants as turn;
+ghost use Rattle.sf_play.specs.declared.action.Action.{Action as ActionOf};
+ghost use Rattle.sf_play.specs.declared.action.Action.TheVariants as action;
 
-use sf_play_report::sf_surface::ReadLease;
-use sf_play_report::sf_turns::TableName;
-use sf_play_report::sf_txn::Lease;
+use sf_play_report::{Lease, ReadLease, TableName};
 
 /// The rounds behind a run of a scene have vsyncs whose numbers fit 32 bits, where no more than 2^31
 /// were made before.
@@ -26,13 +26,13 @@ pub fn the_vsyncs_of_rounds_can_be_numbered<B: TableName>()
         → play.vsyncs + vsyncs_left play.order play (at.Round 0 false) < 4294967295 }
 {}
 
-/// The actor that `Player::next_actor` names is the one whose step the next turn tries, and no other
+/// The actor that `Player::next_actor` names is the one whose step the next action tries, and no other
 /// does a step.
 pub fn the_next_actor_is_the_one_that_is_tried<B: TableName>()
-    ensures tried { (ofs : List (ActorOf B)) (old new : PlayerOf B) (came_to : TurnOf) (place : ℕ) → Turns ⟦<ReadLease<B> as Lease>⟧ B.table ofs old new came_to
+    ensures tried { (ofs : List (ActorOf B)) (old new : PlayerOf B) (came_to : ActionOf) (place : ℕ) → TakesAction ⟦<ReadLease<B> as Lease>⟧ B.table ofs old new came_to
         → next_tried old ≡ Some place → TriesStep B.table place ofs old.play new.play came_to }
-    ensures no_other { (ofs : List (ActorOf B)) (old new : PlayerOf B) (came_to : TurnOf) (place : ℕ) → Turns ⟦<ReadLease<B> as Lease>⟧ B.table ofs old new came_to
-        → came_to ≡ turn.Step place → next_tried old ≡ Some place }
+    ensures no_other { (ofs : List (ActorOf B)) (old new : PlayerOf B) (came_to : ActionOf) (place : ℕ) → TakesAction ⟦<ReadLease<B> as Lease>⟧ B.table ofs old new came_to
+        → came_to ≡ action.Step place → next_tried old ≡ Some place }
 {}
 
 /// Whoever did the steps of a run: where a player that stands in it is at its end, what was shown

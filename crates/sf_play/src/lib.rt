@@ -3,23 +3,25 @@
 //! A run whose actors did their steps in threads goes on by the same rounds.
 #![tactic(auto)]
 
+mod action;
 mod kept;
 mod laws;
 mod place;
 mod player;
-mod turn;
 
+pub use action::{Action, is_time};
 pub use kept::KeptReport;
-pub use law_rights::{sf_actor_set, sf_actor_steps};
+pub use law_rights::{Actor, ActorSet, permits_for};
 pub use laws::{
     replies_may_be_shown_last, the_next_actor_is_the_one_that_is_tried,
     the_vsyncs_of_rounds_can_be_numbered, what_stands_at_its_end_fits,
 };
 pub use place::Place;
 pub use player::Player;
-pub use sf_play_report;
 pub use sf_play_report::{
-    sf_actor, sf_commit, sf_output_plan, sf_ready, sf_record, sf_surface, sf_turns, sf_txn,
+    Commit, Handler, Hit, Hold, Lease, Plan, QueueObject, Record, Reply, RunFault, SceneHeader,
+    SourcedView, Stock, StuckEntry, TableName, TurnSeat, VsyncReport, arrivals_record,
+    commit_record, held_record, history_record, plan_of, reply_record, sourced_views, vsync_record,
+    write_image, write_record,
 };
-pub use sf_script_scene;
-pub use turn::Turn;
+pub use sf_script_scene::Scene;

@@ -1,3 +1,5 @@
+//! Where a play stands: at a pick of the order, or in a round behind it. The player asks here which
+//! action comes next.
 ghost use Rattle.std.specs.Prelude.{◌≡◌};
 ghost use Rattle.sf_play.specs.Places.{settled};
 
@@ -6,7 +8,7 @@ use sf_script_scene::Pick;
 /// Where a play stands.
 #[derive(Clone, Copy)]
 pub enum Place {
-    /// Before a turn of a pick of the order: the pick's place, from 0, and how many of its turns are
+    /// Before an action of a pick of the order: the pick's place, from 0, and how many of its actions are
     /// done.
     Order(usize, u32),
     /// In a round, before the actor of this place, from 0, or behind all actors before the vsync; and
@@ -17,7 +19,7 @@ pub enum Place {
 }
 
 impl Place {
-    /// The place of the next turn to be done: a pick that has no turn left is passed, and the order is
+    /// The place of the next action to be done: a pick that has no action left is passed, and the order is
     /// followed by a round.
     pub fn settled(self, order: &[Pick]) -> Place
         ensures { result ≡ settled order.now self }

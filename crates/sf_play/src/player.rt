@@ -1,3 +1,6 @@
+//! The player of a scene: actors over one desk, and the compositor. It is begun, or goes on with a
+//! run that threads did, and does a vsync here: it looks at timelines, takes what arrived, decides,
+//! and gives back the frames that go.
 ghost use Rattle.std.specs.Prelude.{◌≡◌, ◌+◌, ◌<◌, ◌≤◌, true, [], All, IfOk, None, OnOk, map};
 ghost use Rattle.sf_play_report.specs.sf_actor.Desks.{has_queue};
 ghost use Rattle.sf_play_report.specs.sf_actor.Plain.{home_of, taken_in, view_of};
@@ -12,20 +15,17 @@ ghost use Rattle.sf_play.specs.Players.{before_round};
 ghost use Rattle.sf_play.specs.Standing.{Begins, IsStanding};
 
 use crate::place::Place;
-use law_rights::sf_actor_set::ActorSet;
+use law_rights::ActorSet;
 use sf_base::{Items, NoMemory};
 use sf_picture::Painted;
-use sf_play_report::VsyncReport;
-use sf_play_report::sf_commit::{Handler, Release, Vsync};
-use sf_play_report::sf_ready::Hold;
-use sf_play_report::sf_surface::ReadLease;
-use sf_play_report::sf_turns::{Stock, TableName, TurnSeat};
-use sf_play_report::sf_txn::Lease;
+use sf_play_report::{
+    Handler, Hold, Lease, ReadLease, Release, Stock, TableName, TurnSeat, Vsync, VsyncReport,
+};
 use sf_script_scene::{Pick, Scene, most_layers};
 use std::alloc::Global;
 use std::marker::Model;
 
-/// The play of a scene, one turn after another.
+/// The play of a scene, one action after another.
 pub struct Player<B: TableName> {
     pub(crate) alloc: Global,
     pub(crate) period: u64,
@@ -79,7 +79,7 @@ fn release_all<B: TableName>(
 }
 
 impl<B: TableName> Player<B> {
-    /// The play of a scene, before its first turn. It takes the seat and the whole stock of the turns,
+    /// The play of a scene, before its first action. It takes the seat and the whole stock of the turns,
     /// with a permit for each dequeue.
     pub fn new(
         alloc: Global,

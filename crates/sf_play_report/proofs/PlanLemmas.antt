@@ -5,7 +5,7 @@ use Rattle.std.proofs.lemmas.List.{append-nil, map-id}
 use Rattle.std.proofs.lemmas.List.Concat.{flat_map-append}
 use Rattle.std.proofs.lemmas.List.FromFn.{map-range_with_len_more}
 use Rattle.law_played.specs.Runs.{rising}
-use Rattle.sf_play_report.specs.Plans.{is_numbered}
+use Rattle.sf_play_report.specs.inner.Plans.{is_numbered}
 
 range_next : (n : ℕ) → 1 ≤ n → range_with_len 1 (n + 1 - 1) ≡ range_with_len 1 (n - 1) ++ n ∷ []
 range_next n some =

@@ -1,6 +1,6 @@
-pub mod Plans
 pub mod Reports
 pub mod Stages
+pub mod inner
 pub use Rattle.law_played.specs as law_played
 pub use Rattle.law_played.specs.sf_actor
 pub use Rattle.law_played.specs.sf_calls

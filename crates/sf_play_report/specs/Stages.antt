@@ -4,7 +4,7 @@ use Rattle.std.specs.List.{All, AllZip, list_any}
 use Rattle.law_played.specs.sf_commit.Handlers.{HandlerOf, source_of}
 use Rattle.law_played.specs.sf_commit.OnLayers.{OnLayer}
 use Rattle.law_played.specs.sf_commit.Standing.{Stands}
-use Rattle.law_played.specs.sf_commit.declared.vsync.Commit.{Commit as Decided}
+use Rattle.law_played.specs.sf_commit.declared.vsync.Commit.{Commit}
 use Rattle.law_played.specs.sf_compose.Readings.{AreReadable}
 use Rattle.law_played.specs.sf_compose.Sources.{HasSources}
 use Rattle.law_played.specs.sf_output.Outputs.{IsOutput, OfImage}
@@ -21,10 +21,10 @@ use Rattle.law_played.specs.sf_view.declared.drawn.Drawn.{Drawn}
 use Rattle.sf_play_report.specs.declared.sourced.SourcedView.{SourcedView}
 
 -- a transaction was committed, and not rejected
-abbrev pub is_accepted : Decided → Bool
+abbrev pub is_accepted : Commit → Bool
 is_accepted commit = commit.cause == 0
 
-abbrev pub shows_frame : List Decided → Bool
+abbrev pub shows_frame : List Commit → Bool
 shows_frame commits = list_any is_accepted commits
 
 module _ {L : Type 0} where

@@ -1,3 +1,5 @@
+//! The records that end a run, from what the compositor and the queues kept: arrivals, histories,
+//! and what is held.
 ghost use Rattle.std.specs.Prelude.{◌≡◌, IfOk, map};
 ghost use Rattle.law_played.specs.sf_record.declared.record.Record.TheVariants as rec;
 ghost use Rattle.law_played.specs.Progress.{held_shown};
@@ -6,11 +8,10 @@ ghost use Rattle.law_played.specs.sf_surface.Histories.{told};
 ghost use Rattle.law_played.specs.sf_surface.Objects.{mark_of};
 ghost use Rattle.law_played.specs.sf_surface.Shown.{entries_of};
 
-use law_played::sf_ready::Hold;
-use law_played::sf_record::{ArrivalEntry, HeldEntry, HistoryEntry, QueueHistory, Record};
-use law_played::sf_surface::{HistEntry, QueueObject};
-use law_played::sf_token::ArrvEntry;
-use law_played::sf_turns::TableName;
+use law_played::{
+    ArrivalEntry, ArrvEntry, HeldEntry, HistEntry, HistoryEntry, Hold, QueueHistory, QueueObject,
+    Record, TableName,
+};
 use sf_base::{Items, NoMemory};
 use std::alloc::Global;
 
@@ -75,6 +76,8 @@ pub fn history_record<B: TableName>(
     }))
 }
 
+/// What waits and why, as two numbers: a time, a timeline and its value, or a queue or layer and a
+/// frame.
 fn held_of(entry: &(u32, Hold)) -> HeldEntry
     ensures { result ≡ held_shown entry.now }
 {

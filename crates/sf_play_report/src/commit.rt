@@ -1,11 +1,12 @@
+//! The records of a vsync and of its commits, from what the handler of `sf_commit` answers.
 ghost use Rattle.std.specs.Prelude.{◌≡◌, ◌≤◌, IfOk, All, length, map};
 ghost use Rattle.law_played.specs.sf_record.declared.record.Record.TheVariants as rec;
 ghost use Rattle.law_played.specs.Commits.{buffer_shown, commit_shown};
 ghost use Rattle.law_played.specs.Seeing.{value_shown};
 
-use law_played::sf_commit::Commit as Decided;
-use law_played::sf_layer::Shown;
-use law_played::sf_record::{Commit, CommittedBuffer, Record, TimelineValue, VsyncHeader};
+use law_played::{
+    Commit, CommitRecord, CommittedBuffer, Record, Shown, TimelineValue, VsyncHeader,
+};
 use sf_base::{Items, LayerId, NoMemory, Seen};
 use std::alloc::Global;
 
@@ -27,14 +28,14 @@ fn buffer_of(buffer: &(LayerId, Shown)) -> CommittedBuffer
 }
 
 /// The record of a commit.
-pub fn commit_record(alloc: Global, commit: &Decided) -> Result<Record, NoMemory>
+pub fn commit_record(alloc: Global, commit: &Commit) -> Result<Record, NoMemory>
     ensures { IfOk result (λ written. written ≡ rec.Comm (commit_shown commit.now)) }
 {
     let mut buffers = Vec::new(alloc);
     for buffer in commit.buffers.as_slice() {
         buffers.push(buffer_of(buffer))?;
     }
-    Ok(Record::Comm(Commit {
+    Ok(Record::Comm(CommitRecord {
         token: commit.token.0,
         arrival: commit.number,
         result: commit.cause,

@@ -13,7 +13,9 @@ mod sourcing;
 pub use closing::{arrivals_record, held_record, history_record};
 pub use commit::{commit_record, vsync_record};
 pub use law_played::{
-    sf_actor, sf_commit, sf_output_plan, sf_ready, sf_record, sf_surface, sf_turns, sf_txn,
+    Commit, Handler, Hit, Hold, Lease, Plan, QueueObject, ReadLease, Record, Release, Reply,
+    RunFault, SceneHeader, Stepped, Stock, StuckEntry, TableName, TurnSeat, Vsync, write_image,
+    write_record,
 };
 pub use plan::plan_of;
 pub use reply::reply_record;

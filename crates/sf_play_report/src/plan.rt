@@ -1,11 +1,13 @@
+//! What a scene asks each vsync to show, by rising number: asked once, before the first vsync.
 ghost use Rattle.std.specs.Prelude.{◌≡◌, ◌++◌, ◌≤◌, ℕ, IfOk, OnOk, filter, map};
 ghost use Rattle.law_played.specs.sf_output_plan.Due.{IsPlan};
-ghost use Rattle.sf_play_report.specs.Plans.{is_numbered};
+ghost use Rattle.sf_play_report.specs.inner.Plans.{is_numbered};
 ghost use Rattle.law_played.specs.Frames.{capture_plan, display_plan, hit_plan, plan_of};
 ghost use Rattle.law_played.specs.Runs.{rising};
 
-use law_played::sf_output_plan::{CapturePlan, DisplayPlan, HitPlan, Plan};
-use law_played::sf_script_scene::{CaptureDecl, DisplayDecl, HitDecl, Scene};
+use law_played::{
+    CaptureDecl, CapturePlan, DisplayDecl, DisplayPlan, HitDecl, HitPlan, Plan, Scene,
+};
 use sf_base::{Items, NoMemory};
 use std::alloc::Global;
 
@@ -112,6 +114,7 @@ fn hit_plans(alloc: Global, hits: &[HitDecl]) -> Result<Items<HitPlan>, NoMemory
     Ok(Items::new(plans))
 }
 
+/// A copy of pairs of numbers, as a plain list.
 fn pairs(alloc: Global, pairs: &[(u32, u32)]) -> Result<Items<(u32, u32)>, NoMemory>
     ensures { IfOk result (λ copied. copied ≡ pairs.now) }
 {

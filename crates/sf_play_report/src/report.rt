@@ -1,8 +1,9 @@
+//! What a vsync did, as the player and the compositor of a live run hand it to whoever writes its
+//! records.
 ghost use Rattle.std.specs.Prelude.{◌≡◌};
 ghost use Rattle.sf_play_report.specs.Reports.{has_commits};
 
-use law_played::sf_commit::Commit;
-use law_played::sf_view::View;
+use law_played::{Commit, View};
 use sf_base::{Items, Seen};
 
 /// What a vsync did.

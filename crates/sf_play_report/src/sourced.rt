@@ -1,4 +1,5 @@
-use law_played::sf_view::View;
+//! A view that is ready to be composed: it has the places of its pixels.
+use law_played::View;
 use sf_base::Items;
 
 /// A view, with the places of its buffers in the contents.

@@ -1,3 +1,5 @@
+//! From the tree behind a vsync to what is due, as views that are ready to be composed: each with
+//! the places of its pixels.
 ghost use Rattle.std.specs.List.{All, AllZip};
 ghost use Rattle.std.specs.Option.{unwrap_or};
 ghost use Rattle.std.specs.Prelude.{◌≡◌, ℕ, IfOk, IfSome, map};
@@ -7,11 +9,7 @@ ghost use Rattle.sf_play_report.specs.Stages.{AllShowOn, AreExpected, AreSourced
 ghost use Rattle.law_played.specs.sf_view.declared.drawn.Drawn.{Drawn as DrawnOf};
 
 use crate::sourced::SourcedView;
-use law_played::sf_commit::Handler;
-use law_played::sf_output::Output;
-use law_played::sf_output_plan::{Plan, ViewsDue, views_due};
-use law_played::sf_txn::Lease;
-use law_played::sf_view::{Content, Drawn, View};
+use law_played::{Content, Drawn, Handler, Lease, Output, Plan, View, ViewsDue, views_due};
 use sf_base::{Items, NoMemory};
 use std::alloc::Global;
 

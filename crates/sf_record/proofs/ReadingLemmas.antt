@@ -8,7 +8,7 @@ use Rattle.std.specs.Int.{byte_at, bytes_high_first}
 use Rattle.std.specs.List.{flat_map}
 use Rattle.sf_script.specs.declared.fault.ScriptFault.{ScriptFault}
 use Rattle.sf_record.specs.declared.record.ArrivalEntry.{ArrivalEntry}
-use Rattle.sf_record.specs.declared.record.Commit.{Commit}
+use Rattle.sf_record.specs.declared.record.CommitRecord.{CommitRecord}
 use Rattle.sf_record.specs.declared.record.CommittedBuffer.{CommittedBuffer}
 use Rattle.sf_record.specs.declared.record.HeldEntry.{HeldEntry}
 use Rattle.sf_record.specs.declared.record.HistoryEntry.{HistoryEntry}
@@ -17,7 +17,7 @@ use Rattle.sf_record.specs.declared.record.NumberedFrame.{NumberedFrame}
 use Rattle.sf_record.specs.declared.record.QueueHistory.{QueueHistory}
 use Rattle.sf_record.specs.declared.record.Record.{Record}
 use Rattle.sf_record.specs.declared.record.Record.TheVariants as rec
-use Rattle.sf_record.specs.declared.record.Reply.{Reply}
+use Rattle.sf_record.specs.declared.record.ReplyRecord.{ReplyRecord}
 use Rattle.sf_record.specs.declared.record.SceneHeader.{SceneHeader}
 use Rattle.sf_record.specs.declared.record.StuckEntry.{StuckEntry}
 use Rattle.sf_record.specs.declared.record.Summary.{Summary}
@@ -91,7 +91,7 @@ scene_read : (s : SceneHeader) → SceneFits s → Reads read_scene (u32_bytes s
 unfolding read_scene
 scene_read s h = and_read (and_read (and_read (of_read _ (u32_read h.version)) (u32_read h.width)) (u32_read h.height)) (u64_read h.period)
 
-reply_read : (r : Reply) → ReplyFits r → Reads read_reply (u32_bytes r.actor ++ u32_bytes r.step ++ u32_bytes r.status ++ list_bytes u64_bytes r.values) r
+reply_read : (r : ReplyRecord) → ReplyFits r → Reads read_reply (u32_bytes r.actor ++ u32_bytes r.step ++ u32_bytes r.status ++ list_bytes u64_bytes r.values) r
 unfolding read_reply
 reply_read r h = and_read (and_read (and_read (of_read _ (u32_read h.actor)) (u32_read h.step)) (u32_read h.status)) (list_read (λ n fits. u64_read fits) h.values)
 
@@ -108,7 +108,7 @@ unfolding read_buffer
 buffer_read b h =
     and_read (and_read (and_read (and_read (and_read (and_read (and_read (of_read _ (u32_read h.layer)) (u32_read h.queue)) (u64_read h.frame)) (u32_read h.picture)) (u32_read h.x)) (u32_read h.y)) (u32_read h.width)) (u32_read h.height)
 
-commit_read : (c : Commit) → CommitFits c → Reads read_commit (u32_bytes c.token ++ u32_bytes c.arrival ++ u32_bytes c.result ++ u32_bytes c.operation ++ list_bytes buffer_bytes c.buffers) c
+commit_read : (c : CommitRecord) → CommitFits c → Reads read_commit (u32_bytes c.token ++ u32_bytes c.arrival ++ u32_bytes c.result ++ u32_bytes c.operation ++ list_bytes buffer_bytes c.buffers) c
 unfolding read_commit
 commit_read c h = and_read (and_read (and_read (and_read (of_read _ (u32_read h.token)) (u32_read h.arrival)) (u32_read h.result)) (u32_read h.operation)) (list_read buffer_read h.buffers)
 
@@ -153,7 +153,7 @@ pixels_left k pixels h =
 pixels_behind : (f : NumberedFrame) → Fits32 (length (numbered_bytes f)) → length (numbered_bytes f) % 256 ^ 4 - 8 ≡ length f.pixels
 unfolding u32_bytes
 pixels_behind f h =
-    let whole : length (numbered_bytes f) ≡ 8 + length f.pixels = length-append (bytes_high_first 4 f.place ++ bytes_high_first 4 f.number) f.pixels in
+    let whole : length (numbered_bytes f) ≡ 8 + length f.pixels = length-append (bytes_high_first 4 f.output ++ bytes_high_first 4 f.number) f.pixels in
     let kept : length (numbered_bytes f) % 256 ^ 4 ≡ length (numbered_bytes f) = mod-eq_of_lt h in
     omega (arith, kept, whole)
 
@@ -162,11 +162,11 @@ unfolding read_numbered
 numbered_read f h whole =
     let pixels : Reads (so_many (length (numbered_bytes f) % 256 ^ 4 - 8)) f.pixels f.pixels =
     subst (λ (n : ℕ). Reads (so_many n) f.pixels f.pixels) (sym (pixels_behind f whole)) (so_many_read f.pixels) in
-    and_read (and_read (of_read _ (u32_read h.place)) (u32_read h.number)) pixels
+    and_read (and_read (of_read _ (u32_read h.output)) (u32_read h.number)) pixels
 
 hit_read : (x : Hit) → HitFits x → Reads read_hit (hit_bytes x) x
 unfolding read_hit
-hit_read x h = and_read (and_read (of_read _ (u32_read h.place)) (u32_read h.number)) (u32_read h.layer)
+hit_read x h = and_read (and_read (of_read _ (u32_read h.output)) (u32_read h.number)) (u32_read h.layer)
 
 body_read : (r : Record) → RecordFits r → Reads (read_body (tag_of r) (length (body_of r) % 256 ^ 4)) (body_of r) r
 unfolding read_body body_of

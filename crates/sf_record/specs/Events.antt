@@ -5,7 +5,7 @@ use Rattle.sf_output.specs.declared.output.Output.{Output}
 use Rattle.sf_output.specs.declared.output.Output.TheVariants as out
 use Rattle.sf_record.specs.declared.event.Event.{Event}
 use Rattle.sf_record.specs.declared.event.Event.TheVariants as event
-use Rattle.sf_record.specs.declared.event.VsyncReport.{VsyncReport}
+use Rattle.sf_record.specs.declared.event.VsyncRecords.{VsyncRecords}
 use Rattle.sf_record.specs.declared.record.ArrivalEntry.{ArrivalEntry}
 use Rattle.sf_record.specs.declared.record.HeldEntry.{HeldEntry}
 use Rattle.sf_record.specs.declared.record.QueueHistory.{QueueHistory}
@@ -16,16 +16,17 @@ use Rattle.sf_record.specs.declared.record.StuckEntry.{StuckEntry}
 -- the record of what a vsync of this number shows
 abbrev pub output_record : ℕ → Output (List ℕ) → Record
 output_record number (out.Frame pixels) = rec.Fram (record { number = number; pixels = pixels })
-output_record number (out.Display place pixels) = rec.Frad (record { place = place; number = number; pixels = pixels })
-output_record number (out.Capture place pixels) = rec.Capt (record { place = place; number = number; pixels = pixels })
-output_record number (out.Hit place layer) = rec.Hits (record { place = place; number = number; layer = layer })
+output_record number (out.Display output pixels) = rec.Frad (record { output = output; number = number; pixels = pixels })
+output_record number (out.Capture output pixels) = rec.Capt (record { output = output; number = number; pixels = pixels })
+output_record number (out.Hit output layer) = rec.Hits (record { output = output; number = number; layer = layer })
 
 -- the records of a vsync: its own, those of its commits, and those of what it shows
-abbrev pub vsync_records : VsyncReport → List Record
+abbrev pub vsync_records : VsyncRecords → List Record
 vsync_records v =
     rec.Vsyn (record { number = v.number; expected = v.expected; timelines = v.timelines })
     ∷ (map rec.Comm v.commits ++ map (output_record v.number) v.shown)
 
+-- the records that an event comes to
 abbrev pub event_records : Event → List Record
 event_records (event.Reply reply) = rec.Repl reply ∷ []
 event_records (event.Vsync report) = vsync_records report

@@ -3,7 +3,7 @@ use Rattle.std.specs.Prelude.{◌≡◌, ℕ, zero, suc, ◌+◌, ◌-◌, ◌*�
 use Rattle.std.specs.Str.{bytes_eq}
 use Rattle.sf_script.specs.declared.fault.ScriptFault.{ScriptFault}
 use Rattle.sf_record.specs.declared.record.ArrivalEntry.{ArrivalEntry}
-use Rattle.sf_record.specs.declared.record.Commit.{Commit}
+use Rattle.sf_record.specs.declared.record.CommitRecord.{CommitRecord}
 use Rattle.sf_record.specs.declared.record.CommittedBuffer.{CommittedBuffer}
 use Rattle.sf_record.specs.declared.record.HeldEntry.{HeldEntry}
 use Rattle.sf_record.specs.declared.record.Hit.{Hit}
@@ -12,7 +12,7 @@ use Rattle.sf_record.specs.declared.record.HistoryEntry.{HistoryEntry}
 use Rattle.sf_record.specs.declared.record.QueueHistory.{QueueHistory}
 use Rattle.sf_record.specs.declared.record.Record.{Record}
 use Rattle.sf_record.specs.declared.record.Record.TheVariants as rec
-use Rattle.sf_record.specs.declared.record.Reply.{Reply}
+use Rattle.sf_record.specs.declared.record.ReplyRecord.{ReplyRecord}
 use Rattle.sf_record.specs.declared.record.SceneHeader.{SceneHeader}
 use Rattle.sf_record.specs.declared.record.StuckEntry.{StuckEntry}
 use Rattle.sf_record.specs.declared.record.Summary.{Summary}
@@ -63,7 +63,7 @@ so_many n bytes = (take n bytes, drop n bytes)
 unfoldable pub read_scene : Reader SceneHeader
 read_scene = ((((λ v w h p. record { version = v; width = w; height = h; period = p }) of u32) and u32) and u32) and u64
 
-unfoldable pub read_reply : Reader Reply
+unfoldable pub read_reply : Reader ReplyRecord
 read_reply = ((((λ a s t v. record { actor = a; step = s; status = t; values = v }) of u32) and u32) and u32) and list_of u64
 
 unfoldable pub read_timeline : Reader TimelineValue
@@ -78,7 +78,7 @@ read_buffer =
     record { layer = l; queue = q; frame = f; picture = p; x = x; y = y; width = w; height = h })
     of u32) and u32) and u64) and u32) and u32) and u32) and u32) and u32
 
-unfoldable pub read_commit : Reader Commit
+unfoldable pub read_commit : Reader CommitRecord
 read_commit =
     (((((λ t a r o b. record { token = t; arrival = a; result = r; operation = o; buffers = b })
     of u32) and u32) and u32) and u32) and list_of read_buffer
@@ -99,10 +99,10 @@ unfoldable pub read_stuck : Reader StuckEntry
 read_stuck = ((λ a s. record { actor = a; step = s }) of u32) and u32
 
 unfoldable pub read_numbered : ℕ → Reader NumberedFrame
-read_numbered n = (((λ c k p. record { place = c; number = k; pixels = p }) of u32) and u32) and so_many (n - 8)
+read_numbered n = (((λ c k p. record { output = c; number = k; pixels = p }) of u32) and u32) and so_many (n - 8)
 
 unfoldable pub read_hit : Reader Hit
-read_hit = (((λ h k l. record { place = h; number = k; layer = l }) of u32) and u32) and u32
+read_hit = (((λ h k l. record { output = h; number = k; layer = l }) of u32) and u32) and u32
 
 unfoldable pub read_fault : Reader ScriptFault
 read_fault = (((λ l w c. record { line = l; word = w; cause = c }) of u32) and u32) and u32

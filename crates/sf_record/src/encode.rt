@@ -1,3 +1,4 @@
+//! From a record to its bytes, and to a sink: each record that a run writes goes through here.
 ghost use Rattle.std.specs.Prelude.{◌≡◌, ◌<◌, ◌≤◌, ◌^◌, ◌++◌, ◌∷◌, [], All, List, ℕ, length, take, OnOk, OnErr, IfOk, IsErrOf};
 ghost use Rattle.std.specs.Io.KnownBytes.{Appends};
 ghost use Rattle.std.specs.List.{flat_map};
@@ -10,8 +11,9 @@ ghost use Rattle.sf_record.specs.Records.{image_in, list_bytes, numbered_bytes, 
 ghost use Rattle.sf_record.specs.Records.{u32_bytes, u64_bytes, vsync_bytes};
 
 use crate::record::{
-    ArrivalEntry, Commit, CommittedBuffer, Frame, HeldEntry, HistoryEntry, Hit, NumberedFrame,
-    QueueHistory, Record, Reply, SceneHeader, StuckEntry, Summary, TimelineValue, VsyncHeader,
+    ArrivalEntry, CommitRecord, CommittedBuffer, Frame, HeldEntry, HistoryEntry, Hit,
+    NumberedFrame, QueueHistory, Record, ReplyRecord, SceneHeader, StuckEntry, Summary,
+    TimelineValue, VsyncHeader,
 };
 use byteorder::{BigEndian, ByteOrder};
 use sf_base::NoMemory;
@@ -20,7 +22,7 @@ use sf_output::Output;
 use sf_script::ScriptFault;
 use std::alloc::Global;
 
-// The four bytes of a number.
+/// The four bytes of a number.
 #[tactic(auto, unfolding(crate::specs::Records::u32_bytes))]
 fn four_bytes(n: u32) -> [u8; 4]
     ensures { result ≡ u32_bytes n }
@@ -30,6 +32,7 @@ fn four_bytes(n: u32) -> [u8; 4]
     buf
 }
 
+/// Appends a number as four bytes, the highest first.
 fn push_u32(out: &mut Vec<u8>, n: u32) -> Result<(), NoMemory>
     ensures ok { OnOk result (out.new.items ≡ out.old.items ++ u32_bytes n) }
     ensures fits { OnOk result (Fits32 n) }
@@ -38,6 +41,7 @@ fn push_u32(out: &mut Vec<u8>, n: u32) -> Result<(), NoMemory>
     Ok(())
 }
 
+/// Appends a number as eight bytes, the highest first.
 #[tactic(auto, unfolding(crate::specs::Records::u64_bytes))]
 fn push_u64(out: &mut Vec<u8>, n: u64) -> Result<(), NoMemory>
     ensures ok { OnOk result (out.new.items ≡ out.old.items ++ u64_bytes n) }
@@ -152,7 +156,7 @@ impl Encode for StuckEntry {
     }
 }
 
-// The items, one after another.
+/// The items, one after another.
 fn push_all<T: Encode>(out: &mut Vec<u8>, items: &[T]) -> Result<(), NoMemory>
     ensures ok { OnOk result (out.new.items ≡ out.old.items ++ flat_map T.bytes items.now) }
     ensures fits { OnOk result (All T.fits items.now) }
@@ -165,7 +169,7 @@ fn push_all<T: Encode>(out: &mut Vec<u8>, items: &[T]) -> Result<(), NoMemory>
     Ok(())
 }
 
-// A list: how many items it has, and the items.
+/// A list: how many items it has, and the items.
 #[tactic(auto, unfolding(crate::specs::Records::list_bytes))]
 fn push_list<T: Encode>(out: &mut Vec<u8>, items: &[T]) -> Result<(), NoMemory>
     ensures ok { OnOk result (out.new.items ≡ out.old.items ++ list_bytes T.bytes items.now) }
@@ -180,6 +184,7 @@ fn push_list<T: Encode>(out: &mut Vec<u8>, items: &[T]) -> Result<(), NoMemory>
     }
 }
 
+/// The four letters that a record begins with.
 fn tag(shown: &Record) -> [u8; 4]
     ensures { result ≡ tag_of shown.now }
 {
@@ -212,7 +217,7 @@ fn push_scene(out: &mut Vec<u8>, scene: &SceneHeader) -> Result<(), NoMemory>
     push_u64(out, scene.period)
 }
 
-// Four numbers of four bytes at once, as a reply begins with.
+/// Four numbers of four bytes at once, as a reply begins with.
 #[tactic(auto, unfolding(crate::specs::Records::u32_bytes))]
 fn push_four(out: &mut Vec<u8>, a: u32, b: u32, c: u32, d: u32) -> Result<(), NoMemory>
     ensures ok { OnOk result (out.new.items ≡ out.old.items ++ (u32_bytes a ++ u32_bytes b ++ u32_bytes c ++ u32_bytes d)) }
@@ -229,8 +234,9 @@ fn push_four(out: &mut Vec<u8>, a: u32, b: u32, c: u32, d: u32) -> Result<(), No
     Ok(())
 }
 
+/// More values than a length of 32 bits tells count as want of memory.
 #[tactic(auto, unfolding(crate::specs::Records::list_bytes))]
-fn push_reply(out: &mut Vec<u8>, reply: &Reply) -> Result<(), NoMemory>
+fn push_reply(out: &mut Vec<u8>, reply: &ReplyRecord) -> Result<(), NoMemory>
     ensures ok { OnOk result (out.new.items ≡ out.old.items ++ reply_bytes reply.now) }
     ensures fits { OnOk result (ReplyFits reply.now) }
 {
@@ -252,7 +258,7 @@ fn push_vsync(out: &mut Vec<u8>, vsync: &VsyncHeader) -> Result<(), NoMemory>
     push_list(out, vsync.timelines.as_slice())
 }
 
-fn push_commit(out: &mut Vec<u8>, commit: &Commit) -> Result<(), NoMemory>
+fn push_commit(out: &mut Vec<u8>, commit: &CommitRecord) -> Result<(), NoMemory>
     ensures ok { OnOk result (out.new.items ≡ out.old.items ++ commit_bytes commit.now) }
     ensures fits { OnOk result (CommitFits commit.now) }
 {
@@ -263,6 +269,7 @@ fn push_commit(out: &mut Vec<u8>, commit: &Commit) -> Result<(), NoMemory>
     push_list(out, commit.buffers.as_slice())
 }
 
+/// A frame has no length of its own: its pixels go on to the end of the body.
 fn push_frame(out: &mut Vec<u8>, frame: &Frame) -> Result<(), NoMemory>
     ensures ok { OnOk result (out.new.items ≡ out.old.items ++ (u32_bytes frame.now.number ++ frame.now.pixels)) }
     ensures fits { OnOk result (FrameFits frame.now) }
@@ -276,7 +283,7 @@ fn push_numbered(out: &mut Vec<u8>, frame: &NumberedFrame) -> Result<(), NoMemor
     ensures ok { OnOk result (out.new.items ≡ out.old.items ++ numbered_bytes frame.now) }
     ensures fits { OnOk result (NumberedFits frame.now) }
 {
-    push_u32(out, frame.place)?;
+    push_u32(out, frame.output)?;
     push_u32(out, frame.number)?;
     out.extend_from_slice(frame.pixels.as_slice())?;
     Ok(())
@@ -286,7 +293,7 @@ fn push_hit(out: &mut Vec<u8>, hit: &Hit) -> Result<(), NoMemory>
     ensures ok { OnOk result (out.new.items ≡ out.old.items ++ hit_bytes hit.now) }
     ensures fits { OnOk result (HitFits hit.now) }
 {
-    push_u32(out, hit.place)?;
+    push_u32(out, hit.output)?;
     push_u32(out, hit.number)?;
     push_u32(out, hit.layer)
 }
@@ -325,7 +332,7 @@ fn push_summary(out: &mut Vec<u8>, summary: &Summary) -> Result<(), NoMemory>
 // So many bytes a body has room for at first: most records, a reply above all, have no more.
 const FIRST_ROOM: usize = 64;
 
-// The body of a record.
+/// The body of a record.
 #[tactic(auto, unfolding(crate::specs::Records::body_of))]
 fn body(alloc: Global, shown: &Record) -> Result<Vec<u8>, NoMemory>
     ensures ok { IfOk result (λ v. v.items ≡ body_of shown.now) }
@@ -361,7 +368,7 @@ pub enum RunFault {
     NoMemory,
 }
 
-// Writes the record with this tag and this body.
+/// Writes the record with this tag and this body.
 fn write_body<K: Sink>(sink: &mut K, tag: [u8; 4], body: &[u8]) -> Result<(), RunFault>
     ensures ok { OnOk result (Appends (K.taken sink.old) (K.taken sink.new) (framed tag body.now)) }
     ensures fits { OnOk result (Fits32 (length body.now)) }
@@ -400,16 +407,16 @@ pub fn write_record<K: Sink>(alloc: Global, sink: &mut K, shown: &Record) -> Res
     write_body(sink, tag(shown), &body)
 }
 
-// The tag of the record of an image, whose numbers fit their fields if that of its vsync does.
+/// The tag of the record of an image, whose numbers fit their fields if that of its vsync does.
 fn image_tag(of: &Output<()>) -> [u8; 4]
     ensures tag { (number : ℕ) (body : List ℕ) → result ≡ tag_of (image_in of.now number body) }
     ensures fits { (number : ℕ) (body : List ℕ) → Fits32 number → FieldsFit (image_in of.now number body) }
 {
     match *of {
         Output::Frame(()) => *b"FRAM",
-        Output::Display(_place, ()) => *b"FRAD",
-        Output::Capture(_place, ()) => *b"CAPT",
-        Output::Hit(_place, _layer) => *b"HITS",
+        Output::Display(_output, ()) => *b"FRAD",
+        Output::Capture(_output, ()) => *b"CAPT",
+        Output::Hit(_output, _layer) => *b"HITS",
     }
 }
 

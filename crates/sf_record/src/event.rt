@@ -1,28 +1,31 @@
+//! What a turn of a run shows, a reply or a vsync, and the records that it comes to.
 ghost use Rattle.std.specs.Prelude.{◌≡◌, ◌++◌, IfOk, OnOk, map};
 ghost use Rattle.sf_record.specs.declared.record.Record.TheVariants as rec;
 ghost use Rattle.sf_record.specs.Events.{event_records, output_record, vsync_records};
 
-use crate::record::{Commit, Frame, Hit, NumberedFrame, Record, Reply, TimelineValue, VsyncHeader};
+use crate::record::{
+    CommitRecord, Frame, Hit, NumberedFrame, Record, ReplyRecord, TimelineValue, VsyncHeader,
+};
 use sf_base::{Items, NoMemory};
 use sf_output::Output;
 use std::alloc::Global;
 
 /// What a vsync committed, and what it shows, each image as its pixels.
 #[derive(Drop)]
-pub struct VsyncReport {
+pub struct VsyncRecords {
     pub number: u32,
     /// When the frame is expected, in nanoseconds from the start of the run.
     pub expected: u64,
     pub timelines: Items<TimelineValue>,
-    pub commits: Items<Commit>,
+    pub commits: Items<CommitRecord>,
     pub shown: Items<Output<Items<u8>>>,
 }
 
 /// What a pick shows, where it shows something.
 #[derive(Drop)]
 pub enum Event {
-    Reply(Reply),
-    Vsync(VsyncReport),
+    Reply(ReplyRecord),
+    Vsync(VsyncRecords),
 }
 
 /// The record of what a vsync of this number shows.
@@ -31,28 +34,29 @@ fn output_record(number: u32, output: Output<Items<u8>>) -> Record
 {
     match output {
         Output::Frame(pixels) => Record::Fram(Frame { number, pixels }),
-        Output::Display(place, pixels) => Record::Frad(NumberedFrame {
-            place,
+        Output::Display(output, pixels) => Record::Frad(NumberedFrame {
+            output,
             number,
             pixels,
         }),
-        Output::Capture(place, pixels) => Record::Capt(NumberedFrame {
-            place,
+        Output::Capture(output, pixels) => Record::Capt(NumberedFrame {
+            output,
             number,
             pixels,
         }),
-        Output::Hit(place, layer) => Record::Hits(Hit {
-            place,
+        Output::Hit(output, layer) => Record::Hits(Hit {
+            output,
             number,
             layer,
         }),
     }
 }
 
-fn vsync_record_list(alloc: Global, report: VsyncReport) -> Result<Vec<Record>, NoMemory>
+/// The head of a vsync, its commits, and its outputs, in this order.
+fn vsync_record_list(alloc: Global, report: VsyncRecords) -> Result<Vec<Record>, NoMemory>
     ensures { IfOk result (λ v. v.items ≡ vsync_records report) }
 {
-    let VsyncReport {
+    let VsyncRecords {
         number,
         expected,
         timelines,

@@ -1,3 +1,4 @@
+//! Laws about the bytes of records, called for their clauses alone: they determine the records.
 ghost use Rattle.sf_record.specs.Reading.{AreDetermined, AreReadBack};
 
 /// The law that records can be read back from their bytes, where each number fits its field.

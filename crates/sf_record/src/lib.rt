@@ -8,10 +8,11 @@ mod laws;
 mod record;
 
 pub use encode::{RunFault, write_all, write_image, write_record};
-pub use event::{Event, VsyncReport, records};
+pub use event::{Event, VsyncRecords, records};
 pub use laws::{bytes_determine_records, records_are_read_back};
 pub use record::{
-    ArrivalEntry, Commit, CommittedBuffer, Frame, HeldEntry, HistoryEntry, Hit, NumberedFrame,
-    QueueHistory, Record, Reply, SceneHeader, StuckEntry, Summary, TimelineValue, VsyncHeader,
+    ArrivalEntry, CommitRecord, CommittedBuffer, Frame, HeldEntry, HistoryEntry, Hit,
+    NumberedFrame, QueueHistory, Record, ReplyRecord, SceneHeader, StuckEntry, Summary,
+    TimelineValue, VsyncHeader,
 };
 pub use sf_output;

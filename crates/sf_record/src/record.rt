@@ -1,3 +1,4 @@
+//! The records of a run as plain data, one type for each.
 use sf_base::Items;
 use sf_script::ScriptFault;
 
@@ -14,7 +15,7 @@ pub struct SceneHeader {
 
 /// The reply to a step.
 #[derive(Drop)]
-pub struct Reply {
+pub struct ReplyRecord {
     pub actor: u32,
     /// The step's place in its actor's script, from 1.
     pub step: u32,
@@ -57,7 +58,7 @@ pub struct CommittedBuffer {
 
 /// The commit of a transaction.
 #[derive(Drop)]
-pub struct Commit {
+pub struct CommitRecord {
     pub token: u32,
     /// The number of the arrival, from 1.
     pub arrival: u32,
@@ -80,7 +81,7 @@ pub struct Frame {
 /// A frame of a further display, or a capture: its number, that of its vsync, and its pixels.
 #[derive(Drop)]
 pub struct NumberedFrame {
-    pub place: u32,
+    pub output: u32,
     pub number: u32,
     pub pixels: Items<u8>,
 }
@@ -89,7 +90,7 @@ pub struct NumberedFrame {
 /// for none.
 #[derive(Clone, Copy)]
 pub struct Hit {
-    pub place: u32,
+    pub output: u32,
     pub number: u32,
     pub layer: u32,
 }
@@ -169,11 +170,11 @@ pub enum Record {
     /// The scene, first of all.
     Scen(SceneHeader),
     /// The reply to a step.
-    Repl(Reply),
+    Repl(ReplyRecord),
     /// A vsync that commits something; the records of its commits and of what it shows follow.
     Vsyn(VsyncHeader),
     /// The commit of a transaction.
-    Comm(Commit),
+    Comm(CommitRecord),
     /// A frame.
     Fram(Frame),
     /// A frame of a further display.

@@ -1,4 +1,4 @@
-use Rattle.sf_play.proofs.TurnKeepsPlayer.{ends_run}
+use Rattle.sf_play.proofs.ActionKeepsPlayer.{ends_run}
 use Rattle.sf_play.proofs.laws.what_stands_at_its_end_fits.Goals as goal
 
 pub returns : goal.returns

@@ -1,5 +1,5 @@
 use Rattle.std.proofs.Common.{◌≡◌, ◌++◌, filter, take}
-use Rattle.sf_play_report.specs.Plans.{is_numbered}
+use Rattle.sf_play_report.specs.inner.Plans.{is_numbered}
 use Rattle.sf_play_report.proofs.plan.push_numbered.Given as goal
 
 abbrev pub invariant-loop-item : goal.invariant-loop-item

@@ -1,5 +1,5 @@
 use Rattle.std.proofs.Common.{List, ◌++◌, ◌∙◌, ap, filter, sym}
-use Rattle.sf_play_report.specs.Plans.{is_numbered}
+use Rattle.sf_play_report.specs.inner.Plans.{is_numbered}
 use Rattle.sf_play_report.proofs.PlanLemmas.{rising_more}
 use Rattle.sf_play_report.proofs.plan.rising.Goals as goal
 

@@ -1,6 +1,6 @@
 use Rattle.std.proofs.Common.{◌∙◌, ap}
 use Rattle.sf_play.specs.Players.{PlayOf, PlayerOf}
-use Rattle.sf_play.proofs.TurnParts.{ends_round}
+use Rattle.sf_play.proofs.ActionParts.{ends_round}
 use Rattle.sf_play.proofs.player.Player.round.Goals as goal
 
 pub returns-clause-rounds : goal.returns-clause-rounds

@@ -1,3 +1,5 @@
+//! The next action of a play: the try of an actor's step or a vsync, by the order of the script and
+//! then in rounds, up to the first round in which nothing is done.
 ghost use Rattle.std.specs.Prelude.{◌≡◌, ◌<◌, ◌||◌, ℕ, true, false, if◌then◌else◌, List, length, IfErr, IfOk, IfSome, IsErr};
 ghost use Rattle.std.specs.List.{list_any};
 ghost use Rattle.sf_play_report.specs.sf_ready.declared.hold.Hold.{Hold as HoldValue};
@@ -11,21 +13,17 @@ ghost use Rattle.sf_play.specs.Playing.{MayMakeVsync};
 ghost use Rattle.sf_play.specs.Standing.{StandsAlong, StandsInRun};
 ghost use Rattle.sf_play.specs.declared.place.Place.TheVariants as at;
 ghost use Rattle.sf_play_report.specs.Reports.{has_commits};
-ghost use Rattle.sf_play.specs.Turning.{KeepsActorSet, Picks, Rounds, TriesStep, Turns, TurnsAt, is_step, next_tried, picked_place, turn_by};
+ghost use Rattle.sf_play.specs.Actions.{KeepsActorSet, Picks, Rounds, TriesStep, TakesAction, TakesActionAt, is_step, next_tried, picked_place, action_by};
 
 use crate::kept::KeptReport;
 use crate::place::Place;
 use crate::player::Player;
 use sf_base::NoMemory;
-use sf_play_report::sf_actor::Stepped;
-use sf_play_report::sf_ready::Hold;
-use sf_play_report::sf_surface::ReadLease;
-use sf_play_report::sf_turns::TableName;
-use sf_play_report::sf_txn::Lease;
+use sf_play_report::{Hold, Lease, ReadLease, Stepped, TableName};
 
-/// What a turn of a play did.
+/// What a player did at a pick of the order, or in a round.
 #[derive(Drop)]
-pub enum Turn {
+pub enum Action {
     /// The actor of this place, from 0, did a step.
     Step(usize),
     /// The picked actor did nothing: it has ended, or it is not time for its next step.
@@ -35,30 +33,30 @@ pub enum Turn {
     End,
 }
 
-impl Turn {
+impl Action {
     /// Whether an actor did a step.
     fn is_step(&self) -> bool
         ensures { result ≡ is_step self.now }
     {
         match self {
-            Turn::Step(_) => true,
+            Action::Step(_) => true,
             _ => false,
         }
     }
 }
 
-/// What a turn did whose actor's try came to this.
-fn turn_by(place: usize, stepped: Stepped) -> Turn
-    ensures { result ≡ turn_by place stepped }
+/// The action whose try of an actor's step came to this.
+fn action_by(place: usize, stepped: Stepped) -> Action
+    ensures { result ≡ action_by place stepped }
 {
     match stepped {
-        Stepped::Done => Turn::Step(place),
-        _ => Turn::Idle,
+        Stepped::Done => Action::Step(place),
+        _ => Action::Idle,
     }
 }
 
 /// Whether it is held until its time.
-fn is_time(entry: &(u32, Hold)) -> bool
+pub fn is_time(entry: &(u32, Hold)) -> bool
     ensures { result ≡ is_time entry.now.1 }
 {
     match entry.1 {
@@ -88,7 +86,7 @@ fn behind_round(stepped: bool, commits: bool, waits: bool) -> Place
 
 impl<B: TableName> Player<B> {
     /// Tries the next step of the actor at a place.
-    fn step(&mut self, place: usize) -> Result<Turn, NoMemory>
+    fn step(&mut self, place: usize) -> Result<Action, NoMemory>
         requires spent { self.old.is_spent ≡ true }
         requires there { place < length self.old.play.actor_set.actors }
         ensures tries { (ofs : List (ActorOf B)) → KeepsActorSet B.table self.old.play ofs
@@ -96,11 +94,11 @@ impl<B: TableName> Player<B> {
         ensures rest { self.new ≡ record self.old { play = record self.old.play { actor_set = self.new.play.actor_set } } }
     {
         let stepped = self.actor_set.try_step(place)?;
-        Ok(turn_by(place, stepped))
+        Ok(action_by(place, stepped))
     }
 
-    /// Does the turn of a pick: a vsync for 0, else the next step of the actor of this number.
-    fn pick(&mut self, number: u32) -> Result<Turn, NoMemory>
+    /// Does the action of a pick: a vsync for 0, else the next step of the actor of this number.
+    fn pick(&mut self, number: u32) -> Result<Action, NoMemory>
         requires spent { self.old.is_spent ≡ true }
         requires may { MayMakeVsync B.table self.old.play }
         ensures picks { (ofs : List (ActorOf B)) → KeepsActorSet B.table self.old.play ofs
@@ -110,16 +108,16 @@ impl<B: TableName> Player<B> {
     {
         if number == 0 {
             let report = self.vsync()?;
-            return Ok(Turn::Vsync(KeptReport::new(self.alloc, report)?));
+            return Ok(Action::Vsync(KeptReport::new(self.alloc, report)?));
         }
-        match self.actor_set.place_of(number) {
+        match self.actor_set.index_of(number) {
             Some(place) => self.step(place),
-            None => Ok(Turn::Idle),
+            None => Ok(Action::Idle),
         }
     }
 
-    /// Does a turn of a round, in which the actors before this place were tried.
-    fn round(&mut self, place: usize, stepped: bool) -> Result<Turn, NoMemory>
+    /// Does an action of a round, in which the actors before this place were tried.
+    fn round(&mut self, place: usize, stepped: bool) -> Result<Action, NoMemory>
         requires spent { self.old.is_spent ≡ true }
         requires may { MayMakeVsync B.table self.old.play }
         ensures rounds { (ofs : List (ActorOf B)) → KeepsActorSet B.table self.old.play ofs
@@ -127,24 +125,24 @@ impl<B: TableName> Player<B> {
         ensures spent { self.new.is_spent ≡ true }
     {
         if place < self.actor_set.actors().len() {
-            let turn = self.step(place)?;
-            self.place = Place::Round(place + 1, stepped || turn.is_step());
-            return Ok(turn);
+            let action = self.step(place)?;
+            self.place = Place::Round(place + 1, stepped || action.is_step());
+            return Ok(action);
         }
         let report = self.vsync()?;
         let commits = report.has_commits();
         let waits = waits_for_time(self.held.as_slice());
         self.place = behind_round(stepped, commits, waits);
-        Ok(Turn::Vsync(KeptReport::new(self.alloc, report)?))
+        Ok(Action::Vsync(KeptReport::new(self.alloc, report)?))
     }
 
-    /// Does the next turn, from this place on.
-    fn turn_at(&mut self, place: Place) -> Result<Turn, NoMemory>
+    /// Does the next action, from this place on.
+    fn action_at(&mut self, place: Place) -> Result<Action, NoMemory>
         requires spent { self.old.is_spent ≡ true }
         requires may { MayMakeVsync B.table self.old.play }
         requires settled { place ≡ settled self.old.play.order self.old.place }
-        ensures turns { (ofs : List (ActorOf B)) → KeepsActorSet B.table self.old.play ofs
-            → IfOk result (TurnsAt ⟦<ReadLease<B> as Lease>⟧ B.table ofs place self.old self.new) }
+        ensures acts { (ofs : List (ActorOf B)) → KeepsActorSet B.table self.old.play ofs
+            → IfOk result (TakesActionAt ⟦<ReadLease<B> as Lease>⟧ B.table ofs place self.old self.new) }
         ensures spent { self.new.is_spent ≡ true }
     {
         match place {
@@ -154,7 +152,7 @@ impl<B: TableName> Player<B> {
                 self.pick(number)
             }
             Place::Round(place, stepped) => self.round(place, stepped),
-            Place::End => Ok(Turn::End),
+            Place::End => Ok(Action::End),
         }
     }
 
@@ -166,10 +164,10 @@ impl<B: TableName> Player<B> {
         if number == 0 {
             return None;
         }
-        self.actor_set.place_of(number)
+        self.actor_set.index_of(number)
     }
 
-    /// The place, from 0, of the actor whose next step the next turn tries, if it tries one.
+    /// The place, from 0, of the actor whose next step the next action tries, if it tries one.
     pub fn next_actor(&self) -> Option<usize>
         ensures names { result ≡ next_tried self.now }
         ensures there { IfSome result (λ place. place < length self.now.play.actor_set.actors) }
@@ -184,15 +182,15 @@ impl<B: TableName> Player<B> {
         }
     }
 
-    /// Does the next turn of the play. A player that found no memory does nothing any more.
-    pub fn next(&mut self) -> Result<Turn, NoMemory>
-        ensures turns { (ofs : List (ActorOf B)) → KeepsActorSet B.table self.old.play ofs
-            → IfOk result (Turns ⟦<ReadLease<B> as Lease>⟧ B.table ofs self.old self.new) }
+    /// Does the next action of the play. A player that found no memory does nothing any more.
+    pub fn next(&mut self) -> Result<Action, NoMemory>
+        ensures acts { (ofs : List (ActorOf B)) → KeepsActorSet B.table self.old.play ofs
+            → IfOk result (TakesAction ⟦<ReadLease<B> as Lease>⟧ B.table ofs self.old self.new) }
         ensures on { (scene : SceneValue) (so : SoFar B) → StandsInRun B.table scene so self.old
-            → IfOk result (λ turn. GoesOn B.table scene so turn self.new) }
+            → IfOk result (λ action. GoesOn B.table scene so action self.new) }
         ensures along { (scene : SceneValue) (so : SoFar B) → StandsAlong B.table scene so self.old
-            → IfOk result (λ turn. GoesAlong B.table scene so turn self.new) }
-        ensures less { IfOk result (λ turn. LeavesLess turn self.old self.new) }
+            → IfOk result (λ action. GoesAlong B.table scene so action self.new) }
+        ensures less { IfOk result (λ action. LeavesLess action self.old self.new) }
         ensures told { IfOk result (λ _. (home_in self.new.play).tells ≡ (home_in self.old.play).tells) }
         ensures no_memory { IfErr result (λ _. self.new.is_spent ≡ true) }
         ensures ok { IfOk result (λ _. self.new.is_spent ≡ false) }
@@ -204,9 +202,9 @@ impl<B: TableName> Player<B> {
         self.is_spent = true;
         self.tells();
         let place = self.place.settled(self.order.as_slice());
-        let turn = self.turn_at(place)?;
+        let action = self.action_at(place)?;
         self.tells();
         self.is_spent = false;
-        Ok(turn)
+        Ok(action)
     }
 }

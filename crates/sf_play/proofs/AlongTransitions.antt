@@ -1,4 +1,4 @@
--- A try of a player's actor is a turn of the play of its scene.
+-- A try of a player's actor is a transition of the play of its scene.
 use Rattle.std.proofs.Common.{◌≡◌, ◌≢◌, ℕ, zero, suc, ◌+◌, ◌<◌, ◌≤◌, ◌==◌, Bool, true, false, List, [], ◌∷◌, ◌++◌, length, map, set, Some, refl, sym, ap, ◌∙◌, subst, inl, inr, arith, length-append}
 use Rattle.std.specs.Prelude.{Contains, find, slice_get}
 use Rattle.std.specs.List.{flat_map}
@@ -23,29 +23,29 @@ use Rattle.sf_play_report.specs.sf_actor.Tries.{ActorOf, DoesStep, LeavesStep}
 use Rattle.law_rights.specs.sf_actor_set.ActorSets.{ActorSetOf, IsSameActorSet, StepsAt}
 use Rattle.sf_play_report.specs.sf_record.declared.event.Event.{Event}
 use Rattle.sf_play_report.specs.sf_record.declared.event.Event.TheVariants as event
-use Rattle.sf_play_report.specs.sf_record.declared.event.VsyncReport.{VsyncReport}
+use Rattle.sf_play_report.specs.sf_record.declared.event.VsyncRecords.{VsyncRecords}
 use Rattle.sf_play_report.specs.law_played.Actors.{AreCalls, arrivals_of, number_of, run_of, script_of, trace_among}
-use Rattle.sf_play_report.specs.law_played.Plays.{TakesTurn}
+use Rattle.sf_play_report.specs.law_played.Plays.{TakesTransition}
 use Rattle.sf_play_report.specs.law_played.Replies.{reply_shown}
 use Rattle.sf_play_report.specs.law_played.Runs.{rising_actors}
 use Rattle.sf_play_report.specs.law_played.Stepping.{KnowsRun, TellsFirst}
 use Rattle.sf_play_report.specs.law_played.Stopping.{TellsOlder}
 use Rattle.sf_play_report.specs.law_played.Stuck.{IsNotReady, next_step}
 use Rattle.sf_play_report.specs.law_played.Vsyncs.{vsync_in, vsyncs_in}
-use Rattle.sf_play_report.specs.law_played.Worlds.{Turn, World, actor_turn, idle, with_list}
+use Rattle.sf_play_report.specs.law_played.RunStates.{Transition, RunState, actor_transition, idle, with_list}
 use Rattle.sf_play_report.proofs.law_played_lemmas.RunGrowth.{not_none}
 use Rattle.sf_play_report.proofs.law_played_lemmas.AsQueued.{one_passes}
 use Rattle.sf_play_report.proofs.law_played_lemmas.DeskOfOneThread.{desk_called, sent_numbered}
 use Rattle.sf_play_report.proofs.law_played_lemmas.StepKeepsTold.{got_has}
 use Rattle.sf_play_report.proofs.law_played_lemmas.Members.{has_map}
-use Rattle.sf_play_report.proofs.law_played_lemmas.NextStep.{desk_turn, script_of_number, traces}
+use Rattle.sf_play_report.proofs.law_played_lemmas.NextStep.{desk_transition, script_of_number, traces}
 use Rattle.sf_play_report.proofs.law_played_lemmas.RisingNumbers.{rising_actors_are}
 use Rattle.sf_play_report.proofs.law_played_lemmas.SteppingLemmas.{idle_ended, idle_waits}
 use Rattle.sf_play_report.proofs.law_played_lemmas.StuckActors.{left_not_ready, run_stays}
 use Rattle.sf_play_report.proofs.law_played_lemmas.RunTraces.{trace_here}
 use Rattle.sf_play.proofs.AlongLemmas.{plays_idle, plays_pick, plays_step}
 use Rattle.sf_play.proofs.StepKeepsPlayer.{stands_done, stands_waiting}
-use Rattle.sf_play.specs.Alongs.{DeskKnows, PlaysSo, PlaysTo, world_so}
+use Rattle.sf_play.specs.Alongs.{DeskKnows, PlaysSo, PlaysTo, state_so}
 use Rattle.sf_play.specs.Players.{PlayOf, SoFar, Stands}
 use Rattle.sf_play.specs.declared.place.Place.TheVariants as at
 
@@ -68,14 +68,14 @@ got_map f (y ∷ xs) zero x e = (let same : y ≡ x = cc in ap (λ z. Some (f z)
 got_map f (y ∷ xs) (suc n) x e = got_map f xs n x e
 
 -- the compositor is none of the actors
-takes_actor : (scene : SceneValue) (number : ℕ) (world : World) (turn : Turn) → 0 ≢ number → turn ≡ actor_turn scene number world → TakesTurn scene number world turn
-takes_actor scene zero world turn some is = absurd (some refl)
-takes_actor scene (suc n) world turn some is = is
+takes_actor : (scene : SceneValue) (number : ℕ) (state : RunState) (transition : Transition) → 0 ≢ number → transition ≡ actor_transition scene number state → TakesTransition scene number state transition
+takes_actor scene zero state transition some is = absurd (some refl)
+takes_actor scene (suc n) state transition some is = is
 
 -- a reply is no vsync
 reply_no_vsync : (events : List Event) (e : Event) → vsync_in e ≡ [] → vsyncs_in (events ++ e ∷ []) ≡ vsyncs_in events
 unfolding vsyncs_in
-reply_no_vsync events e none = flat_map-append vsync_in events (e ∷ []) ∙ ap (λ (v : List VsyncReport). flat_map vsync_in events ++ (v ++ [])) none ∙ append-nil (flat_map vsync_in events)
+reply_no_vsync events e none = flat_map-append vsync_in events (e ∷ []) ∙ ap (λ (v : List VsyncRecords). flat_map vsync_in events ++ (v ++ [])) none ∙ append-nil (flat_map vsync_in events)
 
 module _ {B : Type 0} where
   module _ (table : TableId) (scene : SceneValue) (so : SoFar B) (play : PlayOf B) (stands : Stands table scene so play) where
@@ -125,30 +125,30 @@ module _ {B : Type 0} where
         abbrev after : DeskView B
         after = view_of actor_set.desk
 
-        -- nothing was called or sent: the world is as it was
-        left_world : ((queue : ℕ) → after.calls queue ≡ view.calls queue) → after.arrivals ≡ view.arrivals → world_so so later_play ≡ world_so so play
-        left_world calls arrivals = λ i. record {
+        -- nothing was called or sent: the state is as it was
+        left_state : ((queue : ℕ) → after.calls queue ≡ view.calls queue) → after.arrivals ≡ view.arrivals → state_so so later_play ≡ state_so so play
+        left_state calls arrivals = λ i. record {
           run = run_stays so.actors home (home_of actor_set.desk) view after (ap (λ (h : DeskHome). h.marks) same.home) calls i;
           arrivals = map plain_arrival (arrivals i);
           reports = vsyncs_in so.events;
           vsyncs = play.vsyncs;
         }
 
-        module _ (nothing : actor_turn scene old.script.number (world_so so play) ≡ idle (world_so so play)) (left : world_so so later_play ≡ world_so so play) where
+        module _ (nothing : actor_transition scene old.script.number (state_so so play) ≡ idle (state_so so play)) (left : state_so so later_play ≡ state_so so play) where
           idle_pick : (at' done : ℕ) (pick : Pick) → PlaysSo scene so play (at.Order at' done) → slice_get scene.order at' ≡ Some pick → done < pick.times → pick.actor ≡ old.script.number
               → PlaysSo scene so later_play (at.Order at' (done + 1))
           idle_pick at' done pick plays there less is =
-              subst (λ (w : World). PlaysTo scene so.events w (at.Order at' (done + 1))) (sym left)
-              (subst (λ (es : List Event). PlaysTo scene es (world_so so play) (at.Order at' (done + 1))) (append-nil so.events)
-              (plays_pick scene so.events (world_so so play) at' done pick (idle (world_so so play)) plays there less
-              (subst (λ (n : ℕ). TakesTurn scene n (world_so so play) (idle (world_so so play))) (sym is)
-              (takes_actor scene old.script.number (world_so so play) (idle (world_so so play)) is_some (sym nothing)))))
+              subst (λ (w : RunState). PlaysTo scene so.events w (at.Order at' (done + 1))) (sym left)
+              (subst (λ (es : List Event). PlaysTo scene es (state_so so play) (at.Order at' (done + 1))) (append-nil so.events)
+              (plays_pick scene so.events (state_so so play) at' done pick (idle (state_so so play)) plays there less
+              (subst (λ (n : ℕ). TakesTransition scene n (state_so so play) (idle (state_so so play))) (sym is)
+              (takes_actor scene old.script.number (state_so so play) (idle (state_so so play)) is_some (sym nothing)))))
 
           idle_round : (stepped : Bool) → PlaysSo scene so play (at.Round place stepped) → PlaysSo scene so later_play (at.Round (place + 1) stepped)
           idle_round stepped plays =
-              subst (λ (w : World). PlaysTo scene so.events w (at.Round (place + 1) stepped)) (sym left)
-              (plays_idle scene so.events (world_so so play) place stepped old.script (idle (world_so so play)) plays script_at
-              (takes_actor scene old.script.number (world_so so play) (idle (world_so so play)) is_some (sym nothing)) refl)
+              subst (λ (w : RunState). PlaysTo scene so.events w (at.Round (place + 1) stepped)) (sym left)
+              (plays_idle scene so.events (state_so so play) place stepped old.script (idle (state_so so play)) plays script_at
+              (takes_actor scene old.script.number (state_so so play) (idle (state_so so play)) is_some (sym nothing)) refl)
 
   module _ (table : TableId) (scene : SceneValue) (so : SoFar B) (play : PlayOf B) (stands : Stands table scene so play) (place : ℕ) (actor_set : ActorSetOf B)
       (same : IsSameActorSet play.actor_set actor_set) (acts : actor_set.is_spent ≡ false) where
@@ -157,12 +157,12 @@ module _ {B : Type 0} where
 
     -- no step is left
     module _ (s : StepsAt table (picture_at scene.pictures) place play.actor_set.actors so.actors play.actor_set.desk actor_set.actors actor_set.desk stepped.Ended) where
-      nothing_ended : actor_turn scene s.old.script.number (world_so so play) ≡ idle (world_so so play)
-      nothing_ended = idle_ended scene (world_so so play) s.old.script (is_found table scene so play stands place s.old s.here)
+      nothing_ended : actor_transition scene s.old.script.number (state_so so play) ≡ idle (state_so so play)
+      nothing_ended = idle_ended scene (state_so so play) s.old.script (is_found table scene so play stands place s.old s.here)
           (ap (λ (t : List Done). slice_get s.old.script.steps (length t)) (its_trace table scene so play stands place s.old s.here) ∙ s.tries.2)
 
-      left_ended : world_so so new_play ≡ world_so so play
-      left_ended = left_world table scene so play stands place s.old s.here actor_set same (λ queue. ap (λ (v : DeskView B). v.calls queue) s.tries.1) (ap (λ (v : DeskView B). v.arrivals) s.tries.1)
+      left_ended : state_so so new_play ≡ state_so so play
+      left_ended = left_state table scene so play stands place s.old s.here actor_set same (λ queue. ap (λ (v : DeskView B). v.calls queue) s.tries.1) (ap (λ (v : DeskView B). v.arrivals) s.tries.1)
 
       pub pick_ended : (at' done : ℕ) (pick : Pick) → PlaysSo scene so play (at.Order at' done) → slice_get scene.order at' ≡ Some pick → done < pick.times → pick.actor ≡ s.old.script.number
           → PlaysSo scene so new_play (at.Order at' (done + 1))
@@ -180,21 +180,21 @@ module _ {B : Type 0} where
       is_now : Stands table scene so new_play
       is_now = stands_waiting table scene so play place actor_set stands same acts s
 
-      left_waits : world_so so new_play ≡ world_so so play
-      left_waits = left_world table scene so play stands place s.old s.here actor_set same (leaves.calls refl) leaves.arrivals
+      left_waits : state_so so new_play ≡ state_so so play
+      left_waits = left_state table scene so play stands place s.old s.here actor_set same (leaves.calls refl) leaves.arrivals
 
-      not_ready : IsNotReady scene (world_so so new_play).run s.old.script (next_step (world_so so new_play).run s.old.script)
+      not_ready : IsNotReady scene (state_so so new_play).run s.old.script (next_step (state_so so new_play).run s.old.script)
       not_ready = left_not_ready scene so.actors (home_of actor_set.desk) (view_of play.actor_set.desk) (view_of actor_set.desk) s.old s.new stands.of_scene.limits refl is_now.tell.actors
           (calls_so table scene so new_play is_now knows) is_now.tell.signals (got_has so.actors place s.old s.here) older
           (subst (λ (h : DeskHome). LeavesStep (picture_at scene.pictures) h s.old (view_of play.actor_set.desk) s.new (view_of actor_set.desk)) (sym same.home) leaves)
 
-      next_is : next_step (world_so so play).run s.old.script ≡ Some leaves.next
+      next_is : next_step (state_so so play).run s.old.script ≡ Some leaves.next
       next_is = ap (λ (t : List Done). slice_get s.old.script.steps (length t)) (its_trace table scene so play stands place s.old s.here) ∙ leaves.step
 
-      nothing_yet : actor_turn scene s.old.script.number (world_so so play) ≡ idle (world_so so play)
-      nothing_yet = idle_waits scene (world_so so play) s.old.script leaves.next (is_found table scene so play stands place s.old s.here) next_is
-          (subst (IsNotReady scene (world_so so play).run s.old.script) next_is
-          (subst (λ (w : World). IsNotReady scene w.run s.old.script (next_step w.run s.old.script)) left_waits not_ready))
+      nothing_yet : actor_transition scene s.old.script.number (state_so so play) ≡ idle (state_so so play)
+      nothing_yet = idle_waits scene (state_so so play) s.old.script leaves.next (is_found table scene so play stands place s.old s.here) next_is
+          (subst (IsNotReady scene (state_so so play).run s.old.script) next_is
+          (subst (λ (w : RunState). IsNotReady scene w.run s.old.script (next_step w.run s.old.script)) left_waits not_ready))
 
       pub pick_waits : (at' done : ℕ) (pick : Pick) → PlaysSo scene so play (at.Order at' done) → slice_get scene.order at' ≡ Some pick → done < pick.times → pick.actor ≡ s.old.script.number
           → PlaysSo scene so new_play (at.Order at' (done + 1))
@@ -205,7 +205,7 @@ module _ {B : Type 0} where
 
     -- the step is done
     module _ (s : StepsAt table (picture_at scene.pictures) place play.actor_set.actors so.actors play.actor_set.desk actor_set.actors actor_set.desk stepped.Done) (knows : DeskKnows play) (known : DeskKnows new_play)
-        (first : TellsFirst scene (world_so so play).run s.old (view_of play.actor_set.desk)) (told : (home_of play.actor_set.desk).tells ≡ true) where
+        (first : TellsFirst scene (state_so so play).run s.old (view_of play.actor_set.desk)) (told : (home_of play.actor_set.desk).tells ≡ true) where
       abbrev later_so : SoFar B
       later_so = record { actors = set so.actors place s.new; events = so.events ++ event.Reply (reply_shown s.tries.0) ∷ [] }
 
@@ -224,16 +224,16 @@ module _ {B : Type 0} where
       same_vsyncs : vsyncs_in later_so.events ≡ vsyncs_in so.events
       same_vsyncs = reply_no_vsync so.events (event.Reply (reply_shown s.tries.0)) refl
 
-      abbrev turn : Turn
-      turn = record { events = event.Reply (reply_shown s.tries.0) ∷ []; world = world_so later_so new_play }
+      abbrev transition : Transition
+      transition = record { events = event.Reply (reply_shown s.tries.0) ∷ []; state = state_so later_so new_play }
 
-      turn_now : actor_turn scene s.old.script.number (world_so so play) ≡ turn
+      turn_now : actor_transition scene s.old.script.number (state_so so play) ≡ transition
       turn_now =
-          desk_turn scene so.actors (home_of play.actor_set.desk) (view_of play.actor_set.desk) (view_of actor_set.desk) place s.old s.new s.tries.0 (vsyncs_in so.events) play.vsyncs stands.of_scene.limits refl told s.here s.tries.1
+          desk_transition scene so.actors (home_of play.actor_set.desk) (view_of play.actor_set.desk) (view_of actor_set.desk) place s.old s.new s.tries.0 (vsyncs_in so.events) play.vsyncs stands.of_scene.limits refl told s.here s.tries.1
           (knows_so table scene so play stands knows) runs_now calls_now (sent_numbered actor_set.desk.arrivals) first
           ∙ (λ i. record {
             events = event.Reply (reply_shown s.tries.0) ∷ [];
-            world = record {
+            state = record {
               run = run_of later_so.actors (sym same.home i) (view_of actor_set.desk);
               arrivals = arrivals_of (view_of actor_set.desk);
               reports = sym same_vsyncs i;
@@ -246,17 +246,17 @@ module _ {B : Type 0} where
           traces scene so.actors (home_of play.actor_set.desk) (view_of play.actor_set.desk) (view_of actor_set.desk) place s.old s.new s.tries.0 (vsyncs_in so.events) play.vsyncs stands.of_scene.limits refl told s.here s.tries.1
           (knows_so table scene so play stands knows) runs_now calls_now (sent_numbered actor_set.desk.arrivals)
 
-      takes_now : TakesTurn scene s.old.script.number (world_so so play) turn
-      takes_now = takes_actor scene s.old.script.number (world_so so play) turn (is_some table scene so play stands place s.old s.here) (sym turn_now)
+      takes_now : TakesTransition scene s.old.script.number (state_so so play) transition
+      takes_now = takes_actor scene s.old.script.number (state_so so play) transition (is_some table scene so play stands place s.old s.here) (sym turn_now)
 
       pub pick_done : (at' done : ℕ) (pick : Pick) → PlaysSo scene so play (at.Order at' done) → slice_get scene.order at' ≡ Some pick → done < pick.times → pick.actor ≡ s.old.script.number
           → PlaysSo scene later_so new_play (at.Order at' (done + 1))
       pick_done at' done pick plays there less is =
-          plays_pick scene so.events (world_so so play) at' done pick turn plays there less (subst (λ (n : ℕ). TakesTurn scene n (world_so so play) turn) (sym is) takes_now)
+          plays_pick scene so.events (state_so so play) at' done pick transition plays there less (subst (λ (n : ℕ). TakesTransition scene n (state_so so play) transition) (sym is) takes_now)
 
       pub round_done : (stepped : Bool) → PlaysSo scene so play (at.Round place stepped) → PlaysSo scene later_so new_play (at.Round (place + 1) true)
       round_done stepped plays =
-          plays_step scene so.events (world_so so play) place stepped s.old.script turn plays (script_at table scene so play stands place s.old s.here)
+          plays_step scene so.events (state_so so play) place stepped s.old.script transition plays (script_at table scene so play stands place s.old s.here)
           (script_there table scene so play stands place s.old s.here) takes_now same_vsyncs
           (λ actor. subst (λ (t : List Done). length (trace_among so.actors actor) ≤ length t) (sym (traces_now actor)) (longer (trace_among so.actors) s.old.script.number s.tries.1.done actor))
           (subst (λ (t : List Done). length (trace_among so.actors s.old.script.number) < length t) (sym (traces_now s.old.script.number)) (longer_own (trace_among so.actors) s.old.script.number s.tries.1.done))

@@ -1,4 +1,4 @@
--- Each turn lessens what is left of a play.
+-- Each action lessens what is left of a play.
 use Rattle.std.proofs.Common.{◌≡◌, ◌≢◌, ℕ, zero, suc, ◌+◌, ◌-◌, ◌*◌, ◌≤◌, Bool, true, false, List, [], ◌∷◌, ◌++◌, length, drop, filter, map, set, take, Option, Some, None, refl, sym, ap, ◌∙◌, subst, inl, inr, arith}
 use Rattle.std.specs.Prelude.{Contains, slice_get}
 use Rattle.std.specs.List.{flat_map, sum_by}
@@ -22,7 +22,7 @@ use Rattle.sf_play_report.specs.sf_actor.Desks.{DeskHome, DeskView, known_of}
 use Rattle.sf_play_report.specs.sf_actor.Known.{GoesOn, arrivals_told, is_sent_by, plain_arrival}
 use Rattle.sf_play_report.specs.sf_actor.Names.{FrameOf}
 use Rattle.sf_play_report.specs.sf_actor.Steps.{sent_by}
-use Rattle.sf_play_report.specs.sf_actor.Tales.{sent_as, step_done}
+use Rattle.sf_play_report.specs.sf_actor.ScriptTraces.{sent_as, step_done}
 use Rattle.sf_play_report.specs.sf_actor.Traces.{DoneAt, Past, SentStep, next, no_past, places_from, places_of, sends_of, sent_at, sent_with}
 use Rattle.sf_play_report.specs.sf_actor.Tries.{ActorOf, Keeps}
 use Rattle.law_rights.specs.sf_actor_steps.declared.actor.Actor.{Actor}
@@ -257,9 +257,9 @@ module _ {B : Type 0} where
       omega (arith, was, is, steps_now, pending, weighs)
 
   -- there are as many actors as before
-  pub turns_same : (table : TableId) (pictures : ℕ → Picture) (place : ℕ) (ofs : List (ActorOf B)) (old new : PlayOf B) → TriesIn table pictures place ofs old new
+  pub actors_same : (table : TableId) (pictures : ℕ → Picture) (place : ℕ) (ofs : List (ActorOf B)) (old new : PlayOf B) → TriesIn table pictures place ofs old new
       → (next : ActorOf B) → KeepAs table pictures (home_in new) (view_in new) new.actor_set.actors (set ofs place next) → length new.actor_set.actors ≡ length old.actor_set.actors
-  turns_same table pictures place ofs old new tries next keep =
+  actors_same table pictures place ofs old new tries next keep =
       let was = same_length table pictures (home_in old) (view_in old) old.actor_set.actors ofs tries.keep in
       let is = same_length table pictures (home_in new) (view_in new) new.actor_set.actors (set ofs place next) keep in
       let sets = length-set ofs place next in

@@ -1,4 +1,4 @@
--- What a player keeps stands after each turn.
+-- What a player keeps stands after each action.
 use Rattle.std.proofs.Common.{◌≡◌, ℕ, false, List, [], ◌∷◌, length, refl, sym, ◌∙◌, subst, ◌<◌, ◌≤◌, ap, map, drop, arith}
 use Rattle.std.specs.Prelude.{Contains}
 use Rattle.std.specs.List.{All}
@@ -33,7 +33,7 @@ use Rattle.sf_play_report.specs.law_played.Turns.{DrawAfterOwed}
 use Rattle.sf_play.proofs.PlayEnd.{fits_at_end}
 use Rattle.sf_play.proofs.PlayFuel.{few_actors, vsyncs_fit}
 use Rattle.sf_play.proofs.PlayLedger.{IsLegalDesk}
-use Rattle.sf_play.proofs.FuelFalls.{MayTurn}
+use Rattle.sf_play.proofs.FuelFalls.{MayAct}
 use Rattle.sf_play.proofs.Makers.{draws_came}
 use Rattle.sf_play.specs.Alongs.{DeskKnows}
 use Rattle.sf_play.specs.Ending.{RestsAt, has_shown, shows_at_end}
@@ -43,21 +43,21 @@ use Rattle.sf_play.specs.Happening.{Happens, StandsAt}
 use Rattle.sf_play.specs.Players.{PlayOf, PlayerOf, SoFar, Stands, arrived_at, home_in, run_so, view_in}
 use Rattle.sf_play.specs.Standing.{StandsInRun}
 use Rattle.sf_play.specs.declared.place.Place.TheVariants as at
-use Rattle.sf_play.specs.declared.turn.Turn.{Turn}
-use Rattle.sf_play.specs.declared.turn.Turn.TheVariants as turn
+use Rattle.sf_play.specs.declared.action.Action.{Action}
+use Rattle.sf_play.specs.declared.action.Action.TheVariants as action
 
 module _ {B : Type 0} where
   -- where nothing was shown, nothing happened
-  pub nothing_happens : (scene : SceneValue) (came_to : Turn) (play : PlayOf B) (so later : SoFar B) → has_shown came_to ≡ false → Happens scene came_to play so later → later ≡ so
-  nothing_happens scene (turn.Step place) play so later none happens = absurd (false≢true (sym none))
-  nothing_happens scene (turn.Vsync report) play so later none happens = rw none at happens
-  nothing_happens scene turn.Idle play so later none happens = happens
-  nothing_happens scene turn.End play so later none happens = happens
+  pub nothing_happens : (scene : SceneValue) (came_to : Action) (play : PlayOf B) (so later : SoFar B) → has_shown came_to ≡ false → Happens scene came_to play so later → later ≡ so
+  nothing_happens scene (action.Step place) play so later none happens = absurd (false≢true (sym none))
+  nothing_happens scene (action.Vsync report) play so later none happens = rw none at happens
+  nothing_happens scene action.Idle play so later none happens = happens
+  nothing_happens scene action.End play so later none happens = happens
 
   module _ {R C : Type 0} (lease : Ghosts ReadLeaseOf SeatView R C) (table : TableId) (scene : SceneValue) (so : SoFar B) where
-    -- what turns rest on
-    pub may_turn : (play : PlayOf B) → Stands table scene so play → MayTurn lease table so.actors play
-    may_turn play stands =
+    -- what acts rest on
+    pub may_act : (play : PlayOf B) → Stands table scene so play → MayAct lease table so.actors play
+    may_act play stands =
         let header = stands.of_scene.limits.header in
         let period = stands.of_scene.period in
         let low = header.low_period in
@@ -76,7 +76,7 @@ module _ {B : Type 0} where
   -- A player that stands at its end shows what fits the run that was told.
   pub shows_fit : (table : TableId) (scene : SceneValue) (so : SoFar B) (player : PlayerOf B) → StandsAt table scene so player → player.place ≡ at.End → KnowsAll (view_in player.play) → IsLegalDesk player.play.actor_set.desk
       → DrawAfterOwed scene (run_so so player.play) → FitsWhere (home_in player.play).tells scene (shows_at_end scene so player) (run_so so player.play) (arrived_at player.play)
-  shows_fit table scene so player was ended knows legal turns = fits_at_end table scene so player was.stands knows legal turns (subst (RestsAt scene so player) ended was.rests)
+  shows_fit table scene so player was ended knows legal acts = fits_at_end table scene so player was.stands knows legal acts (subst (RestsAt scene so player) ended was.rests)
 
   -- whoever did its steps
   pub ends_run : (table : TableId) (scene : SceneValue) (so : SoFar B) (player : PlayerOf B) → StandsInRun table scene so player → player.place ≡ at.End → DeskKnows player.play

@@ -1,4 +1,4 @@
--- The world of a play on one thread, as plain data, and the turns that change it: an actor's next step, answered by what
+-- The state of a play on one thread, as plain data, and the transitions that change it: an actor's next step, answered by what
 -- happened so far, and a vsync.
 use Rattle.std.specs.Prelude.{◌≡◌, ℕ, ◌+◌, ◌*◌, ◌==◌, nat_lt, Bool, false, ◌&&◌, if◌then◌else◌}
 use Rattle.std.specs.Prelude.{List, [], ◌∷◌, ◌++◌, length, map, find, Option, Some, None, is_none}
@@ -15,7 +15,7 @@ use Rattle.sf_compose.specs.sf_tree.Trees.{TreeOf}
 use Rattle.sf_commit.specs.sf_txn.Transactions.{Contents}
 use Rattle.sf_commit.specs.OnLayers.{OnLayer}
 use Rattle.sf_commit.specs.Rounds.{Decided, Round, held}
-use Rattle.sf_commit.specs.declared.vsync.Commit.{Commit as Told}
+use Rattle.sf_commit.specs.declared.vsync.Commit.{Commit}
 use Rattle.sf_script_scene.specs.Scene.{SceneValue}
 use Rattle.sf_script_scene.specs.declared.declarations.QueueDecl.{QueueDecl}
 use Rattle.sf_script_scene.specs.declared.step.ActorScript.{ActorScript}
@@ -34,8 +34,8 @@ use Rattle.sf_actor.specs.Traces.{DoneAt, MadeStep, SentStep, made_at, past_afte
 use Rattle.sf_actor.specs.Values.{reply_at}
 use Rattle.sf_record.specs.declared.event.Event.{Event}
 use Rattle.sf_record.specs.declared.event.Event.TheVariants as event
-use Rattle.sf_record.specs.declared.event.VsyncReport.{VsyncReport}
-use Rattle.sf_record.specs.declared.record.Commit.{Commit}
+use Rattle.sf_record.specs.declared.event.VsyncRecords.{VsyncRecords}
+use Rattle.sf_record.specs.declared.record.CommitRecord.{CommitRecord}
 use Rattle.law_played.specs.Commits.{commit_shown, is_written}
 use Rattle.law_played.specs.Holds.{uncommitted}
 use Rattle.law_played.specs.Histories.{Released, release_by}
@@ -49,23 +49,24 @@ use Rattle.law_played.specs.Stuck.{holdings_at_end, next_step, step_waits}
 use Rattle.law_played.specs.Vsyncs.{commits_in, rising_timelines}
 
 -- what happened so far: the traces and the calls, the arrivals, the records of vsyncs, and how many vsyncs there were
-pub record World : Type 0 where
+pub record RunState : Type 0 where
   pub run : Run
   pub arrivals : List (Arrival FrameOf)
-  pub reports : List VsyncReport
+  pub reports : List VsyncRecords
   pub vsyncs : ℕ
 
--- what a turn shows, and the world after it
-pub record Turn : Type 0 where
+-- what a transition shows, and the state after it
+pub record Transition : Type 0 where
   pub events : List Event
-  pub world : World
+  pub state : RunState
 
 -- nothing happened
-abbrev pub first_world : World
-first_world = record { run = record { trace = λ actor. []; calls = λ queue. [] }; arrivals = []; reports = []; vsyncs = 0 }
+abbrev pub first_state : RunState
+first_state = record { run = record { trace = λ actor. []; calls = λ queue. [] }; arrivals = []; reports = []; vsyncs = 0 }
 
-abbrev pub idle : World → Turn
-idle world = record { events = []; world = world }
+-- a transition in which nothing happens
+abbrev pub idle : RunState → Transition
+idle state = record { events = []; state = state }
 
 -- the list of one number is another
 abbrev pub with_list : {X : Type 0} → (ℕ → List X) → ℕ → List X → ℕ → List X
@@ -75,6 +76,7 @@ with_list lists number list n = if n == number then list else lists n
 abbrev pub reply_on : Run → ℕ → Asked → QueueDecl → PlainReply
 reply_on run by asked queue = reply_after queue.width queue.height (run.calls queue.number) (record { 0 = by }) asked.1
 
+-- what a queue replies to a call that is its next
 abbrev pub reply_now : SceneValue → Run → ℕ → Asked → PlainReply
 reply_now scene run by asked = option_map_or (reply_on run by asked) (find (λ (queue : QueueDecl). queue.number == asked.0.0) scene.queues) reply.Done
 
@@ -86,131 +88,140 @@ with_call scene by place run asked =
           (record { caller = record { 0 = by }; step = place; call = asked.1; reply = reply_now scene run by asked } ∷ run.calls asked.0.0);
     }
 
+-- the run after calls of one step, one after another
 unfoldable pub with_calls : SceneValue → ℕ → ℕ → Run → List Asked → Run
 with_calls scene by place run [] = run
 with_calls scene by place run (asked ∷ later) = with_calls scene by place (with_call scene by place run asked) later
 
 -- an actor's next step now: its place, and what its steps before tell
-abbrev pub at_now : World → ActorScript → Done → DoneAt
-at_now world script done = record { place = length (world.run.trace script.number) + 1; past = past_after (world.run.trace script.number); done = done }
+abbrev pub at_now : RunState → ActorScript → Done → DoneAt
+at_now state script done = record { place = length (state.run.trace script.number) + 1; past = past_after (state.run.trace script.number); done = done }
 
 -- the answer of a step that no own test refuses: that of its call, the number of the arrival that it sends, or 0
-abbrev pub answer_by : SceneValue → World → ℕ → Option Asked → Option (Contents FrameOf) → Answered
-answer_by scene world by (Some asked) sent = answered.Called (reply_now scene world.run by asked)
-answer_by scene world by None (Some txn) = answered.Sent (length world.arrivals + 1)
-answer_by scene world by None None = answered.Own 0
+abbrev pub answer_by : SceneValue → RunState → ℕ → Option Asked → Option (Contents FrameOf) → Answered
+answer_by scene state by (Some asked) sent = answered.Called (reply_now scene state.run by asked)
+answer_by scene state by None (Some txn) = answered.Sent (length state.arrivals + 1)
+answer_by scene state by None None = answered.Own 0
 
 -- a fence has a point that is not signalled so far
 abbrev pub is_open_at : Seen → Fence → ℕ → Bool
 is_open_at seen fence timeline = nat_lt (value_of seen.values timeline) (value_of fence.values timeline)
 
+-- a fence has a point that is not signalled now
 abbrev pub is_open : SceneValue → Run → Option Fence → Bool
 is_open scene run None = false
 is_open scene run (Some fence) = list_any (is_open_at (final_values scene run) fence) (range_with_len 1 64)
 
 -- a step is refused by the first of its own tests that is met, and where it takes a buffer out of its queue whose fence is open
-abbrev pub answer_tested : SceneValue → World → ActorScript → Step → Option ℕ → Answered
-answer_tested scene world script s (Some status) = answered.Own status
-answer_tested scene world script s None =
-    let holdings = holdings_at_end world.run script in
-    if is_open scene world.run (detached_fence holdings s) then answered.Own bad_value
-    else answer_by scene world script.number (call_of (picture_at scene.pictures) holdings s) (sent_by holdings s)
+abbrev pub answer_tested : SceneValue → RunState → ActorScript → Step → Option ℕ → Answered
+answer_tested scene state script s (Some status) = answered.Own status
+answer_tested scene state script s None =
+    let holdings = holdings_at_end state.run script in
+    if is_open scene state.run (detached_fence holdings s) then answered.Own bad_value
+    else answer_by scene state script.number (call_of (picture_at scene.pictures) holdings s) (sent_by holdings s)
 
 -- a step as it is done now
-unfoldable pub done_now : SceneValue → World → ActorScript → Step → Done
-done_now scene world script s = record { step = s; answered = answer_tested scene world script s (refusal_of (picture_at scene.pictures) (holdings_at_end world.run script) s) }
+unfoldable pub done_now : SceneValue → RunState → ActorScript → Step → Done
+done_now scene state script s = record { step = s; answered = answer_tested scene state script s (refusal_of (picture_at scene.pictures) (holdings_at_end state.run script) s) }
 
 -- it is not time yet for a step that no own test refuses
-unfoldable pub waits_now : SceneValue → World → ActorScript → Step → Bool
-waits_now scene world script s =
-    let holdings = holdings_at_end world.run script in
-    is_none (refusal_of (picture_at scene.pictures) holdings s) && step_waits scene world.run script holdings s
+unfoldable pub waits_now : SceneValue → RunState → ActorScript → Step → Bool
+waits_now scene state script s =
+    let holdings = holdings_at_end state.run script in
+    is_none (refusal_of (picture_at scene.pictures) holdings s) && step_waits scene state.run script holdings s
 
+-- the call that a step made
 abbrev pub asked_by : MadeStep → Asked
 asked_by made = made.asked
 
+-- what an actor sent, as an arrival
 abbrev pub arrival_by : ℕ → SentStep → Arrival FrameOf
 arrival_by actor sent = record { number = sent.number; actor = record { 0 = actor }; step = sent.step; txn = sent.txn }
 
 -- a step was done: its reply is shown, its calls are made, and what it sent arrives
-abbrev pub after_step : SceneValue → World → ActorScript → Done → Turn
-after_step scene world script done =
-    let at = at_now world script done in
-    let run = record world.run { trace = with_list world.run.trace script.number (world.run.trace script.number ++ done ∷ []) } in
+abbrev pub after_step : SceneValue → RunState → ActorScript → Done → Transition
+after_step scene state script done =
+    let at = at_now state script done in
+    let run = record state.run { trace = with_list state.run.trace script.number (state.run.trace script.number ++ done ∷ []) } in
     record {
       events = event.Reply (reply_shown (reply_at script.number at)) ∷ [];
-      world = record world {
+      state = record state {
         run = with_calls scene script.number at.place run (map asked_by (made_at (picture_at scene.pictures) at));
-        arrivals = world.arrivals ++ map (arrival_by script.number) (sent_at at);
+        arrivals = state.arrivals ++ map (arrival_by script.number) (sent_at at);
       };
     }
 
--- the turn of an actor: its next step, if it has one and it is time for it
-abbrev pub step_turn : SceneValue → World → ActorScript → Option Step → Turn
-step_turn scene world script None = idle world
-step_turn scene world script (Some s) = if waits_now scene world script s then idle world else after_step scene world script (done_now scene world script s)
+-- the transition of an actor: its next step, if it has one and it is time for it
+abbrev pub step_transition : SceneValue → RunState → ActorScript → Option Step → Transition
+step_transition scene state script None = idle state
+step_transition scene state script (Some s) = if waits_now scene state script s then idle state else after_step scene state script (done_now scene state script s)
 
-abbrev pub script_turn : SceneValue → World → Option ActorScript → Turn
-script_turn scene world None = idle world
-script_turn scene world (Some script) = step_turn scene world script (next_step world.run script)
+-- the transition of an actor that there is: its next step
+abbrev pub script_transition : SceneValue → RunState → Option ActorScript → Transition
+script_transition scene state None = idle state
+script_transition scene state (Some script) = step_transition scene state script (next_step state.run script)
 
-unfoldable pub actor_turn : SceneValue → ℕ → World → Turn
-actor_turn scene number world = script_turn scene world (find (λ (script : ActorScript). script.number == number) scene.actors)
+-- the transition of the actor of a number
+unfoldable pub actor_transition : SceneValue → ℕ → RunState → Transition
+actor_transition scene number state = script_transition scene state (find (λ (script : ActorScript). script.number == number) scene.actors)
 
 -- how far commits have come as a vsync begins: all arrivals without a commit are pending
-unfoldable pub round_now : SceneValue → World → Round FrameOf
-round_now scene world =
-    record (begun (round_at_end (bare_round scene) (told_of scene world.arrivals world.reports))) { pending = uncommitted world.arrivals (commits_in world.reports) }
+unfoldable pub round_now : SceneValue → RunState → Round FrameOf
+round_now scene state =
+    record (begun (round_at_end (bare_round scene) (told_of scene state.arrivals state.reports))) { pending = uncommitted state.arrivals (commits_in state.reports) }
 
 -- a vsync decides by what is written and signalled so far
-abbrev pub DecidesNow : SceneValue → World → ℕ → Round FrameOf → Type 0
-DecidesNow scene world expected end = Decided (is_written (written_in scene world.run)) (final_values scene world.run) expected (round_now scene world) end
+abbrev pub DecidesNow : SceneValue → RunState → ℕ → Round FrameOf → Type 0
+DecidesNow scene state expected end = Decided (is_written (written_in scene state.run)) (final_values scene state.run) expected (round_now scene state) end
 
 -- what the next vsync reports, and the record of it, which there is where something was committed
-abbrev pub report_of : SceneValue → World → Round FrameOf → VsyncReport
-report_of scene world end = record {
-  number = world.vsyncs + 1;
-  expected = (world.vsyncs + 1) * scene.period;
-  timelines = map (value_shown (final_values scene world.run)) (rising_timelines scene);
+abbrev pub report_of : SceneValue → RunState → Round FrameOf → VsyncRecords
+report_of scene state end = record {
+  number = state.vsyncs + 1;
+  expected = (state.vsyncs + 1) * scene.period;
+  timelines = map (value_shown (final_values scene state.run)) (rising_timelines scene);
   commits = map commit_shown end.stage.commits;
   shown = shown_after scene (map commit_shown end.stage.commits) end.stage.tree;
 }
 
-abbrev pub reports_if : VsyncReport → List Commit → List VsyncReport
+-- a vsync that committed something is shown
+abbrev pub reports_if : VsyncRecords → List CommitRecord → List VsyncRecords
 reports_if report [] = []
 reports_if report (commit ∷ commits) = report ∷ []
 
-abbrev pub reports_of : SceneValue → World → Round FrameOf → List VsyncReport
-reports_of scene world end = let report = report_of scene world end in reports_if report report.commits
+-- what a vsync shows in this state
+abbrev pub reports_of : SceneValue → RunState → Round FrameOf → List VsyncRecords
+reports_of scene state end = let report = report_of scene state end in reports_if report report.commits
 
 -- the call that gives a frame back
 abbrev pub release_asked : Released → Asked
 release_asked released = (released.on.lease.0, release_by released)
 
--- the turn of a vsync that ended so
-abbrev pub after_vsync : SceneValue → World → Round FrameOf → Turn
-after_vsync scene world end =
-    let reports = reports_of scene world end in
-    let released = released_by (report_of scene world end) end.stage.gone in
+-- the transition of a vsync that ended so
+abbrev pub after_vsync : SceneValue → RunState → Round FrameOf → Transition
+after_vsync scene state end =
+    let reports = reports_of scene state end in
+    let released = released_by (report_of scene state end) end.stage.gone in
     record {
       events = map event.Vsync reports;
-      world = record world {
-        run = with_calls scene 0 (world.vsyncs + 1) world.run (map release_asked released);
-        reports = world.reports ++ reports;
-        vsyncs = world.vsyncs + 1;
+      state = record state {
+        run = with_calls scene 0 (state.vsyncs + 1) state.run (map release_asked released);
+        reports = state.reports ++ reports;
+        vsyncs = state.vsyncs + 1;
       };
     }
 
-pub record VsyncTurn (scene : SceneValue) (world : World) (turn : Turn) : Type 0 where
+-- a transition is that of a vsync: what it decides now, and the state behind it
+pub record VsyncTransition (scene : SceneValue) (state : RunState) (transition : Transition) : Type 0 where
   pub end : Round FrameOf
-  pub decides : DecidesNow scene world ((world.vsyncs + 1) * scene.period) end
-  pub is : turn ≡ after_vsync scene world end
+  pub decides : DecidesNow scene state ((state.vsyncs + 1) * scene.period) end
+  pub is : transition ≡ after_vsync scene state end
 
 -- a vsync of a handler is the next one of a play: it ends with these commits, tree and frames that go, and holds the same
-pub record IsPlaysVsync (scene : SceneValue) (world : World) (commits : List Told) (tree : TreeOf) (gone : List (OnLayer FrameOf)) (holds : List (ℕ × Hold)) : Type 0 where
+pub record IsPlaysVsync (scene : SceneValue) (state : RunState) (commits : List Commit) (tree : TreeOf) (gone : List (OnLayer FrameOf)) (holds : List (ℕ × Hold)) : Type 0 where
   pub end : Round FrameOf
-  pub decides : DecidesNow scene world ((world.vsyncs + 1) * scene.period) end
+  pub decides : DecidesNow scene state ((state.vsyncs + 1) * scene.period) end
   pub commits_are : end.stage.commits ≡ commits
   pub leaves : end.stage.tree ≡ tree
   pub goes : end.stage.gone ≡ gone
-  pub holds_are : held (is_written (written_in scene world.run)) (final_values scene world.run) ((world.vsyncs + 1) * scene.period) end ≡ holds
+  pub holds_are : held (is_written (written_in scene state.run)) (final_values scene state.run) ((state.vsyncs + 1) * scene.period) end ≡ holds

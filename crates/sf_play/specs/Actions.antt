@@ -1,4 +1,4 @@
--- What a turn of a player does.
+-- What an action of a player does.
 use Rattle.std.specs.Prelude.{◌≡◌, ℕ, zero, suc, ◌+◌, ◌==◌, nat_lt, Bool, true, false, ◌||◌, if◌then◌else◌}
 use Rattle.std.specs.Prelude.{List, length, Option, Some, None, slice_get}
 use Rattle.std.specs.List.{list_any, position}
@@ -24,16 +24,16 @@ use Rattle.sf_play.specs.declared.place.Place.{Place}
 use Rattle.sf_play.specs.declared.place.Place.TheVariants as at
 use Rattle.sf_play_report.specs.Reports.{has_commits}
 use Rattle.sf_play_report.specs.declared.report.VsyncReport.{VsyncReport}
-use Rattle.sf_play.specs.declared.turn.Turn.{Turn}
-use Rattle.sf_play.specs.declared.turn.Turn.TheVariants as turn
+use Rattle.sf_play.specs.declared.action.Action.{Action}
+use Rattle.sf_play.specs.declared.action.Action.TheVariants as action
 
--- what a turn did whose actor's try came to this
-abbrev pub turn_by : ℕ → Stepped → Turn
-turn_by place stepped.Done = turn.Step place
-turn_by place other = turn.Idle
+-- what an action did whose actor's try came to this
+abbrev pub action_by : ℕ → Stepped → Action
+action_by place stepped.Done = action.Step place
+action_by place other = action.Idle
 
-abbrev pub is_step : Turn → Bool
-is_step (turn.Step place) = true
+abbrev pub is_step : Action → Bool
+is_step (action.Step place) = true
 is_step other = false
 
 module _ {B : Type 0} where
@@ -42,9 +42,9 @@ module _ {B : Type 0} where
   KeepsActorSet table play ofs = KeepAs table (picture_at play.actor_set.pictures) (home_of play.actor_set.desk) (view_of play.actor_set.desk) play.actor_set.actors ofs
 
   -- the next step of the actor at a place was tried
-  pub record TriesStep (table : TableId) (place : ℕ) (ofs : List (ActorOf B)) (old new : PlayOf B) (came_to : Turn) : Type 0 where
+  pub record TriesStep (table : TableId) (place : ℕ) (ofs : List (ActorOf B)) (old new : PlayOf B) (came_to : Action) : Type 0 where
     pub stepped : Stepped
-    pub is : came_to ≡ turn_by place stepped
+    pub is : came_to ≡ action_by place stepped
     pub steps : StepsAt table (picture_at old.actor_set.pictures) place old.actor_set.actors ofs old.actor_set.desk new.actor_set.actors new.actor_set.desk stepped
     pub same : IsSameActorSet old.actor_set new.actor_set
     pub acts : new.actor_set.is_spent ≡ false
@@ -59,30 +59,30 @@ module _ {B : Type 0} where
   place_by actors None = None
   place_by actors (Some pick) = picked_place actors pick.actor
 
-  -- that of the turn at a place, if it tries one
+  -- that of the action at a place, if it tries one
   abbrev pub tried_from : PlayOf B → Place → Option ℕ
   tried_from play (at.Order place done) = place_by play.actor_set.actors (slice_get play.order place)
   tried_from play (at.Round place stepped) = if nat_lt place (length play.actor_set.actors) then Some place else None
   tried_from play at.End = None
 
-  -- that of the next turn of a player
+  -- that of the next action of a player
   abbrev pub next_tried : PlayerOf B → Option ℕ
   next_tried player = tried_from player.play (settled player.play.order player.place)
 
 module _ {B : Type 0} {R C : Type 0} (lease : Ghosts ReadLeaseOf SeatView R C) (table : TableId) (ofs : List (ActorOf B)) where
   -- a vsync was made
-  pub record TurnsVsync (old new : PlayerOf B) (came_to : Turn) : Type 0 where
+  pub record TakesVsync (old new : PlayerOf B) (came_to : Action) : Type 0 where
     pub report : VsyncReport
-    pub is : came_to ≡ turn.Vsync report
+    pub is : came_to ≡ action.Vsync report
     pub makes : MakesReport lease table old new report
 
-  abbrev pub TriesIf : Option ℕ → PlayOf B → PlayOf B → Turn → Type 0
-  TriesIf None old new came_to = (came_to ≡ turn.Idle) × (new ≡ old)
+  abbrev pub TriesIf : Option ℕ → PlayOf B → PlayOf B → Action → Type 0
+  TriesIf None old new came_to = (came_to ≡ action.Idle) × (new ≡ old)
   TriesIf (Some place) old new came_to = TriesStep table place ofs old new came_to
 
-  -- the turn of a pick: a vsync for 0, else the next step of the actor of this number
-  abbrev pub Picks : ℕ → PlayerOf B → PlayerOf B → Turn → Type 0
-  Picks zero old new came_to = TurnsVsync old new came_to
+  -- the action of a pick: a vsync for 0, else the next step of the actor of this number
+  abbrev pub Picks : ℕ → PlayerOf B → PlayerOf B → Action → Type 0
+  Picks zero old new came_to = TakesVsync old new came_to
   Picks (suc n) old new came_to =
       TriesIf (position (λ (actor : Actor B). number_of actor == suc n) old.play.actor_set.actors) old.play new.play came_to × (new.held ≡ old.held)
 
@@ -91,35 +91,35 @@ module _ {B : Type 0} {R C : Type 0} (lease : Ghosts ReadLeaseOf SeatView R C) (
   goes_on stepped commits held = stepped || (has_commits commits || list_any (λ (h : ℕ × Hold). is_time h.1) held)
 
   -- the vsync behind the actors of a round
-  pub record EndsRound (stepped : Bool) (old new : PlayerOf B) (came_to : Turn) : Type 0 where
-    pub vsync : TurnsVsync old new came_to
+  pub record EndsRound (stepped : Bool) (old new : PlayerOf B) (came_to : Action) : Type 0 where
+    pub vsync : TakesVsync old new came_to
     pub next : new.place ≡ (if goes_on stepped vsync.report.commits new.held then at.Round 0 false else at.End)
 
-  pub record GoesRound (place : ℕ) (stepped : Bool) (old new : PlayerOf B) (came_to : Turn) : Type 0 where
+  pub record GoesRound (place : ℕ) (stepped : Bool) (old new : PlayerOf B) (came_to : Action) : Type 0 where
     pub tries : TriesStep table place ofs old.play new.play came_to
     pub held : new.held ≡ old.held
     pub next : new.place ≡ at.Round (place + 1) (stepped || is_step came_to)
 
-  -- the turn of a round, in which the actors before this place were tried
-  abbrev pub RoundsIf : Bool → ℕ → Bool → PlayerOf B → PlayerOf B → Turn → Type 0
+  -- the action of a round, in which the actors before this place were tried
+  abbrev pub RoundsIf : Bool → ℕ → Bool → PlayerOf B → PlayerOf B → Action → Type 0
   RoundsIf true place stepped old new came_to = GoesRound place stepped old new came_to
   RoundsIf false place stepped old new came_to = EndsRound stepped old new came_to
 
-  abbrev pub Rounds : ℕ → Bool → PlayerOf B → PlayerOf B → Turn → Type 0
+  abbrev pub Rounds : ℕ → Bool → PlayerOf B → PlayerOf B → Action → Type 0
   Rounds place stepped old new came_to = RoundsIf (nat_lt place (length old.play.actor_set.actors)) place stepped old new came_to
 
-  -- a turn of a pick of the order
-  pub record TakesPick (place done : ℕ) (old new : PlayerOf B) (came_to : Turn) : Type 0 where
+  -- an action of a pick of the order
+  pub record TakesPick (place done : ℕ) (old new : PlayerOf B) (came_to : Action) : Type 0 where
     pub pick : Pick
     pub there : slice_get old.play.order place ≡ Some pick
     pub picks : Picks pick.actor old new came_to
     pub next : new.place ≡ at.Order place (done + 1)
 
-  abbrev pub TurnsAt : Place → PlayerOf B → PlayerOf B → Turn → Type 0
-  TurnsAt (at.Order place done) old new came_to = TakesPick place done old new came_to
-  TurnsAt (at.Round place stepped) old new came_to = Rounds place stepped old new came_to
-  TurnsAt at.End old new came_to = (came_to ≡ turn.End) × (new ≡ old)
+  abbrev pub TakesActionAt : Place → PlayerOf B → PlayerOf B → Action → Type 0
+  TakesActionAt (at.Order place done) old new came_to = TakesPick place done old new came_to
+  TakesActionAt (at.Round place stepped) old new came_to = Rounds place stepped old new came_to
+  TakesActionAt at.End old new came_to = (came_to ≡ action.End) × (new ≡ old)
 
-  -- the next turn of a player
-  abbrev pub Turns : PlayerOf B → PlayerOf B → Turn → Type 0
-  Turns old new came_to = TurnsAt (settled old.play.order old.place) old new came_to
+  -- the next action of a player
+  abbrev pub TakesAction : PlayerOf B → PlayerOf B → Action → Type 0
+  TakesAction old new came_to = TakesActionAt (settled old.play.order old.place) old new came_to

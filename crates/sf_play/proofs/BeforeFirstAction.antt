@@ -1,4 +1,4 @@
--- What a player keeps stands before its first turn.
+-- What a player keeps stands before its first action.
 use Rattle.std.proofs.Common.{◌≡◌, ◌≢◌, ℕ, zero, suc, ◌*◌, ◌<◌, ◌≤◌, ◌==◌, true, false, List, [], ◌∷◌, length, map, take, drop, refl, ap, sym, ◌∙◌, subst, inl, inr, arith}
 use Rattle.std.specs.Prelude.{Contains}
 use Rattle.std.specs.List.{All, AllPairs, AllZip}
@@ -33,8 +33,8 @@ use Rattle.law_rights.proofs.sf_actor_set_lemmas.OpeningLemmas.{none_called}
 use Rattle.law_rights.proofs.sf_actor_set_lemmas.RisingLemmas.{rising_differ, sorted_rises}
 use Rattle.law_rights.specs.sf_actor_set.ActorSets.{KeepAs, Opens}
 use Rattle.law_rights.specs.sf_actor_set.Opening.{new_actors, new_queue}
-use Rattle.sf_play_report.specs.sf_record.declared.event.VsyncReport.{VsyncReport}
-use Rattle.sf_play_report.specs.sf_record.declared.record.Reply.{Reply}
+use Rattle.sf_play_report.specs.sf_record.declared.event.VsyncRecords.{VsyncRecords}
+use Rattle.sf_play_report.specs.sf_record.declared.record.ReplyRecord.{ReplyRecord}
 use Rattle.sf_play_report.proofs.law_played_lemmas.StepKeepsTold.{of_all}
 use Rattle.sf_play_report.proofs.law_played_lemmas.KeepingLemmas.{none_played}
 use Rattle.sf_play_report.proofs.law_played_lemmas.Members.{has_cases, has_map, has_none}
@@ -97,9 +97,9 @@ module _ {B : Type 0} (table : TableId) (scene : SceneValue) (limits : IsWithinL
   no_replies (script ∷ scripts) stock =
       All-cons (λ (of : ActorOf B). replies_to of.script.number [] ≡ map reply_shown of.replies) _ (new_actors scripts (drop (dequeues_in script.steps) stock)) refl (no_replies scripts (drop (dequeues_in script.steps) stock))
 
-  none_replied : All (λ (reply : Reply). Contains (map number_of ofs) reply.actor) (replies_in [])
+  none_replied : All (λ (reply : ReplyRecord). Contains (map number_of ofs) reply.actor) (replies_in [])
   unfolding replies_in
-  none_replied = All-nil (λ (reply : Reply). Contains (map number_of ofs) reply.actor)
+  none_replied = All-nil (λ (reply : ReplyRecord). Contains (map number_of ofs) reply.actor)
 
   pub calls_none : (queue : ℕ) → (view_of desk).calls queue ≡ []
   calls_none queue = ap (λ (os : List (ObjectOf B)). calls_among os queue) opens.queues_opened.opened ∙ none_called opens.queues_opened.declared queue
@@ -135,14 +135,14 @@ module _ {B : Type 0} (table : TableId) (scene : SceneValue) (limits : IsWithinL
   unfolding vsyncs_in told_from
   vsyncs_none = record {
     vsyncs = record {
-      from_1 = All-nil (λ (vsync : VsyncReport). 0 < vsync.number);
+      from_1 = All-nil (λ (vsync : VsyncRecords). 0 < vsync.number);
       go_on = tt;
-      expected = All-nil (λ (vsync : VsyncReport). vsync.expected ≡ vsync.number * scene.period);
-      commit = All-nil (λ (vsync : VsyncReport). vsync.commits ≢ []);
-      timelines = All-nil (λ (vsync : VsyncReport). map timeline_of vsync.timelines ≡ rising_timelines scene);
-      signalled = All-nil (λ (vsync : VsyncReport). All (WasSignalled (signals_so scene nothing play)) vsync.timelines);
+      expected = All-nil (λ (vsync : VsyncRecords). vsync.expected ≡ vsync.number * scene.period);
+      commit = All-nil (λ (vsync : VsyncRecords). vsync.commits ≢ []);
+      timelines = All-nil (λ (vsync : VsyncRecords). map timeline_of vsync.timelines ≡ rising_timelines scene);
+      signalled = All-nil (λ (vsync : VsyncRecords). All (WasSignalled (signals_so scene nothing play)) vsync.timelines);
     };
-    numbers = All-nil (λ (vsync : VsyncReport). vsync.number ≤ play.vsyncs);
+    numbers = All-nil (λ (vsync : VsyncRecords). vsync.number ≤ play.vsyncs);
     last = ap (λ (h : HandlerOf ReadLeaseOf). h.last) handler ∙ sym taken_none;
     played = subst (λ (h : HandlerOf ReadLeaseOf). HasPlayed frame_of scene (written_so scene nothing play) (taken_at play) [] h) (sym handler)
         (subst (λ (xs : List (Arrival FrameOf)). HasPlayed frame_of scene (written_so scene nothing play) xs [] (new_handler scene.width scene.height (most_layers scene.version))) (sym none_taken)

@@ -1,4 +1,4 @@
--- Each turn of a player goes on with a run of its scene, up to its end, and along with the scene's play.
+-- Each action of a player goes on with a run of its scene, up to its end, and along with the scene's play.
 use Rattle.std.proofs.Common.{◌≡◌, ◌≢◌, ℕ, zero, suc, ◌+◌, ◌<◌, ◌==◌, Bool, true, false, List, length, map, Option, Some, None, refl, ap, sym, ◌∙◌, subst, arith}
 use Rattle.std.specs.Prelude.{nat_lt, slice_get, if◌then◌else◌}
 use Rattle.std.specs.List.{position}
@@ -24,15 +24,15 @@ use Rattle.sf_play_report.specs.law_played.Stopping.{stuck_among}
 use Rattle.law_rights.specs.Vsyncs.{IsOfTurns}
 use Rattle.sf_play_report.specs.declared.report.VsyncReport.{VsyncReport}
 use Rattle.sf_play.proofs.AlongEnds.{ends_play}
-use Rattle.sf_play.proofs.AlongNext.{StageTold, PlaysOn, WasAlong, turns_on}
-use Rattle.sf_play.proofs.TurnKeepsPlayer.{ends_run, may_turn, nothing_happens}
+use Rattle.sf_play.proofs.AlongNext.{StageTold, PlaysOn, WasAlong, actions_on}
+use Rattle.sf_play.proofs.ActionKeepsPlayer.{ends_run, may_act, nothing_happens}
 use Rattle.sf_play.proofs.HandlerLeases.{OfFrames}
 use Rattle.sf_play.proofs.PlayLedger.{TellsAll, looks_written}
-use Rattle.sf_play.proofs.FuelFalls.{turns_lessen, vsyncs_last}
+use Rattle.sf_play.proofs.FuelFalls.{actions_lessen, vsyncs_last}
 use Rattle.sf_play.proofs.Makers.{older_told}
-use Rattle.sf_play.proofs.SilentRounds.{turns_rest}
+use Rattle.sf_play.proofs.SilentRounds.{actions_rest}
 use Rattle.sf_play.proofs.PlacesTold.{tells_on}
-use Rattle.sf_play.specs.Alongs.{PlaysSo, world_so}
+use Rattle.sf_play.specs.Alongs.{PlaysSo, state_so}
 use Rattle.sf_play.specs.Ending.{IsAtEnd, LooksTell, RestsAt, has_shown, shows_at_end}
 use Rattle.sf_play.specs.Fuel.{fuel, vsyncs_left}
 use Rattle.sf_play.specs.Going.{EndsPlay, EndsRun, GoesAlong, GoesOn, LeavesLess, Tells}
@@ -41,13 +41,13 @@ use Rattle.sf_play.specs.Places.{behind, settled, settled_at}
 use Rattle.sf_play.specs.Players.{PlayerOf, SoFar, Stands, arrived_at, home_in, run_so, view_in}
 use Rattle.sf_play.specs.Playing.{KeepsItself, KeepsRights}
 use Rattle.sf_play.specs.Standing.{HoldsAt, StandsAlong, StandsInRun}
-use Rattle.sf_play.specs.Turning.{Picks, RoundsIf, TriesIf, Turns, TurnsAt, turn_by}
+use Rattle.sf_play.specs.Actions.{Picks, RoundsIf, TriesIf, TakesAction, TakesActionAt, action_by}
 use Rattle.sf_play.specs.declared.place.Place.{Place}
 use Rattle.sf_play.specs.declared.place.Place.TheVariants as at
-use Rattle.sf_play.specs.declared.turn.Turn.{Turn}
-use Rattle.sf_play.specs.declared.turn.Turn.TheVariants as turn
+use Rattle.sf_play.specs.declared.action.Action.{Action}
+use Rattle.sf_play.specs.declared.action.Action.TheVariants as action
 
--- a next turn is done up to the end
+-- a next action is done up to the end
 behind_on : (order : List Pick) (place : ℕ) → behind order place ≡ at.End → ⊥
 behind_on order place = by_more (nat_lt (place + 1) (length order))
   where
@@ -68,55 +68,55 @@ settled_end order (at.Order place done) e = absurd (settled_on order place done 
 settled_end order (at.Round place was) e = e
 settled_end order at.End e = refl
 
-not_end : (place : ℕ) (st : Stepped) → turn_by place st ≡ turn.End → ⊥
+not_end : (place : ℕ) (st : Stepped) → action_by place st ≡ action.End → ⊥
 not_end place stepped.Done e = cc
 not_end place stepped.NotYet e = cc
 not_end place stepped.Ended e = cc
 
-not_vsync : (came_to : Turn) (report : VsyncReport) → came_to ≡ turn.Vsync report → came_to ≡ turn.End → ⊥
+not_vsync : (came_to : Action) (report : VsyncReport) → came_to ≡ action.Vsync report → came_to ≡ action.End → ⊥
 not_vsync came_to report is e = cc
 
-module _ {B : Type 0} {R C : Type 0} (lease : Ghosts ReadLeaseOf SeatView R C) (table : TableId) (ofs : List (ActorOf B)) (old new : PlayerOf B) (came_to : Turn) where
-  tried_on : (found : Option ℕ) → TriesIf lease table ofs found old.play new.play came_to → came_to ≡ turn.End → ⊥
+module _ {B : Type 0} {R C : Type 0} (lease : Ghosts ReadLeaseOf SeatView R C) (table : TableId) (ofs : List (ActorOf B)) (old new : PlayerOf B) (came_to : Action) where
+  tried_on : (found : Option ℕ) → TriesIf lease table ofs found old.play new.play came_to → came_to ≡ action.End → ⊥
   tried_on None t e = cc (t.0, e)
   tried_on (Some place) t e = not_end place t.stepped (sym t.is ∙ e)
 
-  picked_on : (number : ℕ) → Picks lease table ofs number old new came_to → came_to ≡ turn.End → ⊥
+  picked_on : (number : ℕ) → Picks lease table ofs number old new came_to → came_to ≡ action.End → ⊥
   picked_on zero t e = not_vsync came_to t.report t.is e
   picked_on (suc n) t e = tried_on (position (λ (actor : Actor B). number_of actor == suc n) old.play.actor_set.actors) t.0 e
 
-  round_on : (more : Bool) (place : ℕ) (was : Bool) → RoundsIf lease table ofs more place was old new came_to → came_to ≡ turn.End → ⊥
+  round_on : (more : Bool) (place : ℕ) (was : Bool) → RoundsIf lease table ofs more place was old new came_to → came_to ≡ action.End → ⊥
   round_on true place was t e = not_end place t.tries.stepped (sym t.tries.is ∙ e)
   round_on false place was t e = not_vsync came_to t.vsync.report t.vsync.is e
 
-  -- a turn at the end does nothing
-  ended : (from : Place) → settled old.play.order old.place ≡ from → TurnsAt lease table ofs from old new came_to → came_to ≡ turn.End → (new ≡ old) × (new.place ≡ at.End)
+  -- an action at the end does nothing
+  ended : (from : Place) → settled old.play.order old.place ≡ from → TakesActionAt lease table ofs from old new came_to → came_to ≡ action.End → (new ≡ old) × (new.place ≡ at.End)
   ended (at.Order place done) is t e = absurd (picked_on t.pick.actor t.picks e)
   ended (at.Round place was) is t e = absurd (round_on (nat_lt place (length old.play.actor_set.actors)) place was t e)
   ended at.End is t e = (t.1, ap (λ (p : PlayerOf B). p.place) t.1 ∙ settled_end old.play.order old.place is)
 
-  pub ends_there : Turns lease table ofs old new came_to → came_to ≡ turn.End → (new ≡ old) × (new.place ≡ at.End)
-  ends_there turns e = ended (settled old.play.order old.place) refl turns e
+  pub ends_there : TakesAction lease table ofs old new came_to → came_to ≡ action.End → (new ≡ old) × (new.place ≡ at.End)
+  ends_there acts e = ended (settled old.play.order old.place) refl acts e
 
 module _ {B : Type 0} {R C : Type 0} (lease : Ghosts ReadLeaseOf SeatView R C) (table : TableId) (scene : SceneValue) (so : SoFar B) (old new : PlayerOf B) (stands : Stands table scene so old.play) (same : new.play.order ≡ old.play.order) where
-  lessened : (came_to : Turn) → came_to ≢ turn.End → Turns lease table so.actors old new came_to → fuel new.play.order new.play new.place < fuel old.play.order old.play old.place
-  lessened came_to goes turns =
-      let less = turns_lessen lease table so.actors old new came_to (may_turn lease table scene so old.play stands) goes turns in
+  lessened : (came_to : Action) → came_to ≢ action.End → TakesAction lease table so.actors old new came_to → fuel new.play.order new.play new.place < fuel old.play.order old.play old.place
+  lessened came_to goes acts =
+      let less = actions_lessen lease table so.actors old new came_to (may_act lease table scene so old.play stands) goes acts in
       subst (λ (order : List Pick). fuel order new.play new.place < fuel old.play.order old.play old.place) (sym same) less.fuel
 
-  -- each turn leaves less, up to the end
-  pub leaves_less : (came_to : Turn) → Turns lease table so.actors old new came_to → LeavesLess came_to old new
-  leaves_less (turn.Step place) turns = lessened (turn.Step place) (λ e. cc (e)) turns
-  leaves_less turn.Idle turns = lessened turn.Idle (λ e. cc (e)) turns
-  leaves_less (turn.Vsync report) turns = lessened (turn.Vsync report) (λ e. cc (e)) turns
-  leaves_less turn.End turns = ends_there lease table so.actors old new turn.End turns refl
+  -- each action leaves less, up to the end
+  pub leaves_less : (came_to : Action) → TakesAction lease table so.actors old new came_to → LeavesLess came_to old new
+  leaves_less (action.Step place) acts = lessened (action.Step place) (λ e. cc (e)) acts
+  leaves_less action.Idle acts = lessened action.Idle (λ e. cc (e)) acts
+  leaves_less (action.Vsync report) acts = lessened (action.Vsync report) (λ e. cc (e)) acts
+  leaves_less action.End acts = ends_there lease table so.actors old new action.End acts refl
 
 module _ {B : Type 0} (table : TableId) (scene : SceneValue) (so : SoFar B) (player : PlayerOf B) (is : StandsAlong table scene so player) (ended : player.place ≡ at.End) where
   at_end : IsAtEnd scene so player
   at_end = subst (RestsAt scene so player) ended is.in_run.stands.rests
 
   -- what it shows is what the play of the scene shows
-  shows_same : shows_at_end scene so player ≡ shows_of scene so.events (world_so so player.play)
+  shows_same : shows_at_end scene so player ≡ shows_of scene so.events (state_so so player.play)
   shows_same =
       let held = subst (HoldsAt scene so player) ended is.holds in
       let stands = is.in_run.stands.stands in
@@ -134,7 +134,7 @@ module _ {B : Type 0} (table : TableId) (scene : SceneValue) (so : SoFar B) (pla
   ends_told fits = record {
     are = record {
       events = so.events;
-      world = world_so so player.play;
+      state = state_so so player.play;
       is_play = ends_play scene so player.play (subst (PlaysSo scene so player.play) ended is.along);
       are = ap (records_of scene) shows_same;
     };
@@ -149,11 +149,11 @@ module _ {B : Type 0} (table : TableId) (scene : SceneValue) (so : SoFar B) (pla
   }
 
 module _ {B : Type 0} (lease : Ghosts ReadLeaseOf SeatView ReadLeaseOf Issued) (frames : OfFrames lease) (of_turns : IsOfTurns lease) (tells : TellsAll lease) (table : TableId) (scene : SceneValue) (so : SoFar B)
-    (old new : PlayerOf B) (came_to : Turn) (keeps : KeepsItself lease table old.play) (keeps_now : KeepsItself lease table new.play) (turns : Turns lease table so.actors old new came_to) where
+    (old new : PlayerOf B) (came_to : Action) (keeps : KeepsItself lease table old.play) (keeps_now : KeepsItself lease table new.play) (acts : TakesAction lease table so.actors old new came_to) where
   module _ (was : StandsInRun table scene so old) where
     on : PlaysOn (WasAlong lease frames of_turns tells table scene so old new came_to (map mark_declared (rising_queues scene)) was.stands.stands was.rights was.marks keeps keeps_now)
         table scene (map mark_declared (rising_queues scene)) so came_to new new.place
-    on = turns_on lease frames of_turns tells table scene so old new came_to (map mark_declared (rising_queues scene)) was.stands.stands was.rights was.marks keeps keeps_now turns
+    on = actions_on lease frames of_turns tells table scene so old new came_to (map mark_declared (rising_queues scene)) was.stands.stands was.rights was.marks keeps keeps_now acts
 
     abbrev later : SoFar B
     later = on.kept.later
@@ -173,12 +173,12 @@ module _ {B : Type 0} (lease : Ghosts ReadLeaseOf SeatView ReadLeaseOf Issued) (
 
     stands_now : StandsAt table scene later new
     stands_now =
-        let last = vsyncs_last lease table so.actors old new came_to (may_turn lease table scene so old.play was.stands.stands) turns in
+        let last = vsyncs_last lease table so.actors old new came_to (may_act lease table scene so old.play was.stands.stands) acts in
         let early = was.stands.early in
         let left = ap (λ (order : List Pick). vsyncs_left order new.play new.place) same_order in
         record {
           stands = on.kept.stands;
-          rests = turns_rest lease frames table scene so old new later came_to was.stands.stands on.kept.stands keeps_now.desk.legal (λ none. nothing_happens scene came_to new.play so later none on.kept.happens) looks turns
+          rests = actions_rest lease frames table scene so old new later came_to was.stands.stands on.kept.stands keeps_now.desk.legal (λ none. nothing_happens scene came_to new.play so later none on.kept.happens) looks acts
               was.stands.rests;
           early = omega (arith, early, left, last);
         }
@@ -187,16 +187,16 @@ module _ {B : Type 0} (lease : Ghosts ReadLeaseOf SeatView ReadLeaseOf Issued) (
     in_run_now = record { stands = stands_now; rights = on.kept.rights; marks = on.kept.queues }
 
     -- at the end it shows what fits the run
-    ends_now : came_to ≡ turn.End → EndsRun scene later new
-    ends_now e = ends_run table scene later new in_run_now (ends_there lease table so.actors old new came_to turns e).1 keeps_now.desk keeps_now.own
+    ends_now : came_to ≡ action.End → EndsRun scene later new
+    ends_now e = ends_run table scene later new in_run_now (ends_there lease table so.actors old new came_to acts e).1 keeps_now.desk keeps_now.own
 
-    told : (Ends : SoFar B → PlayerOf B → Type 0) → (came_to ≡ turn.End → Ends later new) → (came : Turn) → came_to ≡ came → Tells Ends scene came later new
-    told Ends ends (turn.Step place) e = tt
-    told Ends ends turn.Idle e = tt
-    told Ends ends (turn.Vsync report) e = subst (λ (c : Turn). StageTold scene c new.play) e on.stage
-    told Ends ends turn.End e = ends e
+    told : (Ends : SoFar B → PlayerOf B → Type 0) → (came_to ≡ action.End → Ends later new) → (came : Action) → came_to ≡ came → Tells Ends scene came later new
+    told Ends ends (action.Step place) e = tt
+    told Ends ends action.Idle e = tt
+    told Ends ends (action.Vsync report) e = subst (λ (c : Action). StageTold scene c new.play) e on.stage
+    told Ends ends action.End e = ends e
 
-    -- each turn goes on with a run of the scene
+    -- each action goes on with a run of the scene
     pub goes_on : GoesOn table scene so came_to new
     goes_on = record { later = later; happens = on.kept.happens; tells = told (EndsRun scene) ends_now came_to refl; stands = in_run_now }
 
@@ -207,11 +207,11 @@ module _ {B : Type 0} (lease : Ghosts ReadLeaseOf SeatView ReadLeaseOf Issued) (
       in_run = in_run_now was.in_run;
       along = (on was.in_run).along (was.along, was.holds, was.told);
       holds = (on was.in_run).holds (was.along, was.holds, was.told);
-      told = tells_on lease table so.actors came_to old new turns ∙ was.told;
+      told = tells_on lease table so.actors came_to old new acts ∙ was.told;
     }
 
-    ended_now : came_to ≡ turn.End → EndsPlay scene (later was.in_run) new
-    ended_now e = ends_told table scene (later was.in_run) new along_now (ends_there lease table so.actors old new came_to turns e).1 (ends_now was.in_run e)
+    ended_now : came_to ≡ action.End → EndsPlay scene (later was.in_run) new
+    ended_now e = ends_told table scene (later was.in_run) new along_now (ends_there lease table so.actors old new came_to acts e).1 (ends_now was.in_run e)
 
     pub goes_along : GoesAlong table scene so came_to new
     goes_along = record { later = later was.in_run; happens = (on was.in_run).kept.happens; tells = told was.in_run (EndsPlay scene) ended_now came_to refl; stands = along_now }
