@@ -9,7 +9,7 @@ use Rattle.sf_layer.specs.declared.layer.Layer.{Layer}
 use Rattle.sf_layer.specs.declared.parent.Parent.{Parent}
 use Rattle.sf_layer.specs.declared.parent.Parent.TheVariants as parent
 use Rattle.sf_tree.specs.Kept.{IsRanked, IsTree}
-use Rattle.sf_tree.specs.Known.{IsBounded}
+use Rattle.sf_tree.specs.inner.Known.{IsBounded}
 use Rattle.sf_tree.specs.Layers.{has_layer, is_numbered, layer_of, parent_layer}
 use Rattle.sf_tree.proofs.Ranks.{All-layer_of, bounded_rank, layer_of-number}
 use Rattle.sf_tree.proofs.TreeKept.{found_itself}

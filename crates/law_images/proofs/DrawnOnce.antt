@@ -13,7 +13,7 @@ use Rattle.sf_layer.specs.declared.parent.Parent.TheVariants as parent
 use Rattle.sf_tree.specs.DrawOrder.{draw, draw_order, draw_parent, drawn_with, in_z_order, is_behind, is_same, put_by_z}
 use Rattle.sf_tree.specs.Kept.{IsDistinct, IsRanked, IsTree}
 use Rattle.sf_tree.specs.Layers.{layer_of}
-use Rattle.sf_tree.specs.Known.{Outranks}
+use Rattle.sf_tree.specs.inner.Known.{Outranks}
 use Rattle.sf_tree.specs.Showing.{passes, parent_passes, relative_passes, shows}
 use Rattle.sf_tree.proofs.Ranks.{All-layer_of, layer_of-number}
 use Rattle.sf_tree.proofs.ShowLemmas.{Outranks-tree, shows-is}

@@ -4,7 +4,7 @@ use Rattle.std.proofs.lemmas.Bool.{eqb-true}
 use Rattle.sf_base.specs.Blend.{blended, product}
 use Rattle.sf_base.specs.Paint.{painted}
 use Rattle.sf_base.specs.declared.pixel.Rgba.{Rgba}
-use Rattle.sf_rows.proofs.Rounding.{whole_right}
+use Rattle.sf_rows.proofs.RoundedProducts.{whole_right}
 use Rattle.sf_layer.specs.declared.layer.Layer.{Layer}
 use Rattle.sf_picture.specs.declared.picture.Picture.{Picture}
 use Rattle.sf_view.specs.declared.content.Content.{Content}

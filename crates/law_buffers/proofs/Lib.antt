@@ -1,0 +1,4 @@
+pub mod SlotFits
+pub mod Numbers
+pub mod Legal
+pub mod OnePlace

@@ -1,0 +1,2 @@
+pub mod SameForms
+pub mod SameLines

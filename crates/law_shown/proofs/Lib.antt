@@ -1,0 +1,3 @@
+pub mod OpaqueRecords
+pub mod LastTree
+pub mod FramePixels
